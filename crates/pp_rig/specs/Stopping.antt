@@ -1,0 +1,56 @@
+-- A run of turns that stops at the first change of a watched number.
+use Rattle.std.specs.Prelude.{◌≡◌, ℕ, zero, suc, ◌+◌, ◌<◌, ◌≤◌, ◌==◌, List, [], ◌∷◌, Option, Some, None, replicate, if◌then◌else◌}
+use Rattle.pp_history.specs.SessionValue.{SessionValue, after_act, replay}
+use Rattle.pp_machine.specs.Machine.{Machine, number}
+use Rattle.pp_rig.specs.Rules.{rules}
+use Rattle.pp_rig.specs.Turn.{turn}
+use Rattle.pp_rig.specs.Watches.{watched_place, watches_of}
+use Rattle.pp_rig.specs.declared.watched.Watched.{Watched}
+use Rattle.pp_rig.specs.declared.action.Action.{Action}
+use Rattle.pp_rig.specs.declared.action.Action.TheVariants.{Turn}
+use Rattle.pp_rig.specs.declared.stopping.Hit.{Hit}
+use Rattle.pp_rig.specs.declared.stopping.Stopped.{Stopped}
+
+-- the first of the watched places whose number is another in the later machine
+abbrev pub first_change : Machine → Machine → List Watched → Option Hit
+first_change old new [] = None
+first_change old new (watched ∷ others) =
+    if number new (watched_place watched) == number old (watched_place watched) then first_change old new others
+    else Some (record { place = watched; was = number old (watched_place watched); now = number new (watched_place watched) })
+
+-- the change that a turn makes at the watched places
+abbrev pub hit_of : Machine → Option Hit
+hit_of m = first_change m (turn m) (watches_of m)
+
+-- one turn more before the rest of a run
+abbrev pub one_turn_more : Stopped → Stopped
+one_turn_more rest = record { turns = suc rest.turns; hit = rest.hit }
+
+-- a run ends with this hit, or goes on with the rest
+abbrev pub hit_or : Option Hit → Stopped → Stopped
+hit_or None rest = one_turn_more rest
+hit_or (Some hit) rest = record { turns = 1; hit = Some hit }
+
+-- a run of at most so many turns, which ends with the first that changes a watched number
+unfoldable pub stopped : ℕ → Machine → Stopped
+stopped zero m = record { turns = 0; hit = None }
+stopped (suc most) m = hit_or (hit_of m) (stopped most (turn m))
+
+-- after so many turns
+unfoldable pub after_turns : ℕ → SessionValue Machine Action → SessionValue Machine Action
+after_turns zero v = v
+after_turns (suc turns) v = after_act (after_turns turns v) Turn
+
+-- the machine after so many turns
+abbrev pub turned : ℕ → Machine → Machine
+turned turns m = replay rules m (replicate turns Turn)
+
+-- the shortest run, of at most so many turns, whose last turn changed a watched number, or else all the turns
+pub record IsShortest (most : ℕ) (m : Machine) (done : Stopped) : Type 0 where
+  pub within : done.turns ≤ most
+  -- no turn before the last changed one
+  pub earlier : (turns : ℕ) → turns + 1 < done.turns → hit_of (turned turns m) ≡ None
+  -- the last turn made the change
+  pub hit : (hit : Hit) → done.hit ≡ Some hit → (turns : ℕ) × (done.turns ≡ turns + 1) × (hit_of (turned turns m) ≡ Some hit)
+  -- no turn made any
+  pub none : done.hit ≡ None → (done.turns ≡ most) × ((turns : ℕ) → turns < most → hit_of (turned turns m) ≡ None)

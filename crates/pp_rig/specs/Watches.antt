@@ -1,0 +1,44 @@
+-- The watched places of a machine, read from its eight watch entries.
+use Rattle.std.specs.Prelude.{ℕ, ◌/◌, ◌%◌, ◌==◌, Bool, List, [], ◌∷◌, if◌then◌else◌}
+use Rattle.std.specs.List.{list_any}
+use Rattle.pp_machine.specs.Machine.{Machine}
+use Rattle.pp_machine.specs.declared.place.Place.{Place}
+use Rattle.pp_machine.specs.declared.place.Place.TheVariants as place
+use Rattle.pp_rig.specs.Watching.{watch_code}
+use Rattle.pp_rig.specs.declared.watched.Watched.{Watched}
+use Rattle.pp_rig.specs.declared.watched.Watched.TheVariants.{Cell, RegA, RegP, RegQ, Central, Register}
+
+-- the place of the machine that is watched; register 14 (octal) is the clock
+abbrev pub watched_place : Watched → Place
+watched_place (Cell n a) = place.Cell n a
+watched_place (RegA n) = place.RegA n
+watched_place (RegP n) = place.RegP n
+watched_place (RegQ n) = place.RegQ n
+watched_place (Central a) = place.Central a
+watched_place (Register c) = if c == 0o14 then place.Clock else place.ChannelWord c
+
+-- the watched place of a kind, by the rest of its code
+abbrev pub watched_of_kind : ℕ → ℕ → Watched
+watched_of_kind kind rest =
+    if kind == 1 then Cell (rest / 4096) (rest % 4096)
+    else (if kind == 2 then RegA rest
+    else (if kind == 3 then RegP rest
+    else (if kind == 4 then RegQ rest
+    else (if kind == 5 then Central rest
+    else Register rest))))
+
+-- the watched place with a code
+abbrev pub watched_at : ℕ → Watched
+watched_at code = watched_of_kind (code / 2097152) (code % 2097152)
+
+-- the watched places in their order: those of the entries before the first zero
+abbrev pub watched_in : List ℕ → List Watched
+watched_in [] = []
+watched_in (code ∷ codes) = if code == 0 then [] else watched_at code ∷ watched_in codes
+
+abbrev pub watches_of : Machine → List Watched
+watches_of m = watched_in m.watches
+
+-- whether the machine watches the place
+abbrev pub is_watched : Machine → Watched → Bool
+is_watched m watched = list_any (λ code. code == watch_code watched) m.watches
