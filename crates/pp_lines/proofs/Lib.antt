@@ -1,0 +1,4 @@
+pub mod Fronts
+pub mod LineCuts
+pub mod WordCuts
+pub mod Writing

@@ -1,0 +1,153 @@
+-- The words of a line, one after another.
+use Rattle.std.proofs.Common.{◌≡◌, ◌∙◌, ℕ, suc, ◌<◌, ◌≤◌, Bool, true, false, cond, List, [], ◌∷◌, length, take, drop, refl, ap, arith, one-add, ltb-true, ltb-false, length-drop}
+use Rattle.std.specs.Prelude.{None, Some, not, position, unwrap_or, nat_lt}
+use Rattle.std.specs.List.{position_or_len}
+use Rattle.std.proofs.lemmas.List.{drop_all}
+use Rattle.std.proofs.lemmas.List.Sums.{prefix_len-le-length}
+use Rattle.pp_lines.specs.Lines.{extend_first}
+use Rattle.pp_lines.specs.Words.{is_blank, goes_on, words}
+
+-- the bytes of a word
+abbrev pub is_letter : ℕ → Bool
+is_letter byte = not (is_blank byte)
+
+-- a blank begins no word
+words-skip : (byte : ℕ) (bytes : List ℕ) → is_blank byte ≡ true → words (byte ∷ bytes) ≡ words bytes
+unfolding words
+words-skip byte bytes e = rw e refl
+
+-- a letter before a word
+words-more : (byte : ℕ) (bytes : List ℕ) → is_blank byte ≡ false → goes_on bytes ≡ true → words (byte ∷ bytes) ≡ extend_first byte (words bytes)
+unfolding words
+words-more byte bytes e g = rw (e, g) refl
+
+-- a letter that is a word
+words-stop : (byte : ℕ) (bytes : List ℕ) → is_blank byte ≡ false → goes_on bytes ≡ false → words (byte ∷ bytes) ≡ (byte ∷ []) ∷ words bytes
+unfolding words
+words-stop byte bytes e g = rw (e, g) refl
+
+words-none : words [] ≡ []
+unfolding words
+words-none = refl
+
+-- how many bytes come before one that passes
+len-stop : (test : ℕ → Bool) (byte : ℕ) (bytes : List ℕ) → test byte ≡ true → position_or_len test (byte ∷ bytes) ≡ 0
+len-stop test byte bytes e = rw e refl
+
+len-more : (test : ℕ → Bool) (byte : ℕ) (bytes : List ℕ) → test byte ≡ false → position_or_len test (byte ∷ bytes) ≡ suc (position_or_len test bytes)
+len-more test byte bytes e = rw (e, one-add) refl
+
+-- blanks before the first word
+pub words-blanks : (text : List ℕ) → words text ≡ words (drop (position_or_len is_letter text) text)
+words-blanks [] = refl
+words-blanks (byte ∷ bytes) = by_test (is_blank byte) refl (words-blanks bytes)
+  where
+    by_test : (blank : Bool) → is_blank byte ≡ blank → words bytes ≡ words (drop (position_or_len is_letter bytes) bytes) →
+        words (byte ∷ bytes) ≡ words (drop (position_or_len is_letter (byte ∷ bytes)) (byte ∷ bytes))
+    by_test true e more = rw (len-more is_letter byte bytes (ap not e)) (words-skip byte bytes e ∙ more)
+    by_test false e more = rw (len-stop is_letter byte bytes (ap not e)) refl
+
+-- after the blanks a word begins, where any byte is left
+pub letter-after : (text : List ℕ) → position_or_len is_letter text < length text → goes_on (drop (position_or_len is_letter text) text) ≡ true
+letter-after [] h = absurd (omega arith)
+letter-after (byte ∷ bytes) h = by_test (is_blank byte) refl (letter-after bytes) h
+  where
+    by_test : (blank : Bool) → is_blank byte ≡ blank →
+        (position_or_len is_letter bytes < length bytes → goes_on (drop (position_or_len is_letter bytes) bytes) ≡ true) →
+        position_or_len is_letter (byte ∷ bytes) < length (byte ∷ bytes) →
+        goes_on (drop (position_or_len is_letter (byte ∷ bytes)) (byte ∷ bytes)) ≡ true
+    by_test true e more less =
+        let size = len-more is_letter byte bytes (ap not e) in
+        rw size (more (omega arith))
+    by_test false e more less = rw (len-stop is_letter byte bytes (ap not e)) (ap not e)
+
+-- only blanks
+pub words-all_blank : (text : List ℕ) → length text ≤ position_or_len is_letter text → words text ≡ []
+words-all_blank text h = words-blanks text ∙ rw (drop_all (position_or_len is_letter text) text h) words-none
+
+no-letter : (byte : ℕ) → not (is_blank byte) ≡ true → is_blank byte ≡ false
+no-letter byte = by_test (is_blank byte)
+  where
+    by_test : (blank : Bool) → not blank ≡ true → blank ≡ false
+    by_test true e = cc
+    by_test false e = refl
+
+len-none : (bytes : List ℕ) → goes_on bytes ≡ false → position_or_len is_blank bytes ≡ 0
+len-none [] e = refl
+len-none (byte ∷ bytes) e = len-stop is_blank byte bytes (by_test (is_blank byte) e)
+  where
+    by_test : (blank : Bool) → not blank ≡ false → blank ≡ true
+    by_test true e = refl
+    by_test false e = cc
+
+-- the first word, and the others
+pub words-first : (text : List ℕ) → goes_on text ≡ true → words text ≡ take (position_or_len is_blank text) text ∷ words (drop (position_or_len is_blank text) text)
+words-first [] h = cc
+words-first (byte ∷ bytes) h = by_test (goes_on bytes) refl (words-first bytes)
+  where
+    letter : is_blank byte ≡ false
+    letter = no-letter byte h
+
+    by_test : (more : Bool) → goes_on bytes ≡ more →
+        (goes_on bytes ≡ true → words bytes ≡ take (position_or_len is_blank bytes) bytes ∷ words (drop (position_or_len is_blank bytes) bytes)) →
+        words (byte ∷ bytes) ≡ take (position_or_len is_blank (byte ∷ bytes)) (byte ∷ bytes) ∷ words (drop (position_or_len is_blank (byte ∷ bytes)) (byte ∷ bytes))
+    by_test true g rest = rw (len-more is_blank byte bytes letter) (words-more byte bytes letter g ∙ ap (extend_first byte) (rest g))
+    by_test false g rest = rw (len-more is_blank byte bytes letter, len-none bytes g) (words-stop byte bytes letter g)
+
+pick-some : (n len i : ℕ) → cond (nat_lt n len) (Some n) None ≡ Some i → (n ≡ i) × (n < len)
+pick-some n len i = by_test (nat_lt n len) refl
+  where
+    by_test : (less : Bool) → nat_lt n len ≡ less → cond less (Some n) None ≡ Some i → (n ≡ i) × (n < len)
+    by_test true less e = (cc, ltb-true n len less)
+    by_test false less e = cc
+
+pick-none : (n len : ℕ) → cond (nat_lt n len) (Some n) None ≡ None → len ≤ n
+pick-none n len = by_test (nat_lt n len) refl
+  where
+    by_test : (less : Bool) → nat_lt n len ≡ less → cond less (Some n) None ≡ None → len ≤ n
+    by_test true less e = cc
+    by_test false less e = ltb-false n len less
+
+pick-or : (n len : ℕ) → n ≤ len → unwrap_or (cond (nat_lt n len) (Some n) None) len ≡ n
+pick-or n len h = by_test (nat_lt n len) refl
+  where
+    by_test : (less : Bool) → nat_lt n len ≡ less → unwrap_or (cond less (Some n) None) len ≡ n
+    by_test true less = refl
+    by_test false less = omega (arith, ltb-false n len less)
+
+-- where a byte that passes stands, or the end
+pub position-or : (test : ℕ → Bool) (text : List ℕ) → unwrap_or (position test text) (length text) ≡ position_or_len test text
+position-or test text = pick-or (position_or_len test text) (length text) (prefix_len-le-length (λ byte. not (test byte)) text)
+
+-- no word
+pub words-no_letter : (text : List ℕ) → position is_letter text ≡ None → words text ≡ []
+words-no_letter text e = words-all_blank text (pick-none (position_or_len is_letter text) (length text) e)
+
+-- the first word of a text, and the others
+pub words-cut : (text : List ℕ) (start : ℕ) → position is_letter text ≡ Some start →
+    words text ≡ take (position_or_len is_blank (drop start text)) (drop start text) ∷ words (drop (position_or_len is_blank (drop start text)) (drop start text))
+words-cut text start e =
+    let found = pick-some (position_or_len is_letter text) (length text) start e in
+    rw (← found.0) (words-blanks text ∙ words-first (drop (position_or_len is_letter text) text) (letter-after text found.1))
+
+-- a word is not empty
+pub word-some : (text : List ℕ) (start : ℕ) → position is_letter text ≡ Some start → 0 < position_or_len is_blank (drop start text)
+word-some text start e =
+    let found = pick-some (position_or_len is_letter text) (length text) start e in
+    rw (← found.0) (begun (drop (position_or_len is_letter text) text) (letter-after text found.1))
+  where
+    begun : (bytes : List ℕ) → goes_on bytes ≡ true → 0 < position_or_len is_blank bytes
+    begun [] h = cc
+    begun (byte ∷ bytes) h = rw (len-more is_blank byte bytes (no-letter byte h)) (omega arith)
+
+-- what a cut of a text gives
+module _ (text : List ℕ) (start len : ℕ) (rest front back : List ℕ) (found : position is_letter text ≡ Some start)
+    (from : rest ≡ drop start text) (size : len ≡ position_or_len is_blank rest) (first : front ≡ take len rest) (others : back ≡ drop len rest) where
+  pub cut-words : words text ≡ front ∷ words back
+  cut-words = rw (first, others, size, from) (words-cut text start found)
+
+  pub cut-shorter : length back < length text
+  cut-shorter =
+      let place = pick-some (position_or_len is_letter text) (length text) start found in
+      let some : 0 < len = rw (size, from) (word-some text start found) in
+      rw (others, from) (simp (length-drop) (omega (arith, place.0, place.1)))

@@ -1,0 +1,86 @@
+-- Texts that are written one after the other.
+use Rattle.std.proofs.Common.{◌≡◌, ◌∙◌, ℕ, ◌+◌, ◌-◌, ◌<◌, List, [], ◌++◌, length, take, drop, refl, sym, ap, append_assoc, arith, length-drop, length-append}
+use Rattle.std.specs.Prelude.{Option, None, Some}
+use Rattle.std.specs.Io.KnownBytes.{Appends, Keeps}
+use Rattle.std.proofs.lemmas.List.{take-append-drop, append-nil}
+use Rattle.std.proofs.lemmas.Grind.{common_steps}
+use Rattle.std.proofs.Math.Seq.{take-add}
+use Rattle.pp_lines.specs.Output.{AppendsFront, Remains}
+
+-- nothing is written
+pub Appends-nothing : (known : Option (List ℕ)) → Appends known known []
+Appends-nothing None = tt
+Appends-nothing (Some text) = sym (append-nil text)
+
+-- one text after another
+pub Appends-again : (first second third : Option (List ℕ)) (a b : List ℕ) → Appends first second a → Appends second third b → Appends first third (a ++ b)
+Appends-again None second third a b p q = tt
+Appends-again (Some x) None third a b p q = absurd p
+Appends-again (Some x) (Some y) None a b p q = absurd q
+Appends-again (Some x) (Some y) (Some z) a b p q = q ∙ ap (λ text. text ++ b) p ∙ append_assoc x a b
+
+-- the same text
+pub Appends-same : (first second : Option (List ℕ)) (a b : List ℕ) → a ≡ b → Appends first second a → Appends first second b
+Appends-same first second a b e p = rw e at p
+
+-- a text, and then nothing
+pub Appends-keeps : (first second third : Option (List ℕ)) (a : List ℕ) → Appends first second a → Keeps second third → Appends first third a
+Appends-keeps None second third a p q = tt
+Appends-keeps (Some x) None third a p q = absurd p
+Appends-keeps (Some x) (Some y) None a p q = absurd q
+Appends-keeps (Some x) (Some y) (Some z) a p q = q ∙ p
+
+-- the slice of a text from an index on
+pub slice_from : (done : ℕ) (text : List ℕ) → take (length text - done) (drop done text) ≡ drop done text
+slice_from done text = grind (arith, common_steps)
+
+-- a piece is written of the text from an index on
+pub Appends-further : (first second third : Option (List ℕ)) (done more : ℕ) (text : List ℕ) →
+    Appends first second (take done text) → Appends second third (take more (take (length text - done) (drop done text))) → Appends first third (take (done + more) text)
+Appends-further first second third done more text p q =
+    let piece = rw slice_from at q in
+    Appends-same first third (take done text ++ take more (drop done text)) (take (done + more) text) (sym (take-add done more text)) (Appends-again first second third _ _ p piece)
+
+-- the sink failed before the end of the text
+pub AppendsFront-at : (first second third : Option (List ℕ)) (done : ℕ) (text : List ℕ) → done < length text →
+    Appends first second (take done text) → Keeps second third → AppendsFront first third text
+AppendsFront-at first second third done text within p q =
+    (take done text, drop done text, Appends-keeps first second third _ p q, sym (take-append-drop done text), simp length-drop (omega arith))
+
+-- all is left before the first piece
+pub Remains-all : (known : Option (List ℕ)) (whole : List ℕ) → Remains known known whole whole
+Remains-all known whole = ([], Appends-nothing known, refl)
+
+-- a piece more was written
+pub Remains-next : (first second third : Option (List ℕ)) (whole piece left : List ℕ) →
+    Remains first second whole (piece ++ left) → Appends second third piece → Remains first third whole left
+Remains-next first second third whole piece left p q =
+    (p.0 ++ piece, Appends-again first second third p.0 piece p.1 q, p.2 ∙ sym (append_assoc p.0 piece left))
+
+-- the sink failed within a piece
+pub Remains-fails : (first second third : Option (List ℕ)) (whole piece left : List ℕ) →
+    Remains first second whole (piece ++ left) → AppendsFront second third piece → AppendsFront first third whole
+Remains-fails first second third whole piece left p q = (
+  p.0 ++ q.0,
+  q.1 ++ left,
+  Appends-again first second third p.0 q.0 p.1 q.2,
+  p.2 ∙ ap (λ text. p.0 ++ (text ++ left)) q.3 ∙ regroup p.0 q.0 q.1 left,
+  simp length-append (omega (arith, q.4)),
+)
+  where
+    regroup : (a b c d : List ℕ) → a ++ ((b ++ c) ++ d) ≡ (a ++ b) ++ (c ++ d)
+    regroup a b c d = simp append_assoc
+
+-- nothing is left after the last piece
+pub Remains-none : (first second : Option (List ℕ)) (whole : List ℕ) → Remains first second whole [] → Appends first second whole
+Remains-none first second whole p = Appends-same first second p.0 whole (sym (p.2 ∙ append-nil p.0)) p.1
+
+-- the sink failed, and more was to come
+pub front_longer : (first second : Option (List ℕ)) (text more : List ℕ) → AppendsFront first second text → AppendsFront first second (text ++ more)
+front_longer first second text more p =
+    (p.0, p.1 ++ more, p.2, ap (λ whole. whole ++ more) p.3 ∙ append_assoc p.0 p.1 more, simp length-append (omega (arith, p.4)))
+
+-- the sink failed after a text
+pub front_after : (first second third : Option (List ℕ)) (text more : List ℕ) → Appends first second text → AppendsFront second third more → AppendsFront first third (text ++ more)
+front_after first second third text more p q =
+    (text ++ q.0, q.1, Appends-again first second third text q.0 p q.2, ap (λ rest. text ++ rest) q.3 ∙ sym (append_assoc text q.0 q.1), q.4)

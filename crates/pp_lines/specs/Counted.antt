@@ -1,0 +1,9 @@
+-- A counted device.
+use Rattle.std.specs.Prelude.{ℕ}
+use Rattle.pp_lines.specs.declared.counted.Counted.{Counted}
+
+abbrev pub device_of : {D : Type 0} → Counted D → D
+device_of counted = counted.device
+
+abbrev pub failures_of : {D : Type 0} → Counted D → ℕ
+failures_of counted = counted.failures

@@ -1,0 +1,5 @@
+pub mod Counted
+pub mod Device
+pub mod Lines
+pub mod Output
+pub mod Words

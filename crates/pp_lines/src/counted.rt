@@ -1,0 +1,80 @@
+//! A source or a sink made of any reader or writer.
+ghost use Rattle.std.specs.Prelude.{◌≡◌};
+ghost use Rattle.pp_lines.specs.Device.{one_more};
+ghost use Rattle.pp_lines.specs.Counted.{device_of, failures_of};
+
+use crate::device::{Failed, Sink, Source};
+use std::io::{Read, Write};
+
+/// A reader or a writer, and how many of its calls failed.
+///
+/// Every error of the device is `Failed`, an interrupted call included, and so is a write that
+/// takes no byte of a slice that has some.
+#[derive(Drop)]
+pub struct Counted<D> {
+    device: D,
+    failures: u64,
+}
+
+impl<D> Counted<D> {
+    /// A device none of whose calls failed yet.
+    pub fn new(device: D) -> Self
+        ensures device { device_of result ≡ device }
+        ensures failures { failures_of result ≡ 0 }
+    {
+        Counted {
+            device,
+            failures: 0,
+        }
+    }
+
+    /// The reader or writer.
+    pub fn device(&self) -> &D
+        ensures { result.now ≡ device_of self.now }
+    {
+        &self.device
+    }
+
+    /// Counts a call that failed.
+    fn count_failure(&mut self) -> Failed
+        ensures device { device_of self.new ≡ device_of self.old }
+        ensures failures { failures_of self.new ≡ one_more (failures_of self.old) }
+    {
+        self.failures = self.failures.saturating_add(1);
+        Failed
+    }
+}
+
+impl<D: Read> Source for Counted<D> {
+    ghost rest = { λ counted. D.remaining (device_of counted) };
+
+    ghost failure_count = { failures_of };
+
+    fn take(&mut self, into: &mut [u8]) -> Result<usize, Failed> {
+        match self.device.read(into) {
+            Ok(count) => Ok(count),
+            Err(_) => Err(self.count_failure()),
+        }
+    }
+
+    fn failures(&self) -> u64 {
+        self.failures
+    }
+}
+
+impl<D: Write> Sink for Counted<D> {
+    ghost text = { λ counted. D.contents (device_of counted) };
+
+    ghost failure_count = { failures_of };
+
+    fn put(&mut self, from: &[u8]) -> Result<usize, Failed> {
+        match self.device.write(from) {
+            Ok(count) if count > 0 || from.is_empty() => Ok(count),
+            _ => Err(self.count_failure()),
+        }
+    }
+
+    fn failures(&self) -> u64 {
+        self.failures
+    }
+}

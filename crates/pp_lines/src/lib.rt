@@ -1,0 +1,20 @@
+//! Bytes, lines, words and rows of text: what the console and the file loaders share.
+#![tactic(auto)]
+
+mod counted;
+mod cutter;
+mod device;
+mod fault;
+mod output;
+pub mod testing;
+mod text;
+mod words;
+
+pub use counted::Counted;
+pub use cutter::{LINE_FEED, LineCutter, without_return};
+pub use device::{Failed, Sink, Source};
+pub use fault::IoFault;
+pub use output::put_all;
+pub use testing::{Endless, Feed, Tray};
+pub use text::push_text;
+pub use words::{is_ignored, next_word};

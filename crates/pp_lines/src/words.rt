@@ -1,0 +1,53 @@
+//! The words of a line.
+ghost use Rattle.std.specs.Prelude.{◌≡◌, ◌∷◌, ◌<◌, ◌≤◌, [], IfSome, MatchOption, length, not, position};
+ghost use Rattle.std.specs.List.{position_or_len};
+ghost use Rattle.pp_lines.specs.Words.{is_blank, is_ignored, words};
+
+/// Whether the byte stands between words.
+fn is_blank(byte: u8) -> bool
+    ensures { result ≡ is_blank byte }
+{
+    byte == b' ' || byte == b'\t'
+}
+
+/// Where the first blank or tab stands.
+fn first_blank(text: &[u8]) -> Option<usize>
+    ensures { result ≡ position is_blank text.now }
+{
+    text.iter().position(|byte| is_blank(*byte))
+}
+
+/// Where the first byte of a word stands.
+fn first_letter(text: &[u8]) -> Option<usize>
+    ensures { result ≡ position (λ byte. not (is_blank byte)) text.now }
+{
+    text.iter().position(|byte| !is_blank(*byte))
+}
+
+/// The length of the word that the text begins with.
+fn word_len(text: &[u8]) -> usize
+    ensures len { result ≡ position_or_len is_blank text.now }
+    ensures within { result ≤ length text.now }
+{
+    first_blank(text).unwrap_or(text.len())
+}
+
+/// The first word of a text, and what follows it. `None` is a text of blanks and tabs alone.
+pub fn next_word(text: &[u8]) -> Option<(&[u8], &[u8])>
+    ensures cut { MatchOption result (words text.now ≡ [])
+        (λ cut. words text.now ≡ cut.0.now ∷ words cut.1.now) }
+    ensures shorter { IfSome result (λ cut. length cut.1.now < length text.now) }
+{
+    let word = &text[first_letter(text)?..];
+    Some(word.split_at(word_len(word)))
+}
+
+/// Whether a line of this text is passed over: it has no word, or begins with a star.
+pub fn is_ignored(text: &[u8]) -> bool
+    ensures { result ≡ is_ignored (words text.now) }
+{
+    match next_word(text) {
+        None => true,
+        Some((first, _)) => first.first() == Some(&b'*'),
+    }
+}
