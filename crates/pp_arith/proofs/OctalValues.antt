@@ -1,0 +1,72 @@
+-- The value of octal digits, read one after another.
+use Rattle.std.proofs.Common.{◌≡◌, ◌∙◌, ℕ, zero, suc, ◌+◌, ◌-◌, ◌*◌, ◌%◌, ◌<◌, ◌≤◌, Bool, true, false, List, [], ◌∷◌, length, take, drop, get_or, refl, sym, ap, arith, length-drop}
+use Rattle.std.specs.Prelude.{fold, nat_le, nat_lt, ◌&&◌, Err}
+use Rattle.std.specs.List.{list_all}
+use Rattle.std.proofs.lemmas.Bool.Decides.{nat_tests}
+use Rattle.std.proofs.lemmas.List.{take-append-drop, take_more}
+use Rattle.std.proofs.lemmas.List.Sums.{fold-append}
+use Rattle.pp_arith.specs.declared.reading.OctalFault.TheVariants.{TooLarge}
+use Rattle.pp_arith.specs.Octal.{octal_value, is_octal, is_octal_digit}
+use Rattle.pp_arith.specs.OctalRead.{octal_read}
+
+abbrev with_digit : ℕ → ℕ → ℕ
+with_digit value digit = value * 8 + (digit - 48)
+
+-- digits make a number greater
+value-grows : (value : ℕ) (digits : List ℕ) → value ≤ fold with_digit value digits
+value-grows value [] = omega arith
+value-grows value (digit ∷ digits) = omega (arith, value-grows (value * 8 + (digit - 48)) digits)
+
+-- one digit or more make it eight times as great
+value-times : (value : ℕ) (digits : List ℕ) → 0 < length digits → value * 8 ≤ fold with_digit value digits
+value-times value [] h = absurd (omega arith)
+value-times value (digit ∷ digits) h = omega (arith, value-grows (value * 8 + (digit - 48)) digits)
+
+value-split : (word : List ℕ) (i : ℕ) → octal_value word ≡ fold with_digit (octal_value (take i word)) (drop i word)
+value-split word i = ap octal_value (sym (take-append-drop i word)) ∙ fold-append with_digit 0 (take i word) (drop i word)
+
+pub value-so_far : (word : List ℕ) (i : ℕ) → octal_value (take i word) ≤ octal_value word
+value-so_far word i = omega (arith, value-split word i, value-grows (octal_value (take i word)) (drop i word))
+
+pub value-before : (word : List ℕ) (i : ℕ) → i < length word → octal_value (take i word) * 8 ≤ octal_value word
+value-before word i h =
+    let some : 0 < length (drop i word) = simp length-drop (omega arith) in
+    omega (arith, value-split word i, value-times (octal_value (take i word)) (drop i word) some)
+
+-- a value over the greatest one
+pub octal_read-over : (word : List ℕ) (max : ℕ) → is_octal word ≡ true → max < octal_value word → Err TooLarge ≡ octal_read word max
+octal_read-over word max digits over =
+    let large : nat_le (octal_value word) max ≡ false = grind (arith, nat_tests) in
+    rw (digits, large) refl
+
+-- the value of one digit more
+pub value-next : (word : List ℕ) (i : ℕ) → i < length word → octal_value (take (i + 1) word) ≡ octal_value (take i word) * 8 + (get_or word i 0 - 48)
+value-next word i h =
+    ap octal_value (take_more word i 0 h) ∙ fold-append with_digit 0 (take i word) (get_or word i 0 ∷ [])
+
+both-left : (a b : Bool) → (a && b) ≡ true → a ≡ true
+both-left true b e = refl
+both-left false b e = e
+
+both-right : (a b : Bool) → (a && b) ≡ true → b ≡ true
+both-right true b e = e
+both-right false b e = cc
+
+digit-small : (byte : ℕ) → is_octal_digit byte ≡ true → byte - 48 < 8
+digit-small byte e =
+    let most : byte ≤ 55 = le-from (both-right (nat_le 48 byte) (nat_le byte 55) e) in
+    omega arith
+  where
+    le-from : nat_le byte 55 ≡ true → byte ≤ 55
+    le-from e = grind (arith, nat_tests)
+
+digits-small : (word : List ℕ) (i : ℕ) → list_all is_octal_digit word ≡ true → i < length word → get_or word i 0 - 48 < 8
+digits-small [] i e h = absurd (omega arith)
+digits-small (byte ∷ word) zero e h = digit-small byte (both-left (is_octal_digit byte) (list_all is_octal_digit word) e)
+digits-small (byte ∷ word) (suc i) e h = digits-small word i (both-right (is_octal_digit byte) (list_all is_octal_digit word) e) (omega arith)
+
+-- a digit is below eight
+pub digit-below : (word : List ℕ) (i : ℕ) → is_octal word ≡ true → i < length word → (get_or word i 0 - 48) % 8 ≡ get_or word i 0 - 48
+digit-below word i digits h =
+    let small = digits-small word i (both-right (nat_lt 0 (length word)) (list_all is_octal_digit word) digits) h in
+    omega arith

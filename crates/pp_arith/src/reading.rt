@@ -1,0 +1,59 @@
+//! Numbers that are read in octal.
+ghost use Rattle.std.specs.List.{list_all};
+ghost use Rattle.std.specs.Prelude.{◌≡◌};
+ghost use Rattle.pp_arith.specs.Octal.{is_octal, is_octal_digit};
+ghost use Rattle.pp_arith.specs.OctalRead.{octal_read};
+
+/// Why a word is not an octal number in range.
+#[derive(Clone, Copy, Debug, PartialEq, Eq, Drop)]
+pub enum OctalFault {
+    /// The word is empty, or has a byte that is not `0` to `7`.
+    NotOctal,
+    /// The word is octal, and its value is over the greatest one allowed.
+    TooLarge,
+}
+
+/// Whether the byte is `0` to `7`.
+fn is_octal_digit(byte: u8) -> bool
+    ensures { result ≡ is_octal_digit byte }
+{
+    byte >= b'0' && byte <= b'7'
+}
+
+fn are_octal_digits(word: &[u8]) -> bool
+    ensures { result ≡ list_all is_octal_digit word.now }
+{
+    word.iter().all(|byte| is_octal_digit(*byte))
+}
+
+/// Whether the word is one octal digit or more, `0` to `7`, and nothing else (this project's choice).
+pub fn is_octal(word: &[u8]) -> bool
+    ensures { result ≡ is_octal word.now }
+{
+    !word.is_empty() && are_octal_digits(word)
+}
+
+/// The number that the octal word writes, from 0 to `max`, with any number of zeros in front
+/// (this project's choice).
+///
+/// # Errors
+/// `NotOctal` where the word is empty or has a byte that is not `0` to `7`, and else `TooLarge`
+/// where its value is over `max`.
+pub fn read_octal(word: &[u8], max: u64) -> Result<u64, OctalFault>
+    ensures { result ≡ octal_read word.now max }
+{
+    if !is_octal(word) {
+        return Err(OctalFault::NotOctal);
+    }
+    let mut value = 0u64;
+    for byte in word {
+        if value >= 1 << 61 {
+            return Err(OctalFault::TooLarge);
+        }
+        value = value * 8 + u64::from(byte.saturating_sub(b'0') % 8);
+        if value > max {
+            return Err(OctalFault::TooLarge);
+        }
+    }
+    Ok(value)
+}

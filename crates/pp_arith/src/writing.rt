@@ -1,0 +1,47 @@
+//! Numbers that are written in octal.
+ghost use Rattle.std.specs.Prelude.{◌≡◌, ◌+◌, ◌≤◌, ◌++◌, max};
+ghost use Rattle.arrayvec.specs.ArrayVec.{array_vec_len};
+ghost use Rattle.pp_arith.specs.Octal.{octal_digits, octal_length, octal_text};
+
+use arrayvec::ArrayVec;
+
+/// Adds the last `digits` octal digits of the value to the line, the highest first: a number of fixed
+/// width. `digits` is 0 to 22, and the line has room for them.
+pub fn push_octal<const N: usize>(line: &mut ArrayVec<u8, N>, value: u64, digits: u8)
+    requires few { digits ≤ 22 }
+    requires room { array_vec_len line.old + digits ≤ N }
+    ensures items { line.new.items ≡ line.old.items ++ octal_digits digits value }
+    ensures len { array_vec_len line.new ≡ array_vec_len line.old + digits }
+{
+    let mut left = digits;
+    while left > 0 {
+        left -= 1;
+        line.push(b'0' + (value >> (3 * left) & 7) as u8);
+    }
+}
+
+/// The least width from `digits` on, in octal digits, that the value fits.
+fn width(value: u64, digits: u8) -> u8
+    requires { digits ≤ 22 }
+    ensures value { result ≡ max digits (octal_length 22 value) }
+    ensures within { result ≤ 22 }
+{
+    let mut width = digits;
+    while width < 22 && value >> (3 * width) != 0 {
+        width += 1;
+    }
+    width
+}
+
+#[tactic(auto, unfolding(crate::specs::Octal::octal_text))]
+/// The octal digits of the value, with zeros in front up to `digits` (1 to 22), and more digits where
+/// the value needs more: ASCII `0` to `7`, the highest first.
+pub fn octal(value: u64, digits: u8) -> ArrayVec<u8, 22>
+    requires some { 1 ≤ digits }
+    requires few { digits ≤ 22 }
+    ensures { result.items ≡ octal_text value digits }
+{
+    let mut line = ArrayVec::new();
+    push_octal(&mut line, value, width(value, digits));
+    line
+}
