@@ -1,0 +1,92 @@
+-- Lines up to a limit of lines and of bytes, and lines of which a front is kept.
+use Rattle.std.proofs.Common.{◌≡◌, ◌∙◌, ℕ, ◌+◌, ◌-◌, ◌<◌, ◌≤◌, ◌⊎◌, Bool, true, false, cond, eqb, List, [], ◌∷◌, ◌++◌, length, take, refl, sym, ap, arith, inl, inr, length-append, length-take}
+use Rattle.std.proofs.lemmas.List.{append-nil, take_all}
+use Rattle.std.proofs.Math.Seq.{take-append_seam, take-append-add}
+use Rattle.pp_lines.specs.Lines.{lines, begin_first, extend_first, finished, unfinished, last_line, finished_within, IsWithin, IsFrontOf}
+use Rattle.pp_lines.proofs.LineCuts.{lines_split, finished-more}
+
+-- at most one line stands unfinished
+pub last_line-one : (rest : List ℕ) → length (last_line rest) ≤ 1
+last_line-one [] = omega arith
+last_line-one (byte ∷ rest) = omega arith
+
+-- a line that was begun has a byte that is kept
+pub kept-begun : (most : ℕ) (rest : List ℕ) → 0 < most → length (last_line rest) ≤ length (take most rest)
+kept-begun most [] h = omega arith
+kept-begun most (byte ∷ rest) h = rw (length-take most (byte ∷ rest)) (omega arith)
+
+-- where nothing is kept of a line, none was begun
+nothing-kept : (most : ℕ) (rest : List ℕ) → 0 < most → length (take most rest) ≡ 0 → last_line rest ≡ []
+nothing-kept most [] h e = refl
+nothing-kept most (byte ∷ rest) h e = absurd (omega (arith, rw length-take at e))
+
+something-kept : (most : ℕ) (rest : List ℕ) → 0 < length (take most rest) → last_line rest ≡ rest ∷ []
+something-kept most [] e = absurd (omega (arith, rw length-take at e))
+something-kept most (byte ∷ rest) e = refl
+
+-- the lines, where the last one ends with a line feed
+pub lines-whole : (kept : ℕ) (front bytes : List ℕ) → 0 < kept → IsFrontOf kept front bytes → length front ≡ 0 → lines bytes ≡ finished bytes
+lines-whole kept front bytes some is_front empty =
+    lines_split bytes ∙ rw (nothing-kept kept (unfinished bytes) some (sym (ap length is_front) ∙ empty)) (append-nil (finished bytes))
+
+-- the lines, where the last one does not
+pub lines-last : (kept : ℕ) (front bytes : List ℕ) → IsFrontOf kept front bytes → 0 < length front → lines bytes ≡ finished bytes ++ unfinished bytes ∷ []
+lines-last kept front bytes is_front begun =
+    lines_split bytes ∙ ap (λ last. finished bytes ++ last) (something-kept kept (unfinished bytes) (omega (arith, ap length is_front)))
+
+-- there are as many lines as finished ones, or one more
+pub lines-count : (bytes : List ℕ) → length (lines bytes) ≡ length (finished bytes) + length (last_line (unfinished bytes))
+lines-count bytes = ap length (lines_split bytes) ∙ length-append (finished bytes) (last_line (unfinished bytes))
+
+-- within the limits all finished lines count
+pub finished_within-all : (line_limit byte_limit : ℕ) (bytes : List ℕ) → IsWithin line_limit byte_limit bytes → finished_within line_limit byte_limit bytes ≡ finished bytes
+unfolding finished_within
+finished_within-all line_limit byte_limit bytes within =
+    rw (take_all byte_limit bytes within.few_bytes)
+    (take_all line_limit (finished bytes) (omega (arith, within.few_lines, lines-count bytes)))
+
+-- one list is at least as long as the other
+begun-longer : (byte : ℕ) (done : List (List ℕ)) (all : List (List ℕ)) (feed : Bool) → length done < length all →
+    length (cond feed ([] ∷ done) (extend_first byte done)) < length (cond feed ([] ∷ all) (begin_first byte all))
+begun-longer byte done [] feed h = absurd (omega arith)
+begun-longer byte [] (first ∷ all) true h = omega arith
+begun-longer byte [] (first ∷ all) false h = omega arith
+begun-longer byte (line ∷ done) (first ∷ all) true h = omega arith
+begun-longer byte (line ∷ done) (first ∷ all) false h = omega arith
+
+begun-some : (byte : ℕ) (all : List (List ℕ)) (feed : Bool) → 0 < length (cond feed ([] ∷ all) (begin_first byte all))
+begun-some byte [] true = omega arith
+begun-some byte [] false = omega arith
+begun-some byte (first ∷ all) true = omega arith
+begun-some byte (first ∷ all) false = omega arith
+
+-- bytes after a line feed are a line more
+pub lines-further : (kept more : List ℕ) → 0 < length more → length (finished kept) < length (lines (kept ++ more))
+lines-further [] [] h = absurd (omega arith)
+lines-further [] (byte ∷ more) h = begun-some byte (lines more) (eqb byte 10)
+lines-further (byte ∷ kept) more h = begun-longer byte (finished kept) (lines (kept ++ more)) (eqb byte 10) (lines-further kept more h)
+
+-- a front that is longer than the first part
+take-front : (most : ℕ) (kept more : List ℕ) → length kept ≤ most → take most (kept ++ more) ≡ kept ++ take (most - length kept) more
+take-front most kept more h =
+    let split : most ≡ length kept + (most - length kept) = omega arith in
+    ap (λ n. take n (kept ++ more)) split ∙ take-append-add kept more (most - length kept)
+
+-- the finished lines within the limits, where a limit is reached
+pub finished_within-kept : (line_limit byte_limit : ℕ) (kept more : List ℕ) → IsWithin line_limit byte_limit kept →
+    (length kept ≡ byte_limit) ⊎ (length (finished kept) ≡ line_limit) → finished_within line_limit byte_limit (kept ++ more) ≡ finished kept
+unfolding finished_within
+finished_within-kept line_limit byte_limit kept more within (inl full) =
+    rw (← full, take-append_seam kept more)
+    (take_all line_limit (finished kept) (omega (arith, within.few_lines, lines-count kept)))
+finished_within-kept line_limit byte_limit kept more within (inr full) =
+    let front : take byte_limit (kept ++ more) ≡ kept ++ take (byte_limit - length kept) more = take-front byte_limit kept more within.few_bytes in
+    let further = finished-more kept (take (byte_limit - length kept) more) in
+    rw (front, further.1, ← full) (take-append_seam (finished kept) further.0)
+
+-- which limit was passed
+pub passed : (line_limit byte_limit : ℕ) (kept more : List ℕ) → 0 < length more →
+    (length kept ≡ byte_limit) ⊎ (length (finished kept) ≡ line_limit) →
+    (byte_limit < length (kept ++ more)) ⊎ (line_limit < length (lines (kept ++ more)))
+passed line_limit byte_limit kept more h (inl full) = inl (rw (length-append kept more) (omega arith))
+passed line_limit byte_limit kept more h (inr full) = inr (omega (arith, lines-further kept more h))

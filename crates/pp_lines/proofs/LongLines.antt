@@ -1,0 +1,28 @@
+-- Of a line that is too long, its front tells as much as the whole.
+use Rattle.std.proofs.Common.{◌≡◌, ◌∙◌, ℕ, ◌+◌, ◌-◌, ◌<◌, ◌≤◌, cond, eqb, Bool, true, false, List, length, take, refl, sym, ap, arith, length-take, ltb-true, ltb-false}
+use Rattle.std.specs.Prelude.{nat_lt, slice_index}
+use Rattle.std.proofs.lemmas.List.{take_all}
+use Rattle.pp_lines.specs.Lines.{without_return}
+
+-- at most one byte is dropped
+pub without_return-long : (line : List ℕ) → length line ≤ length (without_return line) + 1
+without_return-long line = by_test (eqb (slice_index line (length line - 1)) 13)
+  where
+    by_test : (ends : Bool) → length line ≤ length (cond ends (take (length line - 1) line) line) + 1
+    by_test true = rw (length-take (length line - 1) line) (omega arith)
+    by_test false = omega arith
+
+-- what is told of each text over a length alike is told of a line by a front that shows that length
+pub told-kept : {A : Type 0} (tell : List ℕ → A) (long : A) (longest most : ℕ) (line : List ℕ) →
+    ((text : List ℕ) → longest < length text → tell text ≡ long) → longest + 1 < most → tell (without_return (take most line)) ≡ tell (without_return line)
+told-kept tell long longest most line is_long more = by_test (nat_lt most (length line)) refl
+  where
+    over : (line : List ℕ) → longest + 1 < length line → tell (without_return line) ≡ long
+    over line h = is_long (without_return line) (omega (arith, without_return-long line))
+
+    by_test : (over : Bool) → nat_lt most (length line) ≡ over → tell (without_return (take most line)) ≡ tell (without_return line)
+    by_test true e =
+        let longer = ltb-true most (length line) e in
+        let kept : longest + 1 < length (take most line) = rw (length-take most line) (omega arith) in
+        over (take most line) kept ∙ sym (over line (omega arith))
+    by_test false e = ap (λ line. tell (without_return line)) (take_all most line (ltb-false most (length line) e))

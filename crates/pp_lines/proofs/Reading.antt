@@ -1,0 +1,70 @@
+-- Pieces that are read one after the other.
+use Rattle.std.proofs.Common.{◌≡◌, ◌∙◌, ℕ, ◌+◌, ◌-◌, ◌<◌, List, [], ◌∷◌, ◌++◌, length, take, drop, get_or, refl, sym, ap, subst, arith, append_assoc}
+use Rattle.std.specs.Prelude.{Option, None, Some, Result, Ok, Err, MatchResult, IfOk, IfErr, OnOk}
+use Rattle.std.specs.Io.KnownBytes.{Consumes, Keeps, IsAtEnd}
+use Rattle.std.proofs.lemmas.Grind.{common_steps}
+use Rattle.std.proofs.lemmas.List.{append-nil}
+
+-- nothing is read
+pub Consumes-nothing : (known : Option (List ℕ)) → Consumes known known []
+Consumes-nothing None = tt
+Consumes-nothing (Some bytes) = refl
+
+-- one piece after another
+pub Consumes-again : (first second third : Option (List ℕ)) (a b : List ℕ) → Consumes first second a → Consumes second third b → Consumes first third (a ++ b)
+Consumes-again None second third a b p q = tt
+Consumes-again (Some x) None third a b p q = absurd p
+Consumes-again (Some x) (Some y) None a b p q = absurd q
+Consumes-again (Some x) (Some y) (Some z) a b p q = p ∙ ap (λ rest. a ++ rest) q ∙ sym (append_assoc a b z)
+
+-- a piece, and then nothing
+pub Consumes-keeps : (first second third : Option (List ℕ)) (a : List ℕ) → Consumes first second a → Keeps second third → Consumes first third a
+Consumes-keeps None second third a p q = tt
+Consumes-keeps (Some x) None third a p q = absurd p
+Consumes-keeps (Some x) (Some y) None a p q = absurd q
+Consumes-keeps (Some x) (Some y) (Some z) a p q = p ∙ ap (λ rest. a ++ rest) (sym q)
+
+-- what is still to come of bytes that were told
+pub still : (first second : Option (List ℕ)) (taken bytes : List ℕ) → Consumes first second taken → first ≡ Some bytes → (later : List ℕ) × (bytes ≡ taken ++ later) × (second ≡ Some later)
+still None second taken bytes p e = cc
+still (Some x) None taken bytes p e = absurd p
+still (Some x) (Some y) taken bytes p e =
+    let same : x ≡ bytes = cc in
+    (y, sym same ∙ p, refl)
+
+-- at the end all bytes were taken
+pub taken-all : (first second : Option (List ℕ)) (taken bytes : List ℕ) → Consumes first second taken → IsAtEnd second → first ≡ Some bytes → taken ≡ bytes
+taken-all None second taken bytes p end e = cc
+taken-all (Some x) None taken bytes p end e = absurd p
+taken-all (Some x) (Some y) taken bytes p end e =
+    let all : x ≡ taken ++ [] = rw end at p in
+    sym (append-nil taken) ∙ sym all ∙ cc
+
+-- where a run ended well, what it led to is told of all bytes
+pub told-of_all : {S T E : Type 0} (result : Result T E) (first second : Option (List ℕ)) (IsStart : S → Type 0) (P : S → List ℕ → T → Type 0) (Q : S → List ℕ → E → Type 0) →
+    ((start : S) → IsStart start → (taken : List ℕ) × Consumes first second taken × MatchResult result (P start taken) (Q start taken)) →
+    OnOk result (IsAtEnd second) →
+    IfOk result (λ value. (start : S) (bytes : List ℕ) → IsStart start → first ≡ Some bytes → P start bytes value)
+told-of_all (Ok value) first second IsStart P Q h end = λ start bytes at e.
+    let past = h start at in
+    subst (λ all. P start all value) (taken-all first second past.0 bytes past.1 end e) past.2
+told-of_all (Err fault) first second IsStart P Q h end = tt
+
+-- where it did not, what it led to is told of the bytes that were taken
+pub told-of_fault : {S T E : Type 0} (result : Result T E) (first second : Option (List ℕ)) (IsStart : S → Type 0) (P : S → List ℕ → T → Type 0) (Q : S → List ℕ → E → Type 0) →
+    ((start : S) → IsStart start → (taken : List ℕ) × Consumes first second taken × MatchResult result (P start taken) (Q start taken)) →
+    IfErr result (λ fault. (start : S) → IsStart start → (taken : List ℕ) × Consumes first second taken × Q start taken fault)
+told-of_fault (Ok value) first second IsStart P Q h = tt
+told-of_fault (Err fault) first second IsStart P Q h = h
+
+-- the slice of a piece up to a length
+pub slice_to : (count : ℕ) (piece : List ℕ) → take (count - 0) piece ≡ take count piece
+slice_to count piece = grind arith
+
+-- the bytes of a piece up to one of them, and the others
+pub piece_at : (bytes piece : List ℕ) (i : ℕ) → i < length piece → ((bytes ++ take i piece) ++ get_or piece i 0 ∷ []) ++ drop (i + 1) piece ≡ bytes ++ piece
+piece_at bytes piece i h = grind (arith, common_steps)
+
+-- one byte more of a piece
+pub piece_next : (bytes piece : List ℕ) (i : ℕ) → i < length piece → (bytes ++ take i piece) ++ get_or piece i 0 ∷ [] ≡ bytes ++ take (i + 1) piece
+piece_next bytes piece i h = grind (arith, common_steps)
