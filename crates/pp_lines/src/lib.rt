@@ -7,6 +7,8 @@ mod device;
 mod fault;
 mod output;
 pub mod testing;
+#[cfg(test)]
+mod tests;
 mod text;
 mod words;
 
