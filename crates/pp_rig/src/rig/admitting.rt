@@ -1,0 +1,142 @@
+//! Which actions the machine admits.
+ghost use Rattle.std.specs.Prelude.{◌≡◌, ◌&&◌, nat_lt, length, MatchResult, None, Some};
+ghost use Rattle.std.specs.List.{list_all};
+ghost use Rattle.pp_machine.specs.CentralSizes.{words_of};
+ghost use Rattle.pp_machine.specs.ChannelNumbers.{state_number};
+ghost use Rattle.pp_rig.specs.Admitting.{first_fault, is_in_range, is_watchable, is_word_or_none, state_fault};
+
+use super::Rig;
+use crate::action::{Action, ActionFault};
+use crate::watched::Watched;
+use pp_machine::{CentralSize, ChannelState};
+
+/// One past the greatest word of sixty bits.
+const WORD_END: u64 = 1 << 60;
+
+/// Whether each value has twelve bits.
+fn are_words(values: &[u16]) -> bool
+    ensures { result ≡ list_all (λ value. nat_lt value 4096) values.now }
+{
+    values.iter().all(|value| *value < 4096)
+}
+
+/// Whether a number, where there is one, has twelve bits.
+fn is_small(word: Option<u16>) -> bool
+    ensures { result ≡ is_word_or_none word }
+{
+    match word {
+        None => true,
+        Some(word) => word < 4096,
+    }
+}
+
+/// Whether a state may be set: `Function` comes only from a processor.
+fn may_be_set(state: ChannelState) -> bool
+    ensures { result ≡ nat_lt (state_number state) 3 }
+{
+    match state {
+        ChannelState::Function => false,
+        _ => true,
+    }
+}
+
+/// Whether a machine of this central size has the watched place.
+fn has_watched(size: CentralSize, watched: Watched) -> bool
+    ensures { result ≡ is_watchable (words_of size) watched }
+{
+    match watched {
+        Watched::Cell { pp, a } => pp < 10 && a < 4096,
+        Watched::RegA { pp } | Watched::RegP { pp } | Watched::RegQ { pp } => pp < 10,
+        Watched::Central { a } => a < size.words(),
+        Watched::Register { c } => c <= 0o14,
+    }
+}
+
+impl Rig {
+    /// Whether each number of the action is in its range.
+    fn has_range(&self, action: &Action) -> bool
+        ensures { result ≡ is_in_range self.now action.now }
+    {
+        match action {
+            Action::Turn | Action::Deadstart => true,
+            Action::SetCells { pp, a, values } => {
+                *pp < 10 && *a < 4096 && values.as_slice().len() > 0 && are_words(values.as_slice())
+            }
+            Action::SetA { pp, v } => *pp < 10 && *v <= 0o777777,
+            Action::SetP { pp, v } | Action::SetQ { pp, v } => *pp < 10 && *v <= 0o7777,
+            Action::SetWord { a, v } => *a < self.central_size.words() && *v < WORD_END,
+            Action::SetChannel { c, state, word } => {
+                *c < 12 && may_be_set(*state) && is_small(*word)
+            }
+            Action::Watch(watched) | Action::Unwatch(watched) => {
+                has_watched(self.central_size, *watched)
+            }
+        }
+    }
+
+    fn check_watch(&self, watched: Watched) -> Result<(), ActionFault>
+        ensures { MatchResult result (λ _. state_fault self.now (Action.Watch watched) ≡ None) (λ fault. state_fault self.now (Action.Watch watched) ≡ Some fault) }
+    {
+        if self.watches.count() >= 8 {
+            return Err(ActionFault::WatchesFull);
+        }
+        if self.watches.is_watched(watched) {
+            return Err(ActionFault::AlreadyWatched);
+        }
+        Ok(())
+    }
+
+    fn check_unwatch(&self, watched: Watched) -> Result<(), ActionFault>
+        ensures { MatchResult result (λ _. state_fault self.now (Action.Unwatch watched) ≡ None) (λ fault. state_fault self.now (Action.Unwatch watched) ≡ Some fault) }
+    {
+        if self.watches.is_watched(watched) {
+            Ok(())
+        } else {
+            Err(ActionFault::NotWatched)
+        }
+    }
+
+    fn check_panel(&self) -> Result<(), ActionFault>
+        ensures { MatchResult result (λ _. state_fault self.now Action.Deadstart ≡ None) (λ fault. state_fault self.now Action.Deadstart ≡ Some fault) }
+    {
+        match self.panel {
+            None => Err(ActionFault::NoPanel),
+            Some(_) => Ok(()),
+        }
+    }
+
+    /// Why the action is not admitted, its numbers being in their ranges.
+    fn check_state(&self, action: &Action) -> Result<(), ActionFault>
+        ensures { MatchResult result (λ _. state_fault self.now action.now ≡ None) (λ fault. state_fault self.now action.now ≡ Some fault) }
+    {
+        match action {
+            Action::Watch(watched) => self.check_watch(*watched),
+            Action::Unwatch(watched) => self.check_unwatch(*watched),
+            Action::Deadstart => self.check_panel(),
+            Action::Turn
+            | Action::SetCells { .. }
+            | Action::SetA { .. }
+            | Action::SetP { .. }
+            | Action::SetQ { .. }
+            | Action::SetWord { .. }
+            | Action::SetChannel { .. } => Ok(()),
+        }
+    }
+
+    /// Tells whether the machine admits the action, and if not, the first cause that applies:
+    /// `Range` where a number is outside its range (there is no value to set, or a channel would be set to
+    /// `Function`), `WatchesFull` where eight places are watched already, `AlreadyWatched`, `NotWatched`,
+    /// and `NoPanel` where a machine without a dead start panel is to be dead started.
+    ///
+    /// The ranges and their order are this project's choice.
+    #[tactic(auto, unfolding(crate::specs::Admitting::first_fault))]
+    pub fn check(&self, action: &Action) -> Result<(), ActionFault>
+        ensures { MatchResult result (λ _. first_fault self.now action.now ≡ None) (λ fault. first_fault self.now action.now ≡ Some fault) }
+    {
+        if self.has_range(action) {
+            self.check_state(action)
+        } else {
+            Err(ActionFault::Range)
+        }
+    }
+}
