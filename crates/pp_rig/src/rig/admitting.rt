@@ -8,7 +8,7 @@ ghost use Rattle.pp_rig.specs.Admitting.{first_fault, is_in_range, is_watchable,
 use super::Rig;
 use crate::action::{Action, ActionFault};
 use crate::watched::Watched;
-use pp_machine::{CentralSize, ChannelState};
+use pp_machine::ChannelState;
 
 /// One past the greatest word of sixty bits.
 const WORD_END: u64 = 1 << 60;
@@ -40,18 +40,6 @@ fn may_be_set(state: ChannelState) -> bool
     }
 }
 
-/// Whether a machine of this central size has the watched place.
-fn has_watched(size: CentralSize, watched: Watched) -> bool
-    ensures { result ≡ is_watchable (words_of size) watched }
-{
-    match watched {
-        Watched::Cell { pp, a } => pp < 10 && a < 4096,
-        Watched::RegA { pp } | Watched::RegP { pp } | Watched::RegQ { pp } => pp < 10,
-        Watched::Central { a } => a < size.words(),
-        Watched::Register { c } => c <= 0o14,
-    }
-}
-
 impl Rig {
     /// Whether each number of the action is in its range.
     fn has_range(&self, action: &Action) -> bool
@@ -69,7 +57,7 @@ impl Rig {
                 *c < 12 && may_be_set(*state) && is_small(*word)
             }
             Action::Watch(watched) | Action::Unwatch(watched) => {
-                has_watched(self.central_size, *watched)
+                watched.is_watchable(self.central_size.words())
             }
         }
     }
@@ -77,7 +65,7 @@ impl Rig {
     fn check_watch(&self, watched: Watched) -> Result<(), ActionFault>
         ensures { MatchResult result (λ _. state_fault self.now (Action.Watch watched) ≡ None) (λ fault. state_fault self.now (Action.Watch watched) ≡ Some fault) }
     {
-        if self.watches.count() >= 8 {
+        if self.watches.is_full() {
             return Err(ActionFault::WatchesFull);
         }
         if self.watches.is_watched(watched) {

@@ -1,4 +1,4 @@
--- What is known of an action that the machine admits.
+-- An action that the machine admits can be performed.
 use Rattle.std.specs.Prelude.{ℕ, ◌≡◌, ◌==◌, ◌<◌, ◌≤◌, ◌^◌, ◌&&◌, nat_lt, nat_le, eqb, IfSome, Bool, true, false, not, List, [], ◌∷◌, All, length, Option, Some, None, if◌then◌else◌, refl}
 use Rattle.std.specs.List.{list_all}
 use Rattle.std.proofs.Common.{arith, zero, suc, ⊎_elim}
@@ -8,47 +8,13 @@ use Rattle.pp_machine.specs.Machine.{Machine}
 use Rattle.pp_rig.specs.Admitting.{first_fault, state_fault, is_in_range, is_watchable, is_word_or_none, panel_fault}
 use Rattle.pp_rig.specs.Watches.{is_watched, watched_in, watches_of}
 use Rattle.pp_rig.specs.Watching.{first_zero}
+use Rattle.pp_rig.specs.Performing.{IsPerformable}
+use Rattle.pp_rig.proofs.Watching.{length-watched_in}
 use Rattle.pp_rig.specs.declared.watched.Watched.{Watched}
 use Rattle.pp_rig.specs.declared.action.Action.{Action}
 use Rattle.pp_rig.specs.declared.action.Action.TheVariants.{Turn, SetCells, SetA, SetP, SetQ, SetWord, SetChannel, Watch, Unwatch, Deadstart}
 use Rattle.pp_rig.specs.declared.action.ActionFault.{ActionFault}
 use Rattle.pp_rig.specs.declared.action.ActionFault.TheVariants.{Range, WatchesFull, AlreadyWatched, NotWatched}
-
--- what an action asks of the machine, as facts
-abbrev pub IsPerformable : Machine → Action → Type 0
-IsPerformable m Turn = Unit {0}
-IsPerformable m (SetCells n a values) = (n < 10) × (a < 4096) × (0 < length values) × All (λ v. v < 4096) values
-IsPerformable m (SetA n v) = (n < 10) × (v ≤ 0o777777)
-IsPerformable m (SetP n v) = (n < 10) × (v ≤ 0o7777)
-IsPerformable m (SetQ n v) = (n < 10) × (v ≤ 0o7777)
-IsPerformable m (SetWord a v) = (a < m.setup.central_words) × (v < 2 ^ 60)
-IsPerformable m (SetChannel c state word) = (c < 12) × (state_number state < 3) × IfSome word (λ w. w ≤ 0o7777)
-IsPerformable m (Watch w) = (is_watchable m.setup.central_words w ≡ true) × (first_zero m.watches < 8) × (is_watched m w ≡ false)
-IsPerformable m (Unwatch w) = is_watched m w ≡ true
-IsPerformable m Deadstart = panel_fault m.setup.panel ≡ None
-
--- as many places are watched as entries come before the first zero
-pub length-watched_in : (codes : List ℕ) → length (watched_in codes) ≡ first_zero codes
-length-watched_in [] = refl
-length-watched_in (x ∷ codes) = ⊎_elim (λ t. rw t.0) (λ t. rw t.0 (omega (arith, length-watched_in codes))) (eqb_tells x 0)
-
-some-below : (n : ℕ) → (n == 0) ≡ false → nat_lt 0 n ≡ true
-some-below n h = grind (arith, nat_tests)
-
-above-false : (a b : ℕ) → b < a → nat_le a b ≡ false
-above-false a b h = grind (arith, nat_tests)
-
-below-true : (a b : ℕ) → a ≤ b → nat_le a b ≡ true
-below-true a b h = grind (arith, nat_tests)
-
-pub watch-full : (m : Machine) (w : Watched) (n : ℕ) → n ≡ first_zero m.watches → 8 ≤ n → state_fault m (Watch w) ≡ Some WatchesFull
-watch-full m w n e h = rw (length-watched_in, ← e, below-true)
-
-pub watch-already : (m : Machine) (w : Watched) (n : ℕ) → n ≡ first_zero m.watches → n < 8 → is_watched m w ≡ true → state_fault m (Watch w) ≡ Some AlreadyWatched
-watch-already m w n e h already = rw (length-watched_in, ← e, above-false, already)
-
-pub watch-admitted : (m : Machine) (w : Watched) (n : ℕ) → n ≡ first_zero m.watches → n < 8 → is_watched m w ≡ false → state_fault m (Watch w) ≡ None
-watch-admitted m w n e h other = rw (length-watched_in, ← e, above-false, other)
 
 -- a test of two parts
 both : (x y : Bool) → (x && y) ≡ true → (x ≡ true) × (y ≡ true)
