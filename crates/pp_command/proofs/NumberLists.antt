@@ -1,0 +1,28 @@
+-- Numbers that are read one after another.
+use Rattle.std.proofs.Common.{◌≡◌, ℕ, List, [], ◌∷◌, ◌++◌, refl, sym, ap, append_assoc}
+use Rattle.std.specs.Prelude.{Result, Ok, Err}
+use Rattle.std.proofs.lemmas.List.{append-nil}
+use Rattle.pp_command.specs.declared.fault.LineFault.{LineFault}
+use Rattle.pp_command.specs.Numbers.{number, numbers, ◌>>=◌}
+
+-- the numbers with more before them
+abbrev pub with_front : List ℕ → Result (List ℕ) LineFault → Result (List ℕ) LineFault
+with_front front read = read >>= λ values. Ok (front ++ values)
+
+front-next : (front : List ℕ) (value : ℕ) (read : Result (List ℕ) LineFault) → with_front front (read >>= λ values. Ok (value ∷ values)) ≡ with_front (front ++ value ∷ []) read
+front-next front value (Ok values) = ap Ok (sym (append_assoc front (value ∷ []) values))
+front-next front value (Err fault) = refl
+
+-- a word is read
+pub numbers-next : (most : ℕ) (front : List ℕ) (word : List ℕ) (others : List (List ℕ)) (value : ℕ) → number most word ≡ Ok value →
+    with_front front (numbers most (word ∷ others)) ≡ with_front (front ++ value ∷ []) (numbers most others)
+numbers-next most front word others value e = rw e (front-next front value (numbers most others))
+
+-- a word is no number in range
+pub numbers-fails : (most : ℕ) (front : List ℕ) (word : List ℕ) (others : List (List ℕ)) (fault : LineFault) → number most word ≡ Err fault →
+    with_front front (numbers most (word ∷ others)) ≡ Err fault
+numbers-fails most front word others fault e = rw e refl
+
+-- no word is left
+pub numbers-none : (most : ℕ) (front : List ℕ) → with_front front (numbers most []) ≡ Ok front
+numbers-none most front = ap Ok (append-nil front)

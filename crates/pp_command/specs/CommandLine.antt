@@ -1,0 +1,214 @@
+-- What a line asks for, or why it is refused: the command lines, one by one.
+use Rattle.std.specs.Prelude.{ℕ, ◌-◌, ◌^◌, nat_lt, nat_le, ◌==◌, ◌&&◌, ◌||◌, Bool, false, if◌then◌else◌, List, [], ◌∷◌, length, Option, Some, None, Result, Ok, Err, codes}
+use Rattle.std.specs.List.{list_all}
+use Rattle.std.specs.Str.{str_eq_ignore_ascii_case}
+use Rattle.pp_lines.specs.Lines.{without_return}
+use Rattle.pp_lines.specs.Words.{words, is_ignored}
+use Rattle.pp_machine.specs.declared.channel.ChannelState.{ChannelState}
+use Rattle.pp_machine.specs.declared.channel.ChannelState.TheVariants.{Inactive, Empty, Full}
+use Rattle.pp_rig.specs.declared.action.Action.TheVariants.{SetCells, SetA, SetP, SetQ, SetWord, SetChannel, Watch, Unwatch, Deadstart}
+use Rattle.pp_rig.specs.declared.watched.Watched.{Watched}
+use Rattle.pp_rig.specs.declared.watched.Watched.TheVariants.{Cell, RegA, RegP, RegQ, Central, Register}
+use Rattle.pp_command.specs.Numbers.{Words, ◌>>=◌, number, if_octal, none, one, pair, two, three, numbers, count}
+use Rattle.pp_command.specs.declared.fault.LineFault.{LineFault}
+use Rattle.pp_command.specs.declared.fault.LineFault.TheVariants.{NotACommand, WordCount, OutOfRange, TooLong, NotAscii}
+use Rattle.pp_command.specs.declared.request.Request.{Request}
+use Rattle.pp_command.specs.declared.request.Request.TheVariants.{Act, Step, Back, BackToChange, Forward, DumpCells, DumpProcessor, DumpChannels, DumpCentral, DumpFrame, DumpReader, DumpPrinter, DumpWatches}
+
+-- a keyword, and what the words after it ask for
+abbrev pub Row : Type 0 → Type 0
+Row A = List ℕ × (Words → Result A LineFault)
+
+infix 70 ◌⇒◌
+abbrev pub ◌⇒◌ : {A : Type 0} → List ℕ → (Words → Result A LineFault) → Row A
+keyword ⇒ reading = (keyword, reading)
+
+-- the row whose keyword this word is, in letters of either case
+abbrev pub row_of : {A : Type 0} → List (Row A) → List ℕ → Words → Result A LineFault
+row_of [] word given = Err NotACommand
+row_of (row ∷ rows) word given = if str_eq_ignore_ascii_case word row.0 then row.1 given else row_of rows word given
+
+-- the row of the first word, for the words after it
+abbrev pub choose : {A : Type 0} → List (Row A) → Words → Result A LineFault
+choose rows [] = Err WordCount
+choose rows (kind ∷ given) = row_of rows kind given
+
+-- SET M n a v ..
+unfoldable pub set_cells : Words → Result Request LineFault
+set_cells (n ∷ a ∷ v ∷ more) =
+    if nat_lt 7 (length more) then Err WordCount
+    else if_octal (n ∷ a ∷ v ∷ more) (number 0o11 n >>= λ pp. number 0o7777 a >>= λ cell. numbers 0o7777 (v ∷ more) >>= λ values. Ok (Act (SetCells pp cell values)))
+set_cells _ = Err WordCount
+
+-- SET A n v
+unfoldable pub set_a : Words → Result Request LineFault
+set_a given = two 0o11 0o777777 given >>= λ n. Ok (Act (SetA n.0 n.1))
+
+-- SET P n v
+unfoldable pub set_p : Words → Result Request LineFault
+set_p given = two 0o11 0o7777 given >>= λ n. Ok (Act (SetP n.0 n.1))
+
+-- SET Q n v
+unfoldable pub set_q : Words → Result Request LineFault
+set_q given = two 0o11 0o7777 given >>= λ n. Ok (Act (SetQ n.0 n.1))
+
+-- SET C a v
+unfoldable pub set_word : Words → Result Request LineFault
+set_word given = two 0o377777 (2 ^ 60 - 1) given >>= λ n. Ok (Act (SetWord n.0 n.1))
+
+-- I (inactive), E (active, empty) or F (active, full)
+unfoldable pub state : List ℕ → Result ChannelState LineFault
+state word =
+    if str_eq_ignore_ascii_case word (codes "I") then Ok Inactive
+    else (if str_eq_ignore_ascii_case word (codes "E") then Ok Empty
+    else (if str_eq_ignore_ascii_case word (codes "F") then Ok Full
+    else Err NotACommand))
+
+-- a channel and its state, or its register too
+unfoldable pub channel_in : ChannelState → List ℕ → Words → Result Request LineFault
+channel_in s c [] = number 0o13 c >>= λ channel. Ok (Act (SetChannel channel s None))
+channel_in s c (v ∷ []) = pair 0o13 0o7777 c v >>= λ n. Ok (Act (SetChannel n.0 s (Some n.1)))
+channel_in s c _ = Err WordCount
+
+-- SET H c s [v]
+unfoldable pub set_channel : Words → Result Request LineFault
+set_channel (c ∷ s ∷ more) = state s >>= λ found. channel_in found c more
+set_channel _ = Err WordCount
+
+-- what follows SET
+unfoldable pub set : Words → Result Request LineFault
+set = choose (
+    codes "M" ⇒ set_cells
+    ∷ codes "A" ⇒ set_a
+    ∷ codes "P" ⇒ set_p
+    ∷ codes "Q" ⇒ set_q
+    ∷ codes "C" ⇒ set_word
+    ∷ codes "H" ⇒ set_channel
+    ∷ [])
+
+-- M n a
+unfoldable pub cell_place : Words → Result Watched LineFault
+cell_place given = two 0o11 0o7777 given >>= λ n. Ok (Cell n.0 n.1)
+
+-- A n
+unfoldable pub a_place : Words → Result Watched LineFault
+a_place given = one 0o11 given >>= λ n. Ok (RegA n)
+
+-- P n
+unfoldable pub p_place : Words → Result Watched LineFault
+p_place given = one 0o11 given >>= λ n. Ok (RegP n)
+
+-- Q n
+unfoldable pub q_place : Words → Result Watched LineFault
+q_place given = one 0o11 given >>= λ n. Ok (RegQ n)
+
+-- C a
+unfoldable pub central_place : Words → Result Watched LineFault
+central_place given = one 0o377777 given >>= λ a. Ok (Central a)
+
+-- H c, where 14 is the clock
+unfoldable pub register_place : Words → Result Watched LineFault
+register_place given = one 0o14 given >>= λ c. Ok (Register c)
+
+-- a place, by its kind
+unfoldable pub place : Words → Result Watched LineFault
+place = choose (
+    codes "M" ⇒ cell_place
+    ∷ codes "A" ⇒ a_place
+    ∷ codes "P" ⇒ p_place
+    ∷ codes "Q" ⇒ q_place
+    ∷ codes "C" ⇒ central_place
+    ∷ codes "H" ⇒ register_place
+    ∷ [])
+
+-- WATCH place
+unfoldable pub watch : Words → Result Request LineFault
+watch given = place given >>= λ watched. Ok (Act (Watch watched))
+
+-- UNWATCH place
+unfoldable pub unwatch : Words → Result Request LineFault
+unwatch given = place given >>= λ watched. Ok (Act (Unwatch watched))
+
+-- STEP [count]
+unfoldable pub step : Words → Result Request LineFault
+step given = count given >>= λ turns. Ok (Step turns)
+
+-- whether the only word is W
+abbrev pub is_change : Words → Bool
+is_change (word ∷ []) = str_eq_ignore_ascii_case word (codes "W")
+is_change _ = false
+
+-- BACK W, or BACK [count]
+unfoldable pub back : Words → Result Request LineFault
+back given = if is_change given then Ok BackToChange else (count given >>= λ actions. Ok (Back actions))
+
+-- FORWARD [count]
+unfoldable pub forward : Words → Result Request LineFault
+forward given = count given >>= λ actions. Ok (Forward actions)
+
+-- DEADSTART
+unfoldable pub deadstart : Words → Result Request LineFault
+deadstart = none (Act Deadstart)
+
+-- the request, where the first address is not over the last
+abbrev pub ordered : ℕ → ℕ → Request → Result Request LineFault
+ordered first last request = if nat_le first last then Ok request else Err OutOfRange
+
+-- DUMP M n a b
+unfoldable pub dump_cells : Words → Result Request LineFault
+dump_cells given = three 0o11 0o7777 0o7777 given >>= λ n. ordered n.1 n.2 (DumpCells n.0 n.1 n.2)
+
+-- DUMP PP n
+unfoldable pub dump_processor : Words → Result Request LineFault
+dump_processor given = one 0o11 given >>= λ n. Ok (DumpProcessor n)
+
+-- DUMP C a b
+unfoldable pub dump_central : Words → Result Request LineFault
+dump_central given = two 0o377777 0o377777 given >>= λ n. ordered n.0 n.1 (DumpCentral n.0 n.1)
+
+-- what follows DUMP
+unfoldable pub dump : Words → Result Request LineFault
+dump = choose (
+    codes "M" ⇒ dump_cells
+    ∷ codes "PP" ⇒ dump_processor
+    ∷ codes "H" ⇒ none DumpChannels
+    ∷ codes "C" ⇒ dump_central
+    ∷ codes "XP" ⇒ none DumpFrame
+    ∷ codes "CR" ⇒ none DumpReader
+    ∷ codes "LP" ⇒ none DumpPrinter
+    ∷ codes "W" ⇒ none DumpWatches
+    ∷ [])
+
+-- the command that the first word names
+unfoldable pub named : List ℕ → Words → Result Request LineFault
+named = row_of (
+    codes "SET" ⇒ set
+    ∷ codes "STEP" ⇒ step
+    ∷ codes "BACK" ⇒ back
+    ∷ codes "FORWARD" ⇒ forward
+    ∷ codes "WATCH" ⇒ watch
+    ∷ codes "UNWATCH" ⇒ unwatch
+    ∷ codes "DEADSTART" ⇒ deadstart
+    ∷ codes "DUMP" ⇒ dump
+    ∷ [])
+
+-- what a line of words asks for; nothing where it is ignored
+abbrev pub sentence : Words → Result (Option Request) LineFault
+sentence [] = Ok None
+sentence (first ∷ given) =
+    if is_ignored (first ∷ given) then Ok None
+    else (named first given >>= λ request. Ok (Some request))
+
+-- a tab, or a character that is printed
+abbrev pub is_printable : ℕ → Bool
+is_printable byte = byte == 9 || (nat_le 32 byte && nat_le byte 126)
+
+-- what the text of a line asks for: its length and its bytes are looked at first
+unfoldable pub command_of_text : List ℕ → Result (Option Request) LineFault
+command_of_text text =
+    if nat_lt 255 (length text) then Err TooLong
+    else (if list_all is_printable text then sentence (words text) else Err NotAscii)
+
+-- what a line asks for
+abbrev pub command : List ℕ → Result (Option Request) LineFault
+command line = command_of_text (without_return line)

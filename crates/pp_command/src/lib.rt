@@ -1,0 +1,20 @@
+//! The console's command language: from the bytes of a line to a command, or the reason why it is
+//! none. The language is this project's own.
+#![tactic(auto)]
+
+mod command;
+mod dumps;
+mod fault;
+mod keywords;
+mod line;
+mod numbers;
+mod places;
+mod request;
+mod settings;
+#[cfg(test)]
+mod tests;
+
+pub use command::Command;
+pub use fault::LineFault;
+pub use line::parse;
+pub use request::Request;

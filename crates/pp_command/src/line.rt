@@ -1,0 +1,166 @@
+//! From the bytes of a line to a command.
+ghost use Rattle.std.specs.Prelude.{◌≡◌, IfOk};
+ghost use Rattle.std.specs.List.{list_all};
+ghost use Rattle.std.specs.Str.{str_eq_ignore_ascii_case};
+ghost use Rattle.pp_lines.specs.Words.{words};
+ghost use Rattle.pp_command.specs.CommandLine as spec;
+ghost use Rattle.pp_command.specs.Ranges.{IsInRange};
+
+use crate::command::Command;
+use crate::dumps::{alone, dump};
+use crate::fault::LineFault;
+use crate::keywords::is_word;
+use crate::numbers::count;
+use crate::places::place;
+use crate::request::Request;
+use crate::settings::set;
+use pp_lines::{next_word, without_return};
+use pp_rig::Action;
+
+/// The most bytes of a line, without a carriage return at its end.
+const LONGEST: usize = 255;
+
+/// `WATCH place`
+#[tactic(auto, unfolding(crate::specs::CommandLine::watch))]
+fn watch(text: &[u8]) -> Result<Request, LineFault>
+    ensures value { result ≡ spec.watch (words text.now) }
+    ensures in_range { IfOk result IsInRange }
+{
+    let watched = place(text)?;
+    Ok(Request::Act(Action::Watch(watched)))
+}
+
+/// `UNWATCH place`
+#[tactic(auto, unfolding(crate::specs::CommandLine::unwatch))]
+fn unwatch(text: &[u8]) -> Result<Request, LineFault>
+    ensures value { result ≡ spec.unwatch (words text.now) }
+    ensures in_range { IfOk result IsInRange }
+{
+    let watched = place(text)?;
+    Ok(Request::Act(Action::Unwatch(watched)))
+}
+
+/// `STEP [count]`
+#[tactic(auto, unfolding(crate::specs::CommandLine::step))]
+fn step(text: &[u8]) -> Result<Request, LineFault>
+    ensures value { result ≡ spec.step (words text.now) }
+    ensures in_range { IfOk result IsInRange }
+{
+    let turns = count(text)?;
+    Ok(Request::Step(turns))
+}
+
+/// Whether the only word of the text is W.
+fn is_change(text: &[u8]) -> bool
+    ensures { result ≡ spec.is_change (words text.now) }
+{
+    let Some((word, rest)) = next_word(text) else {
+        return false;
+    };
+    if next_word(rest).is_some() {
+        return false;
+    }
+    is_word(word, b"W")
+}
+
+/// `BACK W`, or `BACK [count]`
+#[tactic(auto, unfolding(crate::specs::CommandLine::back))]
+fn back(text: &[u8]) -> Result<Request, LineFault>
+    ensures value { result ≡ spec.back (words text.now) }
+    ensures in_range { IfOk result IsInRange }
+{
+    if is_change(text) {
+        return Ok(Request::BackToChange);
+    }
+    let actions = count(text)?;
+    Ok(Request::Back(actions))
+}
+
+/// `FORWARD [count]`
+#[tactic(auto, unfolding(crate::specs::CommandLine::forward))]
+fn forward(text: &[u8]) -> Result<Request, LineFault>
+    ensures value { result ≡ spec.forward (words text.now) }
+    ensures in_range { IfOk result IsInRange }
+{
+    let actions = count(text)?;
+    Ok(Request::Forward(actions))
+}
+
+/// `DEADSTART`
+#[tactic(auto, unfolding(crate::specs::CommandLine::deadstart))]
+fn deadstart(text: &[u8]) -> Result<Request, LineFault>
+    ensures value { result ≡ spec.deadstart (words text.now) }
+    ensures in_range { IfOk result IsInRange }
+{
+    alone(Request::Act(Action::Deadstart), text)
+}
+
+/// The command that a first word names, with the words after it.
+#[tactic(auto, unfolding(crate::specs::CommandLine::named))]
+fn named(name: &[u8], text: &[u8]) -> Result<Request, LineFault>
+    ensures value { result ≡ spec.named name.now (words text.now) }
+    ensures in_range { IfOk result IsInRange }
+{
+    if is_word(name, b"SET") {
+        set(text)
+    } else if is_word(name, b"STEP") {
+        step(text)
+    } else if is_word(name, b"BACK") {
+        back(text)
+    } else if is_word(name, b"FORWARD") {
+        forward(text)
+    } else if is_word(name, b"WATCH") {
+        watch(text)
+    } else if is_word(name, b"UNWATCH") {
+        unwatch(text)
+    } else if is_word(name, b"DEADSTART") {
+        deadstart(text)
+    } else if is_word(name, b"DUMP") {
+        dump(text)
+    } else {
+        Err(LineFault::NotACommand)
+    }
+}
+
+/// Whether the byte is a tab, or a printed ASCII character.
+fn is_printable(byte: u8) -> bool
+    ensures { result ≡ spec.is_printable byte }
+{
+    byte == b'\t' || byte >= b' ' && byte <= b'~'
+}
+
+/// Whether all bytes are tabs, or printed ASCII characters.
+fn are_printable(text: &[u8]) -> bool
+    ensures { result ≡ list_all spec.is_printable text.now }
+{
+    text.iter().all(|byte| is_printable(*byte))
+}
+
+/// What a line asks for: the line without its line feed, of which one carriage return at the end is
+/// dropped. `None` is a line that is ignored: it has no word, or begins with `*`.
+///
+/// Words are separated by blanks and tabs, and letters of either case are equal. Numbers are octal.
+/// The language is this project's own.
+///
+/// # Errors
+/// The first `LineFault` that applies.
+#[tactic(auto, unfolding(crate::specs::CommandLine::command_of_text))]
+pub fn parse(line: &[u8]) -> Result<Option<Command>, LineFault>
+    ensures { result ≡ spec.command line.now }
+{
+    let text = without_return(line);
+    if text.len() > LONGEST {
+        return Err(LineFault::TooLong);
+    }
+    if !are_printable(text) {
+        return Err(LineFault::NotAscii);
+    }
+    let Some((first, rest)) = next_word(text) else {
+        return Ok(None);
+    };
+    if first.first() == Some(&b'*') {
+        return Ok(None);
+    }
+    let request = named(first, rest)?;
+    Ok(Some(Command::new(request)))
+}

@@ -1,0 +1,110 @@
+//! The numbers of a command line.
+ghost use Rattle.std.specs.Prelude.{◌≡◌, ◌≤◌, IfOk};
+ghost use Rattle.pp_lines.specs.Words.{words};
+ghost use Rattle.pp_command.specs.Numbers as spec;
+
+use crate::fault::LineFault;
+use pp_arith::{OctalFault, is_octal, read_octal};
+use pp_lines::next_word;
+
+/// The number that a word writes, from 0 to `most`.
+pub fn number(word: &[u8], most: u64) -> Result<u64, LineFault>
+    ensures value { result ≡ spec.number most word.now }
+    ensures within { IfOk result (λ value. value ≤ most) }
+{
+    match read_octal(word, most) {
+        Ok(value) => Ok(value),
+        Err(OctalFault::NotOctal) => Err(LineFault::NotANumber),
+        Err(OctalFault::TooLarge) => Err(LineFault::OutOfRange),
+    }
+}
+
+/// The text is one number, from 0 to `most`.
+#[tactic(auto, unfolding(crate::specs::Numbers::one))]
+pub fn one(text: &[u8], most: u64) -> Result<u64, LineFault>
+    ensures value { result ≡ spec.one most (words text.now) }
+    ensures within { IfOk result (λ value. value ≤ most) }
+{
+    let Some((word, rest)) = next_word(text) else {
+        return Err(LineFault::WordCount);
+    };
+    if next_word(rest).is_some() {
+        return Err(LineFault::WordCount);
+    }
+    number(word, most)
+}
+
+/// The numbers that two words write, from 0 to `first` and to `second`.
+#[tactic(auto, unfolding(crate::specs::Numbers::pair))]
+pub fn pair(x: &[u8], y: &[u8], first: u64, second: u64) -> Result<(u64, u64), LineFault>
+    ensures value { result ≡ spec.pair first second x.now y.now }
+    ensures within { IfOk result (λ values. (values.0 ≤ first) × (values.1 ≤ second)) }
+{
+    if !is_octal(x) || !is_octal(y) {
+        return Err(LineFault::NotANumber);
+    }
+    let a = number(x, first)?;
+    let b = number(y, second)?;
+    Ok((a, b))
+}
+
+/// The text is two numbers, from 0 to `first` and to `second`.
+#[tactic(auto, unfolding(crate::specs::Numbers::two))]
+pub fn two(text: &[u8], first: u64, second: u64) -> Result<(u64, u64), LineFault>
+    ensures value { result ≡ spec.two first second (words text.now) }
+    ensures within { IfOk result (λ values. (values.0 ≤ first) × (values.1 ≤ second)) }
+{
+    let Some((x, rest)) = next_word(text) else {
+        return Err(LineFault::WordCount);
+    };
+    let Some((y, rest)) = next_word(rest) else {
+        return Err(LineFault::WordCount);
+    };
+    if next_word(rest).is_some() {
+        return Err(LineFault::WordCount);
+    }
+    pair(x, y, first, second)
+}
+
+/// The text is three numbers, from 0 to `first`, to `second` and to `third`.
+#[tactic(auto, unfolding(crate::specs::Numbers::three))]
+pub fn three(text: &[u8], first: u64, second: u64, third: u64) -> Result<(u64, u64, u64), LineFault>
+    ensures value { result ≡ spec.three first second third (words text.now) }
+    ensures within { IfOk result (λ values. (values.0 ≤ first) × (values.1 ≤ second) × (values.2 ≤ third)) }
+{
+    let Some((x, rest)) = next_word(text) else {
+        return Err(LineFault::WordCount);
+    };
+    let Some((y, rest)) = next_word(rest) else {
+        return Err(LineFault::WordCount);
+    };
+    let Some((z, rest)) = next_word(rest) else {
+        return Err(LineFault::WordCount);
+    };
+    if next_word(rest).is_some() {
+        return Err(LineFault::WordCount);
+    }
+    if !is_octal(x) || !is_octal(y) || !is_octal(z) {
+        return Err(LineFault::NotANumber);
+    }
+    let a = number(x, first)?;
+    let b = number(y, second)?;
+    let c = number(z, third)?;
+    Ok((a, b, c))
+}
+
+/// A count of 1 to 1000000 (octal), or one where the text has no word.
+#[tactic(auto, unfolding(crate::specs::Numbers::count))]
+pub fn count(text: &[u8]) -> Result<u32, LineFault>
+    ensures value { result ≡ spec.count (words text.now) }
+    ensures some { IfOk result (λ count. 1 ≤ count) }
+    ensures within { IfOk result (λ count. count ≤ 0o1000000) }
+{
+    if next_word(text).is_none() {
+        return Ok(1);
+    }
+    match one(text, 0o1000000)? {
+        0 => Err(LineFault::OutOfRange),
+        count => Ok(count as u32),
+    }
+}

@@ -1,0 +1,221 @@
+//! The lines that begin with SET.
+ghost use Rattle.std.specs.Prelude.{◌≡◌, ◌≤◌, ◌<◌, ◌∷◌, ◌+◌, length, All, IfOk};
+ghost use Rattle.std.specs.List.{list_all};
+ghost use Rattle.pp_arith.specs.Octal.{is_octal};
+ghost use Rattle.pp_lines.specs.Words.{words};
+ghost use Rattle.pp_machine.specs.ChannelNumbers.{state_number};
+ghost use Rattle.pp_command.specs.Numbers.{numbers};
+ghost use Rattle.pp_command.specs.CommandLine as spec;
+ghost use Rattle.pp_command.specs.Ranges.{IsInRange};
+
+use crate::fault::LineFault;
+use crate::keywords::is_word;
+use crate::numbers::{number, pair, two};
+use crate::request::Request;
+use arrayvec::ArrayVec;
+use pp_arith::is_octal;
+use pp_lines::next_word;
+use pp_machine::ChannelState;
+use pp_rig::{Action, Values};
+
+/// How many words the text has.
+fn count_words(text: &[u8]) -> usize
+    ensures { result ≡ length (words text.now) }
+{
+    let mut count = 0;
+    let mut rest = text;
+    'words: while let Some((_, others)) = next_word(rest) {
+        count += 1;
+        rest = others;
+    }
+    count
+}
+
+/// Whether all words of the text are octal.
+fn are_octal(text: &[u8]) -> bool
+    ensures { result ≡ list_all is_octal (words text.now) }
+{
+    let mut rest = text;
+    'words: while let Some((word, others)) = next_word(rest) {
+        if !is_octal(word) {
+            return false;
+        }
+        rest = others;
+    }
+    true
+}
+
+/// The numbers of all words of the text, at most eight, each to 7777 octal.
+fn cell_values(text: &[u8]) -> Result<Values, LineFault>
+    requires { length (words text.now) ≤ 8 }
+    ensures value { result ≡ numbers 0o7777 (words text.now) }
+    ensures within { IfOk result (λ values. All (λ value. value ≤ 0o7777) values) }
+    ensures all { IfOk result (λ values. length values ≡ length (words text.now)) }
+{
+    let mut values = ArrayVec::new();
+    let mut rest = text;
+    'words: while let Some((word, others)) = next_word(rest) {
+        values.push(number(word, 0o7777)? as u16);
+        rest = others;
+    }
+    Ok(Values::new(values))
+}
+
+/// `SET M n a v ..`
+#[tactic(auto, unfolding(crate::specs::CommandLine::set_cells))]
+fn set_cells(text: &[u8]) -> Result<Request, LineFault>
+    ensures value { result ≡ spec.set_cells (words text.now) }
+    ensures in_range { IfOk result IsInRange }
+{
+    let count = count_words(text);
+    if count < 3 || count > 10 {
+        return Err(LineFault::WordCount);
+    }
+    if !are_octal(text) {
+        return Err(LineFault::NotANumber);
+    }
+    let Some((pp, rest)) = next_word(text) else {
+        return Err(LineFault::WordCount);
+    };
+    let Some((a, rest)) = next_word(rest) else {
+        return Err(LineFault::WordCount);
+    };
+    Ok(Request::Act(Action::SetCells {
+        pp: number(pp, 0o11)? as u8,
+        a: number(a, 0o7777)? as u16,
+        values: cell_values(rest)?,
+    }))
+}
+
+/// `SET A n v`
+#[tactic(auto, unfolding(crate::specs::CommandLine::set_a))]
+fn set_a(text: &[u8]) -> Result<Request, LineFault>
+    ensures value { result ≡ spec.set_a (words text.now) }
+    ensures in_range { IfOk result IsInRange }
+{
+    let (pp, v) = two(text, 0o11, 0o777777)?;
+    Ok(Request::Act(Action::SetA {
+        pp: pp as u8,
+        v: v as u32,
+    }))
+}
+
+/// `SET P n v`
+#[tactic(auto, unfolding(crate::specs::CommandLine::set_p))]
+fn set_p(text: &[u8]) -> Result<Request, LineFault>
+    ensures value { result ≡ spec.set_p (words text.now) }
+    ensures in_range { IfOk result IsInRange }
+{
+    let (pp, v) = two(text, 0o11, 0o7777)?;
+    Ok(Request::Act(Action::SetP {
+        pp: pp as u8,
+        v: v as u16,
+    }))
+}
+
+/// `SET Q n v`
+#[tactic(auto, unfolding(crate::specs::CommandLine::set_q))]
+fn set_q(text: &[u8]) -> Result<Request, LineFault>
+    ensures value { result ≡ spec.set_q (words text.now) }
+    ensures in_range { IfOk result IsInRange }
+{
+    let (pp, v) = two(text, 0o11, 0o7777)?;
+    Ok(Request::Act(Action::SetQ {
+        pp: pp as u8,
+        v: v as u16,
+    }))
+}
+
+/// `SET C a v`
+#[tactic(auto, unfolding(crate::specs::CommandLine::set_word))]
+fn set_word(text: &[u8]) -> Result<Request, LineFault>
+    ensures value { result ≡ spec.set_word (words text.now) }
+    ensures in_range { IfOk result IsInRange }
+{
+    let (a, v) = two(text, 0o377777, (1 << 60) - 1)?;
+    Ok(Request::Act(Action::SetWord { a: a as u32, v }))
+}
+
+/// The state that a letter names.
+#[tactic(auto, unfolding(crate::specs::CommandLine::state))]
+fn state(word: &[u8]) -> Result<ChannelState, LineFault>
+    ensures value { result ≡ spec.state word.now }
+    ensures in_range { IfOk result (λ state. state_number state < 3) }
+{
+    if is_word(word, b"I") {
+        Ok(ChannelState::Inactive)
+    } else if is_word(word, b"E") {
+        Ok(ChannelState::Empty)
+    } else if is_word(word, b"F") {
+        Ok(ChannelState::Full)
+    } else {
+        Err(LineFault::NotACommand)
+    }
+}
+
+/// A channel and its state, or its register too.
+#[tactic(auto, unfolding(crate::specs::CommandLine::channel_in))]
+fn channel_in(state: ChannelState, c: &[u8], text: &[u8]) -> Result<Request, LineFault>
+    requires { state_number state < 3 }
+    ensures value { result ≡ spec.channel_in state c.now (words text.now) }
+    ensures in_range { IfOk result IsInRange }
+{
+    let Some((v, rest)) = next_word(text) else {
+        return Ok(Request::Act(Action::SetChannel {
+            c: number(c, 0o13)? as u8,
+            state,
+            word: None,
+        }));
+    };
+    if next_word(rest).is_some() {
+        return Err(LineFault::WordCount);
+    }
+    let (c, word) = pair(c, v, 0o13, 0o7777)?;
+    Ok(Request::Act(Action::SetChannel {
+        c: c as u8,
+        state,
+        word: Some(word as u16),
+    }))
+}
+
+/// `SET H c s [v]`
+#[tactic(auto, unfolding(crate::specs::CommandLine::set_channel))]
+fn set_channel(text: &[u8]) -> Result<Request, LineFault>
+    ensures value { result ≡ spec.set_channel (words text.now) }
+    ensures in_range { IfOk result IsInRange }
+{
+    let Some((c, rest)) = next_word(text) else {
+        return Err(LineFault::WordCount);
+    };
+    let Some((s, rest)) = next_word(rest) else {
+        return Err(LineFault::WordCount);
+    };
+    let state = state(s)?;
+    channel_in(state, c, rest)
+}
+
+/// What follows SET.
+#[tactic(auto, unfolding(crate::specs::CommandLine::set))]
+pub fn set(text: &[u8]) -> Result<Request, LineFault>
+    ensures value { result ≡ spec.set (words text.now) }
+    ensures in_range { IfOk result IsInRange }
+{
+    let Some((kind, rest)) = next_word(text) else {
+        return Err(LineFault::WordCount);
+    };
+    if is_word(kind, b"M") {
+        set_cells(rest)
+    } else if is_word(kind, b"A") {
+        set_a(rest)
+    } else if is_word(kind, b"P") {
+        set_p(rest)
+    } else if is_word(kind, b"Q") {
+        set_q(rest)
+    } else if is_word(kind, b"C") {
+        set_word(rest)
+    } else if is_word(kind, b"H") {
+        set_channel(rest)
+    } else {
+        Err(LineFault::NotACommand)
+    }
+}
