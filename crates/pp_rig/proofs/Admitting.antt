@@ -6,11 +6,13 @@ use Rattle.std.proofs.lemmas.Bool.Decides.{leb_tells, eqb_tells, nat_tests, Deci
 use Rattle.pp_machine.specs.ChannelNumbers.{state_number}
 use Rattle.pp_machine.specs.Machine.{Machine}
 use Rattle.pp_rig.specs.Admitting.{first_fault, state_fault, is_in_range, is_watchable, is_word_or_none, panel_fault}
-use Rattle.pp_rig.specs.Watches.{is_watched, watched_in, watches_of}
+use Rattle.pp_machine.specs.Shape.{Has}
+use Rattle.pp_rig.specs.Watches.{is_watched, watched_in, watched_place, watches_of}
 use Rattle.pp_rig.specs.Watching.{first_zero}
 use Rattle.pp_rig.specs.Performing.{IsPerformable}
 use Rattle.pp_rig.proofs.Watching.{length-watched_in}
 use Rattle.pp_rig.specs.declared.watched.Watched.{Watched}
+use Rattle.pp_rig.specs.declared.watched.Watched.TheVariants.{Cell, RegA, RegP, RegQ, Central, Register}
 use Rattle.pp_rig.specs.declared.action.Action.{Action}
 use Rattle.pp_rig.specs.declared.action.Action.TheVariants.{Turn, SetCells, SetA, SetP, SetQ, SetWord, SetChannel, Watch, Unwatch, Deadstart}
 use Rattle.pp_rig.specs.declared.action.ActionFault.{ActionFault}
@@ -92,3 +94,16 @@ performable m (Watch w) h =
     (in_range m (Watch w) h, room (first_zero m.watches) (rw length-watched_in at t.0), t.1)
 performable m (Unwatch w) h = found (is_watched m w) (no_state_fault m (Unwatch w) h)
 performable m Deadstart h = no_state_fault m Deadstart h
+
+-- the machine has the places that it can watch
+pub Has-watchable : (size : ℕ) (w : Watched) → is_watchable size w ≡ true → Has size (watched_place w)
+Has-watchable size (Cell n a) h =
+    let t = both (nat_lt n 10) (nat_lt a 4096) h in
+    (less n 10 t.0, less a 4096 t.1)
+Has-watchable size (RegA n) h = less n 10 h
+Has-watchable size (RegP n) h = less n 10 h
+Has-watchable size (RegQ n) h = less n 10 h
+Has-watchable size (Central a) h = less a size h
+Has-watchable size (Register c) h =
+    let few : c ≤ 12 = at_most c 12 h in
+    ⊎_elim (λ t. rw t.0 tt) (λ t. let below : c < 12 = omega (arith, few, t.1) in rw t.0 below) (eqb_tells c 12)

@@ -1,2 +1,5 @@
 pub mod Admitting
+pub mod Runs
+pub mod Shortest
+pub mod Turns
 pub mod Watching

@@ -1,10 +1,11 @@
 -- The watched places of a machine, read from its eight watch entries.
-use Rattle.std.specs.Prelude.{ℕ, ◌/◌, ◌%◌, ◌==◌, Bool, List, [], ◌∷◌, if◌then◌else◌}
-use Rattle.std.specs.List.{list_any}
+use Rattle.std.specs.Prelude.{ℕ, ◌/◌, ◌%◌, ◌==◌, ◌≡◌, ◌≢◌, Bool, List, [], ◌∷◌, ◌≤◌, All, length, if◌then◌else◌}
+use Rattle.std.specs.List.{list_any, AllPairs}
 use Rattle.pp_machine.specs.Machine.{Machine}
+use Rattle.pp_machine.specs.Shape.{Has}
 use Rattle.pp_machine.specs.declared.place.Place.{Place}
 use Rattle.pp_machine.specs.declared.place.Place.TheVariants as place
-use Rattle.pp_rig.specs.Watching.{watch_code}
+use Rattle.pp_rig.specs.Watching.{watch_code, watch_entries}
 use Rattle.pp_rig.specs.declared.watched.Watched.{Watched}
 use Rattle.pp_rig.specs.declared.watched.Watched.TheVariants.{Cell, RegA, RegP, RegQ, Central, Register}
 
@@ -42,3 +43,14 @@ watches_of m = watched_in m.watches
 -- whether the machine watches the place
 abbrev pub is_watched : Machine → Watched → Bool
 is_watched m watched = list_any (λ code. code == watch_code watched) m.watches
+
+-- at most eight places, each the one with its code
+pub record AreTold (places : List Watched) : Type 0 where
+  pub few : length places ≤ 8
+  pub told : All (λ watched. watched_at (watch_code watched) ≡ watched) places
+
+-- well formed watch entries: the codes of places that a machine with so many central words has, none of them twice, and then zeros
+pub record AreWatches (size : ℕ) (entries : List ℕ) : Type 0 where
+  pub closed_up : watch_entries (watched_in entries) ≡ entries
+  pub present : All (λ watched. Has size (watched_place watched)) (watched_in entries)
+  pub distinct : AllPairs (λ one other. watch_code one ≢ watch_code other) (watched_in entries)

@@ -1,0 +1,49 @@
+-- What a turn leaves as it is.
+use Rattle.std.specs.Prelude.{ℕ, ◌+◌, ◌%◌, ◌≡◌, List, [], ◌∷◌, Bool, true, false, if◌then◌else◌, ◌==◌, refl}
+use Rattle.std.proofs.Common.{◌∙◌}
+use Rattle.pp_machine.specs.Machine.{Machine, put, over}
+use Rattle.pp_machine.specs.Printed.{PrinterPlace, printer_place, printer_writes}
+use Rattle.pp_machine.specs.Printed as printed
+use Rattle.pp_machine.specs.Read.{ReaderPlace, reader_place, reader_writes}
+use Rattle.pp_machine.specs.Read as read
+use Rattle.pp_machine.specs.Writes.{Writes, renamed}
+use Rattle.pp_machine.specs.declared.place.Place.{Place}
+use Rattle.pp_machine.specs.declared.place.Place.TheVariants.{Clock}
+use Rattle.pp_step.specs.View.{PpPlace, pp_place}
+use Rattle.pp_step.specs.View as stepped
+use Rattle.pp_step.specs.Step.{pp_writes}
+use Rattle.pp_rig.specs.Lift.{pp_of, printer_of, reader_of}
+use Rattle.pp_rig.specs.Turn.{turn, pp_list, reader_list, printer_list, clock_list, slot_list}
+
+-- a list of writes none of which is to a watch entry
+watches-over : {P : Type 0} (name : P → Place) → ((m : Machine) (p : P) (v : ℕ) → (put m (name p) v).watches ≡ m.watches) → (m : Machine) (w : Writes P) → (over m (renamed name w)).watches ≡ m.watches
+watches-over name keeps m [] = refl
+watches-over name keeps m (pair ∷ w) = keeps (over m (renamed name w)) pair.0 pair.1 ∙ watches-over name keeps m w
+
+keeps-pp : (n : ℕ) (m : Machine) (p : PpPlace) (v : ℕ) → (put m (pp_place n p) v).watches ≡ m.watches
+keeps-pp n m stepped.A v = refl
+keeps-pp n m p v = refl
+
+keeps-reader : (c : ℕ) (m : Machine) (p : ReaderPlace) (v : ℕ) → (put m (reader_place c p) v).watches ≡ m.watches
+keeps-reader c m read.AtCard v = refl
+keeps-reader c m p v = refl
+
+keeps-printer : (c : ℕ) (m : Machine) (p : PrinterPlace) (v : ℕ) → (put m (printer_place c p) v).watches ≡ m.watches
+keeps-printer c m printed.AtLength v = refl
+keeps-printer c m p v = refl
+
+keeps-clock : (m m4 : Machine) (last : Bool) (v : ℕ) → (over m4 (if last then (Clock, v) ∷ [] else [])).watches ≡ m4.watches
+keeps-clock m m4 true v = refl
+keeps-clock m m4 false v = refl
+
+-- no turn changes what is watched
+pub turn-watches : (m : Machine) → (turn m).watches ≡ m.watches
+unfolding turn
+turn-watches m =
+    let m1 = over m (pp_list m) in
+    let m2 = over m1 (reader_list m1) in
+    let m3 = over m2 (printer_list m2) in
+    keeps-clock m m3 (m3.slot == 9) ((m3.channels.clock + 1) % 4096)
+    ∙ (watches-over (printer_place m2.setup.printer_channel) (keeps-printer m2.setup.printer_channel) m2 (printer_writes (printer_of m2.setup.printer_channel m2))
+    ∙ (watches-over (reader_place m1.setup.reader_channel) (keeps-reader m1.setup.reader_channel) m1 (reader_writes (reader_of m1.setup.reader_channel m1))
+    ∙ watches-over (pp_place m.slot) (keeps-pp m.slot) m (pp_writes (pp_of m.slot m))))

@@ -1,0 +1,10 @@
+use Rattle.std.proofs.Common.{◌≡◌, take, map}
+use Rattle.arrayvec.specs.ArrayVec.{array_vec_len}
+use Rattle.pp_rig.specs.Watches.{watched_place, watches_of}
+use Rattle.pp_rig.proofs.rig.Rig.watched_places.Given as goal
+
+abbrev pub invariant-loop-watched : goal.invariant-loop-watched
+invariant-loop-watched l = record {
+  items : l.places.items ≡ map watched_place (take l.watched-index (watches_of l.self));
+  len : array_vec_len l.places ≡ l.watched-index;
+}
