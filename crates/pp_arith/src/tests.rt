@@ -4,6 +4,43 @@ use super::*;
 use arrayvec::ArrayVec;
 
 #[test]
+fn adds_and_subtracts_ones_complement(rt: HostRuntime) {
+    assert_eq!(rt; add18(0o777776, 1), 0);
+    assert_eq!(rt; add18(0o777777, 0), 0);
+    assert_eq!(rt; add18(0o777777, 0o777777), 0o777777);
+    assert_eq!(rt; sub18(0, 1), 0o777776);
+    assert_eq!(rt; sub18(0, 0o777777), 0);
+    assert_eq!(rt; sub18(0o777777, 0o777777), 0);
+    assert_eq!(rt; sub18(0o777777, 0), 0o777777);
+}
+
+#[test]
+fn shifts_left_in_a_circle_and_right_end_off(rt: HostRuntime) {
+    assert_eq!(rt; shift18(0o400000, 0o01), 0o000001);
+    assert_eq!(rt; shift18(0o777777, 0o76), 0o377777);
+    assert_eq!(rt; shift18(0o123456, 0o77), 0o123456);
+    assert_eq!(rt; shift18(0o123456, 0o22), 0o123456);
+    assert_eq!(rt; shift18(0o777777, 0o40), 0);
+}
+
+#[test]
+fn wraps_addresses(rt: HostRuntime) {
+    assert_eq!(rt; index12(0o7777, 0), 0o7777);
+    assert_eq!(rt; index12(0o7777, 1), 1);
+    assert_eq!(rt; relative(0o0100, 0o05), 0o0105);
+    assert_eq!(rt; relative(0o0100, 0o72), 0o0073);
+    assert_eq!(rt; relative(0, 0o76), 0o7777);
+    assert_eq!(rt; relative(0o7777, 0o01), 0);
+}
+
+#[test]
+fn takes_words_apart_and_joins_them(rt: HostRuntime) {
+    let parts = [0o0123, 0o4567, 0o0123, 0o4567, 0o0123];
+    assert_eq!(rt; split60(0o01234567012345670123), parts);
+    assert_eq!(rt; join60(&parts), 0o01234567012345670123);
+}
+
+#[test]
 fn reads_octal_words(rt: HostRuntime) {
     for word in [b"".as_slice(), b"8", b"778"] {
         assert_eq!(rt; read_octal(word, 7), Err(OctalFault::NotOctal));
