@@ -140,29 +140,29 @@ fn rebuilt(back: PpRecord) -> PpRecord
     }
 }
 
-/// The name of a record's case.
-fn case_of(record: &PpRecord) -> &'static str {
+/// The number of a record's case.
+fn case_of(record: &PpRecord) -> u8 {
     match *record {
-        PpRecord::Nothing => "nothing",
-        PpRecord::Jump { .. } => "jump",
-        PpRecord::Load { .. } => "load",
-        PpRecord::Store { .. } => "store",
-        PpRecord::Replace { .. } => "replace",
-        PpRecord::Parts { .. } => "parts",
-        PpRecord::CentralWord { .. } => "central word",
-        PpRecord::Input { .. } => "input",
-        PpRecord::Output { .. } => "output",
-        PpRecord::Activity { .. } => "activity",
-        PpRecord::Issue { .. } => "issue",
-        PpRecord::IssueCounted { .. } => "counted issue",
-        PpRecord::Finish { .. } => "finish",
-        PpRecord::FinishInput { .. } => "finished input",
-        PpRecord::PartsMove { .. } => "parts move",
-        PpRecord::WordMove { .. } => "word move",
-        PpRecord::CountMove { .. } => "count move",
-        PpRecord::InputMove { .. } => "input move",
-        PpRecord::Exchange { .. } => "exchange",
-        PpRecord::OutputMove { .. } => "output move",
+        PpRecord::Nothing => 0,
+        PpRecord::Jump { .. } => 1,
+        PpRecord::Load { .. } => 2,
+        PpRecord::Store { .. } => 3,
+        PpRecord::Replace { .. } => 4,
+        PpRecord::Parts { .. } => 5,
+        PpRecord::CentralWord { .. } => 6,
+        PpRecord::Input { .. } => 7,
+        PpRecord::Output { .. } => 8,
+        PpRecord::Activity { .. } => 9,
+        PpRecord::Issue { .. } => 10,
+        PpRecord::IssueCounted { .. } => 11,
+        PpRecord::Finish { .. } => 12,
+        PpRecord::FinishInput { .. } => 13,
+        PpRecord::PartsMove { .. } => 14,
+        PpRecord::WordMove { .. } => 15,
+        PpRecord::CountMove { .. } => 16,
+        PpRecord::InputMove { .. } => 17,
+        PpRecord::Exchange { .. } => 18,
+        PpRecord::OutputMove { .. } => 19,
     }
 }
 
@@ -188,26 +188,26 @@ fn put_numbers(m: &mut Machine, phase: u16, word: u16, a: u32, state: ChannelSta
 #[test]
 fn each_case_taken_apart(rt: HostRuntime) -> Result<(), Fail> {
     for (case, phase, word, a, state) in [
-        ("nothing", 0, 0o7403, 5, ChannelState::Empty),
-        ("jump", 0, 0o0305, 5, ChannelState::Empty),
-        ("load", 0, 0o1605, 5, ChannelState::Empty),
-        ("store", 0, 0o3420, 5, ChannelState::Empty),
-        ("replace", 0, 0o3520, 5, ChannelState::Empty),
-        ("parts", 0, 0o6020, 0o1000, ChannelState::Empty),
-        ("central word", 0, 0o6220, 0o1000, ChannelState::Empty),
-        ("input", 0, 0o7003, 5, ChannelState::Full),
-        ("output", 0, 0o7203, 5, ChannelState::Empty),
-        ("activity", 0, 0o7503, 5, ChannelState::Full),
-        ("issue", 0, 0o7103, 5, ChannelState::Empty),
-        ("counted issue", 0, 0o6120, 5, ChannelState::Empty),
-        ("finish", 0o7103, 0, 0, ChannelState::Empty),
-        ("finished input", 0o7103, 0, 5, ChannelState::Inactive),
-        ("parts move", 0o6120, 0, 0o1000, ChannelState::Empty),
-        ("word move", 0o6320, 0, 0o1000, ChannelState::Empty),
-        ("count move", 0o6320, 0, 0o777777, ChannelState::Empty),
-        ("input move", 0o7103, 0, 5, ChannelState::Full),
-        ("exchange", 0, 0o2600, 0o1000, ChannelState::Empty),
-        ("output move", 0o7303, 0, 5, ChannelState::Empty),
+        (0, 0, 0o7403, 5, ChannelState::Empty),
+        (1, 0, 0o0305, 5, ChannelState::Empty),
+        (2, 0, 0o1605, 5, ChannelState::Empty),
+        (3, 0, 0o3420, 5, ChannelState::Empty),
+        (4, 0, 0o3520, 5, ChannelState::Empty),
+        (5, 0, 0o6020, 0o1000, ChannelState::Empty),
+        (6, 0, 0o6220, 0o1000, ChannelState::Empty),
+        (7, 0, 0o7003, 5, ChannelState::Full),
+        (8, 0, 0o7203, 5, ChannelState::Empty),
+        (9, 0, 0o7503, 5, ChannelState::Full),
+        (10, 0, 0o7103, 5, ChannelState::Empty),
+        (11, 0, 0o6120, 5, ChannelState::Empty),
+        (12, 0o7103, 0, 0, ChannelState::Empty),
+        (13, 0o7103, 0, 5, ChannelState::Inactive),
+        (14, 0o6120, 0, 0o1000, ChannelState::Empty),
+        (15, 0o6320, 0, 0o1000, ChannelState::Empty),
+        (16, 0o6320, 0, 0o777777, ChannelState::Empty),
+        (17, 0o7103, 0, 5, ChannelState::Full),
+        (18, 0, 0o2600, 0o1000, ChannelState::Empty),
+        (19, 0o7303, 0, 5, ChannelState::Empty),
     ] {
         let mut m = make(rt.alloc(), CentralSize::K32)?;
         let mut twin = make(rt.alloc(), CentralSize::K32)?;
@@ -215,9 +215,9 @@ fn each_case_taken_apart(rt: HostRuntime) -> Result<(), Fail> {
         put_numbers(&mut twin, phase, word, a, state);
         let back = forward(&mut m);
         assert_eq!(rt; case_of(&back), case);
-        assert_eq!(rt; is_same(&m, &twin), case == "nothing", "{case}");
+        assert_eq!(rt; is_same(&m, &twin), case == 0, "case {case}");
         take_back(&mut m, rebuilt(back));
-        assert!(rt; is_same(&m, &twin), "{case}");
+        assert!(rt; is_same(&m, &twin), "case {case}");
     }
     Ok(())
 }

@@ -1,0 +1,7 @@
+-- Records that fit whatever the size of central memory is.
+use Rattle.std.proofs.Common.{ℕ}
+use Rattle.pp_step.specs.Pairs.{Fits, FitsAnySize}
+use Rattle.pp_step.specs.declared.record.PpRecord.{PpRecord}
+
+pub fits_size : (size : ℕ) (r : PpRecord) → FitsAnySize r → Fits size r
+fits_size size r any = any.fits size

@@ -1,0 +1,84 @@
+-- What an instruction leaves in the phase.
+use Rattle.std.proofs.Common.{◌≡◌, ℕ, ◌+◌, ◌*◌, ◌/◌, ◌%◌, ◌≤◌, ◌==◌, Bool, true, false, List, [], ◌∷◌, ◌++◌, ◌⊎◌, if◌then◌else◌, nat_lt, length, slice_index, inl, inr, refl, ap, sym, ◌∙◌, arith}
+use Rattle.std.proofs.lemmas.Bool.{eq-eqb}
+use Rattle.pp_machine.specs.Writes.{Writes}
+use Rattle.pp_machine.specs.declared.channel.ChannelState.{ChannelState}
+use Rattle.pp_machine.specs.declared.channel.ChannelState.TheVariants.{Inactive, Empty, Full, Function}
+use Rattle.pp_step.proofs.Numbers.{number_of-code_of}
+use Rattle.pp_step.specs.Channels.{is_clock, is_in, is_active}
+use Rattle.pp_step.specs.Codes.{code_of, number_of}
+use Rattle.pp_step.specs.Effect.{effect}
+use Rattle.pp_step.specs.Exchange.{frame_pairs, word_pairs, loaded}
+use Rattle.pp_step.specs.Instruction.{InstructionNumbers, instruction_at}
+use Rattle.pp_step.specs.Rows.{jump, load, input, output, activity}
+use Rattle.pp_step.specs.Step.{pp_writes}
+use Rattle.pp_step.specs.View.{PpView, PpPlace, P, Word, over}
+use Rattle.pp_step.specs.Words.{central_after, lower12, joined_cells}
+use Rattle.pp_step.specs.declared.code.Code.{Code}
+use Rattle.pp_step.specs.declared.code.Code.TheVariants.{Exn, Crm, Cwd, Cwm, Ian, Iam, Oan, Oam, Acn, Dcn, Fan, Fnc}
+
+-- a list leaves the phase
+abbrev Leaves : PpView → Writes PpPlace → Type 0
+Leaves m ws = (over m ws).phase ≡ m.phase
+
+leaves-either : (b : Bool) (m : PpView) (ws vs : Writes PpPlace) → Leaves m ws → Leaves m vs → Leaves m (if b then ws else vs)
+leaves-either true m ws vs h k = h
+leaves-either false m ws vs h k = k
+
+leaves-input : (ready : Bool) (i : InstructionNumbers) (a : ℕ) (m : PpView) → Leaves m (input ready i a)
+leaves-input true i a m = refl
+leaves-input false i a m = refl
+
+leaves-output : (ready : Bool) (i : InstructionNumbers) (state : ChannelState) (register : ℕ) (m : PpView) → Leaves m (output ready i state register)
+leaves-output true i state register m = refl
+leaves-output false i state register m = refl
+
+leaves-activity : (ready : Bool) (i : InstructionNumbers) (state : ChannelState) (m : PpView) → Leaves m (activity ready i state)
+leaves-activity true i state m = refl
+leaves-activity false i state m = refl
+
+leaves-words : (size a i : ℕ) (ws : List ℕ) (m : PpView) → Leaves m (word_pairs size a i ws)
+leaves-words size a i [] m = refl
+leaves-words size a i (w ∷ ws) m =
+    let later = leaves-words size a (i + 1) ws m in
+    leaves-either (nat_lt (central_after a i) size) m ((Word (central_after a i), w) ∷ word_pairs size a (i + 1) ws) (word_pairs size a (i + 1) ws) later later
+
+leaves-frame : (i : ℕ) (ws : List ℕ) (vs : Writes PpPlace) (m : PpView) → Leaves m vs → Leaves m (frame_pairs i ws ++ vs)
+leaves-frame i [] vs m h = h
+leaves-frame i (w ∷ ws) vs m h = leaves-frame (i + 1) ws vs m h
+
+-- the phase stays, or becomes the instruction's own word
+phase_after : (c : Code) (i : InstructionNumbers) (m : PpView) → Leaves m (effect c i m) ⊎ ((over m (effect c i m)).phase ≡ number_of c * 0o100 + i.d)
+phase_after Crm i m = inr refl
+phase_after Cwm i m = inr refl
+phase_after Iam i m = inr refl
+phase_after Oam i m = inr refl
+phase_after Exn i m = inl (leaves-frame 0 (loaded m.a m.central) (word_pairs (length m.central) m.a 0 m.frame) m (leaves-words (length m.central) m.a 0 m.frame m))
+phase_after Cwd i m = inl (leaves-either (nat_lt m.a (length m.central)) m ((P, i.next) ∷ (Word m.a, joined_cells i.d m.cells) ∷ []) (jump i.next) refl refl)
+phase_after Ian i m =
+    let register = slice_index m.registers i.d in
+    inl (leaves-either (is_clock i.d) m (load i m.clock) (input (is_in Full i.d m.modes) i register) refl (leaves-input (is_in Full i.d m.modes) i register m))
+phase_after Oan i m = inl (leaves-output (is_in Empty i.d m.modes) i Full (lower12 m.a) m)
+phase_after Acn i m = inl (leaves-activity (is_in Inactive i.d m.modes) i Empty m)
+phase_after Dcn i m =
+    inl (leaves-either (is_clock i.d) m (jump i.next) (activity (is_active i.d m.modes) i Inactive) refl (leaves-activity (is_active i.d m.modes) i Inactive m))
+phase_after Fan i m = inl (leaves-output (is_in Inactive i.d m.modes) i Function (lower12 m.a) m)
+phase_after Fnc i m = inl (leaves-output (is_in Inactive i.d m.modes) i Function i.second m)
+phase_after c i m = inl refl
+
+taken : (b : Bool) (ws vs : Writes PpPlace) → b ≡ true → (if b then ws else vs) ≡ ws
+taken true ws vs e = refl
+taken false ws vs e = cc
+
+-- a step that leaves a phase where there was none leaves the word that stood at P
+pub issued : (m : PpView) → m.phase ≡ 0 → slice_index m.cells m.p ≤ 0o7777 → ((over m (pp_writes m)).phase ≡ 0 → ⊥) → (over m (pp_writes m)).phase ≡ slice_index m.cells m.p
+unfolding pp_writes
+issued m idle fits busy =
+    let w = slice_index m.cells m.p in
+    let i = instruction_at m.p m.cells in
+    let here : pp_writes m ≡ effect i.code i m = taken (m.phase == 0) (effect i.code i m) _ (eq-eqb m.phase 0 idle) in
+    let same : (over m (pp_writes m)).phase ≡ (over m (effect i.code i m)).phase = ap (λ ws. (over m ws).phase) here in
+    elim (phase_after i.code i m) [
+      | inl stays ↦ absurd (busy (same ∙ stays ∙ idle))
+      | inr own ↦ same ∙ own ∙ (let k = number_of-code_of (w / 0o100) (omega arith) in omega (arith, k))
+    ]
