@@ -1,0 +1,4 @@
+pub mod Decks
+pub mod Loads
+pub mod MoreLines
+pub mod MoreRows

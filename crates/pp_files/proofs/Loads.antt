@@ -1,0 +1,168 @@
+-- How far a file was read, and what a fault tells of it.
+use Rattle.std.proofs.Common.{◌≡◌, ◌∙◌, ℕ, ◌+◌, ◌<◌, ◌≤◌, eqb, false, List, [], ◌∷◌, ◌++◌, length, take, refl, sym, ap, subst, arith, rules, inl, inr, length-append, append_assoc}
+use Rattle.std.specs.Prelude.{Option, Some, Result, Ok, Err, MatchResult, ◌⊎◌}
+use Rattle.std.specs.Io.KnownBytes.{Consumes, Keeps}
+use Rattle.std.proofs.lemmas.List.{append-nil}
+use Rattle.pp_files.specs.declared.fault.LoadFault.{LoadFault}
+use Rattle.pp_files.specs.declared.fault.LoadFault.TheVariants.{NoMemory, ReadFailed, FileTooLong}
+use Rattle.pp_files.specs.declared.progress.Progress.{Progress}
+use Rattle.pp_files.specs.declared.progress.TheConstants.{KEPT, FILE_LIMIT}
+use Rattle.pp_lines.specs.Lines.{lines, finished, unfinished, IsFrontOf}
+use Rattle.pp_lines.proofs.LineCuts.{finished-feed, finished-byte}
+use Rattle.pp_lines.proofs.Limits.{lines-whole, lines-last}
+use Rattle.pp_lines.proofs.Reading.{Consumes-keeps}
+use Rattle.pp_files.specs.Rows.{Row, row_of_line}
+use Rattle.pp_files.specs.Files.{Rule, ◌>>=◌, with_line, with_lines, rows_of_lines, lines_of_file, rows_of_file}
+use Rattle.pp_files.specs.Loading.{HasNoFault, IsRow, RunsOut, BreaksOff, Tells}
+use Rattle.pp_files.specs.Reading.{Stands, Reads, HasRows, FailsAt, FailsIn}
+use Rattle.pp_files.proofs.MoreLines.{row_of_front, line-kept, lines-one, lines-short, file-fault, file-short, file-long, lines_of_file-feed}
+
+-- ---- a fault at a line
+
+-- a fault at the front that is kept of a line is one at the line
+pub FailsAt-kept : (rule : Rule) (k : ℕ) (rows : List Row) (front line : List ℕ) (fault : LoadFault) → front ≡ take KEPT line →
+    FailsAt rule k rows front fault → FailsAt rule k rows line fault
+FailsAt-kept rule k rows front line fault e (inl fails) = inl (sym (line-kept rule k rows front line e) ∙ fails)
+FailsAt-kept rule k rows front line fault e (inr refused) = inr (
+  refused.0,
+  (refused.1.0, sym (line-kept rule k rows front line e) ∙ refused.1.1),
+  (refused.2.0, sym (row_of_front k front line e) ∙ refused.2.1),
+)
+
+-- a fault at a line of a file is told of the file
+FailsIn-line : (rule : Rule) (limit : ℕ) (bytes : List ℕ) (rows : List Row) (done : List (List ℕ)) (line : List ℕ) (later : List (List ℕ)) (fault : LoadFault) →
+    lines_of_file limit bytes ≡ (done ++ line ∷ []) ++ later → rows_of_lines rule done ≡ Ok rows → FailsAt rule (length done + 1) rows line fault →
+    (rows_of_file rule limit bytes ≡ Err fault) ⊎ ((fault ≡ NoMemory) × RunsOut rule limit bytes)
+FailsIn-line rule limit bytes rows done line later fault split read (inl fails) =
+    inl (file-fault rule limit bytes (done ++ line ∷ []) later fault split (lines-one rule rows done line read ∙ fails))
+FailsIn-line rule limit bytes rows done line later fault split read (inr refused) = inr (
+  refused.0,
+  (
+    done,
+    line,
+    later,
+    split ∙ append_assoc done (line ∷ []) later,
+    (refused.1.0, lines-one rule rows done line read ∙ refused.1.1),
+    refused.2,
+  ),
+)
+
+-- ---- how far a file was read
+
+pub Stands-within : (progress : Progress) (rule : Rule) (Holds : List Row → Type 0) (bytes : List ℕ) → Stands progress rule Holds bytes → length bytes ≤ FILE_LIMIT
+Stands-within progress rule Holds bytes stands = rw (← stands.counts_bytes) progress.bytes_within
+
+front-none : (kept : ℕ) (front : List ℕ) → front ≡ [] → IsFrontOf kept front []
+front-none kept front e = rw e (search rules)
+
+-- before the first byte
+pub Stands-new : (progress : Progress) (rule : Rule) (Holds : List Row → Type 0) → progress.cutter ≡ [] → progress.bytes ≡ 0 → progress.lines ≡ 0 → Holds [] → Stands progress rule Holds []
+unfolding with_lines
+Stands-new progress rule Holds front no_bytes no_lines held = record {
+  keeps = front-none KEPT progress.cutter front;
+  counts_bytes = no_bytes;
+  counts_lines = no_lines;
+  reads = ([], refl, held);
+}
+
+-- a byte that is no line feed
+pub Stands-byte : (old new : Progress) (rule : Rule) (Holds : List Row → Type 0) (bytes : List ℕ) (byte : ℕ) → eqb byte 10 ≡ false → Stands old rule Holds bytes →
+    IsFrontOf KEPT new.cutter (bytes ++ byte ∷ []) → new.bytes ≡ old.bytes + 1 → new.lines ≡ old.lines → Stands new rule Holds (bytes ++ byte ∷ [])
+Stands-byte old new rule Holds bytes byte h stands front more_bytes same_lines = record {
+  keeps = front;
+  counts_bytes = more_bytes ∙ rw (length-append bytes (byte ∷ [])) (ap (λ n. n + 1) stands.counts_bytes);
+  counts_lines = rw (finished-byte bytes byte h) (same_lines ∙ stands.counts_lines);
+  reads = rw (finished-byte bytes byte h) stands.reads;
+}
+
+-- a line feed
+pub Stands-feed : (old new : Progress) (rule : Rule) (Holds Holds' : List Row → Type 0) (bytes : List ℕ) → Stands old rule Holds bytes →
+    IsFrontOf KEPT new.cutter (bytes ++ 10 ∷ []) → new.bytes ≡ old.bytes + 1 → new.lines ≡ old.lines + 1 →
+    ((rows : List Row) → Holds rows → Reads Holds' (with_line rule (old.lines + 1) rows old.cutter)) →
+    Stands new rule Holds' (bytes ++ 10 ∷ [])
+Stands-feed old new rule Holds Holds' bytes stands front more_bytes more_lines line =
+    let read = stands.reads in
+    let next = line read.0 read.2 in
+    record {
+      keeps = front;
+      counts_bytes = more_bytes ∙ rw (length-append bytes (10 ∷ [])) (ap (λ n. n + 1) stands.counts_bytes);
+      counts_lines = rw (finished-feed bytes, length-append (finished bytes) (unfinished bytes ∷ [])) (more_lines ∙ ap (λ n. n + 1) stands.counts_lines);
+      reads = (
+        next.0,
+        ap (rows_of_lines rule) (finished-feed bytes) ∙ lines-one rule read.0 (finished bytes) (unfinished bytes) read.1
+            ∙ sym (line-kept rule (length (finished bytes) + 1) read.0 old.cutter (unfinished bytes) stands.keeps)
+            ∙ ap (λ n. with_line rule (n + 1) read.0 old.cutter) (sym stands.counts_lines) ∙ next.1,
+        next.2,
+      );
+    }
+
+-- a fault at the line that a line feed ends
+pub Stands-fault : (old : Progress) (rule : Rule) (Holds : List Row → Type 0) (fault : LoadFault) (bytes more : List ℕ) → Stands old rule Holds bytes → old.bytes < FILE_LIMIT →
+    ((rows : List Row) → Holds rows → FailsAt rule (old.lines + 1) rows old.cutter fault) → FailsIn rule (bytes ++ 10 ∷ more) fault
+Stands-fault old rule Holds fault bytes more stands room line =
+    let read = stands.reads in
+    let room : length bytes < FILE_LIMIT = rw (← stands.counts_bytes) room in
+    let further = lines_of_file-feed FILE_LIMIT bytes more room in
+    let fails : FailsAt rule (length (finished bytes) + 1) read.0 old.cutter fault = rw stands.counts_lines at (line read.0 read.2) in
+    FailsIn-line rule FILE_LIMIT (bytes ++ 10 ∷ more) read.0 (finished bytes) (unfinished bytes) further.0 fault further.1 read.1
+    (FailsAt-kept rule (length (finished bytes) + 1) read.0 old.cutter (unfinished bytes) fault stands.keeps fails)
+
+-- a byte over the limit
+pub Stands-long : (old : Progress) (rule : Rule) (Holds : List Row → Type 0) (bytes more : List ℕ) (byte : ℕ) → Stands old rule Holds bytes → old.bytes ≡ FILE_LIMIT → FailsIn rule (bytes ++ byte ∷ more) FileTooLong
+Stands-long old rule Holds bytes more byte stands full =
+    inl (file-long rule stands.reads.0 FILE_LIMIT bytes more byte (sym stands.counts_bytes ∙ full) stands.reads.1)
+
+-- ---- the end of a file
+
+-- the last line ends with a line feed
+pub file-whole : (progress : Progress) (rule : Rule) (Holds : List Row → Type 0) (bytes : List ℕ) → Stands progress rule Holds bytes → length progress.cutter ≡ 0 →
+    Reads Holds (rows_of_file rule FILE_LIMIT bytes)
+file-whole progress rule Holds bytes stands empty =
+    let read = stands.reads in
+    let all = lines-whole KEPT progress.cutter bytes (omega arith) stands.keeps empty in
+    (read.0, file-short rule FILE_LIMIT bytes (Stands-within progress rule Holds bytes stands) ∙ ap (rows_of_lines rule) all ∙ read.1, read.2)
+
+-- the last line does not
+pub file-last : {T : Type 0} (progress : Progress) (rule : Rule) (Holds Holds' : List Row → Type 0) (result : Result T LoadFault) (bytes : List ℕ) → Stands progress rule Holds bytes → 0 < length progress.cutter →
+    ((rows : List Row) → Holds rows → MatchResult result (λ _. Reads Holds' (with_line rule (progress.lines + 1) rows progress.cutter)) (λ fault. FailsAt rule (progress.lines + 1) rows progress.cutter fault)) →
+    MatchResult result (λ _. Reads Holds' (rows_of_file rule FILE_LIMIT bytes)) (λ fault. FailsIn rule bytes fault)
+file-last progress rule Holds Holds' (Ok value) bytes stands begun line =
+    let read = stands.reads in
+    let next = line read.0 read.2 in
+    let all = lines-last KEPT progress.cutter bytes stands.keeps begun in (
+      next.0,
+      file-short rule FILE_LIMIT bytes (Stands-within progress rule Holds bytes stands) ∙ ap (rows_of_lines rule) all
+          ∙ lines-one rule read.0 (finished bytes) (unfinished bytes) read.1
+          ∙ sym (line-kept rule (length (finished bytes) + 1) read.0 progress.cutter (unfinished bytes) stands.keeps)
+          ∙ ap (λ n. with_line rule (n + 1) read.0 progress.cutter) (sym stands.counts_lines) ∙ next.1,
+      next.2,
+    )
+file-last progress rule Holds Holds' (Err fault) bytes stands begun line =
+    let read = stands.reads in
+    let all = lines-last KEPT progress.cutter bytes stands.keeps begun in
+    let fails : FailsAt rule (length (finished bytes) + 1) read.0 progress.cutter fault = rw stands.counts_lines at (line read.0 read.2) in
+    FailsIn-line rule FILE_LIMIT bytes read.0 (finished bytes) (unfinished bytes) [] fault
+    (lines-short FILE_LIMIT bytes (Stands-within progress rule Holds bytes stands) ∙ all ∙ sym (append-nil (finished bytes ++ unfinished bytes ∷ []))) read.1
+    (FailsAt-kept rule (length (finished bytes) + 1) read.0 progress.cutter (unfinished bytes) fault stands.keeps fails)
+
+-- ---- what the source told
+
+-- the source failed
+pub breaks-off : (progress : Progress) (rule : Rule) (Holds : List Row → Type 0) (taken bytes : List ℕ) (first second third : Option (List ℕ)) → Stands progress rule Holds taken →
+    Consumes first second taken → Keeps second third → first ≡ Some bytes → BreaksOff rule FILE_LIMIT bytes third
+breaks-off progress rule Holds taken bytes first second third stands p q told = (
+  taken,
+  subst (λ known. Consumes known third taken) told (Consumes-keeps first second third taken p q),
+  Stands-within progress rule Holds taken stands,
+  (stands.reads.0, stands.reads.1),
+)
+
+-- what is told within a file is told of it
+pub FailsIn-told : (rule : Rule) (bytes : List ℕ) (left : Option (List ℕ)) (fault : LoadFault) → FailsIn rule bytes fault → Tells rule (rows_of_file rule FILE_LIMIT bytes) bytes left fault
+FailsIn-told rule bytes left fault (inl fails) = inl fails
+FailsIn-told rule bytes left fault (inr refused) = inr (inl refused)
+
+pub ends-told : {T : Type 0} (result : Result T LoadFault) (P : T → Type 0) (rule : Rule) (bytes : List ℕ) (left : Option (List ℕ)) →
+    MatchResult result P (λ fault. FailsIn rule bytes fault) → MatchResult result P (λ fault. Tells rule (rows_of_file rule FILE_LIMIT bytes) bytes left fault)
+ends-told (Ok value) P rule bytes left known = known
+ends-told (Err fault) P rule bytes left told = FailsIn-told rule bytes left fault told

@@ -1,0 +1,15 @@
+use Rattle.std.proofs.Common.{◌-◌, ◌≡◌, ℕ, List}
+use Rattle.std.specs.Io.KnownBytes.{Consumes}
+use Rattle.pp_files.specs.declared.progress.TheConstants.{FILE_LIMIT}
+use Rattle.pp_files.specs.Reading.{Stands}
+use Rattle.pp_files.proofs.loading.read_sheet.Given as goal
+
+abbrev pub invariant-pieces : goal.invariant-pieces
+invariant-pieces g l = record {
+  stands : (taken : List ℕ) × Consumes (g.R.Source.rest l.initial.source) (g.R.Source.rest l.source) taken
+      × Stands l.progress g.S.Sheet.rule (g.S.Sheet.holds l.sheet) taken;
+  reads : g.R.Source.failure_count l.source ≡ g.R.Source.failure_count l.initial.source;
+}
+
+abbrev pub decreases-pieces : goal.decreases-pieces
+decreases-pieces g l = FILE_LIMIT - l.progress.bytes

@@ -1,0 +1,74 @@
+-- What deck and panel files say.
+use Rattle.std.specs.Prelude.{ℕ, ◌+◌, ◌-◌, ◌==◌, nat_le, if◌then◌else◌, List, [], ◌∷◌, ◌++◌, length, take, map, replicate, Option, Some, None, Result, Ok, Err}
+use Rattle.std.specs.List.{concat}
+use Rattle.pp_lines.specs.Lines.{lines, finished}
+use Rattle.pp_files.specs.declared.fault.LoadFault.{LoadFault}
+use Rattle.pp_files.specs.declared.fault.LoadFault.TheVariants.{FileTooLong, TooManyWords, PanelCount}
+use Rattle.pp_files.specs.Rows.{Row, row_of_line}
+
+-- what follows, where there is no fault so far
+infixl 10 ◌>>=◌
+abbrev pub ◌>>=◌ : {A B : Type 0} → Result A LoadFault → (A → Result B LoadFault) → Result B LoadFault
+(Ok x) >>= f = f x
+(Err fault) >>= f = Err fault
+
+-- ---- all lines
+
+-- a rule tells of the rows so far, and of the row of line k after them, whether that is too much
+abbrev pub Rule : Type 0
+Rule = ℕ → List Row → Row → Result (List Row) LoadFault
+
+abbrev pub with_row : Rule → ℕ → List Row → Option Row → Result (List Row) LoadFault
+with_row rule k rows None = Ok rows
+with_row rule k rows (Some row) = rule k rows row
+
+-- the rows with that of line k, or its first fault
+abbrev pub with_line : Rule → ℕ → List Row → List ℕ → Result (List Row) LoadFault
+with_line rule k rows line = row_of_line k line >>= with_row rule k rows
+
+-- the rows with those of further lines, of which the first is line k + 1, or the first fault
+unfoldable pub with_lines : Rule → ℕ → List Row → List (List ℕ) → Result (List Row) LoadFault
+with_lines rule k rows [] = Ok rows
+with_lines rule k rows (line ∷ others) = with_line rule (k + 1) rows line >>= λ more. with_lines rule (k + 1) more others
+
+-- the rows of lines, or their first fault
+abbrev pub rows_of_lines : Rule → List (List ℕ) → Result (List Row) LoadFault
+rows_of_lines rule all = with_lines rule 0 [] all
+
+-- the lines that count: all of a file within the limit, and of a longer one those that a line feed ends within it
+abbrev pub lines_of_file : ℕ → List ℕ → List (List ℕ)
+lines_of_file limit bytes = if nat_le (length bytes) limit then lines bytes else finished (take limit bytes)
+
+-- the rows of a file, or its first fault
+unfoldable pub rows_of_file : Rule → ℕ → List ℕ → Result (List Row) LoadFault
+rows_of_file rule limit bytes =
+    rows_of_lines rule (lines_of_file limit bytes) >>= λ rows.
+    if nat_le (length bytes) limit then Ok rows else Err FileTooLong
+
+-- ---- decks
+
+-- at most 80 numbers a card
+abbrev pub card_rule : Rule
+card_rule k rows row = if nat_le (length row) 80 then Ok (rows ++ row ∷ []) else Err (TooManyWords k)
+
+-- a row with zeros for the columns that it leaves out
+abbrev pub card_of_row : Row → Row
+card_of_row row = row ++ replicate (80 - length row) 0
+
+-- the cards of a deck file
+unfoldable pub deck_of_file : ℕ → List ℕ → Result (List Row) LoadFault
+deck_of_file limit bytes = rows_of_file card_rule limit bytes >>= λ rows. Ok (map card_of_row rows)
+
+-- ---- panels
+
+-- at most twelve numbers together
+abbrev pub panel_rule : Rule
+panel_rule k rows row = if nat_le (length (concat rows ++ row)) 12 then Ok (rows ++ row ∷ []) else Err PanelCount
+
+-- twelve words
+abbrev pub whole_panel : Row → Result Row LoadFault
+whole_panel row = if length row == 12 then Ok row else Err PanelCount
+
+-- the words of a panel file
+unfoldable pub panel_of_file : ℕ → List ℕ → Result Row LoadFault
+panel_of_file limit bytes = rows_of_file panel_rule limit bytes >>= λ rows. whole_panel (concat rows)

@@ -1,0 +1,4 @@
+pub mod Files
+pub mod Loading
+pub mod Reading
+pub mod Rows

@@ -1,0 +1,49 @@
+-- How far a file was read.
+use Rattle.std.specs.Prelude.{◌≡◌, ℕ, ◌⊎◌, Bool, true, List, length, Result, Ok, Err}
+use Rattle.pp_lines.specs.Lines.{finished, IsFrontOf}
+use Rattle.pp_files.specs.declared.fault.LoadFault.{LoadFault}
+use Rattle.pp_files.specs.declared.fault.LoadFault.TheVariants.{NoMemory, ReadFailed}
+use Rattle.pp_files.specs.declared.progress.Progress.{Progress}
+use Rattle.pp_files.specs.declared.progress.TheConstants.{KEPT, FILE_LIMIT}
+use Rattle.pp_files.specs.Rows.{Row}
+use Rattle.pp_files.specs.Files.{Rule, with_line, rows_of_lines, rows_of_file}
+use Rattle.pp_files.specs.Loading.{IsRow, RunsOut}
+
+-- there are rows, and they are held
+abbrev pub Reads : (List Row → Type 0) → Result (List Row) LoadFault → Type 0
+Reads Holds read = (rows : List Row) × (read ≡ Ok rows) × Holds rows
+
+-- there are rows
+abbrev pub HasRows : Result (List Row) LoadFault → Type 0
+HasRows read = (rows : List Row) × (read ≡ Ok rows)
+
+-- the fault is that of the rows, or memory was refused where they have none
+abbrev pub FailsBy : Result (List Row) LoadFault → LoadFault → Type 0
+FailsBy read fault = (read ≡ Err fault) ⊎ ((fault ≡ NoMemory) × HasRows read)
+
+-- the fault is that of line k, or memory was refused for its row where it has none
+abbrev pub FailsAt : Rule → ℕ → List Row → List ℕ → LoadFault → Type 0
+FailsAt rule k rows line fault =
+    (with_line rule k rows line ≡ Err fault) ⊎ ((fault ≡ NoMemory) × HasRows (with_line rule k rows line) × IsRow k line)
+
+-- the fault is that of the file with these bytes, or memory was refused before any of the file
+abbrev pub FailsIn : Rule → List ℕ → LoadFault → Type 0
+FailsIn rule bytes fault = (rows_of_file rule FILE_LIMIT bytes ≡ Err fault) ⊎ ((fault ≡ NoMemory) × RunsOut rule FILE_LIMIT bytes)
+
+-- no read failed, and memory was refused only where some is wanted
+abbrev pub MayTell : Bool → LoadFault → Type 0
+MayTell wants_memory NoMemory = wants_memory ≡ true
+MayTell wants_memory ReadFailed = ⊥
+MayTell wants_memory fault = Unit {0}
+
+-- memory was refused only where some is wanted
+abbrev pub MayWant : Bool → LoadFault → Type 0
+MayWant wants_memory NoMemory = wants_memory ≡ true
+MayWant wants_memory fault = Unit {0}
+
+-- the file was read as far as these bytes
+pub record Stands (progress : Progress) (rule : Rule) (Holds : List Row → Type 0) (bytes : List ℕ) : Type 0 where
+  pub keeps : IsFrontOf KEPT progress.cutter bytes
+  pub counts_bytes : progress.bytes ≡ length bytes
+  pub counts_lines : progress.lines ≡ length (finished bytes)
+  pub reads : Reads Holds (rows_of_lines rule (finished bytes))

@@ -1,0 +1,14 @@
+//! Deck and panel files: from the bytes of a source to cards and panel words.
+#![tactic(auto)]
+
+mod fault;
+mod load;
+mod loading;
+mod progress;
+mod rows;
+mod sheet;
+
+
+
+pub use fault::LoadFault;
+pub use load::{load_deck, load_panel};

@@ -1,0 +1,77 @@
+//! Loads decks and panels.
+ghost use Rattle.std.specs.Io.KnownBytes.{IsAtEnd};
+ghost use Rattle.std.specs.Prelude.{◌≡◌, ◌≢◌, ◌<◌, ℕ, List, All, Some, Ok, IfOk, IfErr, OnOk, MatchResult};
+ghost use Rattle.pp_files.specs.Files.{card_rule, panel_rule, whole_panel, deck_of_file, panel_of_file};
+ghost use Rattle.pp_files.specs.Loading.{Tells, reads_after};
+ghost use Rattle.pp_files.specs.declared.progress.TheConstants.{FILE_LIMIT};
+
+use crate::fault::LoadFault;
+use crate::loading::read_sheet;
+use crate::sheet::{COLUMNS, Deck, PANEL_WORDS, Panel};
+use arrayvec::ArrayVec;
+use pp_lines::Source;
+use std::alloc::Global;
+
+/// Reads the cards of a deck file to the end of the source (this project's choice of format).
+///
+/// Each line of words is a card; a line without words, and one whose first byte that is not a
+/// blank or a tab is `*`, is skipped. The words are octal, 0 to 7777, for the columns from the
+/// first on; columns that are left out are 0. A file without cards is an empty deck.
+///
+/// # Errors
+/// The file's first fault, in the order of `LoadFault`. `NoMemory` is told only at a card.
+pub fn load_deck<R: Source>(alloc: Global, source: &mut R) -> Result<Vec<[u16; COLUMNS]>, LoadFault>
+    ensures cards { IfOk result (λ deck. (bytes : List ℕ) → R.rest source.old ≡ Some bytes →
+        deck_of_file FILE_LIMIT bytes ≡ Ok deck.items) }
+    ensures within { IfOk result (λ deck. All (All (λ value. value < 0o10000)) deck.items) }
+    ensures fault { IfErr result (λ fault. (bytes : List ℕ) → R.rest source.old ≡ Some bytes →
+        Tells card_rule (deck_of_file FILE_LIMIT bytes) bytes (R.rest source.new) fault) }
+    ensures all { OnOk result (IsAtEnd (R.rest source.new)) }
+    ensures reads { MatchResult result
+        (λ _. R.failure_count source.new ≡ R.failure_count source.old)
+        (λ fault. R.failure_count source.new ≡ reads_after fault (R.failure_count source.old)) }
+{
+    let mut deck = Deck {
+        cards: Vec::new(alloc),
+    };
+    read_sheet(source, &mut deck)?;
+    Ok(deck.cards)
+}
+
+/// Reads the twelve words of a panel file to the end of the source (this project's choice of
+/// format): the words of all lines together, each octal, 0 to 7777. Lines are skipped as in a deck.
+///
+/// # Errors
+/// The file's first fault, in the order of `LoadFault`, and `PanelCount` where it ends with fewer
+/// than twelve words. It is never `NoMemory`, nor `TooManyWords`.
+pub fn load_panel<R: Source>(source: &mut R) -> Result<[u16; PANEL_WORDS], LoadFault>
+    ensures words { IfOk result (λ panel. (bytes : List ℕ) → R.rest source.old ≡ Some bytes →
+        panel_of_file FILE_LIMIT bytes ≡ Ok panel) }
+    ensures within { IfOk result (λ panel. All (λ value. value < 0o10000) panel) }
+    ensures fault { IfErr result (λ fault. (bytes : List ℕ) → R.rest source.old ≡ Some bytes →
+        Tells panel_rule (panel_of_file FILE_LIMIT bytes) bytes (R.rest source.new) fault) }
+    ensures no_memory { IfErr result (λ fault. fault ≢ LoadFault.NoMemory) }
+    ensures all { OnOk result (IsAtEnd (R.rest source.new)) }
+    ensures reads { MatchResult result
+        (λ _. R.failure_count source.new ≡ R.failure_count source.old)
+        (λ fault. R.failure_count source.new ≡ reads_after fault (R.failure_count source.old)) }
+{
+    let mut panel = Panel {
+        words: ArrayVec::new(),
+    };
+    read_sheet(source, &mut panel)?;
+    whole(&panel)
+}
+
+/// The words of a panel that has them all.
+fn whole(panel: &Panel) -> Result<[u16; PANEL_WORDS], LoadFault>
+    ensures whole { result ≡ whole_panel panel.now.words.items }
+    ensures within { IfOk result (λ words. All (λ value. value < 0o10000) words) }
+{
+    if panel.words.len() != PANEL_WORDS {
+        return Err(LoadFault::PanelCount);
+    }
+    let mut words = [0; PANEL_WORDS];
+    words.copy_from_slice(panel.words.as_slice());
+    Ok(words)
+}

@@ -1,0 +1,117 @@
+//! Reads a file into a sheet.
+ghost use Rattle.std.specs.Io.KnownBytes.{IsAtEnd};
+ghost use Rattle.std.specs.Prelude.{◌≡◌, ◌+◌, ◌∷◌, ◌++◌, [], ℕ, List, Some, IfErr, OnOk, MatchResult, length};
+ghost use Rattle.pp_files.specs.Rows.{Row};
+ghost use Rattle.pp_files.specs.Files.{with_line, rows_of_file};
+ghost use Rattle.pp_files.specs.Loading.{Tells, reads_after};
+ghost use Rattle.pp_files.specs.Reading.{Stands, Reads, FailsAt, FailsIn, MayTell, MayWant};
+
+use crate::fault::LoadFault;
+use crate::progress::{FILE_LIMIT, LONGEST, Progress};
+use crate::rows::{are_numbers, are_octal};
+use crate::sheet::Sheet;
+use pp_lines::{Failed, LINE_FEED, Source, is_ignored, without_return};
+
+/// The most bytes that are taken at once.
+const PIECE: usize = 4096;
+
+/// Reads a line, of which `number` is the number.
+#[tactic(auto, unfolding(crate::specs::Rows::row_of_line))]
+fn read_line<S: Sheet>(sheet: &mut S, number: u32, line: &[u8]) -> Result<(), LoadFault>
+    ensures row { (rows : List Row) → S.holds sheet.old rows →
+        MatchResult result (λ _. Reads (S.holds sheet.new) (with_line S.rule number rows line.now))
+        (λ fault. FailsAt S.rule number rows line.now fault) }
+    ensures faults { IfErr result (MayTell S.wants_memory) }
+{
+    let text = without_return(line);
+    if text.len() > LONGEST {
+        return Err(LoadFault::LineTooLong(number));
+    }
+    if is_ignored(text) {
+        return Ok(());
+    }
+    if !are_octal(text) {
+        return Err(LoadFault::NotOctal(number));
+    }
+    if !are_numbers(text) {
+        return Err(LoadFault::TooLarge(number));
+    }
+    sheet.add(number, text)
+}
+
+/// Takes one byte more of the file.
+fn feed_byte<S: Sheet>(progress: &mut Progress, sheet: &mut S, byte: u8) -> Result<(), LoadFault>
+    ensures stands { (bytes more : List ℕ) → Stands progress.old S.rule (S.holds sheet.old) bytes →
+        MatchResult result
+        (λ _. Stands progress.new S.rule (S.holds sheet.new) (bytes ++ byte ∷ []))
+        (λ fault. FailsIn S.rule (bytes ++ byte ∷ more) fault) }
+    ensures bytes { OnOk result (progress.new.bytes ≡ progress.old.bytes + 1) }
+    ensures faults { IfErr result (MayTell S.wants_memory) }
+{
+    if progress.bytes == FILE_LIMIT {
+        return Err(LoadFault::FileTooLong);
+    }
+    progress.bytes += 1;
+    if byte != LINE_FEED {
+        progress.cutter.take_byte(byte);
+        return Ok(());
+    }
+    read_line(sheet, progress.lines + 1, progress.cutter.line())?;
+    progress.cutter.end_line();
+    progress.lines += 1;
+    Ok(())
+}
+
+/// Takes a piece more of the file.
+fn feed<S: Sheet>(progress: &mut Progress, sheet: &mut S, piece: &[u8]) -> Result<(), LoadFault>
+    ensures stands { (bytes more : List ℕ) → Stands progress.old S.rule (S.holds sheet.old) bytes →
+        MatchResult result
+        (λ _. Stands progress.new S.rule (S.holds sheet.new) (bytes ++ piece.now))
+        (λ fault. FailsIn S.rule ((bytes ++ piece.now) ++ more) fault) }
+    ensures bytes { OnOk result (progress.new.bytes ≡ progress.old.bytes + length piece.now) }
+    ensures faults { IfErr result (MayTell S.wants_memory) }
+{
+    for byte in piece {
+        feed_byte(progress, sheet, *byte)?;
+    }
+    Ok(())
+}
+
+/// Reads the last line, where no line feed ends it.
+fn finish<S: Sheet>(progress: &Progress, sheet: &mut S) -> Result<(), LoadFault>
+    ensures read { (bytes : List ℕ) → Stands progress.now S.rule (S.holds sheet.old) bytes →
+        MatchResult result
+        (λ _. Reads (S.holds sheet.new) (rows_of_file S.rule FILE_LIMIT bytes))
+        (λ fault. FailsIn S.rule bytes fault) }
+    ensures faults { IfErr result (MayTell S.wants_memory) }
+{
+    let line = progress.cutter.line();
+    if line.is_empty() {
+        return Ok(());
+    }
+    read_line(sheet, progress.lines + 1, line)
+}
+
+/// Reads all of the source into an empty sheet.
+pub fn read_sheet<R: Source, S: Sheet>(source: &mut R, sheet: &mut S) -> Result<(), LoadFault>
+    requires { S.holds sheet.old [] }
+    ensures read { (bytes : List ℕ) → R.rest source.old ≡ Some bytes →
+        MatchResult result
+        (λ _. Reads (S.holds sheet.new) (rows_of_file S.rule FILE_LIMIT bytes))
+        (λ fault. Tells S.rule (rows_of_file S.rule FILE_LIMIT bytes) bytes (R.rest source.new) fault) }
+    ensures all { OnOk result (IsAtEnd (R.rest source.new)) }
+    ensures reads { MatchResult result
+        (λ _. R.failure_count source.new ≡ R.failure_count source.old)
+        (λ fault. R.failure_count source.new ≡ reads_after fault (R.failure_count source.old)) }
+    ensures faults { IfErr result (MayWant S.wants_memory) }
+{
+    let mut progress = Progress::new();
+    let mut piece = [0; PIECE];
+    'pieces: loop {
+        match source.take(&mut piece) {
+            Err(Failed) => return Err(LoadFault::ReadFailed),
+            Ok(0) => return finish(&progress, sheet),
+            Ok(count) => feed(&mut progress, sheet, &piece[..count])?,
+        }
+    }
+}

@@ -1,0 +1,41 @@
+//! How far a file was read.
+ghost use Rattle.std.specs.Prelude.{◌≡◌, ◌≤◌, []};
+ghost use Rattle.pp_files.specs.declared.progress.TheConstants.{FILE_LIMIT};
+
+use pp_lines::LineCutter;
+
+/// The most bytes of a file.
+pub const FILE_LIMIT: u32 = 1_048_576;
+
+/// The most bytes of a line, one carriage return at its end not counted.
+pub const LONGEST: usize = 1023;
+
+/// As many bytes of a line as show that it is too long: the most, a carriage return, and one more.
+pub const KEPT: usize = 1025;
+
+/// How far a file was read.
+#[derive(Drop)]
+pub struct Progress {
+    pub cutter: LineCutter<KEPT>,
+    /// The bytes that were read.
+    pub bytes: u32,
+    /// The lines that a line feed ended.
+    pub lines: u32,
+    ghost bytes_within: { bytes ≤ FILE_LIMIT },
+    ghost lines_within: { lines ≤ bytes },
+}
+
+impl Progress {
+    /// Before the first byte.
+    pub fn new() -> Self
+        ensures front { result.cutter ≡ [] }
+        ensures bytes { result.bytes ≡ 0 }
+        ensures lines { result.lines ≡ 0 }
+    {
+        Progress {
+            cutter: LineCutter::new(),
+            bytes: 0,
+            lines: 0,
+        }
+    }
+}

@@ -1,0 +1,80 @@
+//! From the text of a line to its numbers.
+ghost use Rattle.std.specs.Prelude.{◌≡◌, ◌<◌, ◌≤◌, true, length, IfSome, MatchOption, All};
+ghost use Rattle.std.specs.List.{list_all};
+ghost use Rattle.pp_arith.specs.Octal.{is_octal, octal_value};
+ghost use Rattle.pp_lines.specs.Words.{words};
+ghost use Rattle.pp_files.specs.Rows.{is_number, numbers};
+
+use arrayvec::ArrayVec;
+use pp_arith::{is_octal, read_octal};
+use pp_lines::next_word;
+
+/// The greatest number of a file.
+const MOST: u64 = 0o7777;
+
+/// Whether all words of the text are octal.
+pub fn are_octal(text: &[u8]) -> bool
+    ensures { result ≡ list_all is_octal (words text.now) }
+{
+    let mut rest = text;
+    'words: while let Some((word, others)) = next_word(rest) {
+        if !is_octal(word) {
+            return false;
+        }
+        rest = others;
+    }
+    true
+}
+
+/// Whether the word is octal and at most the greatest number.
+fn is_number(word: &[u8]) -> bool
+    ensures { result ≡ is_number word.now }
+{
+    read_octal(word, MOST).is_ok()
+}
+
+/// Whether all words of the text are octal and at most the greatest number.
+pub fn are_numbers(text: &[u8]) -> bool
+    ensures { result ≡ list_all is_number (words text.now) }
+{
+    let mut rest = text;
+    'words: while let Some((word, others)) = next_word(rest) {
+        if !is_number(word) {
+            return false;
+        }
+        rest = others;
+    }
+    true
+}
+
+/// The number that a word writes.
+fn number(word: &[u8]) -> u16
+    requires { is_number word.now ≡ true }
+    ensures value { result ≡ octal_value word.now }
+    ensures within { result < 0o10000 }
+{
+    match read_octal(word, MOST) {
+        Ok(value) => value as u16,
+        Err(_) => unreachable!(),
+    }
+}
+
+/// The numbers of the text, where they are at most `ROOM`.
+pub fn numbers<const ROOM: usize>(text: &[u8]) -> Option<ArrayVec<u16, ROOM>>
+    requires { list_all is_number (words text.now) ≡ true }
+    ensures few { MatchOption result (ROOM < length (words text.now))
+        (λ row. row.items ≡ numbers (words text.now)) }
+    ensures short { IfSome result (λ row. length row.items ≤ ROOM) }
+    ensures within { IfSome result (λ row. All (λ value. value < 0o10000) row.items) }
+{
+    let mut row = ArrayVec::new();
+    let mut rest = text;
+    'words: while let Some((word, others)) = next_word(rest) {
+        if row.is_full() {
+            return None;
+        }
+        row.push(number(word));
+        rest = others;
+    }
+    Some(row)
+}

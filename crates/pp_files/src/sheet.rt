@@ -1,0 +1,107 @@
+//! What a file is read into.
+ghost use Rattle.std.specs.Prelude.{◌≡◌, ◌<◌, ◌≤◌, ◌++◌, length, drop, Bool, List, true, false, map, All, IfErr, MatchResult};
+ghost use Rattle.std.specs.List.{list_all, concat};
+ghost use Rattle.pp_lines.specs.Words.{words};
+ghost use Rattle.pp_files.specs.Rows.{Row, is_number, numbers};
+ghost use Rattle.pp_files.specs.Files.{Rule, card_rule, card_of_row, panel_rule};
+ghost use Rattle.pp_files.specs.Reading.{Reads, FailsBy, MayTell};
+
+use crate::fault::LoadFault;
+use crate::rows::numbers;
+use arrayvec::ArrayVec;
+
+/// The columns of a card.
+pub const COLUMNS: usize = 80;
+
+/// The words of a panel.
+pub const PANEL_WORDS: usize = 12;
+
+/// What a file is read into, row by row.
+pub trait Sheet {
+    // What becomes of the rows so far when a line brings its own.
+    ghost rule: { Rule };
+
+    // The sheet was filled from these rows.
+    ghost holds: { Self → List Row → Type 0 };
+
+    // Whether a row may need memory.
+    ghost wants_memory: { Bool };
+
+    /// Adds the row of a line of numbers, of which `line` is the number.
+    fn add(&mut self, line: u32, text: &[u8]) -> Result<(), LoadFault>
+        requires { list_all is_number (words text.now) ≡ true }
+        ensures row { (rows : List Row) → holds self.old rows →
+            MatchResult result
+            (λ _. Reads (holds self.new) (rule line rows (numbers (words text.now))))
+            (λ fault. FailsBy (rule line rows (numbers (words text.now))) fault) }
+        ensures faults { IfErr result (MayTell wants_memory) };
+}
+
+/// The cards of a deck.
+#[derive(Drop)]
+pub struct Deck {
+    pub cards: Vec<[u16; COLUMNS]>,
+    ghost small: { All (All (λ value. value < 0o10000)) cards.items },
+}
+
+impl Sheet for Deck {
+    ghost rule = { card_rule };
+
+    ghost holds = { λ deck rows. deck.cards.items ≡ map card_of_row rows };
+
+    ghost wants_memory = { true };
+
+    fn add(&mut self, line: u32, text: &[u8]) -> Result<(), LoadFault> {
+        let Some(row) = numbers::<COLUMNS>(text) else {
+            return Err(LoadFault::TooManyWords(line));
+        };
+        match self.cards.push(card(&row)) {
+            Ok(()) => Ok(()),
+            Err(_) => Err(LoadFault::NoMemory),
+        }
+    }
+}
+
+/// Writes a row over the front of a card.
+fn write_front(card: &mut [u16], row: &[u16])
+    requires { length row.now ≤ length card.old }
+    ensures { card.new ≡ row.now ++ drop (length row.now) card.old }
+{
+    card[..row.len()].copy_from_slice(row);
+}
+
+/// A row with zeros for the columns that it leaves out.
+fn card(row: &ArrayVec<u16, COLUMNS>) -> [u16; COLUMNS]
+    ensures row { result ≡ card_of_row row.now.items }
+    ensures within { All (λ value. value < 0o10000) row.now.items
+        → All (λ value. value < 0o10000) result }
+{
+    let mut card = [0; COLUMNS];
+    write_front(&mut card, row.as_slice());
+    card
+}
+
+/// The words of a panel, as far as they were read.
+#[derive(Drop)]
+pub struct Panel {
+    pub words: ArrayVec<u16, PANEL_WORDS>,
+    ghost small: { All (λ value. value < 0o10000) words.items },
+}
+
+impl Sheet for Panel {
+    ghost rule = { panel_rule };
+
+    ghost holds = { λ panel rows. panel.words.items ≡ concat rows };
+
+    ghost wants_memory = { false };
+
+    fn add(&mut self, _line: u32, text: &[u8]) -> Result<(), LoadFault> {
+        let Some(row) = numbers::<PANEL_WORDS>(text) else {
+            return Err(LoadFault::PanelCount);
+        };
+        match self.words.try_extend_from_slice(row.as_slice()) {
+            Ok(()) => Ok(()),
+            Err(_) => Err(LoadFault::PanelCount),
+        }
+    }
+}
