@@ -71,7 +71,6 @@ lines-fault rule done more fault e =
 
 -- ---- a file
 
-
 file-lines : (rule : Rule) (limit : ℕ) (bytes : List ℕ) (read : Result (List Row) LoadFault) → rows_of_lines rule (lines_of_file limit bytes) ≡ read →
     rows_of_file rule limit bytes ≡ (read >>= λ rows. cond (nat_le (length bytes) limit) (Ok rows) (Err FileTooLong))
 unfolding rows_of_file

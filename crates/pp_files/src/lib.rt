@@ -7,8 +7,8 @@ mod loading;
 mod progress;
 mod rows;
 mod sheet;
-
-
+#[cfg(test)]
+mod tests;
 
 pub use fault::LoadFault;
 pub use load::{load_deck, load_panel};
