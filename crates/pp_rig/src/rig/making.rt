@@ -1,0 +1,77 @@
+//! The starting machine.
+ghost use Rattle.std.specs.Prelude.{◌≡◌, ◌≤◌, All, IfErr, IfOk, IfSome, None, OnOk, replicate, unwrap_or};
+ghost use Rattle.pp_machine.specs.ReaderNumbers.{IsCard};
+ghost use Rattle.pp_rig.specs.Starting.{blank_processor, setup_fault, starting};
+
+use super::Rig;
+use crate::processor::Processor;
+use crate::setup::{Setup, SetupFault};
+use crate::watched::WatchList;
+use pp_machine::{Central, Channels, Frame, MakeFault, Printer, Reader};
+use std::alloc::Global;
+
+/// Ten processors with every number 0.
+fn blank_processors(alloc: Global) -> Result<Vec<Processor>, MakeFault>
+    ensures { IfOk result (λ v. v.items ≡ replicate 10 blank_processor) }
+{
+    let mut processors = Vec::new(alloc);
+    for _i in 0..10u8 {
+        processors.push(Processor::new(alloc)?)?;
+    }
+    Ok(processors)
+}
+
+impl Rig {
+    /// The machine at its start: every number is 0, both devices are idle, and nothing is printed or watched
+    /// (this project's choice).
+    ///
+    /// It answers the first fault that applies: `SameChannel` where reader and printer are to be on one channel,
+    /// `DeckTooLong` where there are more than 2000 (decimal) cards, and `NoMemory` where memory is refused. The
+    /// setup is dropped then.
+    pub fn new(alloc: Global, setup: Setup) -> Result<Rig, SetupFault>
+        requires reads { setup.reader ≤ 0o13 }
+        requires prints { setup.printer ≤ 0o13 }
+        requires cards { All IsCard setup.deck.items }
+        requires panel { IfSome setup.panel (λ panel. All (λ word. word ≤ 0o7777) panel) }
+        ensures made { IfOk result (λ rig. rig ≡ starting setup) }
+        ensures admitted { OnOk result (setup_fault setup ≡ None) }
+        ensures refused { IfErr result (λ fault. fault ≡ unwrap_or (setup_fault setup) SetupFault.NoMemory) }
+    {
+        if setup.reader == setup.printer {
+            return Err(SetupFault::SameChannel);
+        }
+        let Setup {
+            central: central_size,
+            reader: reader_channel,
+            printer: printer_channel,
+            deck,
+            panel,
+        } = setup;
+        let Ok(reader) = Reader::new(deck) else {
+            return Err(SetupFault::DeckTooLong);
+        };
+        let Ok(processors) = blank_processors(alloc) else {
+            return Err(SetupFault::NoMemory);
+        };
+        let Ok(central) = Central::new(alloc, central_size) else {
+            return Err(SetupFault::NoMemory);
+        };
+        let Ok(printer) = Printer::new(alloc) else {
+            return Err(SetupFault::NoMemory);
+        };
+        Ok(Rig {
+            processors,
+            channels: Channels::new(),
+            central,
+            frame: Frame::new(),
+            reader,
+            printer,
+            slot: 0,
+            watches: WatchList::new(),
+            central_size,
+            panel,
+            reader_channel,
+            printer_channel,
+        })
+    }
+}

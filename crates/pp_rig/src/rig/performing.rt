@@ -1,0 +1,58 @@
+//! An action of any kind.
+ghost use Rattle.std.specs.Prelude.{◌≡◌};
+ghost use Rattle.pp_rig.specs.Action.{FitsRecord, before, next};
+ghost use Rattle.pp_rig.specs.Performing.{IsPerformable};
+
+use super::settings::cell_settings;
+use super::{Rig, RigRecord};
+use crate::action::Action;
+use pp_machine::{Kept, Place};
+
+impl Rig {
+    /// Performs an action whose numbers are in their ranges and that nothing stands against.
+    pub(super) fn perform(&mut self, action: &Action) -> RigRecord
+        requires { IsPerformable self.old action.now }
+        ensures step { self.new ≡ next self.old action.now }
+        ensures back { before result self.new ≡ self.old }
+        ensures fits { FitsRecord result self.new }
+    {
+        match action {
+            Action::Turn => self.turn_kept(),
+            Action::SetCells { pp, a, values } => {
+                let list = cell_settings(*pp, *a, values.as_slice());
+                self.overwrite_all(list.as_slice())
+            }
+            Action::SetA { pp, v } => self.overwrite_all(&[Kept::new(
+                Place::RegA { pp: *pp },
+                u64::from(*v),
+            )]),
+            Action::SetQ { pp, v } => self.overwrite_all(&[Kept::new(
+                Place::RegQ { pp: *pp },
+                u64::from(*v),
+            )]),
+            Action::SetWord { a, v } => self.overwrite_all(&[Kept::new(
+                Place::Central { a: *a },
+                *v,
+            )]),
+            Action::SetChannel {
+                c,
+                state,
+                word: None,
+            } => self.overwrite_all(&[Kept::new(Place::ChannelMode { c: *c }, *state as u64)]),
+            Action::SetChannel {
+                c,
+                state,
+                word: Some(word),
+            } => self.overwrite_all(&[
+                Kept::new(Place::ChannelMode { c: *c }, *state as u64),
+                Kept::new(Place::ChannelWord { c: *c }, u64::from(*word)),
+            ]),
+            Action::SetP { pp, v } => self.overwrite_all(&[
+                Kept::new(Place::RegP { pp: *pp }, u64::from(*v)),
+                Kept::new(Place::Phase { pp: *pp }, 0),
+            ]),
+            Action::Watch(watched) => self.watch(*watched),
+            Action::Unwatch(_) | Action::Deadstart => self.overwrite_all(&[]),
+        }
+    }
+}
