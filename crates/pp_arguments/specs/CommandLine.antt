@@ -1,0 +1,50 @@
+-- The command line of the program, as clap reads it:
+-- pp6600 [--history N] [--central K] [--deck F] [--reader C] [--printer C] [--panel F] [SCRIPT]
+use Rattle.std.specs.Prelude.{◌≢◌, ℕ, Bool, List, Option, Some, codes}
+use Rattle.clap.specs.Faults.{fault_of}
+use Rattle.clap.specs.Kinds.{IsAmong, Kinds}
+use Rattle.clap.specs.Simple.{App, matches_of, new_app, new_rule, with_rule}
+use Rattle.clap.specs.Takes.{takes}
+use Rattle.clap.specs.Walk.{Rule, first_of}
+use Rattle.clap.specs.declared.builder.action.ArgAction.TheVariants.{Set}
+use Rattle.clap.specs.declared.error.kind.ErrorKind.{ErrorKind}
+use Rattle.clap.specs.declared.error.kind.ErrorKind.TheVariants.{DisplayHelp}
+use Rattle.pp_arguments.specs.declared.options.ArgFault.{ArgFault}
+use Rattle.pp_arguments.specs.declared.options.ArgFault.TheVariants.{BadArguments, BadChannel, Help, NoMemory}
+
+abbrev pub Text : Type 0
+Text = List ℕ
+
+-- an option with one value
+abbrev pub option_rule : Text → Rule
+option_rule name = record (new_rule name) { long = Some name; action = Some Set }
+
+-- the word that is no option's
+abbrev pub script_rule : Rule
+script_rule = record (new_rule (codes "script")) { action = Some Set }
+
+-- six options and the script
+unfoldable pub pp6600 : App
+pp6600 = with_rule (with_rule (with_rule (with_rule (with_rule (with_rule (with_rule (new_app (codes "pp6600"))
+    (option_rule (codes "history"))) (option_rule (codes "central"))) (option_rule (codes "deck")))
+    (option_rule (codes "reader"))) (option_rule (codes "printer"))) (option_rule (codes "panel")))
+    script_rule
+
+-- the value that the words give to the option of this name, or to the script
+unfoldable pub given : List Text → Text → Option Text
+given words name = first_of name (matches_of pp6600 words)
+
+-- the command line takes the words
+unfoldable pub are_taken : List Text → Bool
+are_taken words = takes pp6600 words
+
+-- the errors that the command line may give at the words; there is none where it takes them
+unfoldable pub faults_of : List Text → Kinds
+faults_of words = fault_of pp6600 words
+
+-- an error of one of these kinds, or want of memory, is told so
+abbrev pub IsToldOf : Kinds → ArgFault → Type 0
+IsToldOf kinds NoMemory = Unit {0}
+IsToldOf kinds Help = IsAmong DisplayHelp kinds
+IsToldOf kinds BadArguments = (kind : ErrorKind) × IsAmong kind kinds × (kind ≢ DisplayHelp)
+IsToldOf kinds BadChannel = ⊥

@@ -1,0 +1,69 @@
+//! The command line of the program, as `clap` reads it.
+ghost use Rattle.clap.specs.Kinds.{IsAmong, Kinds};
+ghost use Rattle.clap.specs.Words.{app_of, first_value, found_of, rule_of};
+ghost use Rattle.pp_arguments.specs.CommandLine.{IsToldOf, are_taken, faults_of, given, option_rule, pp6600, script_rule};
+ghost use Rattle.std.specs.Prelude.{◌≡◌, ◌⊎◌, [], ℕ, List, false, map, true, IfOk, IfErr, MatchResult};
+ghost use Rattle.std.specs.String.{string_bytes};
+
+use crate::options::ArgFault;
+use clap::error::ErrorKind;
+use clap::{Arg, ArgAction, ArgMatches, Command};
+use std::alloc::{AllocError, Global};
+
+/// An option with one value.
+fn option<'a>(alloc: Global, name: &'a str) -> Arg<'a>
+    ensures rule { rule_of result ≡ option_rule name.entry.now }
+    ensures local { result.global ≡ false }
+{
+    Arg::new(alloc, name).long(name).action(ArgAction::Set)
+}
+
+/// The word that is no option's.
+fn script<'a>(alloc: Global) -> Arg<'a>
+    ensures rule { rule_of result ≡ script_rule }
+    ensures local { result.global ≡ false }
+{
+    Arg::new(alloc, "script").action(ArgAction::Set)
+}
+
+fn command_line<'a>(alloc: Global) -> Result<Command<'a>, AllocError>
+    ensures { IfOk result (λ command. app_of command ≡ pp6600) }
+{
+    Command::new(alloc, "pp6600")
+        .arg(option(alloc, "history"))?
+        .arg(option(alloc, "central"))?
+        .arg(option(alloc, "deck"))?
+        .arg(option(alloc, "reader"))?
+        .arg(option(alloc, "printer"))?
+        .arg(option(alloc, "panel"))?
+        .arg(script(alloc))
+}
+
+fn fault_of(kind: ErrorKind) -> ArgFault
+    ensures memory { kind ≡ ErrorKind.OutOfMemory → result ≡ ArgFault.NoMemory }
+    ensures told { (kinds : Kinds) → (kind ≡ ErrorKind.OutOfMemory) ⊎ IsAmong kind kinds → IsToldOf kinds result }
+{
+    match kind {
+        ErrorKind::OutOfMemory => ArgFault::NoMemory,
+        ErrorKind::DisplayHelp => ArgFault::Help,
+        _ => ArgFault::BadArguments,
+    }
+}
+
+/// What the words, the first of which is the program's name, give to each option.
+pub fn read_words<'a>(alloc: Global, words: &'a [String]) -> Result<ArgMatches<'a>, ArgFault>
+    ensures matches { IfOk result (λ matches. (name : List ℕ) →
+        first_value (found_of matches) name ≡ given (map string_bytes words.entry.now) name) }
+    ensures taken { IfErr result (λ fault.
+        are_taken (map string_bytes words.entry.now) ≡ true → fault ≡ ArgFault.NoMemory) }
+    ensures faults { MatchResult result (λ _. faults_of (map string_bytes words.entry.now) ≡ [])
+        (IsToldOf (faults_of (map string_bytes words.entry.now))) }
+{
+    let Ok(command) = command_line(alloc) else {
+        return Err(ArgFault::NoMemory);
+    };
+    match command.try_get_matches_from(words) {
+        Ok(matches) => Ok(matches),
+        Err(error) => Err(fault_of(error.kind())),
+    }
+}

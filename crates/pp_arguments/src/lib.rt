@@ -1,0 +1,12 @@
+//! From the words of the command line to the options of the program.
+#![tactic(auto)]
+
+mod command_line;
+mod decimal;
+mod options;
+mod reading;
+#[cfg(test)]
+mod tests;
+
+pub use options::{ArgFault, Options};
+pub use reading::read_arguments;
