@@ -2,6 +2,7 @@
 -- That a transfer uses cell 0000 for P, and that 71 and 73 count down in A, is the manual's. The phase, the count
 -- in Q of 61 and 63, and what a step does in each case are this project's choice.
 use Rattle.std.specs.Prelude.{ℕ, List, [], ◌∷◌, ◌-◌, ◌==◌, ◌||◌, if◌then◌else◌, nat_lt, not, length, slice_index, slice_set}
+use Rattle.pp_arith.specs.Words60.{split60}
 use Rattle.pp_machine.specs.ChannelNumbers.{state_number}
 use Rattle.pp_machine.specs.Writes.{Writes}
 use Rattle.pp_machine.specs.declared.channel.ChannelState.TheVariants.{Empty, Full}
@@ -9,7 +10,7 @@ use Rattle.pp_step.specs.Channels.{is_clock, is_in, is_active}
 use Rattle.pp_step.specs.Instruction.{InstructionNumbers}
 use Rattle.pp_step.specs.Rows.{five_cells}
 use Rattle.pp_step.specs.View.{PpView, PpPlace, A, P, Q, Phase, Cell, Mode, Channel, Word}
-use Rattle.pp_step.specs.Words.{cell_after, central_after, split60, joined_cells}
+use Rattle.pp_step.specs.Words.{cell_after, central_after, joined_cells}
 use Rattle.pp_step.specs.declared.code.Code.{Code}
 use Rattle.pp_step.specs.declared.code.Code.TheVariants.{Crm, Cwm, Iam, Oam}
 

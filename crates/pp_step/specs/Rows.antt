@@ -2,13 +2,14 @@
 -- names another target.
 use Rattle.std.specs.Prelude.{ℕ, List, [], ◌∷◌, Bool, if◌then◌else◌, nat_lt, slice_index}
 use Rattle.pp_arith.specs.Arith.{relative}
+use Rattle.pp_arith.specs.Words60.{split60}
 use Rattle.pp_machine.specs.ChannelNumbers.{state_number}
 use Rattle.pp_machine.specs.Writes.{Writes}
 use Rattle.pp_machine.specs.declared.channel.ChannelState.{ChannelState}
 use Rattle.pp_machine.specs.declared.channel.ChannelState.TheVariants.{Empty}
 use Rattle.pp_step.specs.Instruction.{InstructionNumbers}
 use Rattle.pp_step.specs.View.{PpPlace, A, P, Cell, Mode, Channel, Word}
-use Rattle.pp_step.specs.Words.{cell_after, lower12, split60, joined_cells}
+use Rattle.pp_step.specs.Words.{cell_after, lower12, joined_cells}
 
 abbrev pub jump : ℕ → Writes PpPlace
 jump p = (P, p) ∷ []
