@@ -1,12 +1,12 @@
 -- What an instruction leaves in the phase.
-use Rattle.std.proofs.Common.{◌≡◌, ℕ, ◌+◌, ◌*◌, ◌/◌, ◌%◌, ◌≤◌, ◌==◌, Bool, true, false, List, [], ◌∷◌, ◌++◌, ◌⊎◌, if◌then◌else◌, nat_lt, length, slice_index, inl, inr, refl, ap, sym, ◌∙◌, arith}
+use Rattle.std.proofs.Common.{◌≡◌, ℕ, ◌+◌, ◌*◌, ◌/◌, ◌≤◌, ◌==◌, Bool, true, false, List, [], ◌∷◌, ◌++◌, ◌⊎◌, if◌then◌else◌, nat_lt, length, slice_index, inl, inr, refl, ap, ◌∙◌, arith}
 use Rattle.std.proofs.lemmas.Bool.{eq-eqb}
 use Rattle.pp_machine.specs.Writes.{Writes}
 use Rattle.pp_machine.specs.declared.channel.ChannelState.{ChannelState}
 use Rattle.pp_machine.specs.declared.channel.ChannelState.TheVariants.{Inactive, Empty, Full, Function}
 use Rattle.pp_step.proofs.Numbers.{number_of-code_of}
 use Rattle.pp_step.specs.Channels.{is_clock, is_in, is_active}
-use Rattle.pp_step.specs.Codes.{code_of, number_of}
+use Rattle.pp_step.specs.Codes.{number_of}
 use Rattle.pp_step.specs.Effect.{effect}
 use Rattle.pp_step.specs.Exchange.{frame_pairs, word_pairs, loaded}
 use Rattle.pp_step.specs.Instruction.{InstructionNumbers, instruction_at}

@@ -1,0 +1,48 @@
+-- What an exchange leaves at each place.
+use Rattle.std.proofs.Common.{◌≡◌, ◌≢◌, ℕ, zero, suc, List, [], ◌∷◌, ◌+◌, ◌<◌, ◌≤◌, length, slice_index, sym, ◌∙◌, ap, subst, refl, arith, add-zero, zero-add}
+use Rattle.std.proofs.lemmas.List.{get_or-set_same, get_or-set_other}
+use Rattle.std.proofs.lemmas.List.FromFn.{get_or-map-range_with_len}
+use Rattle.pp_machine.specs.Frame.{frame_word}
+use Rattle.pp_step.proofs.Exchanged.{over-swap, length-stored_over}
+use Rattle.pp_step.specs.Exchange.{exchange, loaded, loaded_word, stored_over}
+use Rattle.pp_step.specs.View.{PpView, FrameWord, Word, number, over}
+use Rattle.pp_step.specs.Words.{central_after}
+
+length-loaded : (a : ℕ) (words : List ℕ) → length (loaded a words) ≡ 16
+unfolding loaded
+length-loaded a words = refl
+
+loaded-at : (a : ℕ) (words : List ℕ) (i : ℕ) → i < 16 → slice_index (loaded a words) i ≡ loaded_word a words i
+unfolding loaded
+loaded-at a words i below = get_or-map-range_with_len (loaded_word a words) 0 16 i i 0 below (zero-add i)
+
+-- two of sixteen central addresses are not one
+addresses_apart : (a k j : ℕ) → k + suc j < 16 → central_after a (k + suc j) ≢ central_after a k
+addresses_apart a k j few = λ same. omega (arith, same)
+
+stored-at : (a k j : ℕ) (words ws : List ℕ) → k + length ws ≤ 16 → j < length ws → central_after a (k + j) < length words → slice_index (stored_over a k words ws) (central_after a (k + j)) ≡ slice_index ws j
+stored-at a k j words [] few below within = absurd (omega arith)
+stored-at a k zero words (w ∷ ws) few below within =
+    let here : k + 0 ≡ k = add-zero k in
+    let size = length-stored_over a (k + 1) words ws in
+    let fits : central_after a k < length words = subst (λ n. central_after a n < length words) here within in
+    ap (λ n. slice_index (stored_over a k words (w ∷ ws)) (central_after a n)) here
+    ∙ get_or-set_same (stored_over a (k + 1) words ws) (central_after a k) w 0 (omega (arith, size, fits))
+stored-at a k (suc j) words (w ∷ ws) few below within =
+    let next : k + suc j ≡ k + 1 + j = omega arith in
+    let later = stored-at a (k + 1) j words ws (omega arith) (omega arith) (subst (λ n. central_after a n < length words) next within) in
+    get_or-set_other (stored_over a (k + 1) words ws) (central_after a k) (central_after a (k + suc j)) w 0 (addresses_apart a k j (omega arith))
+    ∙ ap (λ n. slice_index (stored_over a (k + 1) words ws) (central_after a n)) next
+    ∙ later
+
+pub frame-exchange : (m : PpView) (next i : ℕ) → length m.frame ≡ 16 → i < 16 → number (over m (exchange next m.a m.central m.frame)) (FrameWord i) ≡ frame_word i (number m (Word (central_after m.a i)))
+frame-exchange m next i size below =
+    ap (λ s. number s (FrameWord i)) (over-swap m next m.a (loaded m.a m.central) m.frame (size ∙ sym (length-loaded m.a m.central)))
+    ∙ loaded-at m.a m.central i below
+
+pub central-exchange : (m : PpView) (next i : ℕ) → length m.frame ≡ 16 → i < 16 → central_after m.a i < length m.central → number (over m (exchange next m.a m.central m.frame)) (Word (central_after m.a i)) ≡ number m (FrameWord i)
+central-exchange m next i size below within =
+    let here : 0 + i ≡ i = zero-add i in
+    let at = stored-at m.a 0 i m.central m.frame (omega (arith, size)) (omega (arith, size)) (subst (λ n. central_after m.a n < length m.central) (sym here) within) in
+    ap (λ s. number s (Word (central_after m.a i))) (over-swap m next m.a (loaded m.a m.central) m.frame (size ∙ sym (length-loaded m.a m.central)))
+    ∙ subst (λ n. slice_index (stored_over m.a 0 m.central m.frame) (central_after m.a n) ≡ slice_index m.frame i) here at
