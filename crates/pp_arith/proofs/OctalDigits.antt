@@ -35,7 +35,7 @@ exceeds width value h =
     let once = mul-le 1 (2 ^ (3 * width)) (value / 2 ^ (3 * width)) (2 ^ (3 * width)) h (omega arith) in
     rw (sym (three_bits width)) (omega (arith, shr_split value (3 * width), once))
 
-grows : (low high : ℕ) → low ≤ high → 8 ^ low ≤ 8 ^ high
+pub grows : (low high : ℕ) → low ≤ high → 8 ^ low ≤ 8 ^ high
 grows low high h = pow-le-pow_right {n = 8} (omega arith) h
 
 -- a value that fits a width has no more digits

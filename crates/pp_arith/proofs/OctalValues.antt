@@ -9,7 +9,7 @@ use Rattle.pp_arith.specs.declared.reading.OctalFault.TheVariants.{TooLarge}
 use Rattle.pp_arith.specs.Octal.{octal_value, is_octal, is_octal_digit}
 use Rattle.pp_arith.specs.OctalRead.{octal_read}
 
-abbrev with_digit : ℕ → ℕ → ℕ
+abbrev pub with_digit : ℕ → ℕ → ℕ
 with_digit value digit = value * 8 + (digit - 48)
 
 -- digits make a number greater

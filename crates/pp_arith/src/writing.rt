@@ -1,7 +1,8 @@
 //! Numbers that are written in octal.
-ghost use Rattle.std.specs.Prelude.{◌≡◌, ◌+◌, ◌≤◌, ◌++◌, max};
+ghost use Rattle.std.specs.Prelude.{◌≡◌, ℕ, ◌+◌, ◌≤◌, ◌++◌, max, Ok};
 ghost use Rattle.arrayvec.specs.ArrayVec.{array_vec_len};
 ghost use Rattle.pp_arith.specs.Octal.{octal_digits, octal_length, octal_text};
+ghost use Rattle.pp_arith.specs.OctalRead.{octal_read};
 
 use arrayvec::ArrayVec;
 
@@ -39,7 +40,8 @@ fn width(value: u64, digits: u8) -> u8
 pub fn octal(value: u64, digits: u8) -> ArrayVec<u8, 22>
     requires some { 1 ≤ digits }
     requires few { digits ≤ 22 }
-    ensures { result.items ≡ octal_text value digits }
+    ensures value { result.items ≡ octal_text value digits }
+    ensures reads_back { (most : ℕ) → value ≤ most → octal_read result.items most ≡ Ok value }
 {
     let mut line = ArrayVec::new();
     push_octal(&mut line, value, width(value, digits));
