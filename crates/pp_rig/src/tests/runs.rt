@@ -1,0 +1,158 @@
+//! Runs of turns, and what is watched meanwhile.
+
+use super::*;
+use pp_history::BackFault;
+use std::process::Abort;
+
+const CELL_50: Watched = Watched::Cell { pp: 0, a: 0o50 };
+
+fn act(rt: &impl Abort, session: &mut Session<Rig>, action: Action) {
+    assert!(rt; session.machine().admits(&action));
+    session.act(action);
+}
+
+/// Puts words into the cells of processor 0 from `a` on.
+fn set_cells(rt: &impl Abort, session: &mut Session<Rig>, a: u16, words: &[u16]) {
+    let mut values = ArrayVec::new();
+    for word in words {
+        assert!(rt; values.len() < 8);
+        values.push(*word);
+    }
+    let values = Values::new(values);
+    act(rt, session, Action::SetCells { pp: 0, a, values });
+}
+
+fn back_to_change(session: &mut Session<Rig>) -> Result<u32, BackFault> {
+    let places = session.machine().watched_places();
+    session.back_to_change(places.as_slice())
+}
+
+/// Loads 5 into A, stores it in cell 0o50, and starts there: at 0o100.
+fn start_storing(rt: &impl Abort, session: &mut Session<Rig>) {
+    set_cells(rt, session, 0o100, &[0o1405, 0o2400, 0o3450]);
+    act(rt, session, Action::SetP { pp: 0, v: 0o100 });
+    act(rt, session, Action::Watch(CELL_50));
+}
+
+#[test]
+fn stops_at_a_changed_cell_and_goes_back(rt: HostRuntime) -> Result<(), Fail> {
+    let mut session = make(rt.alloc())?;
+    start_storing(&rt, &mut session);
+    let stopped = run(&mut session, 0o1000);
+    let hit = Hit {
+        place: CELL_50,
+        was: 0,
+        now: 5,
+    };
+    assert_eq!(rt; stopped.turns, 0o25);
+    assert_eq!(rt; stopped.hit, Some(hit));
+    assert_eq!(rt; session.machine().value(&Place::Slot), 1);
+    assert_eq!(rt; back_to_change(&mut session), Ok(1));
+    assert_eq!(rt; session.machine().value(&CELL_50.place()), 0);
+    assert_eq!(rt;
+        back_to_change(&mut session),
+        Err(BackFault::NoChange { kept: 0o27 })
+    );
+    assert_eq!(rt; session.machine().value(&CELL_50.place()), 0);
+    Ok(())
+}
+
+#[test]
+fn a_store_of_the_same_number_is_no_change(rt: HostRuntime) -> Result<(), Fail> {
+    let mut session = make(rt.alloc())?;
+    set_cells(&rt, &mut session, 0o50, &[5]);
+    start_storing(&rt, &mut session);
+    let stopped = run(&mut session, 0o1000);
+    assert_eq!(rt; stopped.turns, 0o1000);
+    assert_eq!(rt; stopped.hit, None);
+    assert_eq!(rt; session.machine().value(&Place::Slot), 2);
+    assert_eq!(rt; back_to_change(&mut session), Ok(0o1004));
+    assert!(rt; session.machine().watches().is_empty());
+    Ok(())
+}
+
+#[test]
+fn the_clock_is_watched_as_register_14(rt: HostRuntime) -> Result<(), Fail> {
+    let mut session = make(rt.alloc())?;
+    let clock = Watched::Register { c: 0o14 };
+    act(&rt, &mut session, Action::Watch(clock));
+    let stopped = run(&mut session, 0o1000);
+    let hit = Hit {
+        place: clock,
+        was: 0,
+        now: 1,
+    };
+    assert_eq!(rt; stopped.turns, 0o12);
+    assert_eq!(rt; stopped.hit, Some(hit));
+    assert_eq!(rt; session.machine().value(&Place::Slot), 0);
+    assert_eq!(rt; back_to_change(&mut session), Ok(1));
+    assert_eq!(rt; session.machine().value(&Place::Slot), 0o11);
+    assert_eq!(rt;
+        back_to_change(&mut session),
+        Err(BackFault::NoChange { kept: 0o12 })
+    );
+    Ok(())
+}
+
+/// The hit of the turn that loads A and advances P, with these two watched.
+fn hit_of_a_load(
+    rt: &impl Abort,
+    alloc: Global,
+    first: Watched,
+    second: Watched,
+) -> Result<Option<Hit>, &'static str> {
+    let mut session = make(alloc)?;
+    set_cells(rt, &mut session, 0o100, &[0o1405]);
+    act(rt, &mut session, Action::SetP { pp: 0, v: 0o100 });
+    act(rt, &mut session, Action::Watch(first));
+    act(rt, &mut session, Action::Watch(second));
+    Ok(run(&mut session, 1).hit)
+}
+
+#[test]
+fn the_hit_is_the_first_in_watch_order(rt: HostRuntime) -> Result<(), Fail> {
+    let a = Watched::RegA { pp: 0 };
+    let p = Watched::RegP { pp: 0 };
+    let of_a = Hit {
+        place: a,
+        was: 0,
+        now: 5,
+    };
+    let of_p = Hit {
+        place: p,
+        was: 0o100,
+        now: 0o101,
+    };
+    assert_eq!(rt; hit_of_a_load(&rt, rt.alloc(), a, p)?, Some(of_a));
+    assert_eq!(rt; hit_of_a_load(&rt, rt.alloc(), p, a)?, Some(of_p));
+    Ok(())
+}
+
+#[test]
+fn no_turns_are_no_run(rt: HostRuntime) -> Result<(), Fail> {
+    let mut session = make(rt.alloc())?;
+    act(&rt, &mut session, Action::Watch(Watched::RegP { pp: 0 }));
+    let stopped = run(&mut session, 0);
+    assert_eq!(rt; stopped.turns, 0);
+    assert_eq!(rt; stopped.hit, None);
+    assert_eq!(rt; session.kept(), 1);
+    Ok(())
+}
+
+#[test]
+fn a_wait_is_a_turn(rt: HostRuntime) -> Result<(), Fail> {
+    let mut session = make(rt.alloc())?;
+    let active = Action::SetChannel {
+        c: 3,
+        state: ChannelState::Empty,
+        word: None,
+    };
+    act(&rt, &mut session, active);
+    set_cells(&rt, &mut session, 0o100, &[0o7403]);
+    act(&rt, &mut session, Action::SetP { pp: 0, v: 0o100 });
+    assert_eq!(rt; run(&mut session, 1).turns, 1);
+    assert_eq!(rt; session.machine().value(&Place::Slot), 1);
+    assert_eq!(rt; session.machine().value(&Place::RegP { pp: 0 }), 0o100);
+    assert_eq!(rt; session.kept(), 4);
+    Ok(())
+}
