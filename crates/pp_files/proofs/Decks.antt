@@ -1,10 +1,10 @@
 -- From the rows of a file to a deck or a panel.
-use Rattle.std.proofs.Common.{◌≡◌, ◌∙◌, ℕ, List, map, refl, sym, ap, inl, inr}
+use Rattle.std.proofs.Common.{◌≡◌, ◌∙◌, ℕ, List, map, sym, ap, inl, inr}
 use Rattle.std.specs.Prelude.{Option, Result, Ok, Err, IfOk, IfErr}
 use Rattle.std.specs.List.{concat}
 use Rattle.pp_files.specs.declared.fault.LoadFault.{LoadFault}
 use Rattle.pp_files.specs.Rows.{Row}
-use Rattle.pp_files.specs.Files.{Rule, ◌>>=◌, rows_of_file, card_rule, card_of_row, panel_rule, whole_panel, deck_of_file, panel_of_file}
+use Rattle.pp_files.specs.Files.{Rule, ◌>>=◌, file_limit, rows_of_file, card_rule, card_of_row, panel_rule, whole_panel, deck_of_file, panel_of_file}
 use Rattle.pp_files.specs.Loading.{Tells}
 use Rattle.pp_files.specs.Reading.{Reads}
 
@@ -14,29 +14,29 @@ carried : {A : Type 0} (rule : Rule) (rows : Result (List Row) LoadFault) (f : L
 carried rule rows f fault bytes left (inl e) = inl (ap (λ read. read >>= f) e)
 carried rule rows f fault bytes left (inr other) = inr other
 
-pub deck-read : (limit : ℕ) (cards : List Row) (bytes : List ℕ) → Reads (λ rows. cards ≡ map card_of_row rows) (rows_of_file card_rule limit bytes) → deck_of_file limit bytes ≡ Ok cards
+pub deck-read : (cards : List Row) (bytes : List ℕ) → Reads (λ rows. cards ≡ map card_of_row rows) (rows_of_file card_rule file_limit bytes) → deck_of_file bytes ≡ Ok cards
 unfolding deck_of_file
-deck-read limit cards bytes read = ap (λ file. file >>= λ rows. Ok (map card_of_row rows)) read.1 ∙ ap Ok (sym read.2)
+deck-read cards bytes read = ap (λ file. file >>= λ rows. Ok (map card_of_row rows)) read.1 ∙ ap Ok (sym read.2)
 
-pub deck-fault : (limit : ℕ) (fault : LoadFault) (bytes : List ℕ) (left : Option (List ℕ)) → Tells card_rule (rows_of_file card_rule limit bytes) bytes left fault → Tells card_rule (deck_of_file limit bytes) bytes left fault
+pub deck-fault : (fault : LoadFault) (bytes : List ℕ) (left : Option (List ℕ)) → Tells card_rule (rows_of_file card_rule file_limit bytes) bytes left fault → Tells card_rule (deck_of_file bytes) bytes left fault
 unfolding deck_of_file
-deck-fault limit fault bytes left told = carried card_rule (rows_of_file card_rule limit bytes) (λ rows. Ok (map card_of_row rows)) fault bytes left told
+deck-fault fault bytes left told = carried card_rule (rows_of_file card_rule file_limit bytes) (λ rows. Ok (map card_of_row rows)) fault bytes left told
 
-pub panel-read : (limit : ℕ) (words : Row) (bytes : List ℕ) → Reads (λ rows. words ≡ concat rows) (rows_of_file panel_rule limit bytes) → panel_of_file limit bytes ≡ whole_panel words
+pub panel-read : (words : Row) (bytes : List ℕ) → Reads (λ rows. words ≡ concat rows) (rows_of_file panel_rule file_limit bytes) → panel_of_file bytes ≡ whole_panel words
 unfolding panel_of_file
-panel-read limit words bytes read = ap (λ file. file >>= λ rows. whole_panel (concat rows)) read.1 ∙ ap whole_panel (sym read.2)
+panel-read words bytes read = ap (λ file. file >>= λ rows. whole_panel (concat rows)) read.1 ∙ ap whole_panel (sym read.2)
 
-pub panel-fault : (limit : ℕ) (fault : LoadFault) (bytes : List ℕ) (left : Option (List ℕ)) → Tells panel_rule (rows_of_file panel_rule limit bytes) bytes left fault → Tells panel_rule (panel_of_file limit bytes) bytes left fault
+pub panel-fault : (fault : LoadFault) (bytes : List ℕ) (left : Option (List ℕ)) → Tells panel_rule (rows_of_file panel_rule file_limit bytes) bytes left fault → Tells panel_rule (panel_of_file bytes) bytes left fault
 unfolding panel_of_file
-panel-fault limit fault bytes left told = carried panel_rule (rows_of_file panel_rule limit bytes) (λ rows. whole_panel (concat rows)) fault bytes left told
+panel-fault fault bytes left told = carried panel_rule (rows_of_file panel_rule file_limit bytes) (λ rows. whole_panel (concat rows)) fault bytes left told
 
 -- what is known of a file by its result, told by cases
-pub panel-ok : (limit : ℕ) (result : Result Row LoadFault) (IsTold : List ℕ → Type 0) → ((bytes : List ℕ) → IsTold bytes → panel_of_file limit bytes ≡ result) →
-    IfOk result (λ panel. (bytes : List ℕ) → IsTold bytes → panel_of_file limit bytes ≡ Ok panel)
-panel-ok limit (Ok panel) IsTold known = known
-panel-ok limit (Err fault) IsTold known = tt
+pub panel-ok : (result : Result Row LoadFault) (IsTold : List ℕ → Type 0) → ((bytes : List ℕ) → IsTold bytes → panel_of_file bytes ≡ result) →
+    IfOk result (λ panel. (bytes : List ℕ) → IsTold bytes → panel_of_file bytes ≡ Ok panel)
+panel-ok (Ok panel) IsTold known = known
+panel-ok (Err fault) IsTold known = tt
 
-pub panel-err : (limit : ℕ) (result : Result Row LoadFault) (left : Option (List ℕ)) (IsTold : List ℕ → Type 0) → ((bytes : List ℕ) → IsTold bytes → panel_of_file limit bytes ≡ result) →
-    IfErr result (λ fault. (bytes : List ℕ) → IsTold bytes → Tells panel_rule (panel_of_file limit bytes) bytes left fault)
-panel-err limit (Ok panel) left IsTold known = tt
-panel-err limit (Err fault) left IsTold known = λ bytes told. inl (known bytes told)
+pub panel-err : (result : Result Row LoadFault) (left : Option (List ℕ)) (IsTold : List ℕ → Type 0) → ((bytes : List ℕ) → IsTold bytes → panel_of_file bytes ≡ result) →
+    IfErr result (λ fault. (bytes : List ℕ) → IsTold bytes → Tells panel_rule (panel_of_file bytes) bytes left fault)
+panel-err (Ok panel) left IsTold known = tt
+panel-err (Err fault) left IsTold known = λ bytes told. inl (known bytes told)

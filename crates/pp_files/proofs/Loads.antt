@@ -4,17 +4,17 @@ use Rattle.std.specs.Prelude.{Option, Some, Result, Ok, Err, MatchResult, ◌⊎
 use Rattle.std.specs.Io.KnownBytes.{Consumes, Keeps}
 use Rattle.std.proofs.lemmas.List.{append-nil}
 use Rattle.pp_files.specs.declared.fault.LoadFault.{LoadFault}
-use Rattle.pp_files.specs.declared.fault.LoadFault.TheVariants.{NoMemory, ReadFailed, FileTooLong}
+use Rattle.pp_files.specs.declared.fault.LoadFault.TheVariants.{NoMemory, FileTooLong}
 use Rattle.pp_files.specs.declared.progress.Progress.{Progress}
-use Rattle.pp_files.specs.declared.progress.TheConstants.{KEPT, FILE_LIMIT}
-use Rattle.pp_lines.specs.Lines.{lines, finished, unfinished, IsFrontOf}
+use Rattle.pp_files.specs.declared.progress.TheConstants.{KEPT}
+use Rattle.pp_lines.specs.Lines.{finished, unfinished, IsFrontOf}
 use Rattle.pp_lines.proofs.LineCuts.{finished-feed, finished-byte}
 use Rattle.pp_lines.proofs.Limits.{lines-whole, lines-last}
 use Rattle.pp_lines.proofs.Reading.{Consumes-keeps}
-use Rattle.pp_files.specs.Rows.{Row, row_of_line}
-use Rattle.pp_files.specs.Files.{Rule, ◌>>=◌, with_line, with_lines, rows_of_lines, lines_of_file, rows_of_file}
-use Rattle.pp_files.specs.Loading.{HasNoFault, IsRow, RunsOut, BreaksOff, Tells}
-use Rattle.pp_files.specs.Reading.{Stands, Reads, HasRows, FailsAt, FailsIn}
+use Rattle.pp_files.specs.Rows.{Row}
+use Rattle.pp_files.specs.Files.{Rule, with_line, with_lines, rows_of_lines, file_limit, lines_of_file, rows_of_file}
+use Rattle.pp_files.specs.Loading.{RunsOut, BreaksOff, Tells}
+use Rattle.pp_files.specs.Reading.{Stands, Reads, FailsAt, FailsIn}
 use Rattle.pp_files.proofs.MoreLines.{row_of_front, line-kept, lines-one, lines-short, file-fault, file-short, file-long, lines_of_file-feed}
 
 -- ---- a fault at a line
@@ -49,7 +49,7 @@ FailsIn-line rule limit bytes rows done line later fault split read (inr refused
 
 -- ---- how far a file was read
 
-pub Stands-within : (progress : Progress) (rule : Rule) (Holds : List Row → Type 0) (bytes : List ℕ) → Stands progress rule Holds bytes → length bytes ≤ FILE_LIMIT
+pub Stands-within : (progress : Progress) (rule : Rule) (Holds : List Row → Type 0) (bytes : List ℕ) → Stands progress rule Holds bytes → length bytes ≤ file_limit
 Stands-within progress rule Holds bytes stands = rw (← stands.counts_bytes) progress.bytes_within
 
 front-none : (kept : ℕ) (front : List ℕ) → front ≡ [] → IsFrontOf kept front []
@@ -97,41 +97,41 @@ Stands-feed old new rule Holds Holds' bytes stands front more_bytes more_lines l
     }
 
 -- a fault at the line that a line feed ends
-pub Stands-fault : (old : Progress) (rule : Rule) (Holds : List Row → Type 0) (fault : LoadFault) (bytes more : List ℕ) → Stands old rule Holds bytes → old.bytes < FILE_LIMIT →
+pub Stands-fault : (old : Progress) (rule : Rule) (Holds : List Row → Type 0) (fault : LoadFault) (bytes more : List ℕ) → Stands old rule Holds bytes → old.bytes < file_limit →
     ((rows : List Row) → Holds rows → FailsAt rule (old.lines + 1) rows old.cutter fault) → FailsIn rule (bytes ++ 10 ∷ more) fault
 Stands-fault old rule Holds fault bytes more stands room line =
     let read = stands.reads in
-    let room : length bytes < FILE_LIMIT = rw (← stands.counts_bytes) room in
-    let further = lines_of_file-feed FILE_LIMIT bytes more room in
+    let room : length bytes < file_limit = rw (← stands.counts_bytes) room in
+    let further = lines_of_file-feed file_limit bytes more room in
     let fails : FailsAt rule (length (finished bytes) + 1) read.0 old.cutter fault = rw stands.counts_lines at (line read.0 read.2) in
-    FailsIn-line rule FILE_LIMIT (bytes ++ 10 ∷ more) read.0 (finished bytes) (unfinished bytes) further.0 fault further.1 read.1
+    FailsIn-line rule file_limit (bytes ++ 10 ∷ more) read.0 (finished bytes) (unfinished bytes) further.0 fault further.1 read.1
     (FailsAt-kept rule (length (finished bytes) + 1) read.0 old.cutter (unfinished bytes) fault stands.keeps fails)
 
 -- a byte over the limit
-pub Stands-long : (old : Progress) (rule : Rule) (Holds : List Row → Type 0) (bytes more : List ℕ) (byte : ℕ) → Stands old rule Holds bytes → old.bytes ≡ FILE_LIMIT → FailsIn rule (bytes ++ byte ∷ more) FileTooLong
+pub Stands-long : (old : Progress) (rule : Rule) (Holds : List Row → Type 0) (bytes more : List ℕ) (byte : ℕ) → Stands old rule Holds bytes → old.bytes ≡ file_limit → FailsIn rule (bytes ++ byte ∷ more) FileTooLong
 Stands-long old rule Holds bytes more byte stands full =
-    inl (file-long rule stands.reads.0 FILE_LIMIT bytes more byte (sym stands.counts_bytes ∙ full) stands.reads.1)
+    inl (file-long rule stands.reads.0 file_limit bytes more byte (sym stands.counts_bytes ∙ full) stands.reads.1)
 
 -- ---- the end of a file
 
 -- the last line ends with a line feed
 pub file-whole : (progress : Progress) (rule : Rule) (Holds : List Row → Type 0) (bytes : List ℕ) → Stands progress rule Holds bytes → length progress.cutter ≡ 0 →
-    Reads Holds (rows_of_file rule FILE_LIMIT bytes)
+    Reads Holds (rows_of_file rule file_limit bytes)
 file-whole progress rule Holds bytes stands empty =
     let read = stands.reads in
     let all = lines-whole KEPT progress.cutter bytes (omega arith) stands.keeps empty in
-    (read.0, file-short rule FILE_LIMIT bytes (Stands-within progress rule Holds bytes stands) ∙ ap (rows_of_lines rule) all ∙ read.1, read.2)
+    (read.0, file-short rule file_limit bytes (Stands-within progress rule Holds bytes stands) ∙ ap (rows_of_lines rule) all ∙ read.1, read.2)
 
 -- the last line does not
 pub file-last : {T : Type 0} (progress : Progress) (rule : Rule) (Holds Holds' : List Row → Type 0) (result : Result T LoadFault) (bytes : List ℕ) → Stands progress rule Holds bytes → 0 < length progress.cutter →
     ((rows : List Row) → Holds rows → MatchResult result (λ _. Reads Holds' (with_line rule (progress.lines + 1) rows progress.cutter)) (λ fault. FailsAt rule (progress.lines + 1) rows progress.cutter fault)) →
-    MatchResult result (λ _. Reads Holds' (rows_of_file rule FILE_LIMIT bytes)) (λ fault. FailsIn rule bytes fault)
+    MatchResult result (λ _. Reads Holds' (rows_of_file rule file_limit bytes)) (λ fault. FailsIn rule bytes fault)
 file-last progress rule Holds Holds' (Ok value) bytes stands begun line =
     let read = stands.reads in
     let next = line read.0 read.2 in
     let all = lines-last KEPT progress.cutter bytes stands.keeps begun in (
       next.0,
-      file-short rule FILE_LIMIT bytes (Stands-within progress rule Holds bytes stands) ∙ ap (rows_of_lines rule) all
+      file-short rule file_limit bytes (Stands-within progress rule Holds bytes stands) ∙ ap (rows_of_lines rule) all
           ∙ lines-one rule read.0 (finished bytes) (unfinished bytes) read.1
           ∙ sym (line-kept rule (length (finished bytes) + 1) read.0 progress.cutter (unfinished bytes) stands.keeps)
           ∙ ap (λ n. with_line rule (n + 1) read.0 progress.cutter) (sym stands.counts_lines) ∙ next.1,
@@ -141,15 +141,15 @@ file-last progress rule Holds Holds' (Err fault) bytes stands begun line =
     let read = stands.reads in
     let all = lines-last KEPT progress.cutter bytes stands.keeps begun in
     let fails : FailsAt rule (length (finished bytes) + 1) read.0 progress.cutter fault = rw stands.counts_lines at (line read.0 read.2) in
-    FailsIn-line rule FILE_LIMIT bytes read.0 (finished bytes) (unfinished bytes) [] fault
-    (lines-short FILE_LIMIT bytes (Stands-within progress rule Holds bytes stands) ∙ all ∙ sym (append-nil (finished bytes ++ unfinished bytes ∷ []))) read.1
+    FailsIn-line rule file_limit bytes read.0 (finished bytes) (unfinished bytes) [] fault
+    (lines-short file_limit bytes (Stands-within progress rule Holds bytes stands) ∙ all ∙ sym (append-nil (finished bytes ++ unfinished bytes ∷ []))) read.1
     (FailsAt-kept rule (length (finished bytes) + 1) read.0 progress.cutter (unfinished bytes) fault stands.keeps fails)
 
 -- ---- what the source told
 
 -- the source failed
 pub breaks-off : (progress : Progress) (rule : Rule) (Holds : List Row → Type 0) (taken bytes : List ℕ) (first second third : Option (List ℕ)) → Stands progress rule Holds taken →
-    Consumes first second taken → Keeps second third → first ≡ Some bytes → BreaksOff rule FILE_LIMIT bytes third
+    Consumes first second taken → Keeps second third → first ≡ Some bytes → BreaksOff rule file_limit bytes third
 breaks-off progress rule Holds taken bytes first second third stands p q told = (
   taken,
   subst (λ known. Consumes known third taken) told (Consumes-keeps first second third taken p q),
@@ -158,11 +158,11 @@ breaks-off progress rule Holds taken bytes first second third stands p q told = 
 )
 
 -- what is told within a file is told of it
-pub FailsIn-told : (rule : Rule) (bytes : List ℕ) (left : Option (List ℕ)) (fault : LoadFault) → FailsIn rule bytes fault → Tells rule (rows_of_file rule FILE_LIMIT bytes) bytes left fault
+pub FailsIn-told : (rule : Rule) (bytes : List ℕ) (left : Option (List ℕ)) (fault : LoadFault) → FailsIn rule bytes fault → Tells rule (rows_of_file rule file_limit bytes) bytes left fault
 FailsIn-told rule bytes left fault (inl fails) = inl fails
 FailsIn-told rule bytes left fault (inr refused) = inr (inl refused)
 
 pub ends-told : {T : Type 0} (result : Result T LoadFault) (P : T → Type 0) (rule : Rule) (bytes : List ℕ) (left : Option (List ℕ)) →
-    MatchResult result P (λ fault. FailsIn rule bytes fault) → MatchResult result P (λ fault. Tells rule (rows_of_file rule FILE_LIMIT bytes) bytes left fault)
+    MatchResult result P (λ fault. FailsIn rule bytes fault) → MatchResult result P (λ fault. Tells rule (rows_of_file rule file_limit bytes) bytes left fault)
 ends-told (Ok value) P rule bytes left known = known
 ends-told (Err fault) P rule bytes left told = FailsIn-told rule bytes left fault told

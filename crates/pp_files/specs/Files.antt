@@ -35,6 +35,10 @@ with_lines rule k rows (line ∷ others) = with_line rule (k + 1) rows line >>= 
 abbrev pub rows_of_lines : Rule → List (List ℕ) → Result (List Row) LoadFault
 rows_of_lines rule all = with_lines rule 0 [] all
 
+-- the most bytes of a file
+abbrev pub file_limit : ℕ
+file_limit = 1048576
+
 -- the lines that count: all of a file within the limit, and of a longer one those that a line feed ends within it
 abbrev pub lines_of_file : ℕ → List ℕ → List (List ℕ)
 lines_of_file limit bytes = if nat_le (length bytes) limit then lines bytes else finished (take limit bytes)
@@ -56,8 +60,8 @@ abbrev pub card_of_row : Row → Row
 card_of_row row = row ++ replicate (80 - length row) 0
 
 -- the cards of a deck file
-unfoldable pub deck_of_file : ℕ → List ℕ → Result (List Row) LoadFault
-deck_of_file limit bytes = rows_of_file card_rule limit bytes >>= λ rows. Ok (map card_of_row rows)
+unfoldable pub deck_of_file : List ℕ → Result (List Row) LoadFault
+deck_of_file bytes = rows_of_file card_rule file_limit bytes >>= λ rows. Ok (map card_of_row rows)
 
 -- ---- panels
 
@@ -70,5 +74,5 @@ abbrev pub whole_panel : Row → Result Row LoadFault
 whole_panel row = if length row == 12 then Ok row else Err PanelCount
 
 -- the words of a panel file
-unfoldable pub panel_of_file : ℕ → List ℕ → Result Row LoadFault
-panel_of_file limit bytes = rows_of_file panel_rule limit bytes >>= λ rows. whole_panel (concat rows)
+unfoldable pub panel_of_file : List ℕ → Result Row LoadFault
+panel_of_file bytes = rows_of_file panel_rule file_limit bytes >>= λ rows. whole_panel (concat rows)

@@ -5,9 +5,8 @@ use Rattle.pp_lines.specs.Device.{one_more}
 use Rattle.pp_lines.specs.Lines.{finished}
 use Rattle.pp_files.specs.declared.fault.LoadFault.{LoadFault}
 use Rattle.pp_files.specs.declared.fault.LoadFault.TheVariants.{NoMemory, ReadFailed}
-use Rattle.pp_files.specs.declared.progress.TheConstants.{FILE_LIMIT}
 use Rattle.pp_files.specs.Rows.{Row, row_of_line}
-use Rattle.pp_files.specs.Files.{Rule, rows_of_lines, lines_of_file}
+use Rattle.pp_files.specs.Files.{Rule, rows_of_lines, file_limit, lines_of_file}
 
 -- these lines have no fault
 abbrev pub HasNoFault : Rule → List (List ℕ) → Type 0
@@ -31,7 +30,7 @@ BreaksOff rule limit bytes left =
 -- the fault is that of the file with these bytes, or memory or the source failed before any of the file
 abbrev pub Tells : {A : Type 0} → Rule → Result A LoadFault → List ℕ → Option (List ℕ) → LoadFault → Type 0
 Tells rule file bytes left fault =
-    (file ≡ Err fault) ⊎ (((fault ≡ NoMemory) × RunsOut rule FILE_LIMIT bytes) ⊎ ((fault ≡ ReadFailed) × BreaksOff rule FILE_LIMIT bytes left))
+    (file ≡ Err fault) ⊎ (((fault ≡ NoMemory) × RunsOut rule file_limit bytes) ⊎ ((fault ≡ ReadFailed) × BreaksOff rule file_limit bytes left))
 
 -- the source's count of failures after a fault
 abbrev pub reads_after : LoadFault → ℕ → ℕ

@@ -4,9 +4,9 @@ use Rattle.pp_lines.specs.Lines.{finished, IsFrontOf}
 use Rattle.pp_files.specs.declared.fault.LoadFault.{LoadFault}
 use Rattle.pp_files.specs.declared.fault.LoadFault.TheVariants.{NoMemory, ReadFailed}
 use Rattle.pp_files.specs.declared.progress.Progress.{Progress}
-use Rattle.pp_files.specs.declared.progress.TheConstants.{KEPT, FILE_LIMIT}
+use Rattle.pp_files.specs.declared.progress.TheConstants.{KEPT}
 use Rattle.pp_files.specs.Rows.{Row}
-use Rattle.pp_files.specs.Files.{Rule, with_line, rows_of_lines, rows_of_file}
+use Rattle.pp_files.specs.Files.{Rule, with_line, rows_of_lines, file_limit, rows_of_file}
 use Rattle.pp_files.specs.Loading.{IsRow, RunsOut}
 
 -- there are rows, and they are held
@@ -28,7 +28,7 @@ FailsAt rule k rows line fault =
 
 -- the fault is that of the file with these bytes, or memory was refused before any of the file
 abbrev pub FailsIn : Rule → List ℕ → LoadFault → Type 0
-FailsIn rule bytes fault = (rows_of_file rule FILE_LIMIT bytes ≡ Err fault) ⊎ ((fault ≡ NoMemory) × RunsOut rule FILE_LIMIT bytes)
+FailsIn rule bytes fault = (rows_of_file rule file_limit bytes ≡ Err fault) ⊎ ((fault ≡ NoMemory) × RunsOut rule file_limit bytes)
 
 -- no read failed, and memory was refused only where some is wanted
 abbrev pub MayTell : Bool → LoadFault → Type 0

@@ -3,7 +3,6 @@ ghost use Rattle.std.specs.Io.KnownBytes.{IsAtEnd};
 ghost use Rattle.std.specs.Prelude.{◌≡◌, ◌≢◌, ◌<◌, ℕ, List, All, Some, Ok, IfOk, IfErr, OnOk, MatchResult};
 ghost use Rattle.pp_files.specs.Files.{card_rule, panel_rule, whole_panel, deck_of_file, panel_of_file};
 ghost use Rattle.pp_files.specs.Loading.{Tells, reads_after};
-ghost use Rattle.pp_files.specs.declared.progress.TheConstants.{FILE_LIMIT};
 
 use crate::fault::LoadFault;
 use crate::loading::read_sheet;
@@ -22,10 +21,10 @@ use std::alloc::Global;
 /// The file's first fault, in the order of `LoadFault`. `NoMemory` is told only at a card.
 pub fn load_deck<R: Source>(alloc: Global, source: &mut R) -> Result<Vec<[u16; COLUMNS]>, LoadFault>
     ensures cards { IfOk result (λ deck. (bytes : List ℕ) → R.rest source.old ≡ Some bytes →
-        deck_of_file FILE_LIMIT bytes ≡ Ok deck.items) }
+        deck_of_file bytes ≡ Ok deck.items) }
     ensures within { IfOk result (λ deck. All (All (λ value. value < 0o10000)) deck.items) }
     ensures fault { IfErr result (λ fault. (bytes : List ℕ) → R.rest source.old ≡ Some bytes →
-        Tells card_rule (deck_of_file FILE_LIMIT bytes) bytes (R.rest source.new) fault) }
+        Tells card_rule (deck_of_file bytes) bytes (R.rest source.new) fault) }
     ensures all { OnOk result (IsAtEnd (R.rest source.new)) }
     ensures reads { MatchResult result
         (λ _. R.failure_count source.new ≡ R.failure_count source.old)
@@ -46,10 +45,10 @@ pub fn load_deck<R: Source>(alloc: Global, source: &mut R) -> Result<Vec<[u16; C
 /// than twelve words. It is never `NoMemory`, nor `TooManyWords`.
 pub fn load_panel<R: Source>(source: &mut R) -> Result<[u16; PANEL_WORDS], LoadFault>
     ensures words { IfOk result (λ panel. (bytes : List ℕ) → R.rest source.old ≡ Some bytes →
-        panel_of_file FILE_LIMIT bytes ≡ Ok panel) }
+        panel_of_file bytes ≡ Ok panel) }
     ensures within { IfOk result (λ panel. All (λ value. value < 0o10000) panel) }
     ensures fault { IfErr result (λ fault. (bytes : List ℕ) → R.rest source.old ≡ Some bytes →
-        Tells panel_rule (panel_of_file FILE_LIMIT bytes) bytes (R.rest source.new) fault) }
+        Tells panel_rule (panel_of_file bytes) bytes (R.rest source.new) fault) }
     ensures no_memory { IfErr result (λ fault. fault ≢ LoadFault.NoMemory) }
     ensures all { OnOk result (IsAtEnd (R.rest source.new)) }
     ensures reads { MatchResult result

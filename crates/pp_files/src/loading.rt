@@ -2,7 +2,7 @@
 ghost use Rattle.std.specs.Io.KnownBytes.{IsAtEnd};
 ghost use Rattle.std.specs.Prelude.{◌≡◌, ◌+◌, ◌∷◌, ◌++◌, [], ℕ, List, Some, IfErr, OnOk, MatchResult, length};
 ghost use Rattle.pp_files.specs.Rows.{Row};
-ghost use Rattle.pp_files.specs.Files.{with_line, rows_of_file};
+ghost use Rattle.pp_files.specs.Files.{with_line, file_limit, rows_of_file};
 ghost use Rattle.pp_files.specs.Loading.{Tells, reads_after};
 ghost use Rattle.pp_files.specs.Reading.{Stands, Reads, FailsAt, FailsIn, MayTell, MayWant};
 
@@ -81,7 +81,7 @@ fn feed<S: Sheet>(progress: &mut Progress, sheet: &mut S, piece: &[u8]) -> Resul
 fn finish<S: Sheet>(progress: &Progress, sheet: &mut S) -> Result<(), LoadFault>
     ensures read { (bytes : List ℕ) → Stands progress.now S.rule (S.holds sheet.old) bytes →
         MatchResult result
-        (λ _. Reads (S.holds sheet.new) (rows_of_file S.rule FILE_LIMIT bytes))
+        (λ _. Reads (S.holds sheet.new) (rows_of_file S.rule file_limit bytes))
         (λ fault. FailsIn S.rule bytes fault) }
     ensures faults { IfErr result (MayTell S.wants_memory) }
 {
@@ -97,8 +97,8 @@ pub fn read_sheet<R: Source, S: Sheet>(source: &mut R, sheet: &mut S) -> Result<
     requires { S.holds sheet.old [] }
     ensures read { (bytes : List ℕ) → R.rest source.old ≡ Some bytes →
         MatchResult result
-        (λ _. Reads (S.holds sheet.new) (rows_of_file S.rule FILE_LIMIT bytes))
-        (λ fault. Tells S.rule (rows_of_file S.rule FILE_LIMIT bytes) bytes (R.rest source.new) fault) }
+        (λ _. Reads (S.holds sheet.new) (rows_of_file S.rule file_limit bytes))
+        (λ fault. Tells S.rule (rows_of_file S.rule file_limit bytes) bytes (R.rest source.new) fault) }
     ensures all { OnOk result (IsAtEnd (R.rest source.new)) }
     ensures reads { MatchResult result
         (λ _. R.failure_count source.new ≡ R.failure_count source.old)

@@ -1,4 +1,4 @@
-use Rattle.std.proofs.Common.{◌∙◌, ◌≡◌, ◌<◌, eqb, false, arith, refl}
+use Rattle.std.proofs.Common.{◌≡◌, ◌<◌, eqb, false, arith, refl}
 use Rattle.std.proofs.lemmas.Bool.Decides.{nat_tests}
 use Rattle.std.proofs.lemmas.Result.{err_from_is_err_and}
 use Rattle.pp_files.specs.declared.progress.TheConstants.{FILE_LIMIT}

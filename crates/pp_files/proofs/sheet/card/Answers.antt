@@ -1,4 +1,4 @@
-use Rattle.std.proofs.Common.{◌≡◌, ◌≤◌, ◌<◌, ◌∙◌, ◌++◌, ◌-◌, ap, arith, length, replicate}
+use Rattle.std.proofs.Common.{◌≡◌, ◌<◌, ◌++◌, ◌-◌, ap, arith, length, replicate}
 use Rattle.std.proofs.lemmas.List.{drop-replicate}
 use Rattle.std.proofs.lemmas.List.Elements.{All-append, All-replicate}
 use Rattle.pp_files.specs.Files.{card_of_row}

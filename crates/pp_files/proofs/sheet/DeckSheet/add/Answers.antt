@@ -1,8 +1,8 @@
-use Rattle.std.proofs.Common.{◌∙◌, ◌≡◌, ◌≤◌, ap, inr, refl, length}
+use Rattle.std.proofs.Common.{◌∙◌, ◌≤◌, ap, length}
 use Rattle.pp_lines.specs.Words.{words}
 use Rattle.pp_files.specs.Rows.{numbers}
 use Rattle.pp_files.specs.Files.{card_of_row}
-use Rattle.pp_files.proofs.MoreRows.{card-few, deck-more}
+use Rattle.pp_files.proofs.MoreRows.{deck-more}
 use Rattle.pp_files.proofs.sheet.DeckSheet.add.Goals as goal
 
 pub returns-in-Ok-clause-row : goal.returns-in-Ok-clause-row
