@@ -1,0 +1,4 @@
+pub mod ChannelRanges
+pub mod DevicePlaces
+pub mod DeviceStores
+pub mod PrinterLaws
