@@ -1,0 +1,35 @@
+-- Where the reading of a script begins.
+use Rattle.std.proofs.Common.{◌≡◌, ℕ, List, [], take, arith}
+use Rattle.std.specs.Prelude.{Option}
+use Rattle.std.proofs.lemmas.Grind.{common_steps}
+use Rattle.pp_history.specs.SessionValue.{IsAt}
+use Rattle.pp_lines.specs.Lines.{finished_within}
+use Rattle.pp_lines.proofs.Limits.{finished_within-all}
+use Rattle.pp_lines.proofs.Writing.{Appends-nothing}
+use Rattle.pp_rig.specs.Rules.{rules}
+use Rattle.pp_console.specs.declared.progress.Progress.{Progress}
+use Rattle.pp_console.specs.declared.progress.TheConstants.{LINE_LIMIT, BYTE_LIMIT}
+use Rattle.pp_console.specs.Answers.{State, Value}
+use Rattle.pp_console.specs.Script.{run}
+use Rattle.pp_console.specs.Serving.{Origin, origin_of, Performed, Stands}
+use Rattle.pp_console.proofs.Standing.{Stands-within}
+
+-- before the first byte
+pub Stands-new : (progress : Progress) (session : State) (text : Option (List ℕ)) (start : Value) → IsAt rules session start →
+    progress.line ≡ [] → progress.bytes ≡ 0 → progress.lines ≡ 0 → progress.refused ≡ 0 → Stands progress session text (origin_of start text) []
+unfolding run
+Stands-new progress session text start at empty no_bytes no_lines no_refused = record {
+  keeps = rw empty (take-nothing 257);
+  counts_bytes = no_bytes;
+  counts_lines = no_lines;
+  counts_refused = no_refused;
+  performed = record { leaves = at; writes = Appends-nothing text };
+} where
+  take-nothing : (n : ℕ) → [] ≡ take {A = ℕ} n []
+  take-nothing n = grind (arith, common_steps)
+
+-- all finished lines are within the limits
+pub Performed-within : (progress : Progress) (session : State) (text : Option (List ℕ)) (origin : Origin) (bytes : List ℕ) →
+    Stands progress session text origin bytes → Performed session text origin (finished_within LINE_LIMIT BYTE_LIMIT bytes)
+Performed-within progress session text origin bytes stands =
+    rw (finished_within-all LINE_LIMIT BYTE_LIMIT bytes (Stands-within progress session text origin bytes stands)) stands.performed

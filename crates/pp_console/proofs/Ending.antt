@@ -1,0 +1,83 @@
+-- What a script led to, at its end or at a fault.
+use Rattle.std.proofs.Common.{◌≡◌, ◌∙◌, ℕ, ◌+◌, ◌<◌, ◌⊎◌, List, [], ◌∷◌, ◌++◌, length, take, drop, get_or, refl, ap, arith, length-append, append_assoc}
+use Rattle.std.specs.Prelude.{Option}
+use Rattle.pp_lines.specs.declared.fault.IoFault.{IoFault}
+use Rattle.pp_lines.specs.declared.fault.IoFault.TheVariants.{ReadFailed, WriteFailed, LineLimit}
+use Rattle.pp_lines.specs.Lines.{lines, finished, unfinished, last_line, finished_within, IsWithin}
+use Rattle.pp_lines.proofs.LineCuts.{lines_split, finished-more}
+use Rattle.pp_lines.proofs.Limits.{lines-whole, lines-last, finished_within-kept, passed}
+use Rattle.pp_lines.proofs.Reading.{piece_at}
+use Rattle.pp_console.specs.declared.progress.Progress.{Progress}
+use Rattle.pp_console.specs.declared.progress.Summary.{Summary}
+use Rattle.pp_console.specs.declared.progress.TheConstants.{KEPT, LINE_LIMIT, BYTE_LIMIT}
+use Rattle.pp_console.specs.Answers.{State}
+use Rattle.pp_console.specs.Script.{run}
+use Rattle.pp_console.specs.Serving.{Origin, Performed, Stands, Serves, Stops, Interrupts, IsNoReadFault, reads_after}
+use Rattle.pp_console.proofs.Standing.{Stands-within}
+
+-- a fault among some bytes is one among these and more
+pub Interrupts-more : (fault : IoFault) (session : State) (text : Option (List ℕ)) (origin : Origin) (bytes more : List ℕ) →
+    Interrupts fault session text origin bytes → Interrupts fault session text origin (bytes ++ more)
+Interrupts-more ReadFailed session text origin bytes more p = p
+Interrupts-more LineLimit session text origin bytes more p =
+    (p.0, p.1 ++ more, ap (λ front. front ++ more) p.2 ∙ append_assoc p.0 p.1 more, simp length-append (omega (arith, p.3)), p.4, p.5, p.6)
+Interrupts-more WriteFailed session text origin bytes more p =
+    let further = finished-more bytes more in
+    (p.0, p.1, p.2 ++ further.0, further.1 ∙ ap (λ front. front ++ further.0) p.3 ∙ append_assoc p.0 (p.1 ∷ p.2) further.0, p.4)
+
+-- a fault among the bytes of a piece up to one of them is one among all its bytes
+pub Interrupts-piece : (fault : IoFault) (session : State) (text : Option (List ℕ)) (origin : Origin) (bytes piece : List ℕ) (i : ℕ) → i < length piece →
+    Interrupts fault session text origin ((bytes ++ take i piece) ++ get_or piece i 0 ∷ []) → Interrupts fault session text origin (bytes ++ piece)
+Interrupts-piece fault session text origin bytes piece i h p =
+    rw piece_at at (Interrupts-more fault session text origin _ (drop (i + 1) piece) p)
+
+-- the whole script, where the last line ends with a line feed
+pub Serves-whole : (summary : Summary) (progress : Progress) (session : State) (text : Option (List ℕ)) (origin : Origin) (bytes : List ℕ) →
+    Stands progress session text origin bytes → length progress.line ≡ 0 → summary.lines ≡ progress.lines → summary.refused ≡ progress.refused →
+    Serves summary session text origin bytes
+Serves-whole summary progress session text origin bytes stands empty told_lines told_refused =
+    let whole = lines-whole KEPT progress.line bytes (omega arith) stands.keeps empty in
+    record {
+      performed = rw whole stands.performed;
+      counts_lines = told_lines ∙ stands.counts_lines ∙ rw whole refl;
+      counts_refused = told_refused ∙ stands.counts_refused ∙ rw whole refl;
+      within = Stands-within progress session text origin bytes stands;
+    }
+
+-- the whole script, where the last line does not
+pub Serves-last : (summary : Summary) (progress : Progress) (session session' : State) (text text' : Option (List ℕ)) (origin : Origin) (bytes : List ℕ) →
+    Stands progress session text origin bytes → 0 < length progress.line → summary.lines ≡ progress.lines + 1 →
+    summary.refused ≡ (run origin.start (finished bytes ++ unfinished bytes ∷ [])).refused →
+    Performed session' text' origin (finished bytes ++ unfinished bytes ∷ []) →
+    Serves summary session' text' origin bytes
+Serves-last summary progress session session' text text' origin bytes stands begun told_lines told_refused performed =
+    let whole = lines-last KEPT progress.line bytes stands.keeps begun in
+    record {
+      performed = rw whole performed;
+      counts_lines = told_lines ∙ rw (whole, length-append (finished bytes) (unfinished bytes ∷ [])) (ap (λ n. n + 1) stands.counts_lines);
+      counts_refused = told_refused ∙ rw whole refl;
+      within = Stands-within progress session text origin bytes stands;
+    }
+
+-- what a limit leaves, whatever the limits are
+Stops-limit : (line_limit byte_limit : ℕ) (session : State) (text : Option (List ℕ)) (origin : Origin) (bytes kept more : List ℕ) →
+    bytes ≡ kept ++ more → 0 < length more → IsWithin line_limit byte_limit kept → (length kept ≡ byte_limit) ⊎ (length (finished kept) ≡ line_limit) →
+    Performed session text origin (finished kept) →
+    Performed session text origin (finished_within line_limit byte_limit bytes) × ((byte_limit < length bytes) ⊎ (line_limit < length (lines bytes)))
+Stops-limit line_limit byte_limit session text origin bytes kept more e h within full performed =
+    rw e (rw (finished_within-kept line_limit byte_limit kept more within full) performed, passed line_limit byte_limit kept more h full)
+
+-- a fault among the bytes that were taken
+pub Stops-interrupted : (fault : IoFault) (session : State) (text : Option (List ℕ)) (origin : Origin) (bytes : List ℕ) →
+    Interrupts fault session text origin bytes → Stops fault session text origin bytes
+Stops-interrupted ReadFailed session text origin bytes p = absurd p
+Stops-interrupted LineLimit session text origin bytes p =
+    Stops-limit LINE_LIMIT BYTE_LIMIT session text origin bytes p.0 p.1 p.2 p.3 p.4 p.5 p.6
+Stops-interrupted WriteFailed session text origin bytes p =
+    (p.0, p.1, p.2 ++ last_line (unfinished bytes), lines_split bytes ∙ ap (λ front. front ++ last_line (unfinished bytes)) p.3 ∙ append_assoc p.0 (p.1 ∷ p.2) (last_line (unfinished bytes)), p.4)
+
+-- the count of a source that did not fail
+pub reads_after-kept : (fault : IoFault) (count : ℕ) → IsNoReadFault fault → reads_after fault count ≡ count
+reads_after-kept ReadFailed count p = absurd p
+reads_after-kept LineLimit count p = refl
+reads_after-kept WriteFailed count p = refl

@@ -1,0 +1,25 @@
+-- Texts that end with what was written last.
+use Rattle.std.proofs.Common.{◌≡◌, ◌∙◌, ℕ, List, [], ◌++◌, refl, sym}
+use Rattle.std.specs.Prelude.{Option, Result, Ok, Err}
+use Rattle.std.specs.Io.KnownBytes.{Appends}
+use Rattle.std.proofs.lemmas.List.{append-nil}
+use Rattle.pp_lines.specs.Output.{Remains, Writes}
+use Rattle.pp_lines.proofs.Writing.{Appends-again, Appends-same, Remains-fails, front_after}
+
+-- a text, and then another one or a front of it
+pub Writes-after : {T E : Type 0} (result : Result T E) (first second third : Option (List ℕ)) (text more : List ℕ) →
+    Appends first second text → Writes second third result more → Writes first third result (text ++ more)
+Writes-after (Ok value) first second third text more p q = Appends-again first second third text more p q
+Writes-after (Err fault) first second third text more p q = front_after first second third text more p q
+
+-- what is left is written, or a front of it
+pub Remains-last : {T E : Type 0} (result : Result T E) (first second third : Option (List ℕ)) (whole left : List ℕ) →
+    Remains first second whole left → Writes second third result left → Writes first third result whole
+Remains-last (Ok value) first second third whole left p q =
+    Appends-same first third (p.0 ++ left) whole (sym p.2) (Appends-again first second third p.0 left p.1 q)
+Remains-last (Err fault) first second third whole left p q =
+    let all : Remains first second whole (left ++ []) = (p.0, p.1, p.2 ∙ ends p.0) in
+    Remains-fails first second third whole left [] all q
+  where
+    ends : (front : List ℕ) → front ++ left ≡ front ++ (left ++ [])
+    ends front = rw append-nil refl

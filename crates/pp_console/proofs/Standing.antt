@@ -1,0 +1,54 @@
+-- How far a script was read, after one byte more.
+use Rattle.std.proofs.Common.{◌≡◌, ◌∙◌, ℕ, ◌+◌, ◌<◌, eqb, List, [], ◌∷◌, ◌++◌, length, ap, arith, false, length-append}
+use Rattle.std.specs.Prelude.{Option}
+use Rattle.pp_lines.specs.Lines.{finished, unfinished, IsWithin, IsFrontOf}
+use Rattle.pp_lines.proofs.LineCuts.{finished-feed, finished-byte}
+use Rattle.pp_lines.proofs.Limits.{last_line-one, kept-begun, lines-count}
+use Rattle.pp_console.specs.declared.progress.Progress.{Progress}
+use Rattle.pp_console.specs.declared.progress.TheConstants.{KEPT, LINE_LIMIT, BYTE_LIMIT}
+use Rattle.pp_console.specs.Answers.{State}
+use Rattle.pp_console.specs.Script.{run}
+use Rattle.pp_console.specs.Serving.{Origin, Performed, Stands}
+
+-- what was read is within the limits
+pub Stands-within : (progress : Progress) (session : State) (text : Option (List ℕ)) (origin : Origin) (bytes : List ℕ) → Stands progress session text origin bytes → IsWithin LINE_LIMIT BYTE_LIMIT bytes
+Stands-within progress session text origin bytes stands = record {
+  few_lines =
+      let begun = kept-begun KEPT (unfinished bytes) (omega arith) in
+      rw (lines-count bytes)
+      (let size = ap length stands.keeps in
+      let one = last_line-one (unfinished bytes) in
+      let room : 0 < length progress.line → progress.lines < LINE_LIMIT = progress.line_within in
+      let all = progress.lines_within in
+      let counted = stands.counts_lines in
+      grind arith);
+  few_bytes = rw (← stands.counts_bytes) progress.bytes_within;
+}
+
+-- a byte that is no line feed
+pub Stands-byte : (old new : Progress) (session : State) (text : Option (List ℕ)) (origin : Origin) (bytes : List ℕ) (byte : ℕ) → eqb byte 10 ≡ false →
+    Stands old session text origin bytes →
+    IsFrontOf KEPT new.line (bytes ++ byte ∷ []) → new.bytes ≡ old.bytes + 1 → new.lines ≡ old.lines → new.refused ≡ old.refused →
+    Stands new session text origin (bytes ++ byte ∷ [])
+Stands-byte old new session text origin bytes byte h stands kept more_bytes same_lines same_refused = record {
+  keeps = kept;
+  counts_bytes = more_bytes ∙ rw (length-append bytes (byte ∷ [])) (ap (λ n. n + 1) stands.counts_bytes);
+  counts_lines = rw (finished-byte bytes byte h) (same_lines ∙ stands.counts_lines);
+  counts_refused = rw (finished-byte bytes byte h) (same_refused ∙ stands.counts_refused);
+  performed = rw (finished-byte bytes byte h) stands.performed;
+}
+
+-- a line feed
+pub Stands-feed : (old new : Progress) (session session' : State) (text text' : Option (List ℕ)) (origin : Origin) (bytes : List ℕ) →
+    Stands old session text origin bytes →
+    IsFrontOf KEPT new.line (bytes ++ 10 ∷ []) → new.bytes ≡ old.bytes + 1 → new.lines ≡ old.lines + 1 →
+    new.refused ≡ (run origin.start (finished bytes ++ unfinished bytes ∷ [])).refused →
+    Performed session' text' origin (finished bytes ++ unfinished bytes ∷ []) →
+    Stands new session' text' origin (bytes ++ 10 ∷ [])
+Stands-feed old new session session' text text' origin bytes stands kept more_bytes more_lines refused performed = record {
+  keeps = kept;
+  counts_bytes = more_bytes ∙ rw (length-append bytes (10 ∷ [])) (ap (λ n. n + 1) stands.counts_bytes);
+  counts_lines = rw (finished-feed bytes, length-append (finished bytes) (unfinished bytes ∷ [])) (more_lines ∙ ap (λ n. n + 1) stands.counts_lines);
+  counts_refused = rw (finished-feed bytes) refused;
+  performed = rw (finished-feed bytes) performed;
+}

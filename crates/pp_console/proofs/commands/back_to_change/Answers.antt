@@ -1,0 +1,37 @@
+use Rattle.std.proofs.Common.{◌≡◌, ◌<◌, ◌∙◌, ap, arith, sym, refl, length}
+use Rattle.std.proofs.lemmas.Bool.Decides.{nat_tests}
+use Rattle.std.specs.Prelude.{map}
+use Rattle.pp_history.specs.SessionValue.{after_back}
+use Rattle.pp_machine.specs.Machine.{Machine}
+use Rattle.pp_rig.specs.Watches.{watched_place, watches_of}
+use Rattle.pp_console.specs.Answers.{change_answer, told}
+use Rattle.pp_console.specs.Moves.{moved_text, back_name}
+use Rattle.pp_console.specs.Refusals.{no_change_text, nothing_watched_text}
+use Rattle.pp_console.proofs.Performing.{performs-told, performs-refused, change-unwatched, change-found, change-none}
+use Rattle.pp_console.proofs.commands.back_to_change.Goals as goal
+
+pub returns-then-is_empty-clause-performs : goal.returns-then-is_empty-clause-performs
+unfolding nothing_watched_text
+returns-then-is_empty-clause-performs g c =
+    let none : length c.watched_places-places.result.items ≡ 0 = grind (arith, nat_tests) in
+    performs-refused c.args.session.now _ _ (g.W.Sink.text c.refuse.new.out) _ change_answer _ c.refuse.ensures.text c.refuse.ensures.performed refl
+    (λ v at. change-unwatched v c.watched_places-places.result.items (c.watched_places-places.ensures.value ∙ ap (λ (m : Machine). map watched_place (watches_of m)) (c.machine.ensures.replayed v at)) none)
+
+pub returns-in-Ok-clause-performs : goal.returns-in-Ok-clause-performs
+unfolding back_name
+returns-in-Ok-clause-performs g c =
+    let some : 0 < length c.watched_places-places.result.items = grind (arith, nat_tests) in
+    performs-told c.args.session.now _ _ (g.W.Sink.text c.tell.new.out) _ change_answer _ c.tell.ensures.text c.tell.ensures.performed
+    (λ v at.
+    let found = rw c.as_slice.ensures.value at (c.in-Ok.ensures.found v at) in
+    let next = after_back v c.in-Ok.actions in
+    let slot = c.slot.ensures.value ∙ ap (λ m. m.slot) (c.machine-in-Ok.ensures.replayed next (c.in-Ok.ensures.ok v at)) in
+    let text = c.as_slice-in-Ok.ensures.value ∙ c.moved_line.ensures.items ∙ ap (moved_text back_name c.in-Ok.actions) slot in
+    (next, change-found v c.watched_places-places.result.items c.in-Ok.actions (c.watched_places-places.ensures.value ∙ ap (λ (m : Machine). map watched_place (watches_of m)) (c.machine.ensures.replayed v at)) some found ∙ ap (told next) (sym text), c.in-Ok.ensures.ok v at))
+
+pub returns-in-Err-clause-performs : goal.returns-in-Err-clause-performs
+unfolding no_change_text
+returns-in-Err-clause-performs g c =
+    let some : 0 < length c.watched_places-places.result.items = grind (arith, nat_tests) in
+    performs-refused c.args.session.now _ _ (g.W.Sink.text c.refuse-in-Err.new.out) _ change_answer _ c.refuse-in-Err.ensures.text c.refuse-in-Err.ensures.performed c.in-Err.ensures.unchanged
+    (λ v at. change-none v c.watched_places-places.result.items (c.watched_places-places.ensures.value ∙ ap (λ (m : Machine). map watched_place (watches_of m)) (c.machine.ensures.replayed v at)) some (rw c.as_slice.ensures.value at (c.in-Err.ensures.none v at)))

@@ -1,0 +1,10 @@
+use Rattle.std.proofs.Common.{◌≡◌, ◌*◌}
+use Rattle.arrayvec.specs.ArrayVec.{array_vec_len}
+use Rattle.pp_console.specs.Dumps.{each, frame_line}
+use Rattle.pp_console.proofs.registers.frame_lines.Given as goal
+
+abbrev pub invariant-loop-i : goal.invariant-loop-i
+invariant-loop-i l = record {
+  items : l.lines.items ≡ each (frame_line l.machine) 0 l.i;
+  len : array_vec_len l.lines ≡ 27 * l.i;
+}

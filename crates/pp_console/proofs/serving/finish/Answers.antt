@@ -1,0 +1,30 @@
+use Rattle.std.proofs.Common.{◌∙◌, ◌≡◌, ◌<◌, [], length, arith}
+use Rattle.std.proofs.lemmas.Bool.Decides.{nat_tests}
+use Rattle.pp_lines.specs.Lines.{finished, unfinished}
+use Rattle.pp_lines.proofs.Limits.{lines-last}
+use Rattle.pp_console.specs.declared.progress.TheConstants.{KEPT}
+use Rattle.pp_console.proofs.Ending.{Serves-whole, Serves-last}
+use Rattle.pp_console.proofs.serving.finish.Goals as goal
+
+pub returns-then-is_empty-clause-serves : goal.returns-then-is_empty-clause-serves
+returns-then-is_empty-clause-serves g c = λ origin bytes stands.
+    let empty : length c.args.progress.now.line ≡ 0 = grind (arith, nat_tests) in
+    Serves-whole _ c.args.progress.now _ _ origin bytes stands empty c.summary.ensures.lines c.summary.ensures.refused
+
+pub returns-in-Ok-clause-serves : goal.returns-in-Ok-clause-serves
+returns-in-Ok-clause-serves g c = λ origin bytes stands.
+    let begun : 0 < length c.args.progress.now.line = grind (arith, nat_tests) in
+    Serves-last _ c.args.progress.now _ _ (g.W.Sink.text c.args.out.now) _ origin bytes stands begun
+    (c.summary-in-Ok.ensures.lines ∙ c.in-Ok.ensures.lines)
+    (c.summary-in-Ok.ensures.refused ∙ c.in-Ok.ensures.refused origin (finished bytes) (unfinished bytes) stands.keeps stands.performed stands.counts_refused)
+    (c.in-Ok.ensures.performed origin (finished bytes) (unfinished bytes) stands.keeps stands.performed)
+
+pub returns-in-Err-clause-serves : goal.returns-in-Err-clause-serves
+returns-in-Err-clause-serves g c = λ origin bytes stands.
+    let begun : 0 < length c.args.progress.now.line = grind (arith, nat_tests) in (
+      finished bytes,
+      unfinished bytes,
+      [],
+      lines-last KEPT c.args.progress.now.line bytes stands.keeps begun,
+      c.in-Err.ensures.performed origin (finished bytes) (unfinished bytes) stands.keeps stands.performed,
+    )

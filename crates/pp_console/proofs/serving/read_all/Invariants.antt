@@ -1,0 +1,20 @@
+use Rattle.std.proofs.Common.{◌-◌, ◌≡◌, ℕ, List}
+use Rattle.std.specs.Io.KnownBytes.{Consumes}
+use Rattle.pp_console.specs.declared.progress.TheConstants.{BYTE_LIMIT}
+use Rattle.pp_console.specs.Answers.{Value}
+use Rattle.pp_history.specs.SessionValue.{IsAt}
+use Rattle.pp_rig.specs.Rules.{rules}
+use Rattle.pp_console.specs.Serving.{origin_of, Stands}
+use Rattle.pp_console.proofs.serving.read_all.Given as goal
+
+abbrev pub invariant-pieces : goal.invariant-pieces
+invariant-pieces g l = record {
+  stands : (start : Value) → IsAt rules l.initial.session start →
+      (taken : List ℕ) × Consumes (g.R.Source.rest l.initial.source) (g.R.Source.rest l.source) taken
+      × Stands l.progress l.session (g.W.Sink.text l.out) (origin_of start (g.W.Sink.text l.initial.out)) taken;
+  reads : g.R.Source.failure_count l.source ≡ g.R.Source.failure_count l.initial.source;
+  writes : g.W.Sink.failure_count l.out ≡ g.W.Sink.failure_count l.initial.out;
+}
+
+abbrev pub decreases-pieces : goal.decreases-pieces
+decreases-pieces g l = BYTE_LIMIT - l.progress.bytes

@@ -1,0 +1,6 @@
+use Rattle.std.proofs.Common.{ℕ, ◌<◌, lit<}
+use Rattle.std.proofs.lemmas.List.Elements.{All-replicate}
+use Rattle.pp_console.proofs.tests.blank_card.Goals as goal
+
+pub returns : goal.returns
+returns c = All-replicate (λ (x : ℕ). x < 4096) 80 0 (lit< tt)

@@ -1,0 +1,141 @@
+-- The answer to each command.
+use Rattle.std.specs.Prelude.{ℕ, nat_lt, Option, Some, None, if◌then◌else◌, Bool, true, false, List, [], ◌∷◌, length}
+use Rattle.pp_history.specs.Contents.{Contents}
+use Rattle.pp_history.specs.SessionValue.{SessionValue, replay, after_act, after_back, after_forward}
+use Rattle.pp_history.specs.Change.{change}
+use Rattle.pp_machine.specs.Machine.{Machine}
+use Rattle.pp_machine.specs.declared.place.Place.{Place}
+use Rattle.pp_rig.specs.Admitting.{first_fault}
+use Rattle.pp_rig.specs.Rules.{rules}
+use Rattle.pp_rig.specs.Stopping.{stopped, after_turns}
+use Rattle.pp_rig.specs.Watches.{watches_of, watched_place}
+use Rattle.pp_rig.specs.declared.action.Action.{Action}
+use Rattle.pp_rig.specs.declared.action.ActionFault.{ActionFault}
+use Rattle.pp_rig.specs.declared.rig.RigRecord.{RigRecord}
+use Rattle.pp_rig.specs.declared.stopping.Stopped.{Stopped}
+use Rattle.pp_command.specs.declared.request.Request.{Request}
+use Rattle.pp_command.specs.declared.request.Request.TheVariants.{Act, Step, Back, BackToChange, Forward, DumpCells, DumpProcessor, DumpChannels, DumpCentral, DumpFrame, DumpReader, DumpPrinter, DumpWatches}
+use Rattle.std.specs.Prelude.{map}
+use Rattle.pp_console.specs.Refusals.{ok_text, action_fault_text, range_text, too_few_text, too_few_ahead_text, no_change_text, nothing_watched_text}
+use Rattle.pp_console.specs.Moves.{moved_text, back_name, forward_name, stopped_text}
+use Rattle.pp_console.specs.Watches.{watches_text}
+use Rattle.pp_console.specs.Dumps.{cells_text, processor_text, channels_text, central_text, frame_text, reader_text, printer_text}
+
+-- what a session stands for
+abbrev pub Value : Type 0
+Value = SessionValue Machine Action
+
+-- what contracts see of a session
+abbrev pub State : Type 0
+State = Contents Machine Action RigRecord
+
+-- the machine after the actions that stand
+abbrev pub present : Value → Machine
+present v = replay rules v.start v.standing
+
+-- what one line leads to
+pub record Answer : Type 0 where
+  pub text : List ℕ
+  pub value : Value
+  pub refused : Bool
+
+-- a text, and the value after it
+abbrev pub told : Value → List ℕ → Answer
+told v text = record { text = text; value = v; refused = false }
+
+-- a text, and the value as it was
+abbrev pub refusal : Value → List ℕ → Answer
+refusal v text = record { text = text; value = v; refused = true }
+
+-- an action, where it is admitted
+abbrev pub act_or : Option ActionFault → Action → Value → Answer
+act_or None action v = told (after_act v action) ok_text
+act_or (Some fault) action v = refusal v (action_fault_text fault)
+
+-- SET, WATCH, UNWATCH and DEADSTART
+unfoldable pub act_answer : Action → Value → Answer
+act_answer action v = act_or (first_fault (present v) action) action v
+
+-- turns, up to the first change of a watched number
+abbrev pub stopped_answer : Stopped → Value → Answer
+stopped_answer done v = told (after_turns done.turns v) (stopped_text done (present (after_turns done.turns v)).slot)
+
+-- STEP
+unfoldable pub step_answer : ℕ → Value → Answer
+step_answer most v = stopped_answer (stopped most (present v)) v
+
+-- the session moved by so many actions, to a value
+abbrev pub moved : List ℕ → ℕ → Value → Answer
+moved name actions v = told v (moved_text name actions (present v).slot)
+
+-- BACK: actions taken back, where as many are kept
+unfoldable pub back_answer : ℕ → Value → Answer
+back_answer actions v = if nat_lt v.kept actions then refusal v too_few_text else moved back_name actions (after_back v actions)
+
+-- FORWARD: actions performed again, where as many are ahead
+unfoldable pub forward_answer : ℕ → Value → Answer
+forward_answer actions v = if nat_lt (length v.ahead) actions then refusal v too_few_ahead_text else moved forward_name actions (after_forward v actions)
+
+-- the actions taken back to before a change, if there is one
+abbrev pub back_or : Option ℕ → Value → Answer
+back_or None v = refusal v no_change_text
+back_or (Some actions) v = moved back_name actions (after_back v actions)
+
+-- the latest change of one of these places taken back, if there are any
+abbrev pub changed_answer : List Place → Value → Answer
+changed_answer [] v = refusal v nothing_watched_text
+changed_answer (place ∷ places) v = back_or (change rules v (place ∷ places)) v
+
+-- BACK W: on the places that are watched now
+unfoldable pub change_answer : Value → Answer
+change_answer v = changed_answer (map watched_place (watches_of (present v))) v
+
+-- DUMP M
+unfoldable pub cells_answer : ℕ → ℕ → ℕ → Value → Answer
+cells_answer n first last v = told v (cells_text (present v) n first last)
+
+-- DUMP PP
+unfoldable pub processor_answer : ℕ → Value → Answer
+processor_answer n v = told v (processor_text (present v) n)
+
+-- DUMP H
+unfoldable pub channels_answer : Value → Answer
+channels_answer v = told v (channels_text (present v))
+
+-- DUMP C: the words, where the machine has the last one
+unfoldable pub central_answer : ℕ → ℕ → Value → Answer
+central_answer first last v =
+    if nat_lt last (present v).setup.central_words then told v (central_text (present v) first last)
+    else refusal v range_text
+
+-- DUMP XP
+unfoldable pub frame_answer : Value → Answer
+frame_answer v = told v (frame_text (present v))
+
+-- DUMP CR
+unfoldable pub reader_answer : Value → Answer
+reader_answer v = told v (reader_text (present v))
+
+-- DUMP LP
+unfoldable pub printer_answer : Value → Answer
+printer_answer v = told v (printer_text (present v))
+
+-- DUMP W
+unfoldable pub watches_answer : Value → Answer
+watches_answer v = told v (watches_text (watches_of (present v)))
+
+-- the answer to a command
+abbrev pub answer : Request → Value → Answer
+answer (Act action) v = act_answer action v
+answer (Step most) v = step_answer most v
+answer (Back actions) v = back_answer actions v
+answer BackToChange v = change_answer v
+answer (Forward actions) v = forward_answer actions v
+answer (DumpCells n first last) v = cells_answer n first last v
+answer (DumpProcessor n) v = processor_answer n v
+answer DumpChannels v = channels_answer v
+answer (DumpCentral first last) v = central_answer first last v
+answer DumpFrame v = frame_answer v
+answer DumpReader v = reader_answer v
+answer DumpPrinter v = printer_answer v
+answer DumpWatches v = watches_answer v

@@ -1,0 +1,84 @@
+-- What a machine shows.
+use Rattle.std.specs.Prelude.{ℕ, ◌+◌, ◌-◌, ◌*◌, ◌/◌, ◌==◌, min, if◌then◌else◌, List, [], ◌∷◌, ◌++◌, length, codes}
+use Rattle.std.specs.List.{flat_map, range_with_len}
+use Rattle.pp_machine.specs.Machine.{Machine, number}
+use Rattle.pp_machine.specs.declared.place.Place.TheVariants.{Cell, RegA, RegP, RegQ, Phase, ChannelMode, ChannelWord, Clock, Central, FrameWord, Card, CardColumn, ReaderMode, PaperLength, PaperColumn, PrinterMode, Slot}
+use Rattle.pp_console.specs.Texts.{field}
+use Rattle.pp_console.specs.Paper.{paper, paper_text}
+
+-- a line for each number of a range
+abbrev pub each : (ℕ → List ℕ) → ℕ → ℕ → List ℕ
+each line first count = flat_map line (range_with_len first count)
+
+-- DUMP M: a cell of a row
+unfoldable pub cell_text : Machine → ℕ → ℕ → List ℕ
+cell_text m n a = field (codes " ") 4 (number m (Cell n a))
+
+-- a row: its address, and the cells from there on, eight but for the last row
+unfoldable pub cell_row : Machine → ℕ → ℕ → ℕ → List ℕ
+cell_row m n last from = field [] 4 from ++ each (cell_text m n) from (min (last + 1 - from) 8) ++ 10 ∷ []
+
+-- the rows one after another
+abbrev pub row_at : Machine → ℕ → ℕ → ℕ → ℕ → List ℕ
+row_at m n first last row = cell_row m n last (first + 8 * row)
+
+unfoldable pub cells_text : Machine → ℕ → ℕ → ℕ → List ℕ
+cells_text m n first last = each (row_at m n first last) 0 ((last + 8 - first) / 8)
+
+-- DUMP PP
+unfoldable pub processor_text : Machine → ℕ → List ℕ
+processor_text m n =
+    field (codes "PP ") 2 n ++ field (codes " P ") 4 (number m (RegP n)) ++ field (codes " A ") 6 (number m (RegA n))
+    ++ field (codes " Q ") 4 (number m (RegQ n)) ++ field (codes " PHASE ") 4 (number m (Phase n)) ++ field (codes " SLOT ") 2 (number m Slot) ++ 10 ∷ []
+
+-- inactive, empty, full, or with a function code
+unfoldable pub state_text : ℕ → List ℕ
+state_text state =
+    if state == 0 then codes " I "
+    else (if state == 1 then codes " E "
+    else (if state == 2 then codes " F "
+    else codes " X "))
+
+-- DUMP H: a channel
+unfoldable pub channel_line : Machine → ℕ → List ℕ
+channel_line m c = field (codes "H ") 2 c ++ state_text (number m (ChannelMode c)) ++ field [] 4 (number m (ChannelWord c)) ++ 10 ∷ []
+
+unfoldable pub channels_text : Machine → List ℕ
+channels_text m = each (channel_line m) 0 12 ++ field (codes "H 14 F ") 4 (number m Clock) ++ 10 ∷ []
+
+-- DUMP C: a central word
+unfoldable pub central_line : Machine → ℕ → List ℕ
+central_line m a = field (codes "C ") 6 a ++ field (codes " ") 20 (number m (Central a)) ++ 10 ∷ []
+
+unfoldable pub central_text : Machine → ℕ → ℕ → List ℕ
+central_text m first last = each (central_line m) first (last + 1 - first)
+
+-- DUMP XP: a word of the exchange package
+unfoldable pub frame_line : Machine → ℕ → List ℕ
+frame_line m i = field (codes "XP ") 2 i ++ field (codes " ") 20 (number m (FrameWord i)) ++ 10 ∷ []
+
+unfoldable pub frame_text : Machine → List ℕ
+frame_text m = each (frame_line m) 0 16
+
+-- the mode of a device
+unfoldable pub mode_text : List ℕ → ℕ → List ℕ
+mode_text active mode =
+    if mode == 0 then codes " MODE IDLE\n"
+    else (if mode == 1 then active
+    else (if mode == 2 then codes " MODE STATUS\n"
+    else codes " MODE SENT\n"))
+
+-- DUMP CR
+unfoldable pub reader_text : Machine → List ℕ
+reader_text m =
+    field (codes "CR H ") 2 m.setup.reader_channel ++ field (codes " CARD ") 4 (number m Card) ++ field (codes " OF ") 4 (length m.reader.deck)
+    ++ field (codes " COLUMN ") 3 (number m CardColumn) ++ mode_text (codes " MODE READING\n") (number m ReaderMode)
+
+-- DUMP LP: the printer, and its paper
+unfoldable pub printer_line : Machine → List ℕ
+printer_line m =
+    field (codes "LP H ") 2 m.setup.printer_channel ++ field (codes " SYMBOLS ") 6 (number m PaperLength)
+    ++ field (codes " COLUMN ") 3 (number m PaperColumn) ++ mode_text (codes " MODE PRINTING\n") (number m PrinterMode)
+
+unfoldable pub printer_text : Machine → List ℕ
+printer_text m = printer_line m ++ paper_text (paper m)

@@ -1,0 +1,11 @@
+pub mod Answers
+pub mod DisplayCode
+pub mod Dumps
+pub mod Moves
+pub mod Paper
+pub mod Performing
+pub mod Refusals
+pub mod Script
+pub mod Serving
+pub mod Texts
+pub mod Watches

@@ -1,0 +1,45 @@
+-- What a script of console lines does to a session value, and the text that answers it.
+use Rattle.std.specs.Prelude.{ℕ, ◌+◌, Option, Some, None, Result, Ok, Err, if◌then◌else◌, Bool, List, [], ◌++◌, fold}
+use Rattle.pp_lines.specs.Lines.{lines}
+use Rattle.pp_command.specs.CommandLine.{command}
+use Rattle.pp_command.specs.declared.fault.LineFault.{LineFault}
+use Rattle.pp_command.specs.declared.request.Request.{Request}
+use Rattle.pp_console.specs.Answers.{Value, Answer, told, refusal, answer}
+use Rattle.pp_console.specs.Refusals.{fault_text}
+
+-- the answer to what a line asks for
+abbrev pub answer_parsed : Value → Result (Option Request) LineFault → Answer
+answer_parsed v (Ok None) = told v []
+answer_parsed v (Ok (Some request)) = answer request v
+answer_parsed v (Err fault) = refusal v (fault_text fault)
+
+-- the answer to a line
+unfoldable pub answer_line : Value → List ℕ → Answer
+answer_line v line = answer_parsed v (command line)
+
+-- what the lines so far have led to
+pub record Outcome : Type 0 where
+  pub text : List ℕ
+  pub value : Value
+  pub refused : ℕ
+
+abbrev pub begin : Value → Outcome
+begin v = record { text = []; value = v; refused = 0 }
+
+-- one for a refused line
+abbrev pub refusals : Bool → ℕ
+refusals refused = if refused then 1 else 0
+
+-- the outcome with one line more
+abbrev pub follow : Outcome → List ℕ → Outcome
+follow before line =
+    let next = answer_line before.value line in
+    record { text = before.text ++ next.text; value = next.value; refused = before.refused + refusals next.refused }
+
+-- the outcome of these lines, from this value on
+unfoldable pub run : Value → List (List ℕ) → Outcome
+run start lines = fold follow (begin start) lines
+
+-- the outcome of a script
+abbrev pub script : Value → List ℕ → Outcome
+script start bytes = run start (lines bytes)

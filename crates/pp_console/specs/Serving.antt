@@ -1,0 +1,84 @@
+-- What became of a script, as far as it was read.
+use Rattle.std.specs.Prelude.{◌≡◌, ℕ, ◌<◌, ◌⊎◌, List, [], ◌∷◌, ◌++◌, length, Option}
+use Rattle.std.specs.Io.KnownBytes.{Appends}
+use Rattle.pp_console.specs.declared.progress.Progress.{Progress}
+use Rattle.pp_console.specs.declared.progress.Summary.{Summary}
+use Rattle.pp_console.specs.declared.progress.TheConstants.{LINE_LIMIT, BYTE_LIMIT, KEPT}
+use Rattle.pp_lines.specs.declared.fault.IoFault.{IoFault}
+use Rattle.pp_lines.specs.declared.fault.IoFault.TheVariants.{ReadFailed, WriteFailed, LineLimit}
+use Rattle.pp_lines.specs.Device.{one_more}
+use Rattle.pp_lines.specs.Lines.{lines, finished, finished_within, IsWithin, IsFrontOf}
+use Rattle.pp_console.specs.Answers.{State, Value}
+use Rattle.pp_console.specs.Script.{run, script}
+use Rattle.pp_history.specs.SessionValue.{IsAt}
+use Rattle.pp_rig.specs.Rules.{rules}
+
+-- where a run began: a value of the session, and the text of the sink
+pub record Origin : Type 0 where
+  pub start : Value
+  pub before : Option (List ℕ)
+
+abbrev pub origin_of : Value → Option (List ℕ) → Origin
+origin_of start before = record { start = start; before = before }
+
+-- these lines were performed, and their whole text was written
+pub record Performed (session : State) (text : Option (List ℕ)) (origin : Origin) (done : List (List ℕ)) : Type 0 where
+  pub leaves : IsAt rules session (run origin.start done).value
+  pub writes : Appends origin.before text (run origin.start done).text
+
+-- these lines were performed, the line after them too, and of its answer a proper front was written
+pub record Breaks (session : State) (text : Option (List ℕ)) (origin : Origin) (done : List (List ℕ)) (line : List ℕ) : Type 0 where
+  pub leaves : IsAt rules session (run origin.start (done ++ line ∷ [])).value
+  pub writes : (front rest : List ℕ) × Appends origin.before text ((run origin.start done).text ++ front)
+      × ((run origin.start (done ++ line ∷ [])).text ≡ ((run origin.start done).text ++ front) ++ rest) × (0 < length rest)
+
+-- the whole script was performed, its text was written, and its lines were counted
+pub record Serves (summary : Summary) (session : State) (text : Option (List ℕ)) (origin : Origin) (bytes : List ℕ) : Type 0 where
+  pub performed : Performed session text origin (lines bytes)
+  pub counts_lines : summary.lines ≡ length (lines bytes)
+  pub counts_refused : summary.refused ≡ (script origin.start bytes).refused
+  pub within : IsWithin LINE_LIMIT BYTE_LIMIT bytes
+
+-- what stands after a fault, where these bytes were taken
+abbrev pub Stops : IoFault → State → Option (List ℕ) → Origin → List ℕ → Type 0
+Stops ReadFailed session text origin bytes = Performed session text origin (finished_within LINE_LIMIT BYTE_LIMIT bytes)
+Stops LineLimit session text origin bytes =
+    Performed session text origin (finished_within LINE_LIMIT BYTE_LIMIT bytes)
+    × ((BYTE_LIMIT < length bytes) ⊎ (LINE_LIMIT < length (lines bytes)))
+Stops WriteFailed session text origin bytes =
+    (done : List (List ℕ)) × (line : List ℕ) × (later : List (List ℕ)) × (lines bytes ≡ done ++ line ∷ later) × Breaks session text origin done line
+
+-- the script was read as far as these bytes
+pub record Stands (progress : Progress) (session : State) (text : Option (List ℕ)) (origin : Origin) (bytes : List ℕ) : Type 0 where
+  pub keeps : IsFrontOf KEPT progress.line bytes
+  pub counts_bytes : progress.bytes ≡ length bytes
+  pub counts_lines : progress.lines ≡ length (finished bytes)
+  pub counts_refused : progress.refused ≡ (run origin.start (finished bytes)).refused
+  pub performed : Performed session text origin (finished bytes)
+
+-- what stands after a fault among these bytes, before the end
+abbrev pub Interrupts : IoFault → State → Option (List ℕ) → Origin → List ℕ → Type 0
+Interrupts ReadFailed session text origin bytes = ⊥
+Interrupts LineLimit session text origin bytes =
+    (kept more : List ℕ) × (bytes ≡ kept ++ more) × (0 < length more) × IsWithin LINE_LIMIT BYTE_LIMIT kept
+    × ((length kept ≡ BYTE_LIMIT) ⊎ (length (finished kept) ≡ LINE_LIMIT)) × Performed session text origin (finished kept)
+Interrupts WriteFailed session text origin bytes =
+    (done : List (List ℕ)) × (line : List ℕ) × (later : List (List ℕ)) × (finished bytes ≡ done ++ line ∷ later) × Breaks session text origin done line
+
+-- the sink's count of failures after a fault
+abbrev pub writes_after : IoFault → ℕ → ℕ
+writes_after ReadFailed count = count
+writes_after LineLimit count = count
+writes_after WriteFailed count = one_more count
+
+-- the source's count of failures after a fault
+abbrev pub reads_after : IoFault → ℕ → ℕ
+reads_after ReadFailed count = one_more count
+reads_after LineLimit count = count
+reads_after WriteFailed count = count
+
+-- a fault that is not the source's
+abbrev pub IsNoReadFault : IoFault → Type 0
+IsNoReadFault ReadFailed = ⊥
+IsNoReadFault LineLimit = Unit {0}
+IsNoReadFault WriteFailed = Unit {0}

@@ -1,0 +1,241 @@
+//! What the console does with one command, and with one line.
+ghost use Rattle.std.specs.Prelude.{◌≡◌, ◌≤◌, ◌<◌, IfErr, IfOk, true, false};
+ghost use Rattle.pp_history.specs.SessionValue.{IsAt};
+ghost use Rattle.pp_rig.specs.Rules.{rules};
+ghost use Rattle.pp_lines.specs.Device.{Counts};
+ghost use Rattle.pp_lines.specs.Output.{Writes};
+ghost use Rattle.pp_console.specs.Performing.{Performs};
+ghost use Rattle.pp_console.specs.Answers.{Value, act_answer, step_answer, back_answer, forward_answer, change_answer, cells_answer, processor_answer, channels_answer, central_answer, frame_answer, reader_answer, printer_answer, watches_answer, answer};
+ghost use Rattle.pp_console.specs.Script.{answer_line};
+
+use crate::cells::put_cells;
+use crate::central::put_central;
+use crate::devices::reader_line;
+use crate::moves::{moved_line, stopped_lines};
+use crate::paper::put_printer;
+use crate::refusals::{action_fault_text, fault_text};
+use crate::registers::{channel_lines, frame_lines, processor_line};
+use crate::watches::watch_lines;
+use pp_command::{Command, Request, parse};
+use pp_history::Session;
+use pp_lines::{Failed, IoFault, Sink, put_all};
+use pp_rig::{Action, Rig, run};
+
+/// Writes the answer of a command that was performed.
+fn tell<W: Sink>(out: &mut W, text: &[u8]) -> Result<bool, Failed>
+    ensures text { Writes (W.text out.old) (W.text out.new) result text.now }
+    ensures performed { IfOk result (λ performed. performed ≡ true) }
+    ensures counted { Counts (W.failure_count out.old) (W.failure_count out.new) result }
+{
+    put_all(out, text)?;
+    Ok(true)
+}
+
+/// Writes the answer of a command that was refused.
+fn refuse<W: Sink>(out: &mut W, text: &[u8]) -> Result<bool, Failed>
+    ensures text { Writes (W.text out.old) (W.text out.new) result text.now }
+    ensures performed { IfOk result (λ performed. performed ≡ false) }
+    ensures counted { Counts (W.failure_count out.old) (W.failure_count out.new) result }
+{
+    put_all(out, text)?;
+    Ok(false)
+}
+
+/// Performs an action, where it is admitted.
+#[tactic(auto, unfolding(crate::specs::Answers::act_answer, crate::specs::Refusals::ok_text))]
+fn act<W: Sink>(session: &mut Session<Rig>, action: Action, out: &mut W) -> Result<bool, Failed>
+    ensures performs { Performs session.old session.new (W.text out.old) (W.text out.new) result (act_answer action) }
+    ensures counted { Counts (W.failure_count out.old) (W.failure_count out.new) result }
+{
+    match session.machine().check(&action) {
+        Ok(()) => {
+            session.act(action);
+            tell(out, b"OK\n")
+        }
+        Err(fault) => refuse(out, action_fault_text(fault)),
+    }
+}
+
+/// Performs turns, up to the first change of a watched number.
+#[tactic(auto, unfolding(crate::specs::Answers::step_answer))]
+fn step<W: Sink>(session: &mut Session<Rig>, most: u32, out: &mut W) -> Result<bool, Failed>
+    ensures performs { Performs session.old session.new (W.text out.old) (W.text out.new) result (step_answer most) }
+    ensures counted { Counts (W.failure_count out.old) (W.failure_count out.new) result }
+{
+    let done = run(session, most);
+    tell(
+        out,
+        stopped_lines(done, session.machine().slot()).as_slice(),
+    )
+}
+
+/// Takes actions back, where as many are kept.
+#[tactic(auto, unfolding(crate::specs::Answers::back_answer, crate::specs::Moves::back_name, crate::specs::Refusals::too_few_text))]
+fn back<W: Sink>(session: &mut Session<Rig>, actions: u32, out: &mut W) -> Result<bool, Failed>
+    ensures performs { Performs session.old session.new (W.text out.old) (W.text out.new) result (back_answer actions) }
+    ensures counted { Counts (W.failure_count out.old) (W.failure_count out.new) result }
+{
+    match session.back(actions) {
+        Ok(()) => tell(
+            out,
+            moved_line(b"BACK ", actions, session.machine().slot()).as_slice(),
+        ),
+        Err(_) => refuse(out, b"ERR 07 TOO FEW KEPT\n"),
+    }
+}
+
+/// Performs actions again, where as many are ahead.
+#[tactic(auto, unfolding(crate::specs::Answers::forward_answer, crate::specs::Moves::forward_name, crate::specs::Refusals::too_few_ahead_text))]
+fn forward<W: Sink>(session: &mut Session<Rig>, actions: u32, out: &mut W) -> Result<bool, Failed>
+    ensures performs { Performs session.old session.new (W.text out.old) (W.text out.new) result (forward_answer actions) }
+    ensures counted { Counts (W.failure_count out.old) (W.failure_count out.new) result }
+{
+    match session.forward(actions) {
+        Ok(()) => tell(
+            out,
+            moved_line(b"FORWARD ", actions, session.machine().slot()).as_slice(),
+        ),
+        Err(_) => refuse(out, b"ERR 16 TOO FEW AHEAD\n"),
+    }
+}
+
+/// Takes back the latest change of a watched number, if there is one.
+#[tactic(auto, unfolding(crate::specs::Answers::change_answer, crate::specs::Moves::back_name, crate::specs::Refusals::no_change_text, crate::specs::Refusals::nothing_watched_text))]
+fn back_to_change<W: Sink>(session: &mut Session<Rig>, out: &mut W) -> Result<bool, Failed>
+    ensures performs { Performs session.old session.new (W.text out.old) (W.text out.new) result change_answer }
+    ensures counted { Counts (W.failure_count out.old) (W.failure_count out.new) result }
+{
+    let places = session.machine().watched_places();
+    if places.is_empty() {
+        return refuse(out, b"ERR 15 NOTHING WATCHED\n");
+    }
+    match session.back_to_change(places.as_slice()) {
+        Ok(actions) => tell(
+            out,
+            moved_line(b"BACK ", actions, session.machine().slot()).as_slice(),
+        ),
+        Err(_) => refuse(out, b"ERR 10 NO CHANGE KEPT\n"),
+    }
+}
+
+/// Shows cells of a processor.
+#[tactic(auto, unfolding(crate::specs::Answers::cells_answer))]
+fn dump_cells<W: Sink>(
+    session: &mut Session<Rig>,
+    pp: u8,
+    first: u16,
+    last: u16,
+    out: &mut W,
+) -> Result<bool, Failed>
+    requires pp { pp < 10 }
+    requires last { last < 4096 }
+    ensures performs { Performs session.old session.new (W.text out.old) (W.text out.new) result (cells_answer pp first last) }
+    ensures counted { Counts (W.failure_count out.old) (W.failure_count out.new) result }
+{
+    put_cells(session.machine(), pp, first, last, out)?;
+    Ok(true)
+}
+
+/// Shows central words, where the machine has them.
+fn dump_central<W: Sink>(
+    session: &mut Session<Rig>,
+    first: u32,
+    last: u32,
+    out: &mut W,
+) -> Result<bool, Failed>
+    requires in_order { first ≤ last }
+    requires small { last < 0o400000 }
+    ensures performs { Performs session.old session.new (W.text out.old) (W.text out.new) result (central_answer first last) }
+    ensures counted { Counts (W.failure_count out.old) (W.failure_count out.new) result }
+{
+    if last >= session.machine().central_size().words() {
+        return refuse(out, b"ERR 04 RANGE\n");
+    }
+    put_central(session.machine(), first, last, out)?;
+    Ok(true)
+}
+
+/// Shows the line printer and its paper.
+#[tactic(auto, unfolding(crate::specs::Answers::printer_answer))]
+fn dump_printer<W: Sink>(session: &mut Session<Rig>, out: &mut W) -> Result<bool, Failed>
+    ensures performs { Performs session.old session.new (W.text out.old) (W.text out.new) result printer_answer }
+    ensures counted { Counts (W.failure_count out.old) (W.failure_count out.new) result }
+{
+    put_printer(session.machine(), out)?;
+    Ok(true)
+}
+
+/// Performs a request wholly, and then writes its answer. `false` is a refused one.
+#[tactic(auto, unfolding(crate::specs::Answers::processor_answer, crate::specs::Answers::channels_answer, crate::specs::Answers::frame_answer, crate::specs::Answers::reader_answer, crate::specs::Answers::watches_answer))]
+fn perform_request<W: Sink>(
+    session: &mut Session<Rig>,
+    command: &Command,
+    out: &mut W,
+) -> Result<bool, Failed>
+    ensures performs { Performs session.old session.new (W.text out.old) (W.text out.new) result (answer command.now) }
+    ensures counted { Counts (W.failure_count out.old) (W.failure_count out.new) result }
+{
+    match command.request() {
+        Request::Act(action) => act(session, action.copied(), out),
+        Request::Step(most) => step(session, *most, out),
+        Request::Back(actions) => back(session, *actions, out),
+        Request::BackToChange => back_to_change(session, out),
+        Request::Forward(actions) => forward(session, *actions, out),
+        Request::DumpCells { pp, first, last } => dump_cells(session, *pp, *first, *last, out),
+        Request::DumpProcessor(pp) => tell(out, processor_line(session.machine(), *pp).as_slice()),
+        Request::DumpChannels => tell(out, channel_lines(session.machine()).as_slice()),
+        Request::DumpCentral { first, last } => dump_central(session, *first, *last, out),
+        Request::DumpFrame => tell(out, frame_lines(session.machine()).as_slice()),
+        Request::DumpReader => tell(out, reader_line(session.machine()).as_slice()),
+        Request::DumpPrinter => dump_printer(session, out),
+        Request::DumpWatches => tell(out, watch_lines(session.machine().watches()).as_slice()),
+    }
+}
+
+/// Performs a command wholly, and then writes its answer, whose texts are this project's choice.
+/// `false` is a refused command: its answer is its ERR line, and it changed nothing.
+///
+/// # Errors
+/// `WriteFailed`, where a call of the sink failed. The command stands, and what was written is a
+/// proper front of its answer.
+pub fn perform<W: Sink>(
+    session: &mut Session<Rig>,
+    command: &Command,
+    out: &mut W,
+) -> Result<bool, IoFault>
+    ensures performs { Performs session.old session.new (W.text out.old) (W.text out.new) result (answer command.now) }
+    ensures fault { IfErr result (λ fault. fault ≡ IoFault.WriteFailed) }
+    ensures counted { Counts (W.failure_count out.old) (W.failure_count out.new) result }
+{
+    match perform_request(session, command, out) {
+        Ok(performed) => Ok(performed),
+        Err(Failed) => Err(IoFault::WriteFailed),
+    }
+}
+
+/// Performs a line, and then writes its answer. Answers whether the line was refused, and a refused
+/// line changed nothing.
+#[tactic(auto, unfolding(crate::specs::Script::answer_line))]
+pub fn perform_line<W: Sink>(
+    session: &mut Session<Rig>,
+    line: &[u8],
+    out: &mut W,
+) -> Result<bool, Failed>
+    ensures session { (v : Value) → IsAt rules session.old v →
+        IsAt rules session.new (answer_line v line.now).value }
+    ensures text { (v : Value) → IsAt rules session.old v →
+        Writes (W.text out.old) (W.text out.new) result (answer_line v line.now).text }
+    ensures refused { IfOk result (λ refused. (v : Value) → IsAt rules session.old v →
+        refused ≡ (answer_line v line.now).refused) }
+    ensures unchanged { IfOk result (λ refused. refused ≡ true → session.new ≡ session.old) }
+    ensures counted { Counts (W.failure_count out.old) (W.failure_count out.new) result }
+{
+    match parse(line) {
+        Ok(None) => Ok(false),
+        Ok(Some(command)) => Ok(!perform_request(session, &command, out)?),
+        Err(fault) => {
+            put_all(out, fault_text(fault))?;
+            Ok(true)
+        }
+    }
+}

@@ -1,0 +1,23 @@
+//! The console: commands and whole scripts performed in a session, and their answers.
+#![tactic(auto)]
+
+mod cells;
+mod central;
+mod commands;
+mod devices;
+mod moves;
+mod paper;
+mod progress;
+mod refusals;
+mod registers;
+mod serving;
+#[cfg(test)]
+mod tests;
+mod text;
+mod watches;
+
+pub use commands::perform;
+pub use pp_command::{Command, LineFault, parse};
+pub use pp_lines::{Counted, Failed, IoFault, Sink, Source};
+pub use progress::Summary;
+pub use serving::serve;

@@ -1,0 +1,123 @@
+//! The printer's paper in lines of text.
+ghost use Rattle.std.specs.Prelude.{◌≡◌, ◌<◌, ◌≤◌, ◌++◌, length, map, position, codes, IfSome, MatchOption};
+ghost use Rattle.pp_lines.specs.Device.{Counts};
+ghost use Rattle.pp_lines.specs.Output.{Writes};
+ghost use Rattle.pp_console.specs.DisplayCode.{character, is_line_end};
+ghost use Rattle.pp_console.specs.Dumps.{printer_text};
+ghost use Rattle.pp_console.specs.Paper.{marked, paper_text, rest_text};
+
+use crate::devices::printer_line;
+use arrayvec::ArrayVec;
+use pp_lines::{Failed, Sink, put_all};
+use pp_rig::Rig;
+
+/// The characters of display code 00 to 77 (octal).
+static DISPLAY_CODE: [u8; 64] =
+    *b":ABCDEFGHIJKLMNOPQRSTUVWXYZ0123456789+-*/()$= ,.#[]%\"_!&'?<>@\\^;";
+
+/// The most symbols that are put at once: those of a printed line.
+const PIECE: usize = 136;
+
+/// The character of a symbol, which is a line feed for a line end.
+#[tactic(auto, unfolding(crate::specs::DisplayCode::character, crate::specs::DisplayCode::display_code))]
+fn character(symbol: u8) -> u8
+    ensures { result ≡ character symbol }
+{
+    if symbol < 0o100 {
+        DISPLAY_CODE[usize::from(symbol)]
+    } else {
+        b'\n'
+    }
+}
+
+/// The characters of a piece.
+fn characters(symbols: &[u8]) -> ArrayVec<u8, PIECE>
+    requires { length symbols.now ≤ PIECE }
+    ensures { result.items ≡ map character symbols.now }
+{
+    let mut text = ArrayVec::new();
+    for symbol in symbols {
+        text.push(character(*symbol));
+    }
+    text
+}
+
+/// Writes the characters of the symbols, a piece at a time.
+fn put_characters<W: Sink>(symbols: &[u8], out: &mut W) -> Result<(), Failed>
+    ensures text { Writes (W.text out.old) (W.text out.new) result (map character symbols.now) }
+    ensures counted { Counts (W.failure_count out.old) (W.failure_count out.new) result }
+{
+    let mut rest = symbols;
+    'pieces: while !rest.is_empty() {
+        let (piece, later) = rest.split_at(rest.len().min(PIECE));
+        put_all(out, characters(piece).as_slice())?;
+        rest = later;
+    }
+    Ok(())
+}
+
+/// Writes a line of the paper after a mark.
+fn put_line<W: Sink>(mark: &[u8], symbols: &[u8], out: &mut W) -> Result<(), Failed>
+    ensures text { Writes (W.text out.old) (W.text out.new) result
+        (marked mark.now (map character symbols.now)) }
+    ensures counted { Counts (W.failure_count out.old) (W.failure_count out.new) result }
+{
+    put_all(out, mark)?;
+    put_characters(symbols, out)?;
+    put_all(out, b"\n")
+}
+
+/// Where the first line end stands.
+fn line_end(symbols: &[u8]) -> Option<usize>
+    ensures value { result ≡ position is_line_end symbols.now }
+    ensures within { IfSome result (λ end. end < length symbols.now) }
+{
+    symbols
+        .iter()
+        .position(|symbol| character(*symbol) == b'\n')
+}
+
+/// The first line of the paper without its line end, and what follows it.
+fn next_line(symbols: &[u8]) -> Option<(&[u8], &[u8])>
+    ensures cut { MatchOption result (paper_text symbols.now ≡ rest_text symbols.now)
+        (λ cut. paper_text symbols.now
+        ≡ marked (codes "|") (map character cut.0.now) ++ paper_text cut.1.now) }
+    ensures shorter { IfSome result (λ cut. length cut.1.now < length symbols.now) }
+{
+    let (line, rest) = symbols.split_at(line_end(symbols)?);
+    Some((line, &rest[1..]))
+}
+
+/// Writes what stands after the last line end, if anything does.
+fn put_rest<W: Sink>(symbols: &[u8], out: &mut W) -> Result<(), Failed>
+    ensures text { Writes (W.text out.old) (W.text out.new) result (rest_text symbols.now) }
+    ensures counted { Counts (W.failure_count out.old) (W.failure_count out.new) result }
+{
+    if symbols.is_empty() {
+        return Ok(());
+    }
+    put_line(b"/", symbols, out)
+}
+
+/// Writes the paper: its lines after a bar, and what stands after the last line end after a slash.
+fn put_paper<W: Sink>(symbols: &[u8], out: &mut W) -> Result<(), Failed>
+    ensures text { Writes (W.text out.old) (W.text out.new) result (paper_text symbols.now) }
+    ensures counted { Counts (W.failure_count out.old) (W.failure_count out.new) result }
+{
+    let mut rest = symbols;
+    'lines: while let Some((line, later)) = next_line(rest) {
+        put_line(b"|", line, out)?;
+        rest = later;
+    }
+    put_rest(rest, out)
+}
+
+/// Writes the line printer and its paper.
+#[tactic(auto, unfolding(crate::specs::Dumps::printer_text))]
+pub fn put_printer<W: Sink>(machine: &Rig, out: &mut W) -> Result<(), Failed>
+    ensures text { Writes (W.text out.old) (W.text out.new) result (printer_text machine.now) }
+    ensures counted { Counts (W.failure_count out.old) (W.failure_count out.new) result }
+{
+    put_all(out, printer_line(machine).as_slice())?;
+    put_paper(machine.paper(), out)
+}

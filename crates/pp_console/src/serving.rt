@@ -1,0 +1,191 @@
+//! A whole script, from bytes to bytes.
+ghost use Rattle.std.specs.Prelude.{◌≡◌, ◌+◌, ◌<◌, ◌∷◌, ◌++◌, [], Some, ℕ, List, IfOk, IfErr, OnOk, MatchResult, length, take};
+ghost use Rattle.std.specs.Io.KnownBytes.{Consumes, IsAtEnd};
+ghost use Rattle.pp_lines.specs.Device.{Counts};
+ghost use Rattle.pp_history.specs.SessionValue.{IsAt};
+ghost use Rattle.pp_rig.specs.Rules.{rules};
+ghost use Rattle.pp_lines.specs.Lines.{IsFrontOf};
+ghost use Rattle.pp_console.specs.Answers.{Value};
+ghost use Rattle.pp_console.specs.Script.{run};
+ghost use Rattle.pp_console.specs.Serving.{Origin, Performed, Breaks, Serves, Stops, Stands, Interrupts, IsNoReadFault, writes_after, reads_after, origin_of};
+
+use crate::commands::perform_line;
+use crate::progress::{BYTE_LIMIT, KEPT, LINE_LIMIT, Progress, Summary};
+use pp_history::Session;
+use pp_lines::{Failed, IoFault, LINE_FEED, Sink, Source};
+use pp_rig::Rig;
+
+/// The most bytes that are taken at once.
+const PIECE: usize = 4096;
+
+/// Performs the unfinished line, and begins the next.
+fn end_line<W: Sink>(
+    progress: &mut Progress,
+    session: &mut Session<Rig>,
+    out: &mut W,
+) -> Result<(), Failed>
+    requires { progress.old.lines < LINE_LIMIT }
+    ensures performed { (origin : Origin) (done : List (List ℕ)) (line : List ℕ) →
+        progress.old.line ≡ take KEPT line →
+        Performed session.old (W.text out.old) origin done →
+        MatchResult result (λ _. Performed session.new (W.text out.new) origin (done ++ line ∷ []))
+        (λ _. Breaks session.new (W.text out.new) origin done line) }
+    ensures refused { OnOk result ((origin : Origin) (done : List (List ℕ)) (line : List ℕ) →
+        progress.old.line ≡ take KEPT line →
+        Performed session.old (W.text out.old) origin done →
+        progress.old.refused ≡ (run origin.start done).refused →
+        progress.new.refused ≡ (run origin.start (done ++ line ∷ [])).refused) }
+    ensures lines { OnOk result (progress.new.lines ≡ progress.old.lines + 1) }
+    ensures line { OnOk result ((bytes : List ℕ) → IsFrontOf KEPT progress.new.line (bytes ++ 10 ∷ [])) }
+    ensures bytes { progress.new.bytes ≡ progress.old.bytes }
+    ensures counted { Counts (W.failure_count out.old) (W.failure_count out.new) result }
+{
+    let refused = perform_line(session, progress.line.line(), out)?;
+    progress.line.end_line();
+    progress.lines += 1;
+    if refused {
+        progress.refused += 1;
+    }
+    Ok(())
+}
+
+/// Takes one byte more of the script.
+fn feed_byte<W: Sink>(
+    progress: &mut Progress,
+    byte: u8,
+    session: &mut Session<Rig>,
+    out: &mut W,
+) -> Result<(), IoFault>
+    ensures stands { (origin : Origin) (bytes : List ℕ) →
+        Stands progress.old session.old (W.text out.old) origin bytes →
+        MatchResult result
+        (λ _. Stands progress.new session.new (W.text out.new) origin (bytes ++ byte ∷ []))
+        (λ fault. Interrupts fault session.new (W.text out.new) origin (bytes ++ byte ∷ [])) }
+    ensures bytes { OnOk result (progress.new.bytes ≡ progress.old.bytes + 1) }
+    ensures counted { MatchResult result (λ _. W.failure_count out.new ≡ W.failure_count out.old)
+        (λ fault. W.failure_count out.new ≡ writes_after fault (W.failure_count out.old)) }
+    ensures faults { IfErr result IsNoReadFault }
+{
+    if progress.bytes == BYTE_LIMIT || progress.lines == LINE_LIMIT {
+        return Err(IoFault::LineLimit);
+    }
+    progress.bytes += 1;
+    if byte == LINE_FEED {
+        return match end_line(progress, session, out) {
+            Ok(()) => Ok(()),
+            Err(Failed) => Err(IoFault::WriteFailed),
+        };
+    }
+    progress.line.take_byte(byte);
+    Ok(())
+}
+
+/// Takes a piece more of the script.
+fn feed<W: Sink>(
+    progress: &mut Progress,
+    piece: &[u8],
+    session: &mut Session<Rig>,
+    out: &mut W,
+) -> Result<(), IoFault>
+    ensures stands { (origin : Origin) (bytes : List ℕ) →
+        Stands progress.old session.old (W.text out.old) origin bytes →
+        MatchResult result
+        (λ _. Stands progress.new session.new (W.text out.new) origin (bytes ++ piece.now))
+        (λ fault. Interrupts fault session.new (W.text out.new) origin (bytes ++ piece.now)) }
+    ensures bytes { OnOk result (progress.new.bytes ≡ progress.old.bytes + length piece.now) }
+    ensures counted { MatchResult result (λ _. W.failure_count out.new ≡ W.failure_count out.old)
+        (λ fault. W.failure_count out.new ≡ writes_after fault (W.failure_count out.old)) }
+    ensures faults { IfErr result IsNoReadFault }
+{
+    for byte in piece {
+        feed_byte(progress, *byte, session, out)?;
+    }
+    Ok(())
+}
+
+/// Performs the last line, where no line feed ends it, and counts the lines.
+fn finish<W: Sink>(
+    progress: &mut Progress,
+    session: &mut Session<Rig>,
+    out: &mut W,
+) -> Result<Summary, IoFault>
+    ensures serves { (origin : Origin) (bytes : List ℕ) →
+        Stands progress.old session.old (W.text out.old) origin bytes →
+        MatchResult result
+        (λ summary. Serves summary session.new (W.text out.new) origin bytes)
+        (λ fault. Stops fault session.new (W.text out.new) origin bytes) }
+    ensures counted { MatchResult result (λ _. W.failure_count out.new ≡ W.failure_count out.old)
+        (λ fault. W.failure_count out.new ≡ writes_after fault (W.failure_count out.old)) }
+    ensures faults { IfErr result IsNoReadFault }
+{
+    if progress.line.line().is_empty() {
+        return Ok(progress.summary());
+    }
+    match end_line(progress, session, out) {
+        Ok(()) => Ok(progress.summary()),
+        Err(Failed) => Err(IoFault::WriteFailed),
+    }
+}
+
+/// Performs every line of the source, and writes the answers.
+fn read_all<R: Source, W: Sink>(
+    session: &mut Session<Rig>,
+    source: &mut R,
+    out: &mut W,
+) -> Result<Summary, IoFault>
+    ensures serves { (start : Value) → IsAt rules session.old start →
+        (taken : List ℕ) × Consumes (R.rest source.old) (R.rest source.new) taken
+        × MatchResult result
+        (λ summary. Serves summary session.new (W.text out.new) (origin_of start (W.text out.old)) taken)
+        (λ fault. Stops fault session.new (W.text out.new) (origin_of start (W.text out.old)) taken) }
+    ensures all { OnOk result (IsAtEnd (R.rest source.new)) }
+    ensures reads { MatchResult result (λ _. R.failure_count source.new ≡ R.failure_count source.old)
+        (λ fault. R.failure_count source.new ≡ reads_after fault (R.failure_count source.old)) }
+    ensures writes { MatchResult result (λ _. W.failure_count out.new ≡ W.failure_count out.old)
+        (λ fault. W.failure_count out.new ≡ writes_after fault (W.failure_count out.old)) }
+{
+    let mut progress = Progress::new();
+    let mut piece = [0; PIECE];
+    'pieces: loop {
+        match source.take(&mut piece) {
+            Err(Failed) => return Err(IoFault::ReadFailed),
+            Ok(0) => return finish(&mut progress, session, out),
+            Ok(count) => feed(&mut progress, &piece[..count], session, out)?,
+        }
+    }
+}
+
+/// Performs every line of the source in turn, and writes each answer before the next bytes are
+/// taken. A line that was begun and not finished is performed at the end of the source, and after no
+/// fault.
+///
+/// A script has at most 1,000,000 lines and 268,435,456 bytes (this project's choice).
+///
+/// # Errors
+/// `ReadFailed` and `WriteFailed`, where a call of the source or of the sink failed, and `LineLimit`,
+/// where a byte was taken that begins a further line or is one too many. The session is then as after
+/// the commands performed so far; of these one whose answer could not be written stands.
+pub fn serve<R: Source, W: Sink>(
+    session: &mut Session<Rig>,
+    source: &mut R,
+    out: &mut W,
+) -> Result<Summary, IoFault>
+    // The bytes of the source are the script: all of it was performed, answered and counted.
+    ensures script { IfOk result (λ summary. (start : Value) (bytes : List ℕ) →
+        IsAt rules session.old start → R.rest source.old ≡ Some bytes →
+        Serves summary session.new (W.text out.new) (origin_of start (W.text out.old)) bytes) }
+    ensures all { OnOk result (IsAtEnd (R.rest source.new)) }
+
+    // What stands after the fault, by the bytes that were taken.
+    ensures stopped { IfErr result (λ fault. (start : Value) → IsAt rules session.old start →
+        (taken : List ℕ) × Consumes (R.rest source.old) (R.rest source.new) taken
+        × Stops fault session.new (W.text out.new) (origin_of start (W.text out.old)) taken) }
+
+    // Each count of failures rose by the fault that is told, and by no other.
+    ensures reads { MatchResult result (λ _. R.failure_count source.new ≡ R.failure_count source.old)
+        (λ fault. R.failure_count source.new ≡ reads_after fault (R.failure_count source.old)) }
+    ensures writes { MatchResult result (λ _. W.failure_count out.new ≡ W.failure_count out.old)
+        (λ fault. W.failure_count out.new ≡ writes_after fault (W.failure_count out.old)) }
+{
+    read_all(session, source, out)
+}
