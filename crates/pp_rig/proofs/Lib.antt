@@ -1,6 +1,11 @@
 pub mod Admitting
+pub mod Deadstart
+pub mod MachineStore
+pub mod Overwritten
 pub mod Runs
 pub mod Shortest
 pub mod Starting
 pub mod Turns
+pub mod Unwatching
 pub mod Watching
+pub mod WriteLists

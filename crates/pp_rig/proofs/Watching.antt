@@ -28,7 +28,7 @@ code-below (RegQ n) = omega arith
 code-below (Central a) = omega arith
 code-below (Register c) = omega arith
 
-code-no_zero : (w : Watched) → eqb (watch_code w) 0 ≡ false
+pub code-no_zero : (w : Watched) → eqb (watch_code w) 0 ≡ false
 code-no_zero w = ⊎_elim (λ t. absurd (omega (arith, t.1, code-below w))) (λ t. t.0) (eqb_tells (watch_code w) 0)
 
 first_zero-zeros : (k : ℕ) → first_zero (replicate k 0) ≡ 0

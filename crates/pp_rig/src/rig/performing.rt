@@ -1,11 +1,12 @@
 //! An action of any kind.
-ghost use Rattle.std.specs.Prelude.{◌≡◌};
-ghost use Rattle.pp_rig.specs.Action.{FitsRecord, before, next};
+ghost use Rattle.std.specs.Prelude.{◌≡◌, ◌≤◌, length};
+ghost use Rattle.pp_rig.specs.Action.{FitsRecord, most_places, next, overwritten, record_pairs};
 ghost use Rattle.pp_rig.specs.Performing.{IsPerformable};
 
-use super::settings::cell_settings;
+use super::settings::push_cells;
 use super::{Rig, RigRecord};
 use crate::action::Action;
+use arrayvec::ArrayVec;
 use pp_machine::{Kept, Place};
 
 impl Rig {
@@ -13,13 +14,15 @@ impl Rig {
     pub(super) fn perform(&mut self, action: &Action) -> RigRecord
         requires { IsPerformable self.old action.now }
         ensures step { self.new ≡ next self.old action.now }
-        ensures back { before result self.new ≡ self.old }
+        ensures stood { record_pairs result ≡ overwritten self.old action.now }
+        ensures few { length (record_pairs result) ≤ most_places action.now }
         ensures fits { FitsRecord result self.new }
     {
         match action {
             Action::Turn => self.turn_kept(),
             Action::SetCells { pp, a, values } => {
-                let list = cell_settings(*pp, *a, values.as_slice());
+                let mut list: ArrayVec<Kept, 8> = ArrayVec::new();
+                push_cells(&mut list, *pp, *a, values.as_slice());
                 self.overwrite_all(list.as_slice())
             }
             Action::SetA { pp, v } => self.overwrite_all(&[Kept::new(
@@ -52,7 +55,8 @@ impl Rig {
                 Kept::new(Place::Phase { pp: *pp }, 0),
             ]),
             Action::Watch(watched) => self.watch(*watched),
-            Action::Unwatch(_) | Action::Deadstart => self.overwrite_all(&[]),
+            Action::Unwatch(watched) => self.unwatch(*watched),
+            Action::Deadstart => self.deadstart(),
         }
     }
 }

@@ -1,30 +1,37 @@
 //! Numbers that an action sets at places.
-ghost use Rattle.std.specs.Prelude.{◌≡◌, ◌<◌, ◌≤◌, length};
+ghost use Rattle.std.specs.Prelude.{◌≡◌, ◌+◌, ◌<◌, ◌≤◌, ◌++◌, length};
+ghost use Rattle.arrayvec.specs.ArrayVec.{array_vec_len};
 ghost use Rattle.pp_machine.specs.Kept.{kept_pairs};
-ghost use Rattle.pp_machine.specs.Machine.{number, over, put};
+ghost use Rattle.pp_machine.specs.Machine.{number, olds, over, put};
 ghost use Rattle.pp_machine.specs.Shape.{IsShaped};
-ghost use Rattle.pp_rig.specs.Action.{FitsRecord, before, cell_list};
+ghost use Rattle.pp_rig.specs.Action.{FitsRecord, record_pairs};
 ghost use Rattle.pp_rig.specs.Settings.{AreSettings, IsInRange, IsSettable, IsSetting};
+ghost use Rattle.pp_rig.specs.WriteLists.{cell_list};
 
 use super::{Rig, RigRecord};
 use arrayvec::ArrayVec;
 use pp_machine::{Channel, ChannelState, Kept, Place};
 
-/// The settings of values in cells from a on, round the end of the memory.
-pub(super) fn cell_settings(pp: u8, a: u16, values: &[u16]) -> ArrayVec<Kept, 8>
-    requires few { length values.now ≤ 8 }
+/// Appends the settings of values in cells from a on, round the end of the memory.
+pub(super) fn push_cells<const N: usize>(
+    list: &mut ArrayVec<Kept, N>,
+    pp: u8,
+    a: u16,
+    values: &[u16],
+)
+    requires few { length values.now ≤ 4096 }
+    requires room { array_vec_len list.old + length values.now ≤ N }
     requires small { a < 4096 }
-    ensures { kept_pairs result.items ≡ cell_list pp a values.now }
+    ensures items { kept_pairs list.new.items ≡ kept_pairs list.old.items ++ cell_list pp a values.now }
+    ensures len { array_vec_len list.new ≡ array_vec_len list.old + length values.now }
 {
-    let mut list = ArrayVec::new();
-    for (i, v) in values.iter().enumerate() {
+    for (i, value) in values.iter().enumerate() {
         let place = Place::Cell {
             pp,
             a: (a + i as u16) % 4096,
         };
-        list.push(Kept::new(place, u64::from(*v)));
+        list.push(Kept::new(place, u64::from(*value)));
     }
-    list
 }
 
 impl Rig {
@@ -92,33 +99,44 @@ impl Rig {
         self.channels.set(c, Channel { state, word });
     }
 
-    /// Puts a list in, the last pair first, and answers what it overwrote, in the order of the writes.
-    pub(super) fn overwrite<const N: usize>(&mut self, list: &[Kept]) -> ArrayVec<Kept, N>
+    /// The places of the list, with the numbers that stand there.
+    pub(super) fn standing<const N: usize>(&self, list: &[Kept]) -> ArrayVec<Kept, N>
         requires room { length list.now ≤ N }
-        requires settings { AreSettings self.old.setup.central_words (kept_pairs list.now) }
-        ensures step { self.new ≡ over self.old (kept_pairs list.now) }
-        ensures back { over self.new (kept_pairs result.items) ≡ self.old }
-        ensures settings { AreSettings self.new.setup.central_words (kept_pairs result.items) }
+        requires settings { AreSettings self.now.setup.central_words (kept_pairs list.now) }
+        ensures stood { kept_pairs result.items ≡ olds self.now (kept_pairs list.now) }
+        ensures settings { AreSettings self.now.setup.central_words (kept_pairs result.items) }
+        ensures len { length result.items ≡ length list.now }
     {
-        let mut log = ArrayVec::new();
-        for i in (0..list.len()).rev() {
-            let Kept { place, number } = list[i];
-            let old = self.setting(place);
-            log.push(Kept::new(place, old));
-            self.set(place, number);
+        let mut standing = ArrayVec::new();
+        for pair in list {
+            standing.push(Kept::new(pair.place, self.setting(pair.place)));
         }
-        log
+        standing
     }
 
+    /// Puts the list in, the last pair first.
+    pub(super) fn put_all(&mut self, list: &[Kept])
+        requires { AreSettings self.old.setup.central_words (kept_pairs list.now) }
+        ensures { self.new ≡ over self.old (kept_pairs list.now) }
+    {
+        for i in (0..list.len()).rev() {
+            let Kept { place, number } = list[i];
+            self.set(place, number);
+        }
+    }
+
+    /// Puts a short list in, and keeps what it overwrites.
     pub(super) fn overwrite_all(&mut self, list: &[Kept]) -> RigRecord
         requires room { length list.now ≤ 8 }
         requires settings { AreSettings self.old.setup.central_words (kept_pairs list.now) }
         ensures step { self.new ≡ over self.old (kept_pairs list.now) }
-        ensures back { before result self.new ≡ self.old }
+        ensures stood { record_pairs result ≡ olds self.old (kept_pairs list.now) }
+        ensures few { length (record_pairs result) ≤ 8 }
         ensures fits { FitsRecord result self.new }
     {
-        let log = self.overwrite(list);
+        let standing = self.standing(list);
+        self.put_all(list);
         let _ = &self.slot;
-        RigRecord::Settings(log)
+        RigRecord::Settings(standing)
     }
 }

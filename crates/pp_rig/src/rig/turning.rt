@@ -1,11 +1,11 @@
 //! One turn of the barrel, and what takes it back.
-ghost use Rattle.std.specs.Prelude.{◌≡◌, ◌<◌, [], ◌∷◌};
+ghost use Rattle.std.specs.Prelude.{◌≡◌, ◌<◌, ◌≤◌, [], ◌∷◌, length};
 ghost use Rattle.pp_machine.specs.Lookup.{lookup};
 ghost use Rattle.pp_machine.specs.Machine.{olds, over};
 ghost use Rattle.pp_machine.specs.Printed.{FitsPrinter, printer_pairs, printer_place};
 ghost use Rattle.pp_machine.specs.Read.{FitsReader, reader_pairs, reader_place};
 ghost use Rattle.pp_machine.specs.Writes.{first_of_two, renamed};
-ghost use Rattle.pp_rig.specs.Action.{FitsRecord, before};
+ghost use Rattle.pp_rig.specs.Action.{FitsRecord, record_pairs};
 ghost use Rattle.pp_rig.specs.Lift.{printer_of, reader_of};
 ghost use Rattle.pp_rig.specs.Turn.{FitsClock, FitsTurn, KeepsSlot, clock_list, clock_pairs, pp_list, printer_list, reader_list, slot_list, turn as turn_of, turn_olds, turn_pairs};
 ghost use Rattle.pp_step.specs.Step.{FitsPp, pp_pairs};
@@ -56,6 +56,7 @@ impl Rig {
         ensures back { over self.new (renamed (pp_place self.old.slot) (pp_pairs result)) ≡ self.old }
         ensures fits { FitsPp self.new.setup.central_words result }
         ensures kept { KeepsSlot self.old self.new }
+        ensures few { length (pp_pairs result) ≤ 33 }
     {
         self.processors[self.slot as usize].step(
             &mut self.channels,
@@ -173,6 +174,7 @@ impl Rig {
         ensures record { turn_pairs result ≡ turn_olds self.old }
         ensures back { over self.new (turn_pairs result) ≡ self.old }
         ensures fits { FitsTurn result self.new }
+        ensures few { length (turn_pairs result) ≤ 44 }
     {
         let reader_channel = self.reader_channel;
         let printer_channel = self.printer_channel;
@@ -212,9 +214,11 @@ impl Rig {
         self.undo_processor(slot, pp);
     }
 
+    /// One turn, with its record.
     pub(super) fn turn_kept(&mut self) -> RigRecord
         ensures step { self.new ≡ turn_of self.old }
-        ensures back { before result self.new ≡ self.old }
+        ensures stood { record_pairs result ≡ turn_olds self.old }
+        ensures few { length (record_pairs result) ≤ 44 }
         ensures fits { FitsRecord result self.new }
     {
         let record = self.turn();

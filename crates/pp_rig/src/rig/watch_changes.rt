@@ -1,22 +1,25 @@
 //! Watched places that come and go.
-ghost use Rattle.std.specs.Prelude.{◌≡◌, ◌<◌, ◌+◌, [], ◌∷◌, false};
-ghost use Rattle.pp_machine.specs.Machine.{over};
+ghost use Rattle.std.specs.Prelude.{◌≡◌, ◌<◌, ◌+◌, ◌≤◌, [], ◌∷◌, false, length, map};
+ghost use Rattle.pp_machine.specs.Machine.{number, olds, over};
 ghost use Rattle.pp_machine.specs.Shape.{Has};
-ghost use Rattle.pp_rig.specs.Action.{FitsRecord, before};
+ghost use Rattle.pp_rig.specs.Action.{FitsRecord, FitsUnwatched, record_pairs, unwatch_list};
 ghost use Rattle.pp_rig.specs.Watches.{is_watched, watched_place};
 ghost use Rattle.pp_rig.specs.Watching.{first_zero, watch_code};
+ghost use Rattle.pp_rig.specs.WriteLists.{entry_list};
 
 use super::{Rig, RigRecord};
 use crate::watched::Watched;
 use pp_machine::Place;
 
 impl Rig {
+    /// Watches one place more.
     pub(super) fn watch(&mut self, watched: Watched) -> RigRecord
         requires room { first_zero self.old.watches < 8 }
         requires present { Has self.old.setup.central_words (watched_place watched) }
         requires other { is_watched self.old watched ≡ false }
         ensures step { self.new ≡ over self.old ((Place.WatchEntry (first_zero self.old.watches), watch_code watched) ∷ []) }
-        ensures back { before result self.new ≡ self.old }
+        ensures stood { record_pairs result ≡ (Place.WatchEntry (first_zero self.old.watches), 0) ∷ [] }
+        ensures free { number self.old (Place.WatchEntry (first_zero self.old.watches)) ≡ 0 }
         ensures fits { FitsRecord result self.new }
     {
         let i = self.watches.count();
@@ -24,6 +27,29 @@ impl Rig {
         RigRecord::Watched(i)
     }
 
+    /// Watches a place no more.
+    pub(super) fn unwatch(&mut self, watched: Watched) -> RigRecord
+        ensures step { self.new ≡ over self.old (unwatch_list self.old watched) }
+        ensures stood { record_pairs result ≡ olds self.old (unwatch_list self.old watched) }
+        ensures few { length (record_pairs result) ≤ 8 }
+        ensures fits { FitsRecord result self.new }
+    {
+        let Some(i) = self.watches.entry_of(watched) else {
+            return self.overwrite_all(&[]);
+        };
+        let places = self.watches.remove(i);
+        RigRecord::Unwatched { i, places }
+    }
+
+    /// Watches places again, of which the first had gone.
+    pub(super) fn rewatch(&mut self, i: u8, places: &[Watched])
+        requires { FitsUnwatched i places.now self.old }
+        ensures { self.new ≡ over self.old (entry_list i (map watch_code places.now)) }
+    {
+        self.watches.restore(i, places);
+    }
+
+    /// Watches the last place no more.
     pub(super) fn unwatch_last(&mut self, i: u8)
         requires { first_zero self.old.watches ≡ i + 1 }
         ensures { self.new ≡ over self.old ((Place.WatchEntry i, 0) ∷ []) }

@@ -1,0 +1,229 @@
+-- Single writes to the machine: how they behave, and so how any list is taken back by the old numbers.
+use Rattle.std.specs.Prelude.{ℕ, ◌≡◌, ◌≢◌, ◌⊎◌, List, [], ◌∷◌, get_or, set, refl}
+use Rattle.std.proofs.Common.{ap, zero, suc, inl, inr, ◌∙◌}
+use Rattle.std.proofs.lemmas.Bool.{cases_eq}
+use Rattle.std.proofs.lemmas.List.{set-set, set_comm, set-get_or}
+use Rattle.pp_machine.specs.Machine.{Machine, ProcessorNumbers, no_processor, number, put, over, olds}
+use Rattle.pp_machine.specs.Writes.{Writes}
+use Rattle.pp_machine.specs.WriteLaws.{Commute, taken-back}
+use Rattle.pp_machine.specs.declared.place.Place.{Place}
+use Rattle.pp_machine.specs.declared.place.Place.TheVariants.{Cell, RegA, RegP, RegQ, Phase, ChannelMode, ChannelWord, Clock, Central, FrameWord, Card, CardColumn, ReaderMode, PaperLength, PaperColumn, PrinterMode, PaperSymbol, Slot, WatchEntry}
+
+-- processor n changed
+abbrev changed : List ProcessorNumbers → ℕ → (ProcessorNumbers → ProcessorNumbers) → List ProcessorNumbers
+changed ps n f = set ps n (f (get_or ps n no_processor))
+
+abbrev with_processors : Machine → List ProcessorNumbers → Machine
+with_processors m ps = record m { processors = ps }
+
+abbrev with_cell : ℕ → ℕ → ProcessorNumbers → ProcessorNumbers
+with_cell a v x = record x { cells = set x.cells a v }
+
+abbrev with_a : ℕ → ProcessorNumbers → ProcessorNumbers
+with_a v x = record x { a = v }
+
+abbrev with_p : ℕ → ProcessorNumbers → ProcessorNumbers
+with_p v x = record x { p = v }
+
+abbrev with_q : ℕ → ProcessorNumbers → ProcessorNumbers
+with_q v x = record x { q = v }
+
+abbrev with_phase : ℕ → ProcessorNumbers → ProcessorNumbers
+with_phase v x = record x { phase = v }
+
+-- changes of two processors, in either order
+changed-apart : (f g : ProcessorNumbers → ProcessorNumbers) (ps : List ProcessorNumbers) (n k : ℕ) → n ≢ k → changed (changed ps n f) k g ≡ changed (changed ps k g) n f
+changed-apart f g [] n k h = refl
+changed-apart f g (x ∷ ps) zero zero h = absurd (h refl)
+changed-apart f g (x ∷ ps) zero (suc k) h = refl
+changed-apart f g (x ∷ ps) (suc n) zero h = refl
+changed-apart f g (x ∷ ps) (suc n) (suc k) h = ap (λ t. x ∷ t) (changed-apart f g ps n k (λ e. h (ap suc e)))
+
+-- changes that do not meet, in either order
+changed-swap : (f g : ProcessorNumbers → ProcessorNumbers) → ((x : ProcessorNumbers) → g (f x) ≡ f (g x)) → (ps : List ProcessorNumbers) (n k : ℕ) → changed (changed ps n f) k g ≡ changed (changed ps k g) n f
+changed-swap f g e [] n k = refl
+changed-swap f g e (x ∷ ps) zero zero = ap (λ y. y ∷ ps) (e x)
+changed-swap f g e (x ∷ ps) zero (suc k) = refl
+changed-swap f g e (x ∷ ps) (suc n) zero = refl
+changed-swap f g e (x ∷ ps) (suc n) (suc k) = ap (λ t. x ∷ t) (changed-swap f g e ps n k)
+
+-- a change after which the one before it does not count
+changed-again : (f g : ProcessorNumbers → ProcessorNumbers) → ((x : ProcessorNumbers) → g (f x) ≡ g x) → (ps : List ProcessorNumbers) (n : ℕ) → changed (changed ps n f) n g ≡ changed ps n g
+changed-again f g e [] n = refl
+changed-again f g e (x ∷ ps) zero = ap (λ y. y ∷ ps) (e x)
+changed-again f g e (x ∷ ps) (suc n) = ap (λ t. x ∷ t) (changed-again f g e ps n)
+
+-- two cells: of one processor or of two
+apart-cells : (n k a b : ℕ) → (Cell n a ≡ Cell k b) ⊎ Commute put (Cell n a) (Cell k b)
+apart-cells n k a b =
+    elim (cases_eq n k) [
+      | inl e ↦ elim (cases_eq a b) [
+        | inl f ↦ inl (ap (λ m. Cell m a) e ∙ ap (Cell k) f)
+        | inr ne ↦ inr (λ s v w. ap (with_processors s) (changed-swap (with_cell a v) (with_cell b w) (λ x. ap (λ (cells : List ℕ). let y : ProcessorNumbers = record x { cells = cells } in y) (set_comm x.cells a b v w ne)) s.processors n k))
+      ]
+      | inr ne ↦ inr (λ s v w. ap (with_processors s) (changed-apart (with_cell a v) (with_cell b w) s.processors n k ne))
+    ]
+
+apart-RegA : (n k : ℕ) → (RegA n ≡ RegA k) ⊎ Commute put (RegA n) (RegA k)
+apart-RegA n k =
+    elim (cases_eq n k) [
+      | inl e ↦ inl (ap RegA e)
+      | inr ne ↦ inr (λ s v w. ap (with_processors s) (changed-apart (with_a v) (with_a w) s.processors n k ne))
+    ]
+
+apart-RegP : (n k : ℕ) → (RegP n ≡ RegP k) ⊎ Commute put (RegP n) (RegP k)
+apart-RegP n k =
+    elim (cases_eq n k) [
+      | inl e ↦ inl (ap RegP e)
+      | inr ne ↦ inr (λ s v w. ap (with_processors s) (changed-apart (with_p v) (with_p w) s.processors n k ne))
+    ]
+
+apart-RegQ : (n k : ℕ) → (RegQ n ≡ RegQ k) ⊎ Commute put (RegQ n) (RegQ k)
+apart-RegQ n k =
+    elim (cases_eq n k) [
+      | inl e ↦ inl (ap RegQ e)
+      | inr ne ↦ inr (λ s v w. ap (with_processors s) (changed-apart (with_q v) (with_q w) s.processors n k ne))
+    ]
+
+apart-Phase : (n k : ℕ) → (Phase n ≡ Phase k) ⊎ Commute put (Phase n) (Phase k)
+apart-Phase n k =
+    elim (cases_eq n k) [
+      | inl e ↦ inl (ap Phase e)
+      | inr ne ↦ inr (λ s v w. ap (with_processors s) (changed-apart (with_phase v) (with_phase w) s.processors n k ne))
+    ]
+
+abbrev with_channelmode : Machine → List ℕ → Machine
+with_channelmode s xs = record s { channels = record s.channels { modes = xs } }
+
+apart-ChannelMode : (i j : ℕ) → (ChannelMode i ≡ ChannelMode j) ⊎ Commute put (ChannelMode i) (ChannelMode j)
+apart-ChannelMode i j =
+    elim (cases_eq i j) [
+      | inl e ↦ inl (ap ChannelMode e)
+      | inr ne ↦ inr (λ s v w. ap (with_channelmode s) (set_comm s.channels.modes i j v w ne))
+    ]
+
+abbrev with_channelword : Machine → List ℕ → Machine
+with_channelword s xs = record s { channels = record s.channels { words = xs } }
+
+apart-ChannelWord : (i j : ℕ) → (ChannelWord i ≡ ChannelWord j) ⊎ Commute put (ChannelWord i) (ChannelWord j)
+apart-ChannelWord i j =
+    elim (cases_eq i j) [
+      | inl e ↦ inl (ap ChannelWord e)
+      | inr ne ↦ inr (λ s v w. ap (with_channelword s) (set_comm s.channels.words i j v w ne))
+    ]
+
+abbrev with_central : Machine → List ℕ → Machine
+with_central s xs = record s { central = xs }
+
+apart-Central : (i j : ℕ) → (Central i ≡ Central j) ⊎ Commute put (Central i) (Central j)
+apart-Central i j =
+    elim (cases_eq i j) [
+      | inl e ↦ inl (ap Central e)
+      | inr ne ↦ inr (λ s v w. ap (with_central s) (set_comm s.central i j v w ne))
+    ]
+
+abbrev with_frameword : Machine → List ℕ → Machine
+with_frameword s xs = record s { frame = xs }
+
+apart-FrameWord : (i j : ℕ) → (FrameWord i ≡ FrameWord j) ⊎ Commute put (FrameWord i) (FrameWord j)
+apart-FrameWord i j =
+    elim (cases_eq i j) [
+      | inl e ↦ inl (ap FrameWord e)
+      | inr ne ↦ inr (λ s v w. ap (with_frameword s) (set_comm s.frame i j v w ne))
+    ]
+
+abbrev with_papersymbol : Machine → List ℕ → Machine
+with_papersymbol s xs = record s { printer = record s.printer { symbols = xs } }
+
+apart-PaperSymbol : (i j : ℕ) → (PaperSymbol i ≡ PaperSymbol j) ⊎ Commute put (PaperSymbol i) (PaperSymbol j)
+apart-PaperSymbol i j =
+    elim (cases_eq i j) [
+      | inl e ↦ inl (ap PaperSymbol e)
+      | inr ne ↦ inr (λ s v w. ap (with_papersymbol s) (set_comm s.printer.symbols i j v w ne))
+    ]
+
+abbrev with_watchentry : Machine → List ℕ → Machine
+with_watchentry s xs = record s { watches = xs }
+
+apart-WatchEntry : (i j : ℕ) → (WatchEntry i ≡ WatchEntry j) ⊎ Commute put (WatchEntry i) (WatchEntry j)
+apart-WatchEntry i j =
+    elim (cases_eq i j) [
+      | inl e ↦ inl (ap WatchEntry e)
+      | inr ne ↦ inr (λ s v w. ap (with_watchentry s) (set_comm s.watches i j v w ne))
+    ]
+
+apart : (x y : Place) → (x ≡ y) ⊎ Commute put x y
+apart (Cell n a) (Cell k b) = apart-cells n k a b
+apart (RegA n) (RegA k) = apart-RegA n k
+apart (RegP n) (RegP k) = apart-RegP n k
+apart (RegQ n) (RegQ k) = apart-RegQ n k
+apart (Phase n) (Phase k) = apart-Phase n k
+apart (Cell n a) (RegA k) = inr (λ s v w. ap (with_processors s) (changed-swap (with_cell a v) (with_a w) (λ x. refl) s.processors n k))
+apart (Cell n a) (RegP k) = inr (λ s v w. ap (with_processors s) (changed-swap (with_cell a v) (with_p w) (λ x. refl) s.processors n k))
+apart (Cell n a) (RegQ k) = inr (λ s v w. ap (with_processors s) (changed-swap (with_cell a v) (with_q w) (λ x. refl) s.processors n k))
+apart (Cell n a) (Phase k) = inr (λ s v w. ap (with_processors s) (changed-swap (with_cell a v) (with_phase w) (λ x. refl) s.processors n k))
+apart (RegA n) (Cell k b) = inr (λ s v w. ap (with_processors s) (changed-swap (with_a v) (with_cell b w) (λ x. refl) s.processors n k))
+apart (RegA n) (RegP k) = inr (λ s v w. ap (with_processors s) (changed-swap (with_a v) (with_p w) (λ x. refl) s.processors n k))
+apart (RegA n) (RegQ k) = inr (λ s v w. ap (with_processors s) (changed-swap (with_a v) (with_q w) (λ x. refl) s.processors n k))
+apart (RegA n) (Phase k) = inr (λ s v w. ap (with_processors s) (changed-swap (with_a v) (with_phase w) (λ x. refl) s.processors n k))
+apart (RegP n) (Cell k b) = inr (λ s v w. ap (with_processors s) (changed-swap (with_p v) (with_cell b w) (λ x. refl) s.processors n k))
+apart (RegP n) (RegA k) = inr (λ s v w. ap (with_processors s) (changed-swap (with_p v) (with_a w) (λ x. refl) s.processors n k))
+apart (RegP n) (RegQ k) = inr (λ s v w. ap (with_processors s) (changed-swap (with_p v) (with_q w) (λ x. refl) s.processors n k))
+apart (RegP n) (Phase k) = inr (λ s v w. ap (with_processors s) (changed-swap (with_p v) (with_phase w) (λ x. refl) s.processors n k))
+apart (RegQ n) (Cell k b) = inr (λ s v w. ap (with_processors s) (changed-swap (with_q v) (with_cell b w) (λ x. refl) s.processors n k))
+apart (RegQ n) (RegA k) = inr (λ s v w. ap (with_processors s) (changed-swap (with_q v) (with_a w) (λ x. refl) s.processors n k))
+apart (RegQ n) (RegP k) = inr (λ s v w. ap (with_processors s) (changed-swap (with_q v) (with_p w) (λ x. refl) s.processors n k))
+apart (RegQ n) (Phase k) = inr (λ s v w. ap (with_processors s) (changed-swap (with_q v) (with_phase w) (λ x. refl) s.processors n k))
+apart (Phase n) (Cell k b) = inr (λ s v w. ap (with_processors s) (changed-swap (with_phase v) (with_cell b w) (λ x. refl) s.processors n k))
+apart (Phase n) (RegA k) = inr (λ s v w. ap (with_processors s) (changed-swap (with_phase v) (with_a w) (λ x. refl) s.processors n k))
+apart (Phase n) (RegP k) = inr (λ s v w. ap (with_processors s) (changed-swap (with_phase v) (with_p w) (λ x. refl) s.processors n k))
+apart (Phase n) (RegQ k) = inr (λ s v w. ap (with_processors s) (changed-swap (with_phase v) (with_q w) (λ x. refl) s.processors n k))
+apart (ChannelMode i) (ChannelMode j) = apart-ChannelMode i j
+apart (ChannelWord i) (ChannelWord j) = apart-ChannelWord i j
+apart (Central i) (Central j) = apart-Central i j
+apart (FrameWord i) (FrameWord j) = apart-FrameWord i j
+apart (PaperSymbol i) (PaperSymbol j) = apart-PaperSymbol i j
+apart (WatchEntry i) (WatchEntry j) = apart-WatchEntry i j
+apart Clock Clock = inl refl
+apart Card Card = inl refl
+apart CardColumn CardColumn = inl refl
+apart ReaderMode ReaderMode = inl refl
+apart PaperLength PaperLength = inl refl
+apart PaperColumn PaperColumn = inl refl
+apart PrinterMode PrinterMode = inl refl
+apart Slot Slot = inl refl
+apart x y = inr (λ s v w. refl)
+
+again : (s : Machine) (x : Place) (v w : ℕ) → put (put s x v) x w ≡ put s x w
+again s (Cell n a) v w = ap (with_processors s) (changed-again (with_cell a v) (with_cell a w) (λ x. ap (λ (cells : List ℕ). let y : ProcessorNumbers = record x { cells = cells } in y) (set-set x.cells a v w)) s.processors n)
+again s (RegA n) v w = ap (with_processors s) (changed-again (with_a v) (with_a w) (λ x. refl) s.processors n)
+again s (RegP n) v w = ap (with_processors s) (changed-again (with_p v) (with_p w) (λ x. refl) s.processors n)
+again s (RegQ n) v w = ap (with_processors s) (changed-again (with_q v) (with_q w) (λ x. refl) s.processors n)
+again s (Phase n) v w = ap (with_processors s) (changed-again (with_phase v) (with_phase w) (λ x. refl) s.processors n)
+again s (ChannelMode i) v w = ap (with_channelmode s) (set-set s.channels.modes i v w)
+again s (ChannelWord i) v w = ap (with_channelword s) (set-set s.channels.words i v w)
+again s (Central i) v w = ap (with_central s) (set-set s.central i v w)
+again s (FrameWord i) v w = ap (with_frameword s) (set-set s.frame i v w)
+again s (PaperSymbol i) v w = ap (with_papersymbol s) (set-set s.printer.symbols i v w)
+again s (WatchEntry i) v w = ap (with_watchentry s) (set-set s.watches i v w)
+again s x v w = refl
+
+own : (s : Machine) (x : Place) → put s x (number s x) ≡ s
+own s (Cell n a) =
+    ap (λ (cells : List ℕ). with_processors s (set s.processors n (record (get_or s.processors n no_processor) { cells = cells }))) (set-get_or (get_or s.processors n no_processor).cells a 0)
+    ∙ ap (with_processors s) (set-get_or s.processors n no_processor)
+own s (RegA n) = ap (with_processors s) (set-get_or s.processors n no_processor)
+own s (RegP n) = ap (with_processors s) (set-get_or s.processors n no_processor)
+own s (RegQ n) = ap (with_processors s) (set-get_or s.processors n no_processor)
+own s (Phase n) = ap (with_processors s) (set-get_or s.processors n no_processor)
+own s (ChannelMode i) = ap (with_channelmode s) (set-get_or s.channels.modes i 0)
+own s (ChannelWord i) = ap (with_channelword s) (set-get_or s.channels.words i 0)
+own s (Central i) = ap (with_central s) (set-get_or s.central i 0)
+own s (FrameWord i) = ap (with_frameword s) (set-get_or s.frame i 0)
+own s (PaperSymbol i) = ap (with_papersymbol s) (set-get_or s.printer.symbols i 0)
+own s (WatchEntry i) = ap (with_watchentry s) (set-get_or s.watches i 0)
+own s x = refl
+
+-- a list of writes is taken back by the numbers that stood at its places
+pub taken_back : (m : Machine) (w : Writes Place) → over (over m w) (olds m w) ≡ m
+taken_back = taken-back Machine Place number put (record { apart = apart; again = again; own = own })

@@ -1,0 +1,56 @@
+-- What an action overwrites leads back, and stands at the places that it writes.
+use Rattle.std.specs.Prelude.{ℕ, ◌≡◌, ◌+◌, ◌≤◌, [], ◌∷◌, ◌++◌, Option, Some, None, length, refl}
+use Rattle.std.proofs.Common.{arith, ap, ◌∙◌}
+use Rattle.std.proofs.lemmas.List.{length-append}
+use Rattle.pp_machine.specs.Machine.{Machine, over, olds}
+use Rattle.pp_machine.proofs.DevicePlaces.{printer_few, reader_few}
+use Rattle.pp_machine.specs.Printed.{printer_pairs, printer_place}
+use Rattle.pp_machine.specs.Read.{reader_pairs, reader_place}
+use Rattle.pp_machine.specs.WriteLaws.{over-append}
+use Rattle.pp_machine.specs.Writes.{renamed}
+use Rattle.pp_machine.specs.declared.place.Place.TheVariants.{Slot}
+use Rattle.pp_step.specs.Step.{pp_pairs}
+use Rattle.pp_step.specs.View.{pp_place}
+use Rattle.pp_rig.specs.Action.{writes, next, overwritten}
+use Rattle.pp_rig.specs.Turn.{turn, turn_list, turn_olds, turn_pairs, clock_pairs}
+use Rattle.pp_rig.specs.WriteLists.{places}
+use Rattle.pp_rig.specs.declared.action.Action.{Action}
+use Rattle.pp_rig.specs.declared.action.Action.TheVariants.{Turn}
+use Rattle.pp_rig.specs.declared.rig.TurnRecord.{TurnRecord}
+use Rattle.pp_rig.proofs.MachineStore.{taken_back}
+use Rattle.pp_rig.proofs.WriteLists.{places-append, places-olds, length-renamed}
+
+turn-taken_back : (m : Machine) → over (turn m) (turn_olds m) ≡ m
+unfolding turn turn_olds
+turn-taken_back m = simp (over-append, taken_back)
+
+-- the old numbers lead back to the machine before the action
+pub action-taken_back : (m : Machine) (action : Action) → over (next m action) (overwritten m action) ≡ m
+action-taken_back m Turn = turn-taken_back m
+action-taken_back m action = taken_back m (writes m action)
+
+places-turn : (m : Machine) → places (turn_olds m) ≡ places (turn_list m)
+unfolding turn_olds turn_list
+places-turn m = simp (places-append, places-olds)
+
+-- what is overwritten stands at the places of the write list
+pub places-overwritten : (m : Machine) (action : Action) → places (overwritten m action) ≡ places (writes m action)
+places-overwritten m Turn = places-turn m
+places-overwritten m action = places-olds m (writes m action)
+
+-- ---- how many places a turn's record names
+
+few-clock : (o : Option ℕ) → length (clock_pairs o) ≤ 1
+few-clock None = omega arith
+few-clock (Some v) = omega arith
+
+pub few-turn : (r : TurnRecord) → length (pp_pairs r.pp) ≤ 33 → length (turn_pairs r) ≤ 44
+unfolding turn_pairs
+few-turn r few =
+    let pp = length-renamed (pp_place r.slot) (pp_pairs r.pp) in
+    let reader = length-renamed (reader_place r.reader_channel) (reader_pairs r.reader) in
+    let printer = length-renamed (printer_place r.printer_channel) (printer_pairs r.printer) in
+    let r4 = reader_few r.reader in
+    let p5 = printer_few r.printer in
+    let c1 = few-clock r.clock in
+    simp length-append (omega arith)

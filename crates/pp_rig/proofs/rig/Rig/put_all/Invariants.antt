@@ -1,0 +1,7 @@
+use Rattle.std.proofs.Common.{◌≡◌, ◌≤◌, length, drop}
+use Rattle.pp_machine.specs.Kept.{kept_pairs}
+use Rattle.pp_machine.specs.Machine.{over}
+use Rattle.pp_rig.proofs.rig.Rig.put_all.Given as goal
+
+abbrev pub invariant-loop-i : goal.invariant-loop-i
+invariant-loop-i l = l.self ≡ over l.initial.self (kept_pairs (drop l.i l.list))

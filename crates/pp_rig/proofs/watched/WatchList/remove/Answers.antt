@@ -1,0 +1,69 @@
+use Rattle.std.proofs.Common.{◌<◌, ◌≡◌, arith, length, sym}
+use Rattle.std.specs.Prelude.{drop}
+use Rattle.std.specs.List.{remove}
+use Rattle.std.proofs.lemmas.List.{length-drop}
+use Rattle.std.proofs.lemmas.List.Edits.{length-remove}
+use Rattle.std.proofs.lemmas.List.Elements.{All-drop}
+use Rattle.pp_rig.specs.Watches.{watched_at}
+use Rattle.pp_rig.specs.Watching.{watch_code}
+use Rattle.pp_rig.proofs.Unwatching.{removed-at, stood-at, back-at, told-remove}
+use Rattle.pp_rig.proofs.Watching.{first_zero-entries, watched_in-entries}
+use Rattle.pp_rig.proofs.watched.WatchList.remove.Goals as goal
+
+pub places_from-stood-requires-clause-within : goal.places_from-stood-requires-clause-within
+places_from-stood-requires-clause-within c =
+    let below = rw (← c.self.view_is, first_zero-entries) at c.requires in
+    rw c.as_slice.ensures.value (omega (arith, below))
+
+pub remove-requires : goal.remove-requires
+remove-requires c =
+    let below = rw (← c.self.view_is, first_zero-entries) at c.requires in
+    (omega arith, below)
+
+pub invariant_of-self : goal.invariant_of-self
+invariant_of-self c =
+    let below = rw (← c.self.view_is, first_zero-entries) at c.requires in
+    let count = length-remove c.self.inside.places.items c.args.i below in
+    rw c.remove.ensures.items (record { few = omega (arith, count, c.self.invariant.few); told = told-remove c.self.inside.places.items c.args.i c.self.invariant.told })
+
+stood : (c : goal.After-remove) → c.places_from-stood.result.items ≡ drop c.args.i c.self.inside.places.items
+stood c = rw (c.places_from-stood.ensures, c.as_slice.ensures.value)
+
+pub returns-clause-removed : goal.returns-clause-removed
+returns-clause-removed c =
+    let below = rw (← c.self.view_is, first_zero-entries) at c.requires in
+    rw (← c.self.view_is, c.remove.ensures.items) (removed-at c.self.inside.places.items c.args.i below c.self.invariant.few)
+
+pub returns-clause-stood : goal.returns-clause-stood
+returns-clause-stood c =
+    let below = rw (← c.self.view_is, first_zero-entries) at c.requires in
+    rw (← c.self.view_is, stood c) (stood-at c.self.inside.places.items c.args.i below c.self.invariant.few)
+
+pub returns-clause-back : goal.returns-clause-back
+returns-clause-back c =
+    let below = rw (← c.self.view_is, first_zero-entries) at c.requires in
+    rw (← c.self.view_is, c.remove.ensures.items, stood c) (back-at c.self.inside.places.items c.args.i below c.self.invariant.few)
+
+pub returns-clause-places : goal.returns-clause-places
+returns-clause-places c =
+    rw (← c.self.view_is, c.remove.ensures.items, watched_in-entries c.self.inside.places.items c.self.invariant.told)
+
+pub returns-clause-count : goal.returns-clause-count
+returns-clause-count c =
+    let below = rw (← c.self.view_is, first_zero-entries) at c.requires in
+    let count = length-remove c.self.inside.places.items c.args.i below in
+    rw (c.remove.ensures.items, first_zero-entries, stood c, length-drop) (omega (arith, count, below))
+
+pub returns-clause-within : goal.returns-clause-within
+returns-clause-within c =
+    let below = rw (← c.self.view_is, first_zero-entries) at c.requires in
+    let count = length-remove c.self.inside.places.items c.args.i below in
+    rw (c.remove.ensures.items, first_zero-entries) (omega (arith, count, below))
+
+pub returns-clause-few : goal.returns-clause-few
+returns-clause-few c =
+    let below = rw (← c.self.view_is, first_zero-entries) at c.requires in
+    rw (stood c, length-drop) (omega (arith, below, c.self.invariant.few))
+
+pub returns-clause-told : goal.returns-clause-told
+returns-clause-told c = rw (stood c) (All-drop (λ w. watched_at (watch_code w) ≡ w) c.args.i c.self.inside.places.items c.self.invariant.told)
