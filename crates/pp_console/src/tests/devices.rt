@@ -228,3 +228,62 @@ CR H 12 CARD 0000 OF 0000 COLUMN 000 MODE SENT\n",
         0,
     )
 }
+
+/// The panel's program, and the way back from it.
+#[test]
+fn dead_start(rt: HostRuntime) -> Result<(), Fail> {
+    answers(
+        &rt,
+        rt.alloc(),
+        With::Panel,
+        10000,
+        b"DEADSTART\n\
+STEP\n\
+DUMP PP 0\n\
+DUMP PP 1\n\
+BACK 2\n\
+DUMP PP 1\n",
+        b"OK\n\
+TURNS 1 SLOT 01\n\
+PP 00 P 0002 A 000005 Q 0000 PHASE 0000 SLOT 01\n\
+PP 01 P 0000 A 010000 Q 0000 PHASE 7101 SLOT 01\n\
+BACK 2 SLOT 00\n\
+PP 01 P 0000 A 000000 Q 0000 PHASE 0000 SLOT 00\n",
+        6,
+        0,
+    )
+}
+
+/// Dead start makes channels 01 to 11 empty and clears the cell after the panel's words.
+#[test]
+fn dead_start_opens_channels(rt: HostRuntime) -> Result<(), Fail> {
+    answers(
+        &rt,
+        rt.alloc(),
+        With::Panel,
+        10000,
+        b"SET M 0 15 7777\n\
+DEADSTART\n\
+DUMP H\n\
+DUMP M 0 0 15\n",
+        b"OK\n\
+OK\n\
+H 00 I 0000\n\
+H 01 E 0000\n\
+H 02 E 0000\n\
+H 03 E 0000\n\
+H 04 E 0000\n\
+H 05 E 0000\n\
+H 06 E 0000\n\
+H 07 E 0000\n\
+H 10 E 0000\n\
+H 11 E 0000\n\
+H 12 I 0000\n\
+H 13 I 0000\n\
+H 14 F 0000\n\
+0000 0000 1405 3420 0300 0000 0000 0000 0000\n\
+0010 0000 0000 0000 0000 0000 0000\n",
+        4,
+        0,
+    )
+}

@@ -506,3 +506,33 @@ ERR 16 TOO FEW AHEAD\n",
         5,
     )
 }
+
+/// A watch is taken out, and comes back in its place.
+#[test]
+fn unwatch_closes_up(rt: HostRuntime) -> Result<(), Fail> {
+    answers(
+        &rt,
+        rt.alloc(),
+        With::Nothing,
+        10000,
+        b"WATCH A 0\n\
+WATCH P 0\n\
+WATCH Q 0\n\
+UNWATCH P 0\n\
+DUMP W\n\
+BACK\n\
+DUMP W\n",
+        b"OK\n\
+OK\n\
+OK\n\
+OK\n\
+W A 00\n\
+W Q 00\n\
+BACK 1 SLOT 00\n\
+W A 00\n\
+W P 00\n\
+W Q 00\n",
+        7,
+        0,
+    )
+}

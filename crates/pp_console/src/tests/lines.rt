@@ -1,5 +1,7 @@
 //! Lines and words.
-use super::{With, answers};
+use super::{With, answers, session_of};
+use crate::{IoFault, parse, perform};
+use pp_lines::Tray;
 use std::test::Fail;
 
 /// Lines that are refused, a note, and a last line without an end.
@@ -259,4 +261,22 @@ fn tells_lines_that_are_too_long(rt: HostRuntime) -> Result<(), Fail> {
         1,
         1,
     )
+}
+
+/// A command that is performed by itself tells whether it was refused, and stands where its answer
+/// can't be written.
+#[test]
+fn performs_single_commands(rt: HostRuntime) -> Result<(), Fail> {
+    let mut session = session_of(rt.alloc(), With::LittleMemory, 100)?;
+    let mut out = Tray::new(100);
+    let set = parse(b"SET A 0 5")?.ok_or("ignored")?;
+    assert_eq!(rt; perform(&mut session, &set, &mut out), Ok(true));
+    let back = parse(b"BACK 2")?.ok_or("ignored")?;
+    assert_eq!(rt; perform(&mut session, &back, &mut out), Ok(false));
+    assert!(rt; out.text() == b"OK\nERR 07 TOO FEW KEPT\n".as_slice());
+    assert_eq!(rt; session.kept(), 1);
+    let failed = perform(&mut session, &set, &mut Tray::failing(100, 1));
+    assert_eq!(rt; failed, Err(IoFault::WriteFailed));
+    assert_eq!(rt; session.kept(), 2);
+    Ok(())
 }
