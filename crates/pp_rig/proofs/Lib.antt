@@ -4,7 +4,6 @@ pub mod MachineStore
 pub mod Overwritten
 pub mod Runs
 pub mod Shortest
-pub mod Starting
 pub mod Turns
 pub mod Unwatching
 pub mod Watching

@@ -1,0 +1,34 @@
+-- A well formed machine: every number is in its range.
+use Rattle.std.specs.Prelude.{◌≡◌, ◌<◌, ◌≤◌, ◌^◌, ℕ, All, IfSome, IsTrue, length}
+use Rattle.pp_machine.specs.ChannelNumbers.{IsChannels}
+use Rattle.pp_machine.specs.Frame.{IsPackage}
+use Rattle.pp_machine.specs.Machine.{Machine, ProcessorNumbers}
+use Rattle.pp_machine.specs.Phase.{is_phase}
+use Rattle.pp_machine.specs.PrinterNumbers.{IsPrinter}
+use Rattle.pp_machine.specs.ReaderNumbers.{IsReader}
+use Rattle.pp_machine.specs.Shape.{IsShaped}
+use Rattle.pp_rig.specs.Watches.{AreWatches}
+
+-- registers, phase and cells of a processor
+pub record IsProcessor (x : ProcessorNumbers) : Type 0 where
+  pub a : x.a ≤ 0o777777
+  pub p : x.p ≤ 0o7777
+  pub q : x.q ≤ 0o7777
+  pub phase : IsTrue (is_phase x.phase)
+  pub cells : All (λ cell. cell ≤ 0o7777) x.cells
+
+-- the lists have their sizes, each number is in its range, the paper is zero past its length, a card is left where one is being
+-- read, and the watch entries are those of distinct places of the machine, before zeros
+pub record IsWellFormed (m : Machine) : Type 0 where
+  pub sizes : IsShaped m.setup.central_words m
+  pub processors : All IsProcessor m.processors
+  pub channels : IsChannels m.channels
+  pub central : All (λ word. word < 2 ^ 60) m.central
+  pub frame : IsPackage m.frame
+  pub reader : IsReader m.reader
+  pub printer : IsPrinter m.printer
+  pub slot : m.slot < 10
+  pub watches : AreWatches m.setup.central_words m.watches
+  pub panel : IfSome m.setup.panel (λ panel. All (λ word. word ≤ 0o7777) panel)
+  pub reader_channel : m.setup.reader_channel < 12
+  pub printer_channel : m.setup.printer_channel < 12

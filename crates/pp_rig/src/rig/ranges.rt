@@ -1,0 +1,31 @@
+//! The ranges that every machine keeps.
+ghost use Rattle.std.specs.Prelude.{All};
+ghost use Rattle.pp_rig.specs.WellFormed.{IsProcessor, IsWellFormed};
+
+use super::Rig;
+use crate::processor::Processor;
+
+/// Each processor is well formed.
+fn keep_ranges(processors: &[Processor])
+    ensures { All IsProcessor processors.now }
+{
+    for processor in processors {
+        processor.keeps_ranges();
+    }
+}
+
+impl Rig {
+    /// Every machine is well formed, whatever was done to it: each number is in its range, the paper is zero
+    /// past its length, a card is left where one is being read, and the watched places are distinct places of
+    /// the machine. The call does nothing.
+    pub fn keeps_ranges(&self)
+        ensures { IsWellFormed self.now }
+    {
+        keep_ranges(self.processors.as_slice());
+        let _clock = self.channels.clock();
+        let _word = self.central.get(0);
+        let _package = self.frame.package();
+        let _cards = self.reader.cards();
+        let _paper = self.printer.paper();
+    }
+}
