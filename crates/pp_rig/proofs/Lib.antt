@@ -1,4 +1,5 @@
 pub mod Admitting
+pub mod Cards
 pub mod Deadstart
 pub mod MachineStore
 pub mod Overwritten

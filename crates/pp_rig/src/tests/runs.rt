@@ -2,25 +2,8 @@
 
 use super::*;
 use pp_history::BackFault;
-use std::process::Abort;
 
 const CELL_50: Watched = Watched::Cell { pp: 0, a: 0o50 };
-
-fn act(rt: &impl Abort, session: &mut Session<Rig>, action: Action) {
-    assert!(rt; session.machine().admits(&action));
-    session.act(action);
-}
-
-/// Puts words into the cells of processor 0 from `a` on.
-fn set_cells(rt: &impl Abort, session: &mut Session<Rig>, a: u16, words: &[u16]) {
-    let mut values = ArrayVec::new();
-    for word in words {
-        assert!(rt; values.len() < 8);
-        values.push(*word);
-    }
-    let values = Values::new(values);
-    act(rt, session, Action::SetCells { pp: 0, a, values });
-}
 
 fn back_to_change(session: &mut Session<Rig>) -> Result<u32, BackFault> {
     let places = session.machine().watched_places();
