@@ -66,16 +66,14 @@ impl Reversible for Dials {
 
     ghost keeps_places = { λ had dials dial fits has. has };
 
-    ghost tells_numbers = {
-        λ had dials dial fits has. elim (cases_eq dial had.dial) [
-          | inl same ↦
-            let e : (had.dial == dial) ≡ true = Prim.grind (arith, nat_tests) in
-            rw (e, same) (get_or-set_same dials had.dial had.number 0 fits.1)
-          | inr other ↦
-            let e : (had.dial == dial) ≡ false = Prim.grind (arith, nat_tests) in
-            rw e (get_or-set_other dials had.dial dial had.number 0 other)
-        ]
-    };
+    ghost tells_numbers = { λ had dials dial fits has. elim (cases_eq dial had.dial) [
+      | inl same ↦
+          let e : (had.dial == dial) ≡ true = Prim.grind (arith, nat_tests) in
+          rw (e, same) (get_or-set_same dials had.dial had.number 0 fits.1)
+      | inr other ↦
+          let e : (had.dial == dial) ≡ false = Prim.grind (arith, nat_tests) in
+          rw e (get_or-set_other dials had.dial dial had.number 0 other)
+    ] };
 
     fn admits(&self, set: &Set) -> bool {
         set.dial < 3
@@ -124,15 +122,24 @@ fn goes_back_and_forward_by_its_actions(rt: HostRuntime) -> Result<(), Fail> {
     assert_eq!(rt; session.back(0), Ok(()));
     assert_eq!(rt; session.back(2), Ok(()));
     assert_eq!(rt; session.machine().numbers, [5, 0, 0]);
-    assert_eq!(rt; (session.kept(), session.ahead(), session.capacity()), (1, 2, 4));
+    assert_eq!(rt;
+        (session.kept(), session.ahead(), session.capacity()),
+        (1, 2, 4)
+    );
     assert_eq!(rt; session.forward(0), Ok(()));
     assert_eq!(rt; session.forward(1), Ok(()));
     assert_eq!(rt; session.machine().numbers, [5, 6, 0]);
     session.act(Set { dial: 2, to: 8 });
     assert_eq!(rt; (session.kept(), session.ahead()), (3, 0));
-    assert_eq!(rt; session.forward(1), Err(BackFault::TooFewAhead { ahead: 0 }));
+    assert_eq!(rt;
+        session.forward(1),
+        Err(BackFault::TooFewAhead { ahead: 0 })
+    );
     assert_eq!(rt; session.back(3), Ok(()));
-    assert_eq!(rt; session.forward(4), Err(BackFault::TooFewAhead { ahead: 3 }));
+    assert_eq!(rt;
+        session.forward(4),
+        Err(BackFault::TooFewAhead { ahead: 3 })
+    );
     assert_eq!(rt; session.forward(3), Ok(()));
     assert_eq!(rt; session.machine().numbers, [5, 6, 8]);
     Ok(())
@@ -147,8 +154,14 @@ fn goes_back_to_the_latest_change(rt: HostRuntime) -> Result<(), Fail> {
     let mut looks = Looks::new();
     assert_eq!(rt; session.find_change(&[0, 2], &mut looks), Some(3));
     assert_eq!(rt; session.find_change(&[2], &mut looks), None);
-    assert_eq!(rt; session.back_to_change(&[2]), Err(BackFault::NoChange { kept: 3 }));
-    assert_eq!(rt; session.back_to_change(&[]), Err(BackFault::NoChange { kept: 3 }));
+    assert_eq!(rt;
+        session.back_to_change(&[2]),
+        Err(BackFault::NoChange { kept: 3 })
+    );
+    assert_eq!(rt;
+        session.back_to_change(&[]),
+        Err(BackFault::NoChange { kept: 3 })
+    );
     assert_eq!(rt; session.machine().numbers, [5, 6, 0]);
     assert_eq!(rt; session.back_to_change(&[0]), Ok(3));
     assert_eq!(rt; session.machine().numbers, [0, 0, 0]);
