@@ -1,5 +1,5 @@
 -- What a turn leaves as it is.
-use Rattle.std.specs.Prelude.{ℕ, ◌+◌, ◌%◌, ◌≡◌, List, [], ◌∷◌, Bool, true, false, if◌then◌else◌, ◌==◌, refl}
+use Rattle.std.specs.Prelude.{ℕ, ◌+◌, ◌%◌, ◌≡◌, [], ◌∷◌, Bool, true, false, if◌then◌else◌, ◌==◌, refl}
 use Rattle.std.proofs.Common.{◌∙◌}
 use Rattle.pp_machine.specs.Machine.{Machine, put, over}
 use Rattle.pp_machine.specs.Printed.{PrinterPlace, printer_place, printer_writes}
@@ -13,7 +13,7 @@ use Rattle.pp_step.specs.View.{PpPlace, pp_place}
 use Rattle.pp_step.specs.View as stepped
 use Rattle.pp_step.specs.Step.{pp_writes}
 use Rattle.pp_rig.specs.Lift.{pp_of, printer_of, reader_of}
-use Rattle.pp_rig.specs.Turn.{turn, pp_list, reader_list, printer_list, clock_list, slot_list}
+use Rattle.pp_rig.specs.Turn.{turn, pp_list, reader_list, printer_list}
 
 -- a list of writes none of which is to a watch entry
 watches-over : {P : Type 0} (name : P → Place) → ((m : Machine) (p : P) (v : ℕ) → (put m (name p) v).watches ≡ m.watches) → (m : Machine) (w : Writes P) → (over m (renamed name w)).watches ≡ m.watches

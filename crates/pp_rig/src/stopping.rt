@@ -15,6 +15,7 @@ use pp_history::{Reversible, Session};
 /// A change of a watched number in one turn.
 #[derive(Clone, Copy, Debug, PartialEq, Eq, Drop)]
 pub struct Hit {
+    /// The first place, in watch order, whose number the turn changed.
     pub place: Watched,
     /// The number before the turn.
     pub was: u64,
@@ -25,7 +26,9 @@ pub struct Hit {
 /// How many turns a run made, and the change that ended it, if one did.
 #[derive(Clone, Copy, Debug, PartialEq, Eq, Drop)]
 pub struct Stopped {
+    /// How many turns were performed, that of the hit among them.
     pub turns: u32,
+    /// The change that ended the run; none where all turns were performed.
     pub hit: Option<Hit>,
 }
 
