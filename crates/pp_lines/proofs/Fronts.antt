@@ -1,5 +1,5 @@
 -- The front of a line, after one byte more.
-use Rattle.std.proofs.Common.{◌≡◌, ◌≢◌, ◌∙◌, ℕ, ◌<◌, eqb, List, [], ◌∷◌, ◌++◌, length, take, refl, sym, ap, arith, false, length-append}
+use Rattle.std.proofs.Common.{◌≡◌, ◌≢◌, ◌∙◌, ℕ, ◌<◌, eqb, List, [], ◌∷◌, ◌++◌, length, take, refl, sym, arith, false, length-append}
 use Rattle.std.proofs.lemmas.Grind.{common_steps}
 use Rattle.std.proofs.lemmas.Bool.Decides.{nat_tests}
 use Rattle.std.proofs.lemmas.List.{take_all}
