@@ -43,30 +43,3 @@ octal_read-over word max digits over =
 pub value-next : (word : List ℕ) (i : ℕ) → i < length word → octal_value (take (i + 1) word) ≡ octal_value (take i word) * 8 + (get_or word i 0 - 48)
 value-next word i h =
     ap octal_value (take_more word i 0 h) ∙ fold-append with_digit 0 (take i word) (get_or word i 0 ∷ [])
-
-both-left : (a b : Bool) → (a && b) ≡ true → a ≡ true
-both-left true b e = refl
-both-left false b e = e
-
-both-right : (a b : Bool) → (a && b) ≡ true → b ≡ true
-both-right true b e = e
-both-right false b e = cc
-
-digit-small : (byte : ℕ) → is_octal_digit byte ≡ true → byte - 48 < 8
-digit-small byte e =
-    let most : byte ≤ 55 = le-from (both-right (nat_le 48 byte) (nat_le byte 55) e) in
-    omega arith
-  where
-    le-from : nat_le byte 55 ≡ true → byte ≤ 55
-    le-from e = grind (arith, nat_tests)
-
-digits-small : (word : List ℕ) (i : ℕ) → list_all is_octal_digit word ≡ true → i < length word → get_or word i 0 - 48 < 8
-digits-small [] i e h = absurd (omega arith)
-digits-small (byte ∷ word) zero e h = digit-small byte (both-left (is_octal_digit byte) (list_all is_octal_digit word) e)
-digits-small (byte ∷ word) (suc i) e h = digits-small word i (both-right (is_octal_digit byte) (list_all is_octal_digit word) e) (omega arith)
-
--- a digit is below eight
-pub digit-below : (word : List ℕ) (i : ℕ) → is_octal word ≡ true → i < length word → (get_or word i 0 - 48) % 8 ≡ get_or word i 0 - 48
-digit-below word i digits h =
-    let small = digits-small word i (both-right (nat_lt 0 (length word)) (list_all is_octal_digit word) digits) h in
-    omega arith

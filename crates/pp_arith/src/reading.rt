@@ -50,7 +50,7 @@ pub fn read_octal(word: &[u8], max: u64) -> Result<u64, OctalFault>
         if value >= 1 << 61 {
             return Err(OctalFault::TooLarge);
         }
-        value = value * 8 + u64::from(byte.saturating_sub(b'0') % 8);
+        value = value * 8 + u64::from(*byte - b'0');
         if value > max {
             return Err(OctalFault::TooLarge);
         }
