@@ -1,13 +1,13 @@
 -- An action that the machine admits can be performed.
-use Rattle.std.specs.Prelude.{ℕ, ◌≡◌, ◌==◌, ◌<◌, ◌≤◌, ◌^◌, ◌&&◌, nat_lt, nat_le, eqb, IfSome, Bool, true, false, not, List, [], ◌∷◌, All, length, Option, Some, None, if◌then◌else◌, refl}
+use Rattle.std.specs.Prelude.{ℕ, ◌≡◌, ◌<◌, ◌≤◌, ◌^◌, ◌&&◌, nat_lt, nat_le, IfSome, Bool, true, false, List, All, length, Option, Some, None, if◌then◌else◌, refl}
 use Rattle.std.specs.List.{list_all}
-use Rattle.std.proofs.Common.{arith, zero, suc, ⊎_elim}
-use Rattle.std.proofs.lemmas.Bool.Decides.{leb_tells, eqb_tells, nat_tests, Decides-by_and, Decides-ltb}
+use Rattle.std.proofs.Common.{arith, ⊎_elim}
+use Rattle.std.proofs.lemmas.Bool.Decides.{eqb_tells, nat_tests, Decides-by_and, Decides-ltb}
 use Rattle.pp_machine.specs.ChannelNumbers.{state_number}
 use Rattle.pp_machine.specs.Machine.{Machine}
-use Rattle.pp_rig.specs.Admitting.{first_fault, state_fault, is_in_range, is_watchable, is_word_or_none, panel_fault}
+use Rattle.pp_rig.specs.Admitting.{first_fault, state_fault, is_in_range, is_watchable, is_word_or_none}
 use Rattle.pp_machine.specs.Shape.{Has}
-use Rattle.pp_rig.specs.Watches.{is_watched, watched_in, watched_place, watches_of}
+use Rattle.pp_rig.specs.Watches.{is_watched, watched_place, watches_of}
 use Rattle.pp_rig.specs.Watching.{first_zero}
 use Rattle.pp_rig.specs.Performing.{IsPerformable}
 use Rattle.pp_rig.proofs.Watching.{length-watched_in}
@@ -15,7 +15,6 @@ use Rattle.pp_rig.specs.declared.watched.Watched.{Watched}
 use Rattle.pp_rig.specs.declared.watched.Watched.TheVariants.{Cell, RegA, RegP, RegQ, Central, Register}
 use Rattle.pp_rig.specs.declared.action.Action.{Action}
 use Rattle.pp_rig.specs.declared.action.Action.TheVariants.{Turn, SetCells, SetA, SetP, SetQ, SetWord, SetChannel, Watch, Unwatch, Deadstart}
-use Rattle.pp_rig.specs.declared.action.ActionFault.{ActionFault}
 use Rattle.pp_rig.specs.declared.action.ActionFault.TheVariants.{Range, WatchesFull, AlreadyWatched, NotWatched}
 
 -- a test of two parts

@@ -8,12 +8,12 @@ use Rattle.pp_machine.specs.WriteLaws.{AllPlaces-append}
 use Rattle.pp_machine.specs.Writes.{Writes, AllPlaces}
 use Rattle.pp_machine.specs.declared.place.Kept.{Kept}
 use Rattle.pp_machine.specs.declared.place.Place.{Place}
-use Rattle.pp_machine.specs.declared.place.Place.TheVariants.{Cell, RegA, RegP, RegQ, Phase, ChannelMode, Central, Slot}
+use Rattle.pp_machine.specs.declared.place.Place.TheVariants.{RegA, Phase, ChannelMode, Central, Slot}
 use Rattle.pp_rig.specs.CellLaws.{AreSettings-cell_list}
 use Rattle.pp_rig.specs.Deadstart.{loading, waiting, all_waiting, all_states, deadstart_pairs, deadstart_places}
 use Rattle.pp_rig.specs.Settings.{IsSetting, IsInRange, AreSettings, AreSettings-append}
 use Rattle.pp_rig.specs.WriteLists.{cell_list, register_list, state_list, places, numbers, numbered}
-use Rattle.pp_rig.proofs.WriteLists.{places-append, places-olds, places-cell_list, places-both, length-places, numbered-numbers}
+use Rattle.pp_rig.proofs.WriteLists.{places-olds, places-cell_list, places-both, length-places, numbered-numbers}
 
 input_phase : (n : ℕ) → n < 10 → IsTrue (is_phase (0o7100 + n))
 input_phase n h =
@@ -32,11 +32,6 @@ AreSettings-all_waiting : (size n k : ℕ) → n + k ≤ 10 → AreSettings size
 unfolding all_waiting
 AreSettings-all_waiting size n zero h = tt
 AreSettings-all_waiting size n (suc k) h = AreSettings-append size (waiting n) (all_waiting (n + 1) k) (AreSettings-waiting size n (omega arith)) (AreSettings-all_waiting size (n + 1) k (omega arith))
-
-AreSettings-states : (size c : ℕ) (ss : List ℕ) → c + length ss ≤ 12 → ((i : ℕ) → i < length ss → get_or ss i 0 < 4) → AreSettings size (state_list c ss)
-AreSettings-states size c [] h small = tt
-AreSettings-states size c (s ∷ ss) h small =
-    (record { settable = omega arith; in_range = small 0 (omega arith) }, AreSettings-states size (c + 1) ss (omega arith) (λ i l. small (suc i) (omega arith)))
 
 state : (size c s : ℕ) → c < 12 → s < 4 → IsSetting size (ChannelMode c) s
 state size c s h l = record { settable = h; in_range = l }

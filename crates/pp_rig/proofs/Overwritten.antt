@@ -1,14 +1,12 @@
 -- What an action overwrites leads back, and stands at the places that it writes.
-use Rattle.std.specs.Prelude.{ℕ, ◌≡◌, ◌+◌, ◌≤◌, [], ◌∷◌, ◌++◌, Option, Some, None, length, refl}
-use Rattle.std.proofs.Common.{arith, ap, ◌∙◌}
+use Rattle.std.specs.Prelude.{ℕ, ◌≡◌, ◌≤◌, Option, Some, None, length}
+use Rattle.std.proofs.Common.{arith}
 use Rattle.std.proofs.lemmas.List.{length-append}
-use Rattle.pp_machine.specs.Machine.{Machine, over, olds}
+use Rattle.pp_machine.specs.Machine.{Machine, over}
 use Rattle.pp_machine.proofs.DevicePlaces.{printer_few, reader_few}
 use Rattle.pp_machine.specs.Printed.{printer_pairs, printer_place}
 use Rattle.pp_machine.specs.Read.{reader_pairs, reader_place}
 use Rattle.pp_machine.specs.WriteLaws.{over-append}
-use Rattle.pp_machine.specs.Writes.{renamed}
-use Rattle.pp_machine.specs.declared.place.Place.TheVariants.{Slot}
 use Rattle.pp_step.specs.Step.{pp_pairs}
 use Rattle.pp_step.specs.View.{pp_place}
 use Rattle.pp_rig.specs.Action.{writes, next, overwritten}

@@ -1,6 +1,6 @@
 -- Places and numbers of write lists.
 use Rattle.std.specs.Prelude.{ℕ, ◌≡◌, ◌+◌, ◌-◌, ◌<◌, ◌≤◌, false, Option, List, [], ◌∷◌, ◌++◌, drop, take, get_or, length, map, refl}
-use Rattle.std.proofs.Common.{arith, zero, suc, ap, ◌∙◌, sym, append_assoc}
+use Rattle.std.proofs.Common.{arith, suc, ap, ◌∙◌, sym, append_assoc}
 use Rattle.std.proofs.lemmas.List.{append-nil, drop_all, drop_more, take_more}
 use Rattle.pp_machine.specs.Kept.{kept_pairs, kept_pairs-append}
 use Rattle.pp_machine.specs.Lookup.{lookup, same_place}

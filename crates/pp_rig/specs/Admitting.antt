@@ -1,5 +1,5 @@
 -- Which actions a machine admits, and why it refuses the others.
-use Rattle.std.specs.Prelude.{ℕ, ◌^◌, ◌&&◌, nat_lt, nat_le, not, Bool, true, List, length, Option, Some, None, if◌then◌else◌}
+use Rattle.std.specs.Prelude.{ℕ, ◌^◌, ◌&&◌, nat_lt, nat_le, Bool, true, List, length, Option, Some, None, if◌then◌else◌}
 use Rattle.std.specs.List.{list_all}
 use Rattle.pp_machine.specs.ChannelNumbers.{state_number}
 use Rattle.pp_machine.specs.Machine.{Machine}

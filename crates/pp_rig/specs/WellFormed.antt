@@ -1,5 +1,5 @@
 -- A well formed machine: every number is in its range.
-use Rattle.std.specs.Prelude.{◌≡◌, ◌<◌, ◌≤◌, ◌^◌, ℕ, All, IfSome, IsTrue, length}
+use Rattle.std.specs.Prelude.{◌<◌, ◌≤◌, ◌^◌, All, IfSome, IsTrue}
 use Rattle.pp_machine.specs.ChannelNumbers.{IsChannels}
 use Rattle.pp_machine.specs.Frame.{IsPackage}
 use Rattle.pp_machine.specs.Machine.{Machine, ProcessorNumbers}

@@ -48,15 +48,17 @@ fn made_anew(back: RigRecord) -> RigRecord
     ensures { (m : Machine) → FitsRecord back m → FitsRecord result m }
 {
     match back {
-        RigRecord::Turn(TurnRecord {
-            slot,
-            pp,
-            reader_channel,
-            reader,
-            printer_channel,
-            printer,
-            clock,
-        }) => RigRecord::Turn(TurnRecord {
+        RigRecord::Turn(
+            TurnRecord {
+                slot,
+                pp,
+                reader_channel,
+                reader,
+                printer_channel,
+                printer,
+                clock,
+            },
+        ) => RigRecord::Turn(TurnRecord {
             slot,
             pp,
             reader_channel,

@@ -1,12 +1,12 @@
-use Rattle.std.specs.Prelude.{◌≡◌, ◌≤◌, All, Some, length}
-use Rattle.std.proofs.Common.{arith, lit<, ap, sym, subst, ◌∙◌}
+use Rattle.std.specs.Prelude.{◌≡◌, Some}
+use Rattle.std.proofs.Common.{arith, lit<, subst}
 use Rattle.pp_machine.specs.Kept.{kept_pairs}
-use Rattle.pp_machine.specs.Machine.{Machine, Setup, olds}
+use Rattle.pp_machine.specs.Machine.{Machine, olds}
 use Rattle.pp_machine.specs.Shape.{IsShaped}
 use Rattle.pp_rig.specs.Deadstart.{deadstart_pairs, deadstart_places}
 use Rattle.pp_rig.specs.MachineLaws.{setup-over}
 use Rattle.pp_rig.specs.Settings.{AreSettings, HasAll-settings}
-use Rattle.pp_rig.specs.WriteLists.{numbers, numbered}
+use Rattle.pp_rig.specs.WriteLists.{numbered}
 use Rattle.pp_rig.proofs.Deadstart.{AreSettings-deadstart, length-deadstart, numbered-stood, short-stood}
 use Rattle.pp_rig.proofs.WriteLists.{length-olds}
 use Rattle.pp_rig.proofs.rig.Rig.deadstart.Goals as goal

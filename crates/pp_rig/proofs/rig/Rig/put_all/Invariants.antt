@@ -1,4 +1,4 @@
-use Rattle.std.proofs.Common.{◌≡◌, ◌≤◌, length, drop}
+use Rattle.std.proofs.Common.{◌≡◌, drop}
 use Rattle.pp_machine.specs.Kept.{kept_pairs}
 use Rattle.pp_machine.specs.Machine.{over}
 use Rattle.pp_rig.proofs.rig.Rig.put_all.Given as goal

@@ -1,4 +1,4 @@
-use Rattle.std.proofs.Common.{◌≡◌, length, take}
+use Rattle.std.proofs.Common.{◌≡◌, take}
 use Rattle.arrayvec.specs.ArrayVec.{array_vec_len}
 use Rattle.pp_machine.specs.Kept.{kept_pairs}
 use Rattle.pp_machine.specs.Machine.{olds}

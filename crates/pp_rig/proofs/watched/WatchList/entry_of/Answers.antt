@@ -1,6 +1,5 @@
-use Rattle.std.specs.Prelude.{◌≡◌, ◌==◌, ◌<◌, Some, position, length}
+use Rattle.std.specs.Prelude.{◌<◌, length}
 use Rattle.std.proofs.Common.{arith, sym, ◌∙◌}
-use Rattle.pp_rig.specs.Watching.{watch_code, watch_entries}
 use Rattle.pp_rig.proofs.Unwatching.{entry-below}
 use Rattle.pp_rig.proofs.Watching.{first_zero-entries}
 use Rattle.pp_rig.proofs.watched.WatchList.entry_of.Goals as goal

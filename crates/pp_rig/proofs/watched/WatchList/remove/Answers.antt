@@ -1,6 +1,5 @@
-use Rattle.std.proofs.Common.{◌<◌, ◌≡◌, arith, length, sym}
+use Rattle.std.proofs.Common.{◌≡◌, arith}
 use Rattle.std.specs.Prelude.{drop}
-use Rattle.std.specs.List.{remove}
 use Rattle.std.proofs.lemmas.List.{length-drop}
 use Rattle.std.proofs.lemmas.List.Edits.{length-remove}
 use Rattle.std.proofs.lemmas.List.Elements.{All-drop}

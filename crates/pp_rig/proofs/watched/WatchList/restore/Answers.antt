@@ -1,4 +1,3 @@
-use Rattle.std.proofs.Common.{arith}
 use Rattle.pp_rig.proofs.Unwatching.{restored-at}
 use Rattle.pp_rig.proofs.Watching.{first_zero-entries}
 use Rattle.pp_rig.proofs.watched.WatchList.restore.Goals as goal
