@@ -176,6 +176,9 @@ pub fn serve<R: Source, W: Sink>(
         Serves summary session.new (W.text out.new) (origin_of start (W.text out.old)) bytes) }
     ensures all { OnOk result (IsAtEnd (R.rest source.new)) }
 
+    // The limits that the clauses name.
+    ensures limits { (LINE_LIMIT ≡ 1000000) × (BYTE_LIMIT ≡ 268435456) }
+
     // What stands after the fault, by the bytes that were taken.
     ensures stopped { IfErr result (λ fault. (start : Value) → IsAt rules session.old start →
         (taken : List ℕ) × Consumes (R.rest source.old) (R.rest source.new) taken
