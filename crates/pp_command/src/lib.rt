@@ -6,6 +6,7 @@ mod command;
 mod dumps;
 mod fault;
 mod keywords;
+mod laws;
 mod line;
 mod numbers;
 mod places;
@@ -16,5 +17,6 @@ mod tests;
 
 pub use command::Command;
 pub use fault::LineFault;
+pub use laws::ranges_agree;
 pub use line::parse;
 pub use request::Request;

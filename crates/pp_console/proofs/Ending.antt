@@ -1,11 +1,10 @@
 -- What a script led to, at its end or at a fault.
-use Rattle.std.proofs.Common.{◌≡◌, ◌∙◌, ℕ, ◌+◌, ◌<◌, ◌⊎◌, List, [], ◌∷◌, ◌++◌, length, take, drop, get_or, refl, ap, arith, length-append, append_assoc}
+use Rattle.std.proofs.Common.{◌≡◌, ◌∙◌, ℕ, ◌+◌, ◌<◌, ◌⊎◌, List, [], ◌∷◌, ◌++◌, length, take, drop, get_or, refl, ap, arith, inl, length-append, append_assoc}
 use Rattle.std.specs.Prelude.{Option}
 use Rattle.pp_lines.specs.declared.fault.IoFault.{IoFault}
 use Rattle.pp_lines.specs.declared.fault.IoFault.TheVariants.{ReadFailed, WriteFailed, LineLimit}
-use Rattle.pp_lines.specs.Lines.{lines, finished, unfinished, last_line, finished_within, IsWithin}
-use Rattle.pp_lines.proofs.LineCuts.{lines_split, finished-more}
-use Rattle.pp_lines.proofs.Limits.{lines-whole, lines-last, finished_within-kept, passed}
+use Rattle.pp_lines.specs.Lines.{lines, finished, unfinished, finished_within, IsWithin}
+use Rattle.pp_lines.proofs.Limits.{lines-whole, lines-last, finished_within-kept, finished_within-more, passed}
 use Rattle.pp_lines.proofs.Reading.{piece_at}
 use Rattle.pp_console.specs.declared.progress.Progress.{Progress}
 use Rattle.pp_console.specs.declared.progress.Summary.{Summary}
@@ -22,7 +21,7 @@ Interrupts-more ReadFailed session text origin bytes more p = p
 Interrupts-more LineLimit session text origin bytes more p =
     (p.0, p.1 ++ more, ap (λ front. front ++ more) p.2 ∙ append_assoc p.0 p.1 more, simp length-append (omega (arith, p.3)), p.4, p.5, p.6)
 Interrupts-more WriteFailed session text origin bytes more p =
-    let further = finished-more bytes more in
+    let further = finished_within-more LINE_LIMIT BYTE_LIMIT bytes more in
     (p.0, p.1, p.2 ++ further.0, further.1 ∙ ap (λ front. front ++ further.0) p.3 ∙ append_assoc p.0 (p.1 ∷ p.2) further.0, p.4)
 
 -- a fault among the bytes of a piece up to one of them is one among all its bytes
@@ -74,7 +73,7 @@ Stops-interrupted ReadFailed session text origin bytes p = absurd p
 Stops-interrupted LineLimit session text origin bytes p =
     Stops-limit LINE_LIMIT BYTE_LIMIT session text origin bytes p.0 p.1 p.2 p.3 p.4 p.5 p.6
 Stops-interrupted WriteFailed session text origin bytes p =
-    (p.0, p.1, p.2 ++ last_line (unfinished bytes), lines_split bytes ∙ ap (λ front. front ++ last_line (unfinished bytes)) p.3 ∙ append_assoc p.0 (p.1 ∷ p.2) (last_line (unfinished bytes)), p.4)
+    (p.0, p.1, p.2, inl p.3, p.4)
 
 -- the count of a source that did not fail
 pub reads_after-kept : (fault : IoFault) (count : ℕ) → IsNoReadFault fault → reads_after fault count ≡ count

@@ -1,14 +1,23 @@
 -- How far a script was read, after one byte more.
 use Rattle.std.proofs.Common.{◌≡◌, ◌∙◌, ℕ, ◌+◌, ◌<◌, eqb, List, [], ◌∷◌, ◌++◌, length, ap, arith, false, length-append}
 use Rattle.std.specs.Prelude.{Option}
-use Rattle.pp_lines.specs.Lines.{finished, unfinished, IsWithin, IsFrontOf}
+use Rattle.pp_lines.specs.Lines.{finished, unfinished, finished_within, IsWithin, IsFrontOf}
 use Rattle.pp_lines.proofs.LineCuts.{finished-feed, finished-byte}
-use Rattle.pp_lines.proofs.Limits.{last_line-one, kept-begun, lines-count}
+use Rattle.pp_lines.proofs.Limits.{last_line-one, kept-begun, lines-count, finished_within-whole}
 use Rattle.pp_console.specs.declared.progress.Progress.{Progress}
 use Rattle.pp_console.specs.declared.progress.TheConstants.{KEPT, LINE_LIMIT, BYTE_LIMIT}
 use Rattle.pp_console.specs.Answers.{State}
 use Rattle.pp_console.specs.Script.{run}
 use Rattle.pp_console.specs.Serving.{Origin, Performed, Stands}
+
+-- a line feed within the limits
+fed-within : (line_limit byte_limit : ℕ) (bytes : List ℕ) → length bytes < byte_limit → length (finished bytes) < line_limit →
+    finished_within line_limit byte_limit (bytes ++ 10 ∷ []) ≡ finished bytes ++ unfinished bytes ∷ []
+fed-within line_limit byte_limit bytes few_bytes few_lines =
+    let size : length (bytes ++ 10 ∷ []) ≡ length bytes + 1 = length-append bytes (10 ∷ []) in
+    let count : length (finished (bytes ++ 10 ∷ [])) ≡ length (finished bytes) + 1 =
+    rw (finished-feed bytes) (length-append (finished bytes) (unfinished bytes ∷ [])) in
+    finished_within-whole line_limit byte_limit (bytes ++ 10 ∷ []) (omega (arith, size)) (omega (arith, count)) ∙ finished-feed bytes
 
 -- what was read is within the limits
 pub Stands-within : (progress : Progress) (session : State) (text : Option (List ℕ)) (origin : Origin) (bytes : List ℕ) → Stands progress session text origin bytes → IsWithin LINE_LIMIT BYTE_LIMIT bytes
@@ -24,6 +33,12 @@ Stands-within progress session text origin bytes stands = record {
       grind arith);
   few_bytes = rw (← stands.counts_bytes) progress.bytes_within;
 }
+
+-- a line feed finishes the line within the limits
+pub Stands-finishes : (progress : Progress) (session : State) (text : Option (List ℕ)) (origin : Origin) (bytes : List ℕ) → Stands progress session text origin bytes →
+    progress.bytes < BYTE_LIMIT → progress.lines < LINE_LIMIT → finished_within LINE_LIMIT BYTE_LIMIT (bytes ++ 10 ∷ []) ≡ finished bytes ++ unfinished bytes ∷ []
+Stands-finishes progress session text origin bytes stands few_bytes few_lines =
+    fed-within LINE_LIMIT BYTE_LIMIT bytes (rw (← stands.counts_bytes) few_bytes) (rw (← stands.counts_lines) few_lines)
 
 -- a byte that is no line feed
 pub Stands-byte : (old new : Progress) (session : State) (text : Option (List ℕ)) (origin : Origin) (bytes : List ℕ) (byte : ℕ) → eqb byte 10 ≡ false →

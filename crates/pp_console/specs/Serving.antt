@@ -39,6 +39,12 @@ pub record Serves (summary : Summary) (session : State) (text : Option (List ℕ
   pub counts_refused : summary.refused ≡ (script origin.start bytes).refused
   pub within : IsWithin LINE_LIMIT BYTE_LIMIT bytes
 
+-- After these lines the script has this one, within the limits: a line feed ends it, or the whole script does.
+abbrev pub IsAnswered : List ℕ → List (List ℕ) → List ℕ → List (List ℕ) → Type 0
+IsAnswered bytes done line later =
+    (finished_within LINE_LIMIT BYTE_LIMIT bytes ≡ done ++ line ∷ later)
+    ⊎ ((lines bytes ≡ done ++ line ∷ []) × IsWithin LINE_LIMIT BYTE_LIMIT bytes)
+
 -- what stands after a fault, where these bytes were taken
 abbrev pub Stops : IoFault → State → Option (List ℕ) → Origin → List ℕ → Type 0
 Stops ReadFailed session text origin bytes = Performed session text origin (finished_within LINE_LIMIT BYTE_LIMIT bytes)
@@ -46,7 +52,7 @@ Stops LineLimit session text origin bytes =
     Performed session text origin (finished_within LINE_LIMIT BYTE_LIMIT bytes)
     × ((BYTE_LIMIT < length bytes) ⊎ (LINE_LIMIT < length (lines bytes)))
 Stops WriteFailed session text origin bytes =
-    (done : List (List ℕ)) × (line : List ℕ) × (later : List (List ℕ)) × (lines bytes ≡ done ++ line ∷ later) × Breaks session text origin done line
+    (done : List (List ℕ)) × (line : List ℕ) × (later : List (List ℕ)) × IsAnswered bytes done line later × Breaks session text origin done line
 
 -- the script was read as far as these bytes
 pub record Stands (progress : Progress) (session : State) (text : Option (List ℕ)) (origin : Origin) (bytes : List ℕ) : Type 0 where
@@ -63,7 +69,8 @@ Interrupts LineLimit session text origin bytes =
     (kept more : List ℕ) × (bytes ≡ kept ++ more) × (0 < length more) × IsWithin LINE_LIMIT BYTE_LIMIT kept
     × ((length kept ≡ BYTE_LIMIT) ⊎ (length (finished kept) ≡ LINE_LIMIT)) × Performed session text origin (finished kept)
 Interrupts WriteFailed session text origin bytes =
-    (done : List (List ℕ)) × (line : List ℕ) × (later : List (List ℕ)) × (finished bytes ≡ done ++ line ∷ later) × Breaks session text origin done line
+    (done : List (List ℕ)) × (line : List ℕ) × (later : List (List ℕ))
+    × (finished_within LINE_LIMIT BYTE_LIMIT bytes ≡ done ++ line ∷ later) × Breaks session text origin done line
 
 -- the sink's count of failures after a fault
 abbrev pub writes_after : IoFault → ℕ → ℕ

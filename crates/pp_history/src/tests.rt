@@ -79,16 +79,17 @@ impl Reversible for Dials {
         set.dial < 3
     }
 
-    fn act(&mut self, set: &Set) -> Had {
-        let number = self.numbers[set.dial];
-        self.numbers[set.dial] = set.to;
-        Had {
-            dial: set.dial,
-            number,
-        }
+    fn blank() -> (Set, Had) {
+        (Set { dial: 0, to: 0 }, Had { dial: 0, number: 0 })
     }
 
-    fn undo(&mut self, had: Had) {
+    fn act_into(&mut self, set: &Set, had: &mut Had) {
+        had.dial = set.dial;
+        had.number = self.numbers[set.dial];
+        self.numbers[set.dial] = set.to;
+    }
+
+    fn undo_by(&mut self, had: &Had) {
         self.numbers[had.dial] = had.number;
     }
 

@@ -1,5 +1,5 @@
 -- Lines up to a limit of lines and of bytes, and lines of which a front is kept.
-use Rattle.std.proofs.Common.{◌≡◌, ◌∙◌, ℕ, ◌+◌, ◌-◌, ◌<◌, ◌≤◌, ◌⊎◌, Bool, true, false, cond, eqb, List, [], ◌∷◌, ◌++◌, length, take, refl, sym, ap, arith, inl, inr, length-append, length-take}
+use Rattle.std.proofs.Common.{◌≡◌, ◌∙◌, ℕ, zero, suc, ◌+◌, ◌-◌, ◌<◌, ◌≤◌, ◌⊎◌, Bool, true, false, cond, eqb, List, [], ◌∷◌, ◌++◌, length, take, refl, sym, ap, arith, inl, inr, length-append, length-take}
 use Rattle.std.proofs.lemmas.List.{append-nil, take_all}
 use Rattle.std.proofs.Math.Seq.{take-append_seam, take-append-add}
 use Rattle.pp_lines.specs.Lines.{lines, begin_first, extend_first, finished, unfinished, last_line, finished_within, IsWithin, IsFrontOf}
@@ -44,6 +44,28 @@ unfolding finished_within
 finished_within-all line_limit byte_limit bytes within =
     rw (take_all byte_limit bytes within.few_bytes)
     (take_all line_limit (finished bytes) (omega (arith, within.few_lines, lines-count bytes)))
+
+pub finished_within-whole : (line_limit byte_limit : ℕ) (bytes : List ℕ) → length bytes ≤ byte_limit → length (finished bytes) ≤ line_limit → finished_within line_limit byte_limit bytes ≡ finished bytes
+unfolding finished_within
+finished_within-whole line_limit byte_limit bytes few_bytes few_lines =
+    rw (take_all byte_limit bytes few_bytes) (take_all line_limit (finished bytes) few_lines)
+
+-- so many elements of a longer list begin with as many of the shorter one
+take_more : {X : Type 0} (n : ℕ) (xs more : List X) → (extra : List X) × (take n (xs ++ more) ≡ take n xs ++ extra)
+take_more zero xs more = ([], refl)
+take_more (suc n) [] more = (take (suc n) more, refl)
+take_more (suc n) (x ∷ xs) more =
+    let rest = take_more n xs more in
+    (rest.0, ap (λ ys. x ∷ ys) rest.1)
+
+-- finished lines within the limits stay, whatever follows
+pub finished_within-more : (line_limit byte_limit : ℕ) (bytes more : List ℕ) → (extra : List (List ℕ)) × (finished_within line_limit byte_limit (bytes ++ more) ≡ finished_within line_limit byte_limit bytes ++ extra)
+unfolding finished_within
+finished_within-more line_limit byte_limit bytes more =
+    let front = take_more byte_limit bytes more in
+    let further = finished-more (take byte_limit bytes) front.0 in
+    let all = take_more line_limit (finished (take byte_limit bytes)) further.0 in
+    (all.0, rw (front.1, further.1) all.1)
 
 -- one list is at least as long as the other
 begun-longer : (byte : ℕ) (done : List (List ℕ)) (all : List (List ℕ)) (feed : Bool) → length done < length all →

@@ -71,6 +71,8 @@ impl<'a> Feed<'a> {
         requires { 0 < piece }
         ensures bytes { result.bytes.now ≡ bytes.now }
         ensures failures { result.calls.failures ≡ 0 }
+        ensures failing { result.calls.failing ≡ None }
+        ensures piece { result.piece ≡ piece }
     {
         Feed {
             bytes,
@@ -84,11 +86,14 @@ impl<'a> Feed<'a> {
         requires { 0 < piece }
         ensures bytes { result.bytes.now ≡ bytes.now }
         ensures failures { result.calls.failures ≡ 0 }
+        ensures failing { result.calls.failing ≡ Some call }
+        ensures piece { result.piece ≡ piece }
     {
+        let calls = Calls::new(Some(call));
         Feed {
             bytes,
             piece,
-            calls: Calls::new(Some(call)),
+            calls,
         }
     }
 }
@@ -150,6 +155,8 @@ impl Tray {
         requires { 0 < piece }
         ensures text { result.text.items ≡ [] }
         ensures failures { result.calls.failures ≡ 0 }
+        ensures failing { result.calls.failing ≡ None }
+        ensures piece { result.piece ≡ piece }
     {
         Tray {
             text: ArrayVec::new(),
@@ -163,6 +170,8 @@ impl Tray {
         requires { 0 < piece }
         ensures text { result.text.items ≡ [] }
         ensures failures { result.calls.failures ≡ 0 }
+        ensures failing { result.calls.failing ≡ Some call }
+        ensures piece { result.piece ≡ piece }
     {
         Tray {
             text: ArrayVec::new(),

@@ -1,4 +1,5 @@
 pub mod ChannelRanges
 pub mod DevicePlaces
 pub mod DeviceStores
+pub mod Once
 pub mod PrinterLaws

@@ -1,5 +1,5 @@
 -- What a dead start writes fits, and is so long.
-use Rattle.std.specs.Prelude.{ℕ, ◌≡◌, ◌+◌, ◌/◌, ◌<◌, ◌≤◌, ◌^◌, ◌==◌, ◌||◌, IsTrue, true, false, All, List, [], ◌∷◌, ◌++◌, get_or, length, replicate, refl}
+use Rattle.std.specs.Prelude.{ℕ, ◌≡◌, ◌+◌, ◌/◌, ◌<◌, ◌≤◌, ◌^◌, ◌==◌, ◌||◌, IsTrue, true, false, All, List, [], ◌∷◌, ◌++◌, length, replicate, refl}
 use Rattle.std.proofs.Common.{arith, zero, suc, lit<, lit≤, ap, sym, ◌∙◌}
 use Rattle.pp_machine.specs.Kept.{kept_pairs}
 use Rattle.pp_machine.specs.Machine.{Machine, olds}
@@ -12,7 +12,7 @@ use Rattle.pp_machine.specs.declared.place.Place.TheVariants.{RegA, Phase, Chann
 use Rattle.pp_rig.specs.CellLaws.{AreSettings-cell_list}
 use Rattle.pp_rig.specs.Deadstart.{loading, waiting, all_waiting, all_states, deadstart_pairs, deadstart_places}
 use Rattle.pp_rig.specs.Settings.{IsSetting, IsInRange, AreSettings, AreSettings-append}
-use Rattle.pp_rig.specs.WriteLists.{cell_list, register_list, state_list, places, numbers, numbered}
+use Rattle.pp_rig.specs.WriteLists.{cell_list, register_list, places, numbers, numbered}
 use Rattle.pp_rig.proofs.WriteLists.{places-olds, places-cell_list, places-both, length-places, numbered-numbers}
 
 input_phase : (n : ℕ) → n < 10 → IsTrue (is_phase (0o7100 + n))

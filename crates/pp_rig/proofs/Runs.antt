@@ -1,14 +1,16 @@
 -- Runs, one turn after another.
-use Rattle.std.proofs.Common.{◌≡◌, ℕ, suc, ◌+◌, ◌-◌, ◌<◌, ◌≤◌, refl, ap, sym, ◌∙◌, arith, List}
+use Rattle.std.proofs.lemmas.Bool.Decides.{nat_tests}
+use Rattle.std.proofs.Common.{◌≡◌, ◌==◌, Bool, true, false, if◌then◌else◌, [], ◌∷◌, ℕ, suc, ◌+◌, ◌-◌, ◌<◌, ◌≤◌, refl, ap, sym, ◌∙◌, arith, List}
 use Rattle.std.specs.Prelude.{Option, Some, None}
 use Rattle.pp_history.specs.SessionValue.{SessionValue, after_act}
-use Rattle.pp_machine.specs.Machine.{Machine}
+use Rattle.pp_machine.specs.Machine.{Machine, number}
 use Rattle.pp_rig.specs.Stopping.{first_change, hit_of, numbers_at, stopped, after_turns}
 use Rattle.pp_rig.specs.Turn.{turn}
-use Rattle.pp_rig.specs.Watches.{watches_of, watched_in}
+use Rattle.pp_rig.specs.Watches.{watches_of, watched_in, watched_place}
 use Rattle.pp_rig.proofs.Turns.{turn-watches}
 use Rattle.pp_rig.specs.declared.action.Action.{Action}
 use Rattle.pp_rig.specs.declared.action.Action.TheVariants.{Turn}
+use Rattle.pp_rig.specs.declared.watched.Watched.{Watched}
 use Rattle.pp_rig.specs.declared.stopping.Hit.{Hit}
 use Rattle.pp_rig.specs.declared.stopping.Stopped.{Stopped}
 
@@ -69,3 +71,23 @@ hit-found old seen new kept numbers {found} same taken whole turned tells =
     let at_old : numbers ≡ numbers_at old (watches_of new) = whole ∙ (at_seen ∙ ap (numbers_at old) (sym watched)) in
     let told : found ≡ first_change old new (watches_of new) = tells old at_old in
     sym (told ∙ (ap (first_change old new) watched ∙ ap (λ m. first_change old m (watches_of old)) turned))
+
+unchanged : (same : Bool) (hit : Hit) (rest : Option Hit) → (if same then rest else Some hit) ≡ None → (same ≡ true) × (rest ≡ None)
+unchanged true hit rest none = (refl, none)
+unchanged false hit rest none = cc
+
+-- where no watched place has another number, the numbers are the same
+same-numbers : (old new : Machine) (watches : List Watched) → first_change old new watches ≡ None → numbers_at old watches ≡ numbers_at new watches
+same-numbers old new [] none = refl
+same-numbers old new (watched ∷ others) none =
+    let now = number new (watched_place watched) in
+    let was = number old (watched_place watched) in
+    let first = unchanged (now == was) (record { place = watched; was = was; now = now }) (first_change old new others) none in
+    let here : was ≡ now = grind (arith, nat_tests, first.0) in
+    rw (here, same-numbers old new others first.1) refl
+
+-- after a turn that changed none of them the watched numbers are still those that were taken
+pub still-taken : (old new : Machine) (numbers : List ℕ) → numbers ≡ numbers_at old (watches_of old) → new ≡ turn old → hit_of old ≡ None → numbers ≡ numbers_at new (watches_of new)
+still-taken old new numbers taken turned none =
+    let watched : watches_of (turn old) ≡ watches_of old = ap watched_in (turn-watches old) in
+    rw (turned, watched) (taken ∙ same-numbers old (turn old) (watches_of old) none)

@@ -74,8 +74,9 @@ pub fn run(session: &mut Session<Rig>, n: u32) -> Stopped
     ensures at { (v : SessionValue Machine Action) → IsAt rules session.old v →
         IsAt rules session.new (after_turns result.turns v) }
 {
+    // After a turn that changed none of them the numbers are still those before the next one.
+    let numbers = watched_numbers(session.machine());
     for turns in 0..n {
-        let numbers = watched_numbers(session.machine());
         session.act(Action::Turn);
         if let Some(hit) = first_change(session.machine(), numbers.as_slice()) {
             return Stopped {

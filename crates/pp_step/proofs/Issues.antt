@@ -1,6 +1,5 @@
 -- What an instruction leaves in the phase.
-use Rattle.std.proofs.Common.{◌≡◌, ℕ, ◌+◌, ◌*◌, ◌/◌, ◌≤◌, ◌==◌, Bool, true, false, List, [], ◌∷◌, ◌++◌, ◌⊎◌, if◌then◌else◌, nat_lt, length, slice_index, inl, inr, refl, ap, ◌∙◌, arith}
-use Rattle.std.proofs.lemmas.Bool.{eq-eqb}
+use Rattle.std.proofs.Common.{◌≡◌, ℕ, ◌+◌, ◌*◌, ◌/◌, ◌≤◌, Bool, true, false, List, [], ◌∷◌, ◌++◌, ◌⊎◌, if◌then◌else◌, nat_lt, length, slice_index, inl, inr, refl, ◌∙◌, arith}
 use Rattle.pp_machine.specs.Writes.{Writes}
 use Rattle.pp_machine.specs.declared.channel.ChannelState.{ChannelState}
 use Rattle.pp_machine.specs.declared.channel.ChannelState.TheVariants.{Inactive, Empty, Full, Function}
@@ -11,7 +10,7 @@ use Rattle.pp_step.specs.Effect.{effect}
 use Rattle.pp_step.specs.Exchange.{frame_pairs, word_pairs, loaded}
 use Rattle.pp_step.specs.Instruction.{InstructionNumbers, instruction_at}
 use Rattle.pp_step.specs.Rows.{jump, load, input, output, activity}
-use Rattle.pp_step.specs.Step.{pp_writes}
+use Rattle.pp_step.specs.Step.{instruction_writes}
 use Rattle.pp_step.specs.View.{PpView, PpPlace, P, Word, over}
 use Rattle.pp_step.specs.Words.{central_after, lower12, joined_cells}
 use Rattle.pp_step.specs.declared.code.Code.{Code}
@@ -66,19 +65,12 @@ phase_after Fan i m = inl (leaves-output (is_in Inactive i.d m.modes) i Function
 phase_after Fnc i m = inl (leaves-output (is_in Inactive i.d m.modes) i Function i.second m)
 phase_after c i m = inl refl
 
-taken : (b : Bool) (ws vs : Writes PpPlace) → b ≡ true → (if b then ws else vs) ≡ ws
-taken true ws vs e = refl
-taken false ws vs e = cc
-
--- a step that leaves a phase where there was none leaves the word that stood at P
-pub issued : (m : PpView) → m.phase ≡ 0 → slice_index m.cells m.p ≤ 0o7777 → ((over m (pp_writes m)).phase ≡ 0 → ⊥) → (over m (pp_writes m)).phase ≡ slice_index m.cells m.p
-unfolding pp_writes
+-- an instruction that leaves a phase where there was none leaves the word that stood at P
+pub issued : (m : PpView) → m.phase ≡ 0 → slice_index m.cells m.p ≤ 0o7777 → ((over m (instruction_writes m)).phase ≡ 0 → ⊥) → (over m (instruction_writes m)).phase ≡ slice_index m.cells m.p
 issued m idle fits busy =
     let w = slice_index m.cells m.p in
     let i = instruction_at m.p m.cells in
-    let here : pp_writes m ≡ effect i.code i m = taken (m.phase == 0) (effect i.code i m) _ (eq-eqb m.phase 0 idle) in
-    let same : (over m (pp_writes m)).phase ≡ (over m (effect i.code i m)).phase = ap (λ ws. (over m ws).phase) here in
     elim (phase_after i.code i m) [
-      | inl stays ↦ absurd (busy (same ∙ stays ∙ idle))
-      | inr own ↦ same ∙ own ∙ (let k = number_of-code_of (w / 0o100) (omega arith) in omega (arith, k))
+      | inl stays ↦ absurd (busy (stays ∙ idle))
+      | inr own ↦ own ∙ (let k = number_of-code_of (w / 0o100) (omega arith) in omega (arith, k))
     ]

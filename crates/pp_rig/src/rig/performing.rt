@@ -1,5 +1,5 @@
 //! An action of any kind.
-ghost use Rattle.std.specs.Prelude.{◌≡◌, ◌≤◌, length};
+ghost use Rattle.std.specs.Prelude.{◌≡◌, ◌≢◌, ◌≤◌, length};
 ghost use Rattle.pp_rig.specs.Action.{FitsRecord, most_places, next, overwritten, record_pairs};
 ghost use Rattle.pp_rig.specs.Performing.{IsPerformable};
 
@@ -10,16 +10,45 @@ use arrayvec::ArrayVec;
 use pp_machine::{Kept, Place};
 
 impl Rig {
-    /// Performs an action whose numbers are in their ranges and that nothing stands against.
-    pub(super) fn perform(&mut self, action: &Action) -> RigRecord
+    /// Performs an action whose numbers are in their ranges and that nothing stands against, with its record written
+    /// over another.
+    #[inline(always)]
+    pub(super) fn perform(&mut self, action: &Action, back: &mut RigRecord)
         requires { IsPerformable self.old action.now }
+        ensures step { self.new ≡ next self.old action.now }
+        ensures stood { record_pairs back.new ≡ overwritten self.old action.now }
+        ensures few { length (record_pairs back.new) ≤ most_places action.now }
+        ensures fits { FitsRecord back.new self.new }
+    {
+        match action {
+            Action::Turn => self.turn_kept(back),
+            _ => self.change_into(action, back),
+        }
+    }
+
+    /// Performs what is no turn. It stands apart, so that a turn has no room to clear for it.
+    #[inline(never)]
+    fn change_into(&mut self, action: &Action, back: &mut RigRecord)
+        requires performable { IsPerformable self.old action.now }
+        requires no_turn { action.now ≢ Action.Turn }
+        ensures step { self.new ≡ next self.old action.now }
+        ensures stood { record_pairs back.new ≡ overwritten self.old action.now }
+        ensures few { length (record_pairs back.new) ≤ most_places action.now }
+        ensures fits { FitsRecord back.new self.new }
+    {
+        *back = self.change(action);
+    }
+
+    fn change(&mut self, action: &Action) -> RigRecord
+        requires performable { IsPerformable self.old action.now }
+        requires no_turn { action.now ≢ Action.Turn }
         ensures step { self.new ≡ next self.old action.now }
         ensures stood { record_pairs result ≡ overwritten self.old action.now }
         ensures few { length (record_pairs result) ≤ most_places action.now }
         ensures fits { FitsRecord result self.new }
     {
         match action {
-            Action::Turn => self.turn_kept(),
+            Action::Turn => unreachable!(),
             Action::SetCells { pp, a, values } => {
                 let mut list: ArrayVec<Kept, 8> = ArrayVec::new();
                 push_cells(&mut list, *pp, *a, values.as_slice());

@@ -3,7 +3,10 @@ ghost use Rattle.std.specs.Prelude.{◌≡◌, ◌≤◌, length, map};
 ghost use Rattle.pp_machine.specs.Lookup.{lookup, same_place};
 ghost use Rattle.pp_rig.specs.Action.{FitsRecord, before, record_pairs};
 ghost use Rattle.pp_rig.specs.Watching.{watch_code};
-ghost use Rattle.pp_rig.specs.WriteLists.{entry_list};
+ghost use Rattle.pp_machine.specs.Machine.{over};
+ghost use Rattle.pp_rig.specs.Deadstart.{deadstart_places};
+ghost use Rattle.pp_rig.specs.Settings.{AreSettings};
+ghost use Rattle.pp_rig.specs.WriteLists.{entry_list, numbered};
 
 use super::restarting::renumbered;
 use super::{Rig, RigRecord};
@@ -33,6 +36,16 @@ fn first_entry(i: u8, watches: &[Watched], place: &Place) -> Option<u64>
     None
 }
 
+/// The number at a place, among those that a dead start overwrote. It stands apart, so that no other look has room to
+/// clear for the list.
+#[inline(never)]
+fn restarted_was(numbers: &[u32], place: &Place) -> Option<u64>
+    ensures { result ≡ lookup (numbered deadstart_places numbers.now) place.now }
+{
+    let list = renumbered(numbers);
+    first_kept(list.as_slice(), place)
+}
+
 impl RigRecord {
     /// The old number of a place that the record names.
     pub(super) fn named(&self, place: &Place) -> Option<u64>
@@ -46,29 +59,33 @@ impl RigRecord {
                 place,
             ),
             RigRecord::Unwatched { i, places } => first_entry(*i, places.as_slice(), place),
-            RigRecord::Restarted { numbers } => {
-                let list = renumbered(numbers.as_slice());
-                first_kept(list.as_slice(), place)
-            }
+            RigRecord::Restarted { numbers } => restarted_was(numbers.as_slice(), place),
         }
     }
 }
 
 impl Rig {
     /// Takes an action back.
-    pub(super) fn take_back(&mut self, back: RigRecord)
-        requires { FitsRecord back self.old }
-        ensures { self.new ≡ before back self.old }
+    pub(super) fn take_back(&mut self, back: &RigRecord)
+        requires { FitsRecord back.now self.old }
+        ensures { self.new ≡ before back.now self.old }
     {
         match back {
             RigRecord::Turn(turn) => self.undo_turn(turn),
             RigRecord::Settings(standing) => self.put_all(standing.as_slice()),
-            RigRecord::Watched(i) => self.unwatch_last(i),
-            RigRecord::Unwatched { i, places } => self.rewatch(i, places.as_slice()),
-            RigRecord::Restarted { numbers } => {
-                let list = renumbered(numbers.as_slice());
-                self.put_all(list.as_slice());
-            }
+            RigRecord::Watched(i) => self.unwatch_last(*i),
+            RigRecord::Unwatched { i, places } => self.rewatch(*i, places.as_slice()),
+            RigRecord::Restarted { numbers } => self.undo_restart(numbers.as_slice()),
         }
+    }
+
+    /// Puts back what a dead start overwrote. It stands apart as `restarted_was` does.
+    #[inline(never)]
+    fn undo_restart(&mut self, numbers: &[u32])
+        requires { AreSettings self.old.setup.central_words (numbered deadstart_places numbers.now) }
+        ensures { self.new ≡ over self.old (numbered deadstart_places numbers.now) }
+    {
+        let list = renumbered(numbers);
+        self.put_all(list.as_slice());
     }
 }

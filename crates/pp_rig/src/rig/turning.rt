@@ -12,18 +12,31 @@ ghost use Rattle.pp_step.specs.Step.{FitsPp, pp_pairs};
 ghost use Rattle.pp_step.specs.View.{pp_place};
 
 use super::{Rig, RigRecord, TurnRecord};
-use pp_machine::{Kept, Place, PrinterRecord, ReaderRecord, first_kept};
-use pp_step::PpRecord;
+use pp_machine::{Place, PrinterRecord, ReaderRecord};
+use pp_step::{PpRecord, PpWrites};
 
 impl TurnRecord {
+    /// A record to write over.
+    pub(super) fn blank() -> TurnRecord {
+        TurnRecord {
+            slot: 0,
+            pp: PpRecord::Step(PpWrites::Nothing),
+            reader_channel: 0,
+            reader: ReaderRecord::Nothing,
+            printer_channel: 0,
+            printer: PrinterRecord::Nothing,
+            clock: None,
+        }
+    }
+
     pub(super) fn was(&self, place: &Place) -> Option<u64>
         ensures { result ≡ lookup (turn_pairs self.now) place.now }
     {
         let pp = self.pp.was(self.slot, place);
-        let reader = self.reader.was(self.reader_channel, place);
-        let printer = self.printer.was(self.printer_channel, place);
+        let reader = reader_named(&self.reader, self.reader_channel, place);
+        let printer = printer_named(&self.printer, self.printer_channel, place);
         let clock = clock_was(&self.clock, place);
-        let slot = first_kept(&[Kept::new(Place::Slot, u64::from(self.slot))], place);
+        let slot = slot_was(self.slot, place);
         first_of(
             first_of(first_of(first_of(pp, reader), printer), clock),
             slot,
@@ -40,35 +53,79 @@ fn first_of(first: Option<u64>, second: Option<u64>) -> Option<u64>
     }
 }
 
+fn reader_named(back: &ReaderRecord, c: u8, place: &Place) -> Option<u64>
+    ensures { result ≡ lookup (renamed (reader_place c) (reader_pairs back.now)) place.now }
+{
+    match back {
+        ReaderRecord::Nothing => None,
+        _ => reader_was(back, c, place),
+    }
+}
+
+/// What a reader that did something overwrote. It stands apart, so that no other look has room to clear for its lists.
+#[inline(never)]
+fn reader_was(back: &ReaderRecord, c: u8, place: &Place) -> Option<u64>
+    ensures { result ≡ lookup (renamed (reader_place c) (reader_pairs back.now)) place.now }
+{
+    back.was(c, place)
+}
+
+fn printer_named(back: &PrinterRecord, c: u8, place: &Place) -> Option<u64>
+    ensures { result ≡ lookup (renamed (printer_place c) (printer_pairs back.now)) place.now }
+{
+    match back {
+        PrinterRecord::Nothing => None,
+        _ => printer_was(back, c, place),
+    }
+}
+
+/// The same of a printer.
+#[inline(never)]
+fn printer_was(back: &PrinterRecord, c: u8, place: &Place) -> Option<u64>
+    ensures { result ≡ lookup (renamed (printer_place c) (printer_pairs back.now)) place.now }
+{
+    back.was(c, place)
+}
+
 fn clock_was(clock: &Option<u16>, place: &Place) -> Option<u64>
     ensures { result ≡ lookup (clock_pairs clock.now) place.now }
 {
-    match clock {
-        None => None,
-        Some(v) => first_kept(&[Kept::new(Place::Clock, u64::from(*v))], place),
+    match (clock, place) {
+        (Some(v), Place::Clock) => Some(u64::from(*v)),
+        _ => None,
+    }
+}
+
+fn slot_was(slot: u8, place: &Place) -> Option<u64>
+    ensures { result ≡ lookup ((Place.Slot, slot) ∷ []) place.now }
+{
+    match place {
+        Place::Slot => Some(u64::from(slot)),
+        _ => None,
     }
 }
 
 impl Rig {
-    fn step_processor(&mut self) -> PpRecord
+    fn step_processor(&mut self, back: &mut PpRecord)
         ensures step { self.new ≡ over self.old (pp_list self.old) }
-        ensures record { renamed (pp_place self.old.slot) (pp_pairs result) ≡ olds self.old (pp_list self.old) }
-        ensures back { over self.new (renamed (pp_place self.old.slot) (pp_pairs result)) ≡ self.old }
-        ensures fits { FitsPp self.new.setup.central_words result }
+        ensures record { renamed (pp_place self.old.slot) (pp_pairs back.new) ≡ olds self.old (pp_list self.old) }
+        ensures back { over self.new (renamed (pp_place self.old.slot) (pp_pairs back.new)) ≡ self.old }
+        ensures fits { FitsPp self.new.setup.central_words back.new }
         ensures kept { KeepsSlot self.old self.new }
-        ensures few { length (pp_pairs result) ≤ 33 }
+        ensures few { length (pp_pairs back.new) ≤ 33 }
     {
         self.processors[self.slot as usize].step(
             &mut self.channels,
             &mut self.central,
             &mut self.frame,
-        )
+            back,
+        );
     }
 
-    fn undo_processor(&mut self, slot: u8, back: PpRecord)
+    fn undo_processor(&mut self, slot: u8, back: &PpRecord)
         requires slot { slot < 10 }
-        requires fits { FitsPp self.old.setup.central_words back }
-        ensures undone { self.new ≡ over self.old (renamed (pp_place slot) (pp_pairs back)) }
+        requires fits { FitsPp self.old.setup.central_words back.now }
+        ensures undone { self.new ≡ over self.old (renamed (pp_place slot) (pp_pairs back.now)) }
     {
         self.processors[slot as usize].undo(
             back,
@@ -168,61 +225,69 @@ impl Rig {
         self.slot = slot;
     }
 
-    /// One turn of the barrel.
-    fn turn(&mut self) -> TurnRecord
+    /// One turn of the barrel, with its record written over another.
+    fn turn(&mut self, back: &mut TurnRecord)
         ensures step { self.new ≡ turn_of self.old }
-        ensures record { turn_pairs result ≡ turn_olds self.old }
-        ensures back { over self.new (turn_pairs result) ≡ self.old }
-        ensures fits { FitsTurn result self.new }
-        ensures few { length (turn_pairs result) ≤ 44 }
+        ensures record { turn_pairs back.new ≡ turn_olds self.old }
+        ensures back { over self.new (turn_pairs back.new) ≡ self.old }
+        ensures fits { FitsTurn back.new self.new }
+        ensures few { length (turn_pairs back.new) ≤ 44 }
     {
-        let reader_channel = self.reader_channel;
-        let printer_channel = self.printer_channel;
-        let pp = self.step_processor();
-        let reader = self.step_reader();
-        let printer = self.step_printer();
-        let clock = self.tick();
-        let slot = self.advance();
-        TurnRecord {
-            slot,
-            pp,
-            reader_channel,
-            reader,
-            printer_channel,
-            printer,
-            clock,
+        back.reader_channel = self.reader_channel;
+        back.printer_channel = self.printer_channel;
+        self.step_processor(&mut back.pp);
+        back.reader = self.step_reader();
+        back.printer = self.step_printer();
+        back.clock = self.tick();
+        back.slot = self.advance();
+    }
+
+    pub(super) fn undo_turn(&mut self, back: &TurnRecord)
+        requires { FitsTurn back.now self.old }
+        ensures { self.new ≡ over self.old (turn_pairs back.now) }
+    {
+        self.set_slot(back.slot);
+        self.undo_tick(back.clock);
+        self.undo_printer(back.printer);
+        self.undo_reader(back.reader);
+        self.undo_processor(back.slot, &back.pp);
+    }
+
+    /// `turn`, which leaves a record that fits the machine.
+    fn turn_noted(&mut self, back: &mut TurnRecord)
+        ensures step { self.new ≡ turn_of self.old }
+        ensures stood { turn_pairs back.new ≡ turn_olds self.old }
+        ensures few { length (turn_pairs back.new) ≤ 44 }
+        ensures fits { FitsRecord (RigRecord.Turn back.new) self.new }
+    {
+        self.turn(back);
+        let _ = &self.slot;
+    }
+
+    /// One turn, with its record written over another: in its place where that is a turn's, so that few bytes are.
+    #[inline(always)]
+    pub(super) fn turn_kept(&mut self, back: &mut RigRecord)
+        ensures step { self.new ≡ turn_of self.old }
+        ensures stood { record_pairs back.new ≡ turn_olds self.old }
+        ensures few { length (record_pairs back.new) ≤ 44 }
+        ensures fits { FitsRecord back.new self.new }
+    {
+        match back {
+            RigRecord::Turn(turn) => self.turn_noted(turn),
+            _ => self.turn_anew(back),
         }
     }
 
-    pub(super) fn undo_turn(&mut self, back: TurnRecord)
-        requires { FitsTurn back self.old }
-        ensures { self.new ≡ over self.old (turn_pairs back) }
-    {
-        let TurnRecord {
-            slot,
-            pp,
-            reader_channel: _,
-            reader,
-            printer_channel: _,
-            printer,
-            clock,
-        } = back;
-        self.set_slot(slot);
-        self.undo_tick(clock);
-        self.undo_printer(printer);
-        self.undo_reader(reader);
-        self.undo_processor(slot, pp);
-    }
-
-    /// One turn, with its record.
-    pub(super) fn turn_kept(&mut self) -> RigRecord
+    /// One turn, with its record written over one of another kind.
+    #[inline(never)]
+    fn turn_anew(&mut self, back: &mut RigRecord)
         ensures step { self.new ≡ turn_of self.old }
-        ensures stood { record_pairs result ≡ turn_olds self.old }
-        ensures few { length (record_pairs result) ≤ 44 }
-        ensures fits { FitsRecord result self.new }
+        ensures stood { record_pairs back.new ≡ turn_olds self.old }
+        ensures few { length (record_pairs back.new) ≤ 44 }
+        ensures fits { FitsRecord back.new self.new }
     {
-        let record = self.turn();
-        let _ = &self.slot;
-        RigRecord::Turn(record)
+        let mut turn = TurnRecord::blank();
+        self.turn_noted(&mut turn);
+        *back = RigRecord::Turn(turn);
     }
 }

@@ -1,8 +1,7 @@
 use Rattle.std.proofs.Common.{◌∙◌, ◌∷◌, [], arith, refl, sym, inl, inr}
 use Rattle.std.proofs.lemmas.Bool.Decides.{nat_tests}
 use Rattle.pp_lines.specs.Lines.{finished, unfinished}
-use Rattle.pp_lines.proofs.LineCuts.{finished-feed}
-use Rattle.pp_console.proofs.Standing.{Stands-within, Stands-byte, Stands-feed}
+use Rattle.pp_console.proofs.Standing.{Stands-within, Stands-finishes, Stands-byte, Stands-feed}
 use Rattle.pp_console.proofs.serving.feed_byte.Goals as goal
 use Rattle.pp_console.proofs.serving.feed_byte.Goals.{then-progress-eq-BYTE_LIMIT-via-then-progress-eq-BYTE_LIMIT, then-progress-eq-BYTE_LIMIT-via-else-progress-eq-BYTE_LIMIT+then-progress-eq-LINE_LIMIT}
 
@@ -32,7 +31,7 @@ returns-in-Err-clause-stands g c = λ origin bytes stands. (
   finished bytes,
   unfinished bytes,
   [],
-  rw c.if-byte-eq-LINE_FEED.true (finished-feed bytes),
+  rw c.if-byte-eq-LINE_FEED.true (Stands-finishes _ _ _ origin bytes stands (grind (arith, nat_tests)) (grind (arith, nat_tests))),
   c.in-Err.ensures.performed origin (finished bytes) (unfinished bytes) stands.keeps stands.performed,
 )
 

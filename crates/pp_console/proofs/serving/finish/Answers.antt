@@ -1,9 +1,10 @@
-use Rattle.std.proofs.Common.{◌∙◌, ◌≡◌, ◌<◌, [], length, arith}
+use Rattle.std.proofs.Common.{◌∙◌, ◌≡◌, ◌<◌, [], length, arith, inr}
 use Rattle.std.proofs.lemmas.Bool.Decides.{nat_tests}
 use Rattle.pp_lines.specs.Lines.{finished, unfinished}
 use Rattle.pp_lines.proofs.Limits.{lines-last}
 use Rattle.pp_console.specs.declared.progress.TheConstants.{KEPT}
 use Rattle.pp_console.proofs.Ending.{Serves-whole, Serves-last}
+use Rattle.pp_console.proofs.Standing.{Stands-within}
 use Rattle.pp_console.proofs.serving.finish.Goals as goal
 
 pub returns-then-is_empty-clause-serves : goal.returns-then-is_empty-clause-serves
@@ -25,6 +26,6 @@ returns-in-Err-clause-serves g c = λ origin bytes stands.
       finished bytes,
       unfinished bytes,
       [],
-      lines-last KEPT c.args.progress.now.line bytes stands.keeps begun,
+      inr (lines-last KEPT c.args.progress.now.line bytes stands.keeps begun, Stands-within _ _ _ _ bytes stands),
       c.in-Err.ensures.performed origin (finished bytes) (unfinished bytes) stands.keeps stands.performed,
     )

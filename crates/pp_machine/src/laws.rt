@@ -1,0 +1,33 @@
+//! Laws of the devices' write lists and records, each the contract of a function that does nothing.
+
+ghost use Rattle.std.specs.Prelude.{◌≡◌, ◌≢◌, ◌<◌, ℕ, unwrap_or};
+ghost use Rattle.std.specs.List.{AllPairs};
+ghost use Rattle.pp_machine.specs.Lookup.{lookup};
+ghost use Rattle.pp_machine.specs.Machine.{Machine, number, over};
+ghost use Rattle.pp_machine.specs.Printed.{PrinterView, FitsPrinter, printer_pairs, printer_place, printer_writes};
+ghost use Rattle.pp_machine.specs.Read.{ReaderView, reader_pairs, reader_place, reader_writes};
+ghost use Rattle.pp_machine.specs.Shape.{IsShaped};
+ghost use Rattle.pp_machine.specs.Writes.{places, renamed};
+
+use crate::place::Place;
+use crate::printer::PrinterRecord;
+use crate::reader::ReaderRecord;
+
+/// In the machine that a record leads back to, a place has the number that the record tells of it, and the present
+/// one where it tells none.
+pub fn device_records_tell()
+    ensures reader { (m : Machine) (c : ℕ) (back : ReaderRecord) (place : Place) →
+        IsShaped m.setup.central_words m → c < 12 →
+        number (over m (renamed (reader_place c) (reader_pairs back))) place
+        ≡ unwrap_or (lookup (renamed (reader_place c) (reader_pairs back)) place) (number m place) }
+    ensures printer { (m : Machine) (c : ℕ) (back : PrinterRecord) (s : PrinterView) (place : Place) →
+        IsShaped m.setup.central_words m → c < 12 → FitsPrinter back s →
+        number (over m (renamed (printer_place c) (printer_pairs back))) place
+        ≡ unwrap_or (lookup (renamed (printer_place c) (printer_pairs back)) place) (number m place) }
+{}
+
+/// No step of a device writes a place twice.
+pub fn device_writes_are_distinct()
+    ensures reader { (s : ReaderView) → AllPairs (λ one other. one ≢ other) (places (reader_writes s)) }
+    ensures printer { (s : PrinterView) → AllPairs (λ one other. one ≢ other) (places (printer_writes s)) }
+{}
