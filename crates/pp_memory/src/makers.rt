@@ -1,0 +1,90 @@
+//! Each maker is asked, and what it answers is told.
+ghost use Rattle.std.specs.Prelude.{◌≡◌, ◌<◌, All, IfSome, Ok};
+
+use pp_arguments::read_arguments;
+use pp_files::load_deck;
+use pp_history::Session;
+use pp_lines::Feed;
+use pp_machine::{Central, CentralSize, Memory12, Printer};
+use pp_rig::{Rig, Setup};
+use std::alloc::{AllocError, Global};
+use std::fmt::Debug;
+
+/// The most actions that a session keeps.
+const KEPT: u32 = 10_000;
+
+/// Tells what a maker answered.
+pub fn told<T, E: Debug + Drop>(rt: &HostRuntime, maker: &str, answer: Result<T, E>) -> Option<T>
+    ensures { IfSome result (λ made. answer ≡ Ok made) }
+{
+    match answer {
+        Ok(made) => {
+            let _ = println!(rt; "{maker} made");
+            Some(made)
+        }
+        Err(fault) => {
+            let _ = println!(rt; "{maker} {fault:?}");
+            None
+        }
+    }
+}
+
+/// The parts of a machine that take memory.
+pub fn parts(rt: &HostRuntime) -> Option<()> {
+    let _memory = told(rt, "Memory12::new", Memory12::new(rt.alloc()))?;
+    let _central = told(
+        rt,
+        "Central::new",
+        Central::new(rt.alloc(), CentralSize::K128),
+    )?;
+    let _printer = told(rt, "Printer::new", Printer::new(rt.alloc()))?;
+    Some(())
+}
+
+/// Every option, three of them with the name of a file.
+fn words(alloc: Global) -> Result<Vec<String>, AllocError> {
+    let line =
+        "pp6600 --history=7 --central=64 --deck=cards --reader=0 --printer=1 --panel=dead lines";
+    let mut words = Vec::new(alloc);
+    for word in line.split_whitespace() {
+        words.push(String::from_str(alloc, word)?)?;
+    }
+    Ok(words)
+}
+
+/// The deck of the lines of a file.
+fn deck(rt: &HostRuntime, lines: &[u8]) -> Option<Vec<[u16; 80]>>
+    ensures { IfSome result (λ deck. All (All (λ word. word < 0o10000)) deck.items) }
+{
+    let mut file = Feed::new(lines, 4096);
+    told(rt, "load_deck", load_deck(rt.alloc(), &mut file))
+}
+
+/// A deck that grows more than once, and the options of the words of a command line.
+pub fn files_and_arguments(rt: &HostRuntime) -> Option<()> {
+    let _nine_cards = deck(rt, b"1\n2\n3\n4\n5\n6\n7\n10\n11\n")?;
+    let words = told(rt, "words", words(rt.alloc()))?;
+    let _options = told(rt, "read_arguments", read_arguments(rt.alloc(), words))?;
+    Some(())
+}
+
+/// A session of a new machine with a card in its reader. Where it is refused it is asked for again, of the
+/// machine that was handed back.
+pub fn session(rt: &HostRuntime) -> Option<Session<Rig>> {
+    let setup = Setup {
+        central: CentralSize::K128,
+        reader: 0o12,
+        printer: 0o13,
+        deck: deck(rt, b"1 2 3\n")?,
+        panel: None,
+    };
+    let rig = told(rt, "Rig::new", Rig::new(rt.alloc(), setup))?;
+    match Session::new(rt.alloc(), rig, KEPT) {
+        Ok(session) => told::<_, ()>(rt, "Session::new", Ok(session)),
+        Err(unmade) => {
+            let _ = println!(rt; "Session::new Unmade");
+            let again = Session::new(rt.alloc(), unmade.machine, KEPT);
+            told(rt, "Session::new", again.map_err(|_| "Unmade again"))
+        }
+    }
+}

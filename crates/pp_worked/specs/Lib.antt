@@ -1,0 +1,4 @@
+pub mod Devices
+pub mod Machines
+pub mod Processors
+pub mod Sessions

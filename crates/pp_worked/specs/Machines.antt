@@ -1,0 +1,44 @@
+-- Rows of the whole machine: from some numbers, so many turns lead to others.
+use Rattle.std.specs.Prelude.{ℕ, zero, suc, ◌≡◌, List, Option, replicate}
+use Rattle.pp_machine.specs.CentralSizes.{words_of}
+use Rattle.pp_machine.specs.Machine.{Machine, over, olds}
+use Rattle.pp_machine.specs.Writes.{Writes}
+use Rattle.pp_machine.specs.declared.place.Place.{Place}
+use Rattle.pp_rig.specs.Starting.{blank_processor}
+use Rattle.pp_rig.specs.Turn.{turn}
+use Rattle.pp_rig.specs.declared.setup.Setup.{Setup}
+
+-- the starting machine with 100000 central words, this deck in the reader on channel 12, the printer on channel 13,
+-- and this panel
+abbrev pub blank : List (List ℕ) → Option (List ℕ) → Machine
+blank deck panel = record {
+  processors = replicate 0o12 blank_processor;
+  channels = record { modes = replicate 0o14 0; words = replicate 0o14 0; clock = 0 };
+  central = replicate 0o100000 0;
+  frame = replicate 0o20 0;
+  reader = record { deck = deck; card = 0; column = 0; mode = 0 };
+  printer = record { symbols = replicate 65536 0; length = 0; column = 0; mode = 0 };
+  slot = 0;
+  watches = replicate 8 0;
+  setup = record { central_words = 0o100000; panel = panel; reader_channel = 0o12; printer_channel = 0o13 };
+}
+
+-- the same with the deck, the panel, the central memory and the channels of a setup
+abbrev pub blank_of : Setup → Machine
+blank_of s = record (blank s.deck.items s.panel) {
+  central = replicate (words_of s.central) 0;
+  setup = record { central_words = words_of s.central; panel = s.panel; reader_channel = s.reader; printer_channel = s.printer };
+}
+
+-- after so many turns
+abbrev pub after : ℕ → Machine → Machine
+after zero m = m
+after (suc turns) m = after turns (turn m)
+
+-- the machine has these numbers
+abbrev pub Shows : Machine → Writes Place → Type 0
+Shows m numbers = olds m numbers ≡ numbers
+
+-- The machine with these numbers comes, after so many turns, to those.
+abbrev pub Leads : Machine → Writes Place → ℕ → Writes Place → Type 0
+Leads m before turns later = Shows (after turns (over m before)) later

@@ -1,0 +1,29 @@
+-- Rows of one processor: from some numbers, so many steps lead to others.
+use Rattle.std.specs.Prelude.{ℕ, zero, suc, ◌≡◌, replicate}
+use Rattle.pp_machine.specs.Writes.{Writes}
+use Rattle.pp_step.specs.Step.{pp_writes}
+use Rattle.pp_step.specs.View.{PpView, PpPlace, over, olds}
+
+-- a processor with its 4096 (decimal) cells, inactive channels and a central memory of 2000 words, all 0
+abbrev pub blank : PpView
+blank = record {
+  a = 0;
+  p = 0;
+  q = 0;
+  phase = 0;
+  cells = replicate 0o10000 0;
+  modes = replicate 0o14 0;
+  registers = replicate 0o14 0;
+  clock = 0;
+  central = replicate 0o2000 0;
+  frame = replicate 0o20 0;
+}
+
+-- after so many steps
+abbrev pub after : ℕ → PpView → PpView
+after zero m = m
+after (suc n) m = after n (over m (pp_writes m))
+
+-- From these numbers, and 0 at all other places, so many steps lead to a state with those numbers.
+abbrev pub Leads : Writes PpPlace → ℕ → Writes PpPlace → Type 0
+Leads before steps later = olds (after steps (over blank before)) later ≡ later

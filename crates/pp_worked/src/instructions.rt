@@ -1,0 +1,126 @@
+//! Single instructions: numbers in A, stores and jumps.
+
+ghost use Rattle.std.specs.Prelude.{[], ◌∷◌};
+ghost use Rattle.pp_step.specs.View.{A, Cell, P};
+ghost use Rattle.pp_worked.specs.Processors.{Leads};
+
+/// A gets d, its complement, or the 18-bit number of d and the second word; 12 and 13 keep and clear the bits of d.
+#[tactic(auto, unfolding(pp_step::specs::Step::pp_writes, pp_arith::specs::Arith::turn_left18))]
+pub fn constants()
+    ensures ldn { Leads ((P, 0o100) ∷ (Cell 0o100, 0o1405) ∷ []) 1 ((P, 0o101) ∷ (A, 5) ∷ []) }
+    ensures lcn { Leads ((P, 0o100) ∷ (Cell 0o100, 0o1505) ∷ []) 1 ((P, 0o101) ∷ (A, 0o777772) ∷ []) }
+    ensures ldc { Leads
+        ((P, 0o100) ∷ (Cell 0o100, 0o2012) ∷ (Cell 0o101, 0o3456) ∷ [])
+        1
+        ((P, 0o102) ∷ (A, 0o123456) ∷ []) }
+    ensures lpn { Leads ((P, 0o100) ∷ (A, 0o777777) ∷ (Cell 0o100, 0o1277) ∷ []) 1 ((P, 0o101) ∷ (A, 0o77) ∷ []) }
+    ensures scn { Leads ((P, 0o100) ∷ (A, 0o17) ∷ (Cell 0o100, 0o1307) ∷ []) 1 ((P, 0o101) ∷ (A, 0o10) ∷ []) }
+    ensures shn_left { Leads
+        ((P, 0o100) ∷ (A, 0o123456) ∷ (Cell 0o100, 0o1006) ∷ [])
+        1
+        ((P, 0o101) ∷ (A, 0o345612) ∷ []) }
+    ensures shn_right { Leads
+        ((P, 0o100) ∷ (A, 0o777777) ∷ (Cell 0o100, 0o1076) ∷ [])
+        1
+        ((P, 0o101) ∷ (A, 0o377777) ∷ []) }
+{}
+
+/// Sums in A: a carry comes round, and a result of zero is plus zero; but minus zero less plus zero stays minus zero.
+#[tactic(auto, unfolding(pp_step::specs::Step::pp_writes))]
+pub fn sums_in_a()
+    ensures adn_to_zero { Leads ((P, 0o100) ∷ (A, 0o777776) ∷ (Cell 0o100, 0o1601) ∷ []) 1 ((P, 0o101) ∷ (A, 0) ∷ []) }
+    ensures adn_from_minus_zero { Leads
+        ((P, 0o100) ∷ (A, 0o777777) ∷ (Cell 0o100, 0o1600) ∷ [])
+        1
+        ((P, 0o101) ∷ (A, 0) ∷ []) }
+    ensures sbn_below_zero { Leads ((P, 0o100) ∷ (Cell 0o100, 0o1701) ∷ []) 1 ((P, 0o101) ∷ (A, 0o777776) ∷ []) }
+    ensures sbn_to_zero { Leads ((P, 0o100) ∷ (A, 5) ∷ (Cell 0o100, 0o1705) ∷ []) 1 ((P, 0o101) ∷ (A, 0) ∷ []) }
+    ensures sbn_from_minus_zero { Leads
+        ((P, 0o100) ∷ (A, 0o777777) ∷ (Cell 0o100, 0o1700) ∷ [])
+        1
+        ((P, 0o101) ∷ (A, 0o777777) ∷ []) }
+{}
+
+/// A store takes the lower twelve bits of A. A replaced cell leaves 18 bits in A.
+#[tactic(auto, unfolding(pp_step::specs::Step::pp_writes))]
+pub fn stores()
+    ensures load_and_store { Leads
+        ((P, 0o100) ∷ (Cell 0o100, 0o1405) ∷ (Cell 0o101, 0o3420) ∷ [])
+        2
+        ((P, 0o102) ∷ (A, 5) ∷ (Cell 0o20, 5) ∷ []) }
+    ensures lower_twelve_bits { Leads
+        ((P, 0o100) ∷ (A, 0o654321) ∷ (Cell 0o100, 0o3420) ∷ [])
+        1
+        ((P, 0o101) ∷ (A, 0o654321) ∷ (Cell 0o20, 0o4321) ∷ []) }
+    ensures over_itself { Leads ((A, 0o1405) ∷ (Cell 0, 0o3400) ∷ []) 1 ((P, 1) ∷ (Cell 0, 0o1405) ∷ []) }
+    ensures rad { Leads
+        ((P, 0o100) ∷ (A, 0o777777) ∷ (Cell 0o100, 0o3520) ∷ [])
+        1
+        ((P, 0o101) ∷ (A, 0) ∷ (Cell 0o20, 0) ∷ []) }
+    ensures aod { Leads
+        ((P, 0o100) ∷ (Cell 0o100, 0o3620) ∷ (Cell 0o20, 0o7777) ∷ [])
+        1
+        ((P, 0o101) ∷ (A, 0o10000) ∷ (Cell 0o20, 0) ∷ []) }
+    ensures sod { Leads
+        ((P, 0o100) ∷ (Cell 0o100, 0o3720) ∷ [])
+        1
+        ((P, 0o101) ∷ (A, 0o777776) ∷ (Cell 0o20, 0o7776) ∷ []) }
+{}
+
+/// An operand is cell d, the cell that cell d names, or the cell at m, indexed by cell d if d is not 00. An index of
+/// 7777 is minus zero.
+#[tactic(auto, unfolding(pp_step::specs::Step::pp_writes))]
+pub fn operands()
+    ensures direct { Leads
+        ((P, 0o100) ∷ (Cell 0o100, 0o3012) ∷ (Cell 0o12, 0o300) ∷ [])
+        1
+        ((P, 0o101) ∷ (A, 0o300) ∷ []) }
+    ensures indirect { Leads
+        ((P, 0o100) ∷ (Cell 0o100, 0o4012) ∷ (Cell 0o12, 0o300) ∷ (Cell 0o300, 0o1234) ∷ [])
+        1
+        ((P, 0o101) ∷ (A, 0o1234) ∷ []) }
+    ensures indexed { Leads
+        ((P, 0o100) ∷ (Cell 0o100, 0o5012) ∷ (Cell 0o101, 0o300) ∷ (Cell 0o12, 5) ∷ (Cell 0o305, 0o1234) ∷
+        [])
+        1
+        ((P, 0o102) ∷ (A, 0o1234) ∷ []) }
+    ensures not_indexed { Leads
+        ((P, 0o100) ∷ (Cell 0o100, 0o5000) ∷ (Cell 0o101, 0o300) ∷ (Cell 0, 5) ∷ (Cell 0o300, 0o1234) ∷ [])
+        1
+        ((P, 0o102) ∷ (A, 0o1234) ∷ []) }
+    ensures indexed_by_minus_zero { Leads
+        ((P, 0o100) ∷ (Cell 0o100, 0o5001) ∷ (Cell 0o101, 0o20) ∷ (Cell 1, 0o7777) ∷ (Cell 0o20, 0o1234) ∷
+        [])
+        1
+        ((P, 0o102) ∷ (A, 0o1234) ∷ []) }
+{}
+
+/// Jumps count from their own address. A of 777777 is not zero for a zero jump, and is minus.
+#[tactic(auto, unfolding(pp_step::specs::Step::pp_writes))]
+pub fn jumps()
+    ensures ujn { Leads ((P, 0o100) ∷ (Cell 0o100, 0o305) ∷ []) 1 ((P, 0o105) ∷ []) }
+    ensures ujn_back { Leads ((P, 0o100) ∷ (Cell 0o100, 0o372) ∷ []) 1 ((P, 0o73) ∷ []) }
+    ensures zjn { Leads ((P, 0o100) ∷ (Cell 0o100, 0o405) ∷ []) 1 ((P, 0o105) ∷ []) }
+    ensures zjn_at_minus_zero { Leads ((P, 0o100) ∷ (A, 0o777777) ∷ (Cell 0o100, 0o405) ∷ []) 1 ((P, 0o101) ∷ []) }
+    ensures njn_at_minus_zero { Leads ((P, 0o100) ∷ (A, 0o777777) ∷ (Cell 0o100, 0o505) ∷ []) 1 ((P, 0o105) ∷ []) }
+    ensures pjn { Leads ((P, 0o100) ∷ (A, 0o377777) ∷ (Cell 0o100, 0o605) ∷ []) 1 ((P, 0o105) ∷ []) }
+    ensures mjn { Leads ((P, 0o100) ∷ (A, 0o400000) ∷ (Cell 0o100, 0o705) ∷ []) 1 ((P, 0o105) ∷ []) }
+    ensures ljm { Leads
+        ((P, 0o100) ∷ (Cell 0o100, 0o112) ∷ (Cell 0o101, 0o300) ∷ (Cell 0o12, 5) ∷ [])
+        1
+        ((P, 0o305) ∷ []) }
+{}
+
+/// A return jump puts the address behind itself into the target, and goes on behind that. It has read its second word
+/// before it overwrites it.
+#[tactic(auto, unfolding(pp_step::specs::Step::pp_writes))]
+pub fn return_jumps()
+    ensures to_last_cell { Leads
+        ((P, 0o100) ∷ (Cell 0o100, 0o200) ∷ (Cell 0o101, 0o7777) ∷ [])
+        1
+        ((P, 0) ∷ (Cell 0o7777, 0o102) ∷ []) }
+    ensures over_its_second_word { Leads
+        ((P, 0o100) ∷ (Cell 0o100, 0o200) ∷ (Cell 0o101, 0o101) ∷ [])
+        1
+        ((P, 0o102) ∷ (Cell 0o101, 0o102) ∷ []) }
+{}
