@@ -29,18 +29,55 @@ impl TurnRecord {
         }
     }
 
+    /// The old number of a place that the record names. Only the parts that may name a place of its kind are asked.
+    #[inline(always)]
+    #[tactic(auto, using(crate::proofs::TurnNames::lookup_told))]
     pub(super) fn was(&self, place: &Place) -> Option<u64>
         ensures { result ≡ lookup (turn_pairs self.now) place.now }
+    {
+        match *place {
+            Place::Cell { pp, .. }
+            | Place::RegA { pp }
+            | Place::RegP { pp }
+            | Place::RegQ { pp }
+            | Place::Phase { pp } => {
+                if self.slot == pp {
+                    self.pp.was(self.slot, place)
+                } else {
+                    None
+                }
+            }
+            Place::Central { .. } | Place::FrameWord { .. } => self.pp.was(self.slot, place),
+            Place::ChannelMode { .. } | Place::ChannelWord { .. } => self.channel_was(place),
+            Place::Clock => clock_was(self.clock),
+            Place::Slot => Some(u64::from(self.slot)),
+            Place::Card | Place::CardColumn | Place::ReaderMode => {
+                reader_named(&self.reader, self.reader_channel, place)
+            }
+            Place::PaperLength
+            | Place::PaperColumn
+            | Place::PrinterMode
+            | Place::PaperSymbol { .. } => printer_named(
+                &self.printer,
+                self.printer_channel,
+                place,
+            ),
+            Place::WatchEntry { .. } => None,
+        }
+    }
+
+    /// The old number of a channel's state or register: the processor's part stands first, then the reader's. It stands
+    /// apart, so that no other look saves the registers that it needs.
+    #[inline(never)]
+    fn channel_was(&self, place: &Place) -> Option<u64>
+        ensures { result ≡ first_of_two (first_of_two (lookup (renamed (pp_place self.now.slot) (pp_pairs self.now.pp)) place.now)
+            (lookup (renamed (reader_place self.now.reader_channel) (reader_pairs self.now.reader)) place.now))
+            (lookup (renamed (printer_place self.now.printer_channel) (printer_pairs self.now.printer)) place.now) }
     {
         let pp = self.pp.was(self.slot, place);
         let reader = reader_named(&self.reader, self.reader_channel, place);
         let printer = printer_named(&self.printer, self.printer_channel, place);
-        let clock = clock_was(&self.clock, place);
-        let slot = slot_was(self.slot, place);
-        first_of(
-            first_of(first_of(first_of(pp, reader), printer), clock),
-            slot,
-        )
+        first_of(first_of(pp, reader), printer)
     }
 }
 
@@ -87,21 +124,12 @@ fn printer_was(back: &PrinterRecord, c: u8, place: &Place) -> Option<u64>
     back.was(c, place)
 }
 
-fn clock_was(clock: &Option<u16>, place: &Place) -> Option<u64>
-    ensures { result ≡ lookup (clock_pairs clock.now) place.now }
+fn clock_was(clock: Option<u16>) -> Option<u64>
+    ensures { result ≡ lookup (clock_pairs clock) Place.Clock }
 {
-    match (clock, place) {
-        (Some(v), Place::Clock) => Some(u64::from(*v)),
-        _ => None,
-    }
-}
-
-fn slot_was(slot: u8, place: &Place) -> Option<u64>
-    ensures { result ≡ lookup ((Place.Slot, slot) ∷ []) place.now }
-{
-    match place {
-        Place::Slot => Some(u64::from(slot)),
-        _ => None,
+    match clock {
+        Some(v) => Some(u64::from(v)),
+        None => None,
     }
 }
 
