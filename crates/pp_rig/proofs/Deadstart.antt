@@ -2,18 +2,19 @@
 use Rattle.std.specs.Prelude.{ℕ, ◌≡◌, ◌+◌, ◌/◌, ◌<◌, ◌≤◌, ◌^◌, ◌==◌, ◌||◌, IsTrue, true, false, All, List, [], ◌∷◌, ◌++◌, length, replicate, refl}
 use Rattle.std.proofs.Common.{arith, zero, suc, lit<, lit≤, ap, sym, ◌∙◌}
 use Rattle.pp_machine.specs.Kept.{kept_pairs}
-use Rattle.pp_machine.specs.Machine.{Machine, olds}
+use Rattle.pp_machine.specs.Machine.{Machine, number, olds}
 use Rattle.pp_machine.specs.Phase.{is_phase}
-use Rattle.pp_machine.specs.WriteLaws.{AllPlaces-append}
-use Rattle.pp_machine.specs.Writes.{Writes, AllPlaces}
+use Rattle.pp_machine.specs.WriteLaws.{AllPlaces-append, places-olds}
+use Rattle.pp_machine.specs.Writes.{Writes, AllPlaces, places}
 use Rattle.pp_machine.specs.declared.place.Kept.{Kept}
 use Rattle.pp_machine.specs.declared.place.Place.{Place}
 use Rattle.pp_machine.specs.declared.place.Place.TheVariants.{RegA, Phase, ChannelMode, Central, Slot}
 use Rattle.pp_rig.specs.CellLaws.{AreSettings-cell_list}
 use Rattle.pp_rig.specs.Deadstart.{loading, waiting, all_waiting, all_states, deadstart_pairs, deadstart_places}
 use Rattle.pp_rig.specs.Settings.{IsSetting, IsInRange, AreSettings, AreSettings-append}
-use Rattle.pp_rig.specs.WriteLists.{cell_list, register_list, places, numbers, numbered}
-use Rattle.pp_rig.proofs.WriteLists.{places-olds, places-cell_list, places-both, length-places, numbered-numbers}
+use Rattle.pp_rig.specs.RecordLists.{numbers, numbered}
+use Rattle.pp_rig.specs.WriteLists.{cell_list, register_list}
+use Rattle.pp_rig.proofs.WriteLists.{places-cell_list, places-both, length-places, numbered-numbers}
 
 input_phase : (n : ℕ) → n < 10 → IsTrue (is_phase (0o7100 + n))
 input_phase n h =
@@ -89,7 +90,7 @@ length-deadstart panel e =
 -- the numbers that stood at the places of a dead start, at those places
 pub numbered-stood : (m : Machine) (panel : List ℕ) → length panel ≡ 12 → numbered deadstart_places (numbers (olds m (deadstart_pairs panel))) ≡ olds m (deadstart_pairs panel)
 numbered-stood m panel e =
-    numbered-numbers deadstart_places (olds m (deadstart_pairs panel)) (sym (places-olds m (deadstart_pairs panel) ∙ places-deadstart panel (replicate 12 0) e))
+    numbered-numbers deadstart_places (olds m (deadstart_pairs panel)) (sym (places-olds number m (deadstart_pairs panel) ∙ places-deadstart panel (replicate 12 0) e))
 
 -- ---- its numbers are short
 

@@ -2,21 +2,21 @@
 use Rattle.std.specs.Prelude.{ℕ, ◌≡◌, ◌≤◌, Option, Some, None, length}
 use Rattle.std.proofs.Common.{arith}
 use Rattle.std.proofs.lemmas.List.{length-append}
-use Rattle.pp_machine.specs.Machine.{Machine, over}
+use Rattle.pp_machine.specs.Machine.{Machine, number, over}
 use Rattle.pp_machine.proofs.DevicePlaces.{printer_few, reader_few}
 use Rattle.pp_machine.specs.Printed.{printer_pairs, printer_place}
 use Rattle.pp_machine.specs.Read.{reader_pairs, reader_place}
-use Rattle.pp_machine.specs.WriteLaws.{over-append}
+use Rattle.pp_machine.specs.WriteLaws.{over-append, places-append, places-olds}
+use Rattle.pp_machine.specs.Writes.{places}
 use Rattle.pp_step.specs.Step.{pp_pairs}
 use Rattle.pp_step.specs.View.{pp_place}
 use Rattle.pp_rig.specs.Action.{writes, next, overwritten}
 use Rattle.pp_rig.specs.Turn.{turn, turn_list, turn_olds, turn_pairs, clock_pairs}
-use Rattle.pp_rig.specs.WriteLists.{places}
 use Rattle.pp_rig.specs.declared.action.Action.{Action}
 use Rattle.pp_rig.specs.declared.action.Action.TheVariants.{Turn}
 use Rattle.pp_rig.specs.declared.rig.TurnRecord.{TurnRecord}
 use Rattle.pp_rig.proofs.MachineStore.{taken_back}
-use Rattle.pp_rig.proofs.WriteLists.{places-append, places-olds, length-renamed}
+use Rattle.pp_rig.proofs.WriteLists.{length-renamed}
 
 turn-taken_back : (m : Machine) → over (turn m) (turn_olds m) ≡ m
 unfolding turn turn_olds
@@ -34,7 +34,7 @@ places-turn m = simp (places-append, places-olds)
 -- what is overwritten stands at the places of the write list
 pub places-overwritten : (m : Machine) (action : Action) → places (overwritten m action) ≡ places (writes m action)
 places-overwritten m Turn = places-turn m
-places-overwritten m action = places-olds m (writes m action)
+places-overwritten m action = places-olds number m (writes m action)
 
 -- ---- how many places a turn's record names
 

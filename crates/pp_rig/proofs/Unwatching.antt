@@ -12,7 +12,8 @@ use Rattle.pp_machine.specs.declared.place.Place.TheVariants.{WatchEntry}
 use Rattle.pp_rig.specs.Action.{moved_up, unwatch_list}
 use Rattle.pp_rig.specs.Watches.{AreWatches, watched_at, watched_in, watched_place}
 use Rattle.pp_rig.specs.Watching.{watch_code, watch_entries, first_zero}
-use Rattle.pp_rig.specs.WriteLists.{entry_list, with_entries, entries_at}
+use Rattle.pp_rig.specs.RecordLists.{with_entries, entries_at}
+use Rattle.pp_rig.specs.WriteLists.{entry_list}
 use Rattle.pp_rig.specs.declared.watched.Watched.{Watched}
 use Rattle.pp_rig.specs.declared.watched.Watched.TheVariants.{RegA}
 use Rattle.pp_rig.proofs.Watching.{code-no_zero, zero-no_code, position-entries, AreWatches-entries, length-watched_in}

@@ -5,23 +5,16 @@ use Rattle.std.proofs.lemmas.List.{append-nil, drop_all, drop_more, take_more}
 use Rattle.pp_machine.specs.Kept.{kept_pairs, kept_pairs-append}
 use Rattle.pp_machine.specs.Lookup.{lookup, same_place}
 use Rattle.pp_machine.specs.Machine.{Machine, number, olds}
-use Rattle.pp_machine.specs.WriteLaws.{olds-append}
+use Rattle.pp_machine.specs.WriteLaws.{olds-append, places-append}
 use Rattle.pp_machine.specs.declared.place.Kept.{Kept}
 use Rattle.pp_machine.specs.declared.place.Place.TheVariants.{ChannelMode, WatchEntry}
 use Rattle.pp_rig.specs.Deadstart.{all_waiting, waiting}
 use Rattle.pp_rig.specs.Watching.{watch_code}
 use Rattle.pp_rig.specs.declared.watched.Watched.{Watched}
-use Rattle.pp_machine.specs.Writes.{Writes, renamed}
+use Rattle.pp_machine.specs.Writes.{Writes, renamed, places}
 use Rattle.pp_machine.specs.declared.place.Place.{Place}
-use Rattle.pp_rig.specs.WriteLists.{places, numbers, numbered, cell_list, state_list, entry_list}
-
-pub places-olds : (m : Machine) (w : Writes Place) → places (olds m w) ≡ places w
-places-olds m [] = refl
-places-olds m (pair ∷ w) = ap (λ ps. pair.0 ∷ ps) (places-olds m w)
-
-pub places-append : (a b : Writes Place) → places (a ++ b) ≡ places a ++ places b
-places-append [] b = refl
-places-append (pair ∷ a) b = ap (λ ps. pair.0 ∷ ps) (places-append a b)
+use Rattle.pp_rig.specs.RecordLists.{numbers, numbered}
+use Rattle.pp_rig.specs.WriteLists.{cell_list, state_list, entry_list}
 
 pub places-both : (a b c d : Writes Place) → places a ≡ places b → places c ≡ places d → places (a ++ c) ≡ places (b ++ d)
 places-both a b c d e f = places-append a c ∙ (ap (λ ps. ps ++ places c) e ∙ (ap (λ ps. places b ++ ps) f ∙ sym (places-append b d)))

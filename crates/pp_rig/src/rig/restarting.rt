@@ -5,7 +5,8 @@ ghost use Rattle.pp_machine.specs.Kept.{kept_pairs};
 ghost use Rattle.pp_machine.specs.Machine.{olds, over};
 ghost use Rattle.pp_rig.specs.Action.{FitsRecord, record_pairs};
 ghost use Rattle.pp_rig.specs.Deadstart.{all_states, all_waiting, deadstart_list, deadstart_pairs, deadstart_places, states, waiting};
-ghost use Rattle.pp_rig.specs.WriteLists.{numbered, numbers, register_list, state_list};
+ghost use Rattle.pp_rig.specs.RecordLists.{numbered, numbers};
+ghost use Rattle.pp_rig.specs.WriteLists.{register_list, state_list};
 
 use super::settings::push_cells;
 use super::{Rig, RigRecord};

@@ -6,7 +6,8 @@ ghost use Rattle.pp_rig.specs.Watching.{watch_code};
 ghost use Rattle.pp_machine.specs.Machine.{over};
 ghost use Rattle.pp_rig.specs.Deadstart.{deadstart_places};
 ghost use Rattle.pp_rig.specs.Settings.{AreSettings};
-ghost use Rattle.pp_rig.specs.WriteLists.{entry_list, numbered};
+ghost use Rattle.pp_rig.specs.RecordLists.{numbered};
+ghost use Rattle.pp_rig.specs.WriteLists.{entry_list};
 
 use super::restarting::renumbered;
 use super::{Rig, RigRecord};

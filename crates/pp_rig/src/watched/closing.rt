@@ -5,7 +5,7 @@ ghost use Rattle.arrayvec.specs.ArrayVec.{array_vec_len};
 ghost use Rattle.pp_rig.specs.Action.{moved_up};
 ghost use Rattle.pp_rig.specs.Watches.{watched_at, watched_in};
 ghost use Rattle.pp_rig.specs.Watching.{first_zero, watch_code, watch_entries};
-ghost use Rattle.pp_rig.specs.WriteLists.{entries_at, with_entries};
+ghost use Rattle.pp_rig.specs.RecordLists.{entries_at, with_entries};
 
 use super::{WatchList, Watched};
 use arrayvec::ArrayVec;

@@ -6,7 +6,7 @@ use Rattle.pp_machine.specs.Shape.{IsShaped}
 use Rattle.pp_rig.specs.Deadstart.{deadstart_pairs, deadstart_places}
 use Rattle.pp_rig.specs.MachineLaws.{setup-over}
 use Rattle.pp_rig.specs.Settings.{AreSettings, HasAll-settings}
-use Rattle.pp_rig.specs.WriteLists.{numbered}
+use Rattle.pp_rig.specs.RecordLists.{numbered}
 use Rattle.pp_rig.proofs.Deadstart.{AreSettings-deadstart, length-deadstart, numbered-stood, short-stood}
 use Rattle.pp_rig.proofs.WriteLists.{length-olds}
 use Rattle.pp_rig.proofs.rig.Rig.deadstart.Goals as goal

@@ -1,7 +1,7 @@
 use Rattle.std.proofs.Common.{◌≡◌, take}
 use Rattle.arrayvec.specs.ArrayVec.{array_vec_len}
 use Rattle.pp_machine.specs.Kept.{kept_pairs}
-use Rattle.pp_rig.specs.WriteLists.{numbers}
+use Rattle.pp_rig.specs.RecordLists.{numbers}
 use Rattle.pp_rig.proofs.rig.restarting.numbers_of.Given as goal
 
 abbrev pub invariant-loop-pair : goal.invariant-loop-pair

@@ -1,7 +1,7 @@
 use Rattle.std.proofs.Common.{◌≡◌, ◌++◌, drop}
 use Rattle.arrayvec.specs.ArrayVec.{array_vec_len}
 use Rattle.pp_machine.specs.Kept.{kept_pairs}
-use Rattle.pp_rig.specs.WriteLists.{numbered}
+use Rattle.pp_rig.specs.RecordLists.{numbered}
 use Rattle.pp_rig.proofs.rig.restarting.with_numbers.Given as goal
 
 abbrev pub invariant-loop-i : goal.invariant-loop-i

@@ -1,0 +1,26 @@
+-- Words about records: watch entries put back, and a list without its places. What an action writes is said without them; what a
+-- record names and fits, the contracts of inner functions and the proofs need them.
+use Rattle.std.specs.Prelude.{ℕ, ◌+◌, List, [], ◌∷◌, get_or, set}
+use Rattle.pp_machine.specs.Writes.{Writes}
+use Rattle.pp_machine.specs.declared.place.Place.{Place}
+
+-- the entries with these codes from i on
+abbrev pub with_entries : List ℕ → ℕ → List ℕ → List ℕ
+with_entries entries i [] = entries
+with_entries entries i (code ∷ codes) = set (with_entries entries (i + 1) codes) i code
+
+-- what stands in the entries from i on, in as many as there are codes
+abbrev pub entries_at : List ℕ → ℕ → List ℕ → List ℕ
+entries_at entries i [] = []
+entries_at entries i (code ∷ codes) = get_or entries i 0 ∷ entries_at entries (i + 1) codes
+
+-- the numbers of a list
+abbrev pub numbers : Writes Place → List ℕ
+numbers [] = []
+numbers (pair ∷ w) = pair.1 ∷ numbers w
+
+-- the places of a list with other numbers
+abbrev pub numbered : Writes Place → List ℕ → Writes Place
+numbered [] ns = []
+numbered (pair ∷ w) [] = []
+numbered (pair ∷ w) (n ∷ ns) = (pair.0, n) ∷ numbered w ns
