@@ -1,5 +1,5 @@
 -- A well formed machine: every number is in its range.
-use Rattle.std.specs.Prelude.{◌<◌, ◌≤◌, ◌^◌, All, IfSome, IsTrue}
+use Rattle.std.specs.Prelude.{◌<◌, ◌≤◌, ◌^◌, All, IsTrue}
 use Rattle.pp_machine.specs.ChannelNumbers.{IsChannels}
 use Rattle.pp_machine.specs.Frame.{IsPackage}
 use Rattle.pp_machine.specs.Machine.{Machine, ProcessorNumbers}
@@ -7,6 +7,7 @@ use Rattle.pp_machine.specs.Phase.{is_phase}
 use Rattle.pp_machine.specs.PrinterNumbers.{IsPrinter}
 use Rattle.pp_machine.specs.ReaderNumbers.{IsReader}
 use Rattle.pp_machine.specs.Shape.{IsShaped}
+use Rattle.pp_rig.specs.IsSetup.{IsSetup}
 use Rattle.pp_rig.specs.Watches.{AreWatches}
 
 -- registers, phase and cells of a processor
@@ -18,7 +19,8 @@ pub record IsProcessor (x : ProcessorNumbers) : Type 0 where
   pub cells : All (λ cell. cell ≤ 0o7777) x.cells
 
 -- the lists have their sizes, each number is in its range, the paper is zero past its length, a card is left where one is being
--- read, and the watch entries are those of distinct places of the machine, before zeros
+-- read, the watch entries are those of distinct places of the machine, before zeros, the panel has twelve words, and reader and
+-- printer have data channels of their own
 pub record IsWellFormed (m : Machine) : Type 0 where
   pub sizes : IsShaped m.setup.central_words m
   pub processors : All IsProcessor m.processors
@@ -29,6 +31,4 @@ pub record IsWellFormed (m : Machine) : Type 0 where
   pub printer : IsPrinter m.printer
   pub slot : m.slot < 10
   pub watches : AreWatches m.setup.central_words m.watches
-  pub panel : IfSome m.setup.panel (λ panel. All (λ word. word ≤ 0o7777) panel)
-  pub reader_channel : m.setup.reader_channel < 12
-  pub printer_channel : m.setup.printer_channel < 12
+  pub setup : IsSetup m.setup

@@ -16,8 +16,9 @@ fn keep_ranges(processors: &[Processor])
 
 impl Rig {
     /// Every machine is well formed, whatever was done to it: each number is in its range, the paper is zero
-    /// past its length, a card is left where one is being read, and the watched places are distinct places of
-    /// the machine. The call does nothing.
+    /// past its length, a card is left where one is being read, the watched places are distinct places of the
+    /// machine, the panel has twelve words, and reader and printer have data channels of their own. The call does
+    /// nothing.
     pub fn keeps_ranges(&self)
         ensures { IsWellFormed self.now }
     {

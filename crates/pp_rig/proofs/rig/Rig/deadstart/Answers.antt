@@ -13,13 +13,13 @@ use Rattle.pp_rig.proofs.rig.Rig.deadstart.Goals as goal
 
 pub standing-standing-requires : goal.standing-standing-requires
 standing-standing-requires c =
-    let words = rw c.in-Some.is at c.self.invariant.panel in
-    (lit< tt, (c.as_slice.ensures.fits, rw (c.as_slice.ensures.value, c.deadstart_settings-list.ensures.list) (AreSettings-deadstart _ c.in-Some.panel words)))
+    let panel = rw c.in-Some.is at c.self.invariant.setup.panel in
+    (lit< tt, (c.as_slice.ensures.fits, rw (c.as_slice.ensures.value, c.deadstart_settings-list.ensures.list) (AreSettings-deadstart _ c.in-Some.panel panel.small)))
 
 pub put_all-requires : goal.put_all-requires
 put_all-requires c =
-    let words = rw c.in-Some.is at c.self.invariant.panel in
-    rw (c.as_slice-2.ensures.value, c.deadstart_settings-list.ensures.list) (AreSettings-deadstart _ c.in-Some.panel words)
+    let panel = rw c.in-Some.is at c.self.invariant.setup.panel in
+    rw (c.as_slice-2.ensures.value, c.deadstart_settings-list.ensures.list) (AreSettings-deadstart _ c.in-Some.panel panel.small)
 
 pub numbers_of-requires-clause-small : goal.numbers_of-requires-clause-small
 numbers_of-requires-clause-small c =

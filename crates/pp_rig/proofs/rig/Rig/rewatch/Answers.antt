@@ -11,9 +11,7 @@ invariant_of-self c =
     record {
       shaped = IsShaped-watches _ (machine_of c.self.inside) c.restore.new.self c.self.invariant.shaped (rw c.restore.ensures (length-with_entries c.self.inside.watches c.args.i (map watch_code c.args.places.now) ∙ c.self.invariant.shaped.watches));
       slot = c.self.invariant.slot;
-      printer_channel = c.self.invariant.printer_channel;
-      reader_channel = c.self.invariant.reader_channel;
-      panel = c.self.invariant.panel;
+      setup = c.self.invariant.setup;
       watches = rw c.restore.ensures back;
     }
 

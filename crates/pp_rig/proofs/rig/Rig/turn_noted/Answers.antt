@@ -12,7 +12,7 @@ returns-clause-fits c =
       part = fits;
       shaped = subst P c.self.view_is c.self.invariant.shaped;
       places = HasAll-turn _ c.turn.new.back c.turn.new.self refl
-          (rw (fits.reader_channel, ← c.self.view_is) c.self.invariant.reader_channel)
-          (rw (fits.printer_channel, ← c.self.view_is) c.self.invariant.printer_channel)
+          (rw (fits.reader_channel, ← c.self.view_is) c.self.invariant.setup.reader_channel)
+          (rw (fits.printer_channel, ← c.self.view_is) c.self.invariant.setup.printer_channel)
           fits;
     }

@@ -20,9 +20,7 @@ invariant_of-self c =
     record {
       shaped = IsShaped-watches _ (machine_of c.self.inside) c.remove-places.new.self c.self.invariant.shaped (eight c);
       slot = c.self.invariant.slot;
-      printer_channel = c.self.invariant.printer_channel;
-      reader_channel = c.self.invariant.reader_channel;
-      panel = c.self.invariant.panel;
+      setup = c.self.invariant.setup;
       watches = rw c.remove-places.ensures.places (AreWatches-removed _ c.self.inside.watches c.in-Some.i (words_of-few c.self.inside.central_size) c.self.invariant.watches below);
     }
 

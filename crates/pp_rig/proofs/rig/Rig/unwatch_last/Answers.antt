@@ -10,8 +10,6 @@ invariant_of-self c =
     record {
       shaped = search rules;
       slot = c.self.invariant.slot;
-      printer_channel = c.self.invariant.printer_channel;
-      panel = c.self.invariant.panel;
-      reader_channel = c.self.invariant.reader_channel;
+      setup = c.self.invariant.setup;
       watches = rw c.pop.ensures (AreWatches-pop _ c.self.inside.watches (words_of-few c.self.inside.central_size) c.self.invariant.watches some c.self.invariant.shaped.watches);
     }
