@@ -11,7 +11,8 @@ use Rattle.pp_console.specs.declared.progress.Progress.{Progress}
 use Rattle.pp_console.specs.declared.progress.TheConstants.{LINE_LIMIT, BYTE_LIMIT}
 use Rattle.pp_console.specs.Answers.{State, Value}
 use Rattle.pp_console.specs.Script.{run}
-use Rattle.pp_console.specs.Serving.{Origin, origin_of, Performed, Stands}
+use Rattle.pp_console.specs.Serving.{Origin, origin_of, Performed}
+use Rattle.pp_console.specs.ServingSteps.{Stands}
 use Rattle.pp_console.proofs.Standing.{Stands-within}
 
 -- before the first byte

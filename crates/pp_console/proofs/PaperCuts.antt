@@ -7,8 +7,9 @@ use Rattle.std.proofs.lemmas.List.Quantifiers.{position-Some}
 use Rattle.std.proofs.lemmas.List.Sums.{position_or_len_is}
 use Rattle.pp_lines.proofs.Writing.{slice_from}
 use Rattle.pp_lines.specs.Lines.{finished, unfinished, last_line}
-use Rattle.pp_console.specs.DisplayCode.{character, is_line_end}
-use Rattle.pp_console.specs.Paper.{marked, lines_of_paper, paper_text, rest_text}
+use Rattle.pp_console.specs.DisplayCode.{character}
+use Rattle.pp_console.specs.Paper.{marked, lines_of_paper, paper_text}
+use Rattle.pp_console.specs.PaperCuts.{is_line_end, rest_text}
 
 -- how many symbols come before the first line end
 abbrev pub before_end : List ℕ → ℕ

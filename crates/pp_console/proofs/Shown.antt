@@ -3,8 +3,8 @@ use Rattle.std.proofs.Common.{◌≡◌, ◌∙◌, ℕ, List, [], ◌++◌, ref
 use Rattle.std.specs.Prelude.{Option, Result, Ok, Err}
 use Rattle.std.specs.Io.KnownBytes.{Appends}
 use Rattle.std.proofs.lemmas.List.{append-nil}
-use Rattle.pp_lines.specs.Output.{Remains, Writes}
-use Rattle.pp_lines.proofs.Writing.{Appends-again, Appends-same, Remains-fails, front_after}
+use Rattle.pp_lines.specs.Output.{Writes}
+use Rattle.pp_lines.proofs.Writing.{Appends-again, Appends-same, Remains, Remains-fails, front_after}
 
 -- a text, and then another one or a front of it
 pub Writes-after : {T E : Type 0} (result : Result T E) (first second third : Option (List ℕ)) (text more : List ℕ) →

@@ -8,7 +8,8 @@ use Rattle.pp_console.specs.declared.progress.Progress.{Progress}
 use Rattle.pp_console.specs.declared.progress.TheConstants.{KEPT, LINE_LIMIT, BYTE_LIMIT}
 use Rattle.pp_console.specs.Answers.{State}
 use Rattle.pp_console.specs.Script.{run}
-use Rattle.pp_console.specs.Serving.{Origin, Performed, Stands}
+use Rattle.pp_console.specs.Serving.{Origin, Performed}
+use Rattle.pp_console.specs.ServingSteps.{Stands}
 
 -- a line feed within the limits
 fed-within : (line_limit byte_limit : ℕ) (bytes : List ℕ) → length bytes < byte_limit → length (finished bytes) < line_limit →

@@ -3,9 +3,11 @@ pub mod DisplayCode
 pub mod Dumps
 pub mod Moves
 pub mod Paper
+pub mod PaperCuts
 pub mod Performing
 pub mod Refusals
 pub mod Script
 pub mod Serving
+pub mod ServingSteps
 pub mod Texts
 pub mod Watches

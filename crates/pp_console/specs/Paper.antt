@@ -19,7 +19,3 @@ paper m = take m.printer.length m.printer.symbols
 
 unfoldable pub paper_text : List ℕ → List ℕ
 paper_text symbols = lines_of_paper (map character symbols)
-
--- symbols without a line end
-abbrev pub rest_text : List ℕ → List ℕ
-rest_text symbols = flat_map (marked (codes "/")) (last_line (map character symbols))

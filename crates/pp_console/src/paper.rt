@@ -2,9 +2,10 @@
 ghost use Rattle.std.specs.Prelude.{◌≡◌, ◌<◌, ◌≤◌, ◌++◌, length, map, position, codes, IfSome, MatchOption};
 ghost use Rattle.pp_lines.specs.Device.{Counts};
 ghost use Rattle.pp_lines.specs.Output.{Writes};
-ghost use Rattle.pp_console.specs.DisplayCode.{character, is_line_end};
+ghost use Rattle.pp_console.specs.DisplayCode.{character};
 ghost use Rattle.pp_console.specs.Dumps.{printer_text};
-ghost use Rattle.pp_console.specs.Paper.{marked, paper_text, rest_text};
+ghost use Rattle.pp_console.specs.Paper.{marked, paper_text};
+ghost use Rattle.pp_console.specs.PaperCuts.{is_line_end, rest_text};
 
 use crate::devices::printer_line;
 use arrayvec::ArrayVec;

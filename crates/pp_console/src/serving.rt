@@ -7,7 +7,8 @@ ghost use Rattle.pp_rig.specs.Rules.{rules};
 ghost use Rattle.pp_lines.specs.Lines.{IsFrontOf};
 ghost use Rattle.pp_console.specs.Answers.{Value};
 ghost use Rattle.pp_console.specs.Script.{run};
-ghost use Rattle.pp_console.specs.Serving.{Origin, Performed, Breaks, Serves, Stops, Stands, Interrupts, IsNoReadFault, writes_after, reads_after, origin_of};
+ghost use Rattle.pp_console.specs.Serving.{Origin, Performed, Breaks, Serves, Stops, writes_after, reads_after, origin_of};
+ghost use Rattle.pp_console.specs.ServingSteps.{Stands, Interrupts, IsNoReadFault};
 
 use crate::commands::perform_line;
 use crate::progress::{BYTE_LIMIT, KEPT, LINE_LIMIT, Progress, Summary};

@@ -1,4 +1,4 @@
--- How far a file was read.
+-- Words of the inner contracts of loading: a file as far as it was read, and what a fault tells there.
 use Rattle.std.specs.Prelude.{◌≡◌, ℕ, ◌⊎◌, Bool, true, List, length, Result, Ok, Err}
 use Rattle.pp_lines.specs.Lines.{finished, IsFrontOf}
 use Rattle.pp_files.specs.declared.fault.LoadFault.{LoadFault}

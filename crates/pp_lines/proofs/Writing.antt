@@ -5,7 +5,7 @@ use Rattle.std.specs.Io.KnownBytes.{Appends, Keeps}
 use Rattle.std.proofs.lemmas.List.{take-append-drop, append-nil}
 use Rattle.std.proofs.lemmas.Grind.{common_steps}
 use Rattle.std.proofs.Math.Seq.{take-add}
-use Rattle.pp_lines.specs.Output.{AppendsFront, Remains}
+use Rattle.pp_lines.specs.Output.{AppendsFront}
 
 -- nothing is written
 pub Appends-nothing : (known : Option (List ℕ)) → Appends known known []
@@ -46,6 +46,10 @@ pub AppendsFront-at : (first second third : Option (List ℕ)) (done : ℕ) (tex
     Appends first second (take done text) → Keeps second third → AppendsFront first third text
 AppendsFront-at first second third done text within p q =
     (take done text, drop done text, Appends-keeps first second third _ p q, sym (take-append-drop done text), simp length-drop (omega arith))
+
+-- of the whole text a front was written, and this is left
+abbrev pub Remains : Option (List ℕ) → Option (List ℕ) → List ℕ → List ℕ → Type 0
+Remains old new whole left = (front : List ℕ) × Appends old new front × (whole ≡ front ++ left)
 
 -- all is left before the first piece
 pub Remains-all : (known : Option (List ℕ)) (whole : List ℕ) → Remains known known whole whole

@@ -1,5 +1,5 @@
 use Rattle.std.proofs.Common.{◌≡◌, ◌-◌}
-use Rattle.pp_lines.specs.Output.{Remains}
+use Rattle.pp_lines.proofs.Writing.{Remains}
 use Rattle.pp_console.specs.Dumps.{each, row_at}
 use Rattle.pp_console.proofs.cells.put_cells.Given as goal
 

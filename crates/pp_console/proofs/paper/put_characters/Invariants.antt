@@ -1,5 +1,5 @@
 use Rattle.std.proofs.Common.{◌≡◌, length, map}
-use Rattle.pp_lines.specs.Output.{Remains}
+use Rattle.pp_lines.proofs.Writing.{Remains}
 use Rattle.pp_console.specs.DisplayCode.{character}
 use Rattle.pp_console.proofs.paper.put_characters.Given as goal
 

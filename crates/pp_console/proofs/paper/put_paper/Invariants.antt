@@ -1,5 +1,5 @@
 use Rattle.std.proofs.Common.{◌≡◌, length}
-use Rattle.pp_lines.specs.Output.{Remains}
+use Rattle.pp_lines.proofs.Writing.{Remains}
 use Rattle.pp_console.specs.Paper.{paper_text}
 use Rattle.pp_console.proofs.paper.put_paper.Given as goal
 

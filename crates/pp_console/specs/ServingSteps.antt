@@ -1,0 +1,34 @@
+-- Words of the inner contracts of serving: a script as far as it was read, and what interrupts it there.
+use Rattle.std.specs.Prelude.{◌≡◌, ℕ, ◌<◌, ◌⊎◌, List, ◌∷◌, ◌++◌, length, Option}
+use Rattle.pp_console.specs.declared.progress.Progress.{Progress}
+use Rattle.pp_console.specs.declared.progress.TheConstants.{LINE_LIMIT, BYTE_LIMIT, KEPT}
+use Rattle.pp_lines.specs.declared.fault.IoFault.{IoFault}
+use Rattle.pp_lines.specs.declared.fault.IoFault.TheVariants.{ReadFailed, WriteFailed, LineLimit}
+use Rattle.pp_lines.specs.Lines.{finished, finished_within, IsWithin, IsFrontOf}
+use Rattle.pp_console.specs.Answers.{State}
+use Rattle.pp_console.specs.Script.{run}
+use Rattle.pp_console.specs.Serving.{Origin, Performed, Breaks}
+
+-- the script was read as far as these bytes
+pub record Stands (progress : Progress) (session : State) (text : Option (List ℕ)) (origin : Origin) (bytes : List ℕ) : Type 0 where
+  pub keeps : IsFrontOf KEPT progress.line bytes
+  pub counts_bytes : progress.bytes ≡ length bytes
+  pub counts_lines : progress.lines ≡ length (finished bytes)
+  pub counts_refused : progress.refused ≡ (run origin.start (finished bytes)).refused
+  pub performed : Performed session text origin (finished bytes)
+
+-- what stands after a fault among these bytes, before the end
+abbrev pub Interrupts : IoFault → State → Option (List ℕ) → Origin → List ℕ → Type 0
+Interrupts ReadFailed session text origin bytes = ⊥
+Interrupts LineLimit session text origin bytes =
+    (kept more : List ℕ) × (bytes ≡ kept ++ more) × (0 < length more) × IsWithin LINE_LIMIT BYTE_LIMIT kept
+    × ((length kept ≡ BYTE_LIMIT) ⊎ (length (finished kept) ≡ LINE_LIMIT)) × Performed session text origin (finished kept)
+Interrupts WriteFailed session text origin bytes =
+    (done : List (List ℕ)) × (line : List ℕ) × (later : List (List ℕ))
+    × (finished_within LINE_LIMIT BYTE_LIMIT bytes ≡ done ++ line ∷ later) × Breaks session text origin done line
+
+-- a fault that is not the source's
+abbrev pub IsNoReadFault : IoFault → Type 0
+IsNoReadFault ReadFailed = ⊥
+IsNoReadFault LineLimit = Unit {0}
+IsNoReadFault WriteFailed = Unit {0}
