@@ -1,9 +1,10 @@
 //! What the console does with one command, and with one line.
-ghost use Rattle.std.specs.Prelude.{◌≡◌, ◌≤◌, ◌<◌, IfErr, IfOk, true, false};
+ghost use Rattle.std.specs.Prelude.{◌≡◌, ◌≤◌, ◌<◌, IfErr, IfOk, true, false, length};
 ghost use Rattle.pp_history.specs.SessionValue.{IsAt};
 ghost use Rattle.pp_rig.specs.Rules.{rules};
 ghost use Rattle.pp_lines.specs.Device.{Counts};
 ghost use Rattle.pp_lines.specs.Output.{Writes};
+ghost use Rattle.pp_console.specs.Moves.{moved_text};
 ghost use Rattle.pp_console.specs.Performing.{Performs};
 ghost use Rattle.pp_console.specs.Answers.{Value, act_answer, step_answer, back_answer, forward_answer, change_answer, cells_answer, processor_answer, channels_answer, central_answer, frame_answer, reader_answer, printer_answer, watches_answer, answer};
 ghost use Rattle.pp_console.specs.Script.{answer_line};
@@ -11,11 +12,12 @@ ghost use Rattle.pp_console.specs.Script.{answer_line};
 use crate::cells::put_cells;
 use crate::central::put_central;
 use crate::devices::reader_line;
-use crate::moves::{moved_line, stopped_lines};
+use crate::moves::{push_moved, push_stopped};
 use crate::paper::put_printer;
 use crate::refusals::{action_fault_text, fault_text};
 use crate::registers::{channel_lines, frame_lines, processor_line};
 use crate::watches::watch_lines;
+use arrayvec::ArrayVec;
 use pp_command::{Command, Request, parse};
 use pp_history::Session;
 use pp_lines::{Failed, IoFault, Sink, put_all};
@@ -63,10 +65,21 @@ fn step<W: Sink>(session: &mut Session<Rig>, most: u32, out: &mut W) -> Result<b
     ensures counted { Counts (W.failure_count out.old) (W.failure_count out.new) result }
 {
     let done = run(session, most);
-    tell(
-        out,
-        stopped_lines(done, session.machine().slot()).as_slice(),
-    )
+    let mut lines = ArrayVec::new();
+    push_stopped(&mut lines, done, session.machine().slot());
+    tell(out, lines.as_slice())
+}
+
+/// Writes how many actions were done, and the processor whose turn comes next.
+fn tell_moved<W: Sink>(out: &mut W, name: &[u8], actions: u32, slot: u8) -> Result<bool, Failed>
+    requires { length name.now ≤ 8 }
+    ensures text { Writes (W.text out.old) (W.text out.new) result (moved_text name.now actions slot) }
+    ensures performed { IfOk result (λ performed. performed ≡ true) }
+    ensures counted { Counts (W.failure_count out.old) (W.failure_count out.new) result }
+{
+    let mut line: ArrayVec<u8, 40> = ArrayVec::new();
+    push_moved(&mut line, name, actions, slot);
+    tell(out, line.as_slice())
 }
 
 /// Takes actions back, where as many are kept.
@@ -76,10 +89,7 @@ fn back<W: Sink>(session: &mut Session<Rig>, actions: u32, out: &mut W) -> Resul
     ensures counted { Counts (W.failure_count out.old) (W.failure_count out.new) result }
 {
     match session.back(actions) {
-        Ok(()) => tell(
-            out,
-            moved_line(b"BACK ", actions, session.machine().slot()).as_slice(),
-        ),
+        Ok(()) => tell_moved(out, b"BACK ", actions, session.machine().slot()),
         Err(_) => refuse(out, b"ERR 07 TOO FEW KEPT\n"),
     }
 }
@@ -91,16 +101,14 @@ fn forward<W: Sink>(session: &mut Session<Rig>, actions: u32, out: &mut W) -> Re
     ensures counted { Counts (W.failure_count out.old) (W.failure_count out.new) result }
 {
     match session.forward(actions) {
-        Ok(()) => tell(
-            out,
-            moved_line(b"FORWARD ", actions, session.machine().slot()).as_slice(),
-        ),
+        Ok(()) => tell_moved(out, b"FORWARD ", actions, session.machine().slot()),
         Err(_) => refuse(out, b"ERR 16 TOO FEW AHEAD\n"),
     }
 }
 
 /// Takes back the latest change of a watched number, if there is one.
 #[tactic(auto, unfolding(crate::specs::Answers::change_answer, crate::specs::Moves::back_name, crate::specs::Refusals::no_change_text, crate::specs::Refusals::nothing_watched_text))]
+#[inline(never)]
 fn back_to_change<W: Sink>(session: &mut Session<Rig>, out: &mut W) -> Result<bool, Failed>
     ensures performs { Performs session.old session.new (W.text out.old) (W.text out.new) result change_answer }
     ensures counted { Counts (W.failure_count out.old) (W.failure_count out.new) result }
@@ -110,16 +118,17 @@ fn back_to_change<W: Sink>(session: &mut Session<Rig>, out: &mut W) -> Result<bo
         return refuse(out, b"ERR 15 NOTHING WATCHED\n");
     }
     match session.back_to_change(places.as_slice()) {
-        Ok(actions) => tell(
-            out,
-            moved_line(b"BACK ", actions, session.machine().slot()).as_slice(),
-        ),
+        Ok(actions) => tell_moved(out, b"BACK ", actions, session.machine().slot()),
         Err(_) => refuse(out, b"ERR 10 NO CHANGE KEPT\n"),
     }
 }
 
+// A function clears the room of its locals when it is entered. Those of a dump are large, so no dump
+// is inlined.
+
 /// Shows cells of a processor.
 #[tactic(auto, unfolding(crate::specs::Answers::cells_answer))]
+#[inline(never)]
 fn dump_cells<W: Sink>(
     session: &mut Session<Rig>,
     pp: u8,
@@ -137,6 +146,7 @@ fn dump_cells<W: Sink>(
 }
 
 /// Shows central words, where the machine has them.
+#[inline(never)]
 fn dump_central<W: Sink>(
     session: &mut Session<Rig>,
     first: u32,
@@ -155,8 +165,60 @@ fn dump_central<W: Sink>(
     Ok(true)
 }
 
+/// Shows the registers of a processor.
+#[tactic(auto, unfolding(crate::specs::Answers::processor_answer))]
+#[inline(never)]
+fn dump_processor<W: Sink>(session: &mut Session<Rig>, pp: u8, out: &mut W) -> Result<bool, Failed>
+    requires { pp < 10 }
+    ensures performs { Performs session.old session.new (W.text out.old) (W.text out.new) result (processor_answer pp) }
+    ensures counted { Counts (W.failure_count out.old) (W.failure_count out.new) result }
+{
+    tell(out, processor_line(session.machine(), pp).as_slice())
+}
+
+/// Shows the channels and the clock.
+#[tactic(auto, unfolding(crate::specs::Answers::channels_answer))]
+#[inline(never)]
+fn dump_channels<W: Sink>(session: &mut Session<Rig>, out: &mut W) -> Result<bool, Failed>
+    ensures performs { Performs session.old session.new (W.text out.old) (W.text out.new) result channels_answer }
+    ensures counted { Counts (W.failure_count out.old) (W.failure_count out.new) result }
+{
+    tell(out, channel_lines(session.machine()).as_slice())
+}
+
+/// Shows the exchange package.
+#[tactic(auto, unfolding(crate::specs::Answers::frame_answer))]
+#[inline(never)]
+fn dump_frame<W: Sink>(session: &mut Session<Rig>, out: &mut W) -> Result<bool, Failed>
+    ensures performs { Performs session.old session.new (W.text out.old) (W.text out.new) result frame_answer }
+    ensures counted { Counts (W.failure_count out.old) (W.failure_count out.new) result }
+{
+    tell(out, frame_lines(session.machine()).as_slice())
+}
+
+/// Shows the card reader.
+#[tactic(auto, unfolding(crate::specs::Answers::reader_answer))]
+#[inline(never)]
+fn dump_reader<W: Sink>(session: &mut Session<Rig>, out: &mut W) -> Result<bool, Failed>
+    ensures performs { Performs session.old session.new (W.text out.old) (W.text out.new) result reader_answer }
+    ensures counted { Counts (W.failure_count out.old) (W.failure_count out.new) result }
+{
+    tell(out, reader_line(session.machine()).as_slice())
+}
+
+/// Shows the watched places.
+#[tactic(auto, unfolding(crate::specs::Answers::watches_answer))]
+#[inline(never)]
+fn dump_watches<W: Sink>(session: &mut Session<Rig>, out: &mut W) -> Result<bool, Failed>
+    ensures performs { Performs session.old session.new (W.text out.old) (W.text out.new) result watches_answer }
+    ensures counted { Counts (W.failure_count out.old) (W.failure_count out.new) result }
+{
+    tell(out, watch_lines(session.machine().watches()).as_slice())
+}
+
 /// Shows the line printer and its paper.
 #[tactic(auto, unfolding(crate::specs::Answers::printer_answer))]
+#[inline(never)]
 fn dump_printer<W: Sink>(session: &mut Session<Rig>, out: &mut W) -> Result<bool, Failed>
     ensures performs { Performs session.old session.new (W.text out.old) (W.text out.new) result printer_answer }
     ensures counted { Counts (W.failure_count out.old) (W.failure_count out.new) result }
@@ -166,7 +228,6 @@ fn dump_printer<W: Sink>(session: &mut Session<Rig>, out: &mut W) -> Result<bool
 }
 
 /// Performs a request wholly, and then writes its answer. `false` is a refused one.
-#[tactic(auto, unfolding(crate::specs::Answers::processor_answer, crate::specs::Answers::channels_answer, crate::specs::Answers::frame_answer, crate::specs::Answers::reader_answer, crate::specs::Answers::watches_answer))]
 fn perform_request<W: Sink>(
     session: &mut Session<Rig>,
     command: &Command,
@@ -182,13 +243,13 @@ fn perform_request<W: Sink>(
         Request::BackToChange => back_to_change(session, out),
         Request::Forward(actions) => forward(session, *actions, out),
         Request::DumpCells { pp, first, last } => dump_cells(session, *pp, *first, *last, out),
-        Request::DumpProcessor(pp) => tell(out, processor_line(session.machine(), *pp).as_slice()),
-        Request::DumpChannels => tell(out, channel_lines(session.machine()).as_slice()),
+        Request::DumpProcessor(pp) => dump_processor(session, *pp, out),
+        Request::DumpChannels => dump_channels(session, out),
         Request::DumpCentral { first, last } => dump_central(session, *first, *last, out),
-        Request::DumpFrame => tell(out, frame_lines(session.machine()).as_slice()),
-        Request::DumpReader => tell(out, reader_line(session.machine()).as_slice()),
+        Request::DumpFrame => dump_frame(session, out),
+        Request::DumpReader => dump_reader(session, out),
         Request::DumpPrinter => dump_printer(session, out),
-        Request::DumpWatches => tell(out, watch_lines(session.machine().watches()).as_slice()),
+        Request::DumpWatches => dump_watches(session, out),
     }
 }
 

@@ -21,12 +21,12 @@ pub returns-in-Ok-clause-performs : goal.returns-in-Ok-clause-performs
 unfolding back_name
 returns-in-Ok-clause-performs g c =
     let some : 0 < length c.watched_places-places.result.items = grind (arith, nat_tests) in
-    performs-told c.args.session.now _ _ (g.W.Sink.text c.tell.new.out) _ change_answer _ c.tell.ensures.text c.tell.ensures.performed
+    performs-told c.args.session.now _ _ (g.W.Sink.text c.tell_moved.new.out) _ change_answer _ c.tell_moved.ensures.text c.tell_moved.ensures.performed
     (λ v at.
     let found = rw c.as_slice.ensures.value at (c.in-Ok.ensures.found v at) in
     let next = after_back v c.in-Ok.actions in
     let slot = c.slot.ensures.value ∙ ap (λ m. m.slot) (c.machine-in-Ok.ensures.replayed next (c.in-Ok.ensures.ok v at)) in
-    let text = c.as_slice-in-Ok.ensures.value ∙ c.moved_line.ensures.items ∙ ap (moved_text back_name c.in-Ok.actions) slot in
+    let text = ap (moved_text back_name c.in-Ok.actions) slot in
     (next, change-found v c.watched_places-places.result.items c.in-Ok.actions (c.watched_places-places.ensures.value ∙ ap (λ (m : Machine). map watched_place (watches_of m)) (c.machine.ensures.replayed v at)) some found ∙ ap (told next) (sym text), c.in-Ok.ensures.ok v at))
 
 pub returns-in-Err-clause-performs : goal.returns-in-Err-clause-performs

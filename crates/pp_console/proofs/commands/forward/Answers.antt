@@ -8,9 +8,9 @@ use Rattle.pp_console.proofs.commands.forward.Goals as goal
 pub returns-in-Ok-clause-performs : goal.returns-in-Ok-clause-performs
 unfolding forward_name
 returns-in-Ok-clause-performs g c =
-    performs-told c.args.session.now _ _ (g.W.Sink.text c.tell.new.out) _ (forward_answer c.args.actions) _ c.tell.ensures.text c.tell.ensures.performed
+    performs-told c.args.session.now _ _ (g.W.Sink.text c.tell_moved.new.out) _ (forward_answer c.args.actions) _ c.tell_moved.ensures.text c.tell_moved.ensures.performed
     (λ v at.
     let next = after_forward v c.args.actions in
     let slot = c.slot.ensures.value ∙ ap (λ m. m.slot) (c.machine.ensures.replayed next (c.in-Ok.ensures.ok v at)) in
-    let text = c.as_slice.ensures.value ∙ c.moved_line.ensures.items ∙ ap (moved_text forward_name c.args.actions) slot in
+    let text = ap (moved_text forward_name c.args.actions) slot in
     (next, forward-enough c.args.actions v (c.in-Ok.ensures.enough v at) ∙ ap (told next) (sym text), c.in-Ok.ensures.ok v at))
