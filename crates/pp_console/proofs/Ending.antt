@@ -1,11 +1,10 @@
 -- What a script led to, at its end or at a fault.
-use Rattle.std.proofs.Common.{◌≡◌, ◌∙◌, ℕ, ◌+◌, ◌<◌, ◌⊎◌, List, [], ◌∷◌, ◌++◌, length, take, drop, get_or, refl, ap, arith, inl, length-append, append_assoc}
+use Rattle.std.proofs.Common.{◌≡◌, ◌∙◌, ℕ, ◌+◌, ◌<◌, ◌⊎◌, List, [], ◌∷◌, ◌++◌, length, refl, ap, arith, inl, length-append, append_assoc}
 use Rattle.std.specs.Prelude.{Option}
 use Rattle.pp_lines.specs.declared.fault.IoFault.{IoFault}
 use Rattle.pp_lines.specs.declared.fault.IoFault.TheVariants.{ReadFailed, WriteFailed, LineLimit}
 use Rattle.pp_lines.specs.Lines.{lines, finished, unfinished, finished_within, IsWithin}
 use Rattle.pp_lines.proofs.Limits.{lines-whole, lines-last, finished_within-kept, finished_within-more, passed}
-use Rattle.pp_lines.proofs.Reading.{piece_at}
 use Rattle.pp_console.specs.declared.progress.Progress.{Progress}
 use Rattle.pp_console.specs.declared.progress.Summary.{Summary}
 use Rattle.pp_console.specs.declared.progress.TheConstants.{KEPT, LINE_LIMIT, BYTE_LIMIT}
@@ -24,12 +23,6 @@ Interrupts-more LineLimit session text origin bytes more p =
 Interrupts-more WriteFailed session text origin bytes more p =
     let further = finished_within-more LINE_LIMIT BYTE_LIMIT bytes more in
     (p.0, p.1, p.2 ++ further.0, further.1 ∙ ap (λ front. front ++ further.0) p.3 ∙ append_assoc p.0 (p.1 ∷ p.2) further.0, p.4)
-
--- a fault among the bytes of a piece up to one of them is one among all its bytes
-pub Interrupts-piece : (fault : IoFault) (session : State) (text : Option (List ℕ)) (origin : Origin) (bytes piece : List ℕ) (i : ℕ) → i < length piece →
-    Interrupts fault session text origin ((bytes ++ take i piece) ++ get_or piece i 0 ∷ []) → Interrupts fault session text origin (bytes ++ piece)
-Interrupts-piece fault session text origin bytes piece i h p =
-    rw piece_at at (Interrupts-more fault session text origin _ (drop (i + 1) piece) p)
 
 -- the whole script, where the last line ends with a line feed
 pub Serves-whole : (summary : Summary) (progress : Progress) (session : State) (text : Option (List ℕ)) (origin : Origin) (bytes : List ℕ) →

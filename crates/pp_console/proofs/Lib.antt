@@ -5,5 +5,6 @@ pub mod Following
 pub mod LongLines
 pub mod PaperCuts
 pub mod Performing
+pub mod Pieces
 pub mod Standing
 pub mod Shown

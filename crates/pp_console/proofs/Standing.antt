@@ -1,8 +1,9 @@
--- How far a script was read, after one byte more.
-use Rattle.std.proofs.Common.{◌≡◌, ◌∙◌, ℕ, ◌+◌, ◌<◌, eqb, List, [], ◌∷◌, ◌++◌, length, ap, arith, false, length-append}
+-- How far a script was read, after some bytes more.
+use Rattle.std.proofs.Common.{◌≡◌, ◌∙◌, ℕ, ◌+◌, ◌<◌, List, [], ◌∷◌, ◌++◌, length, ap, arith, length-append}
 use Rattle.std.specs.Prelude.{Option}
 use Rattle.pp_lines.specs.Lines.{finished, unfinished, finished_within, IsWithin, IsFrontOf}
-use Rattle.pp_lines.proofs.LineCuts.{finished-feed, finished-byte}
+use Rattle.pp_lines.proofs.LineCuts.{finished-feed}
+use Rattle.pp_lines.proofs.OpenTexts.{finished-text}
 use Rattle.pp_lines.proofs.Limits.{last_line-one, kept-begun, lines-count, finished_within-whole}
 use Rattle.pp_console.specs.declared.progress.Progress.{Progress}
 use Rattle.pp_console.specs.declared.progress.TheConstants.{KEPT, LINE_LIMIT, BYTE_LIMIT}
@@ -41,17 +42,17 @@ pub Stands-finishes : (progress : Progress) (session : State) (text : Option (Li
 Stands-finishes progress session text origin bytes stands few_bytes few_lines =
     fed-within LINE_LIMIT BYTE_LIMIT bytes (rw (← stands.counts_bytes) few_bytes) (rw (← stands.counts_lines) few_lines)
 
--- a byte that is no line feed
-pub Stands-byte : (old new : Progress) (session : State) (text : Option (List ℕ)) (origin : Origin) (bytes : List ℕ) (byte : ℕ) → eqb byte 10 ≡ false →
-    Stands old session text origin bytes →
-    IsFrontOf KEPT new.line (bytes ++ byte ∷ []) → new.bytes ≡ old.bytes + 1 → new.lines ≡ old.lines → new.refused ≡ old.refused →
-    Stands new session text origin (bytes ++ byte ∷ [])
-Stands-byte old new session text origin bytes byte h stands kept more_bytes same_lines same_refused = record {
+-- bytes without a line feed
+pub Stands-text : (old new : Progress) (session : State) (written : Option (List ℕ)) (origin : Origin) (bytes text : List ℕ) → finished text ≡ [] →
+    Stands old session written origin bytes →
+    IsFrontOf KEPT new.line (bytes ++ text) → new.bytes ≡ old.bytes + length text → new.lines ≡ old.lines → new.refused ≡ old.refused →
+    Stands new session written origin (bytes ++ text)
+Stands-text old new session written origin bytes text h stands kept more_bytes same_lines same_refused = record {
   keeps = kept;
-  counts_bytes = more_bytes ∙ rw (length-append bytes (byte ∷ [])) (ap (λ n. n + 1) stands.counts_bytes);
-  counts_lines = rw (finished-byte bytes byte h) (same_lines ∙ stands.counts_lines);
-  counts_refused = rw (finished-byte bytes byte h) (same_refused ∙ stands.counts_refused);
-  performed = rw (finished-byte bytes byte h) stands.performed;
+  counts_bytes = more_bytes ∙ rw (length-append bytes text) (ap (λ n. n + length text) stands.counts_bytes);
+  counts_lines = rw (finished-text bytes text h) (same_lines ∙ stands.counts_lines);
+  counts_refused = rw (finished-text bytes text h) (same_refused ∙ stands.counts_refused);
+  performed = rw (finished-text bytes text h) stands.performed;
 }
 
 -- a line feed

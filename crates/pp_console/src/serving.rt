@@ -1,11 +1,11 @@
 //! A whole script, from bytes to bytes.
-ghost use Rattle.std.specs.Prelude.{◌≡◌, ◌+◌, ◌<◌, ◌∷◌, ◌++◌, [], Some, ℕ, List, IfOk, IfErr, OnOk, MatchResult, length, take};
+ghost use Rattle.std.specs.Prelude.{◌≡◌, ◌+◌, ◌<◌, ◌∷◌, ◌++◌, [], Option, Some, ℕ, List, IfOk, IfErr, OnOk, MatchResult, length, take};
 ghost use Rattle.std.specs.Io.KnownBytes.{Consumes, IsAtEnd};
 ghost use Rattle.pp_lines.specs.Device.{Counts};
 ghost use Rattle.pp_history.specs.SessionValue.{IsAt};
 ghost use Rattle.pp_rig.specs.Rules.{rules};
-ghost use Rattle.pp_lines.specs.Lines.{IsFrontOf};
-ghost use Rattle.pp_console.specs.Answers.{Value};
+ghost use Rattle.pp_lines.specs.Lines.{IsFrontOf, finished};
+ghost use Rattle.pp_console.specs.Answers.{State, Value};
 ghost use Rattle.pp_console.specs.Script.{run};
 ghost use Rattle.pp_console.specs.Serving.{Origin, Performed, Breaks, Serves, Stops, writes_after, reads_after, origin_of};
 ghost use Rattle.pp_console.specs.ServingSteps.{Stands, Interrupts, IsNoReadFault};
@@ -13,7 +13,7 @@ ghost use Rattle.pp_console.specs.ServingSteps.{Stands, Interrupts, IsNoReadFaul
 use crate::commands::perform_line;
 use crate::progress::{BYTE_LIMIT, KEPT, LINE_LIMIT, Progress, Summary};
 use pp_history::Session;
-use pp_lines::{Failed, IoFault, LINE_FEED, Sink, Source};
+use pp_lines::{Failed, IoFault, Sink, Source, next_line};
 use pp_rig::Rig;
 
 /// The most bytes that are taken at once.
@@ -50,18 +50,40 @@ fn end_line<W: Sink>(
     Ok(())
 }
 
-/// Takes one byte more of the script.
-fn feed_byte<W: Sink>(
+/// Takes bytes of a line.
+fn feed_text(progress: &mut Progress, text: &[u8]) -> Result<(), IoFault>
+    requires { finished text.now ≡ [] }
+    ensures stands { (session : State) (written : Option (List ℕ)) (origin : Origin) (bytes : List ℕ) →
+        Stands progress.old session written origin bytes →
+        MatchResult result
+        (λ _. Stands progress.new session written origin (bytes ++ text.now))
+        (λ fault. Interrupts fault session written origin (bytes ++ text.now)) }
+    ensures bytes { OnOk result (progress.new.bytes ≡ progress.old.bytes + length text.now) }
+    ensures fault { IfErr result (λ fault. fault ≡ IoFault.LineLimit) }
+{
+    if text.is_empty() {
+        return Ok(());
+    }
+    let room = (BYTE_LIMIT - progress.bytes) as usize;
+    if progress.lines == LINE_LIMIT || text.len() > room {
+        return Err(IoFault::LineLimit);
+    }
+    progress.bytes += text.len() as u32;
+    progress.line.take_text(text);
+    Ok(())
+}
+
+/// Takes a line feed.
+fn feed_end<W: Sink>(
     progress: &mut Progress,
-    byte: u8,
     session: &mut Session<Rig>,
     out: &mut W,
 ) -> Result<(), IoFault>
     ensures stands { (origin : Origin) (bytes : List ℕ) →
         Stands progress.old session.old (W.text out.old) origin bytes →
         MatchResult result
-        (λ _. Stands progress.new session.new (W.text out.new) origin (bytes ++ byte ∷ []))
-        (λ fault. Interrupts fault session.new (W.text out.new) origin (bytes ++ byte ∷ [])) }
+        (λ _. Stands progress.new session.new (W.text out.new) origin (bytes ++ 10 ∷ []))
+        (λ fault. Interrupts fault session.new (W.text out.new) origin (bytes ++ 10 ∷ [])) }
     ensures bytes { OnOk result (progress.new.bytes ≡ progress.old.bytes + 1) }
     ensures counted { MatchResult result (λ _. W.failure_count out.new ≡ W.failure_count out.old)
         (λ fault. W.failure_count out.new ≡ writes_after fault (W.failure_count out.old)) }
@@ -71,14 +93,10 @@ fn feed_byte<W: Sink>(
         return Err(IoFault::LineLimit);
     }
     progress.bytes += 1;
-    if byte == LINE_FEED {
-        return match end_line(progress, session, out) {
-            Ok(()) => Ok(()),
-            Err(Failed) => Err(IoFault::WriteFailed),
-        };
+    match end_line(progress, session, out) {
+        Ok(()) => Ok(()),
+        Err(Failed) => Err(IoFault::WriteFailed),
     }
-    progress.line.take_byte(byte);
-    Ok(())
 }
 
 /// Takes a piece more of the script.
@@ -98,10 +116,13 @@ fn feed<W: Sink>(
         (λ fault. W.failure_count out.new ≡ writes_after fault (W.failure_count out.old)) }
     ensures faults { IfErr result IsNoReadFault }
 {
-    for byte in piece {
-        feed_byte(progress, *byte, session, out)?;
+    let mut rest = piece;
+    'lines: while let Some((line, later)) = next_line(rest) {
+        feed_text(progress, line)?;
+        feed_end(progress, session, out)?;
+        rest = later;
     }
-    Ok(())
+    feed_text(progress, rest)
 }
 
 /// Performs the last line, where no line feed ends it, and counts the lines.

@@ -1,15 +1,18 @@
 -- The front of a line, after one byte more.
-use Rattle.std.proofs.Common.{◌≡◌, ◌≢◌, ◌∙◌, ℕ, ◌<◌, eqb, List, [], ◌∷◌, ◌++◌, length, take, refl, sym, arith, false, length-append}
+use Rattle.std.proofs.Common.{◌≡◌, ◌≢◌, ◌∙◌, ℕ, ◌-◌, ◌<◌, ◌≤◌, min, eqb, List, [], ◌∷◌, ◌++◌, length, take, refl, sym, ap, arith, false, length-append}
+use Rattle.std.specs.Prelude.{Result, Ok, Err, IsOk, OnOk}
 use Rattle.std.proofs.lemmas.Grind.{common_steps}
 use Rattle.std.proofs.lemmas.Bool.Decides.{nat_tests}
 use Rattle.std.proofs.lemmas.List.{take_all}
 use Rattle.std.proofs.Math.Seq.{take-append_seam}
-use Rattle.pp_lines.specs.Lines.{IsFrontOf, unfinished}
+use Rattle.pp_lines.specs.Lines.{IsFrontOf, finished, unfinished}
 use Rattle.pp_lines.proofs.LineCuts.{unfinished-feed, unfinished-byte}
+use Rattle.pp_lines.proofs.OpenTexts.{unfinished-text}
+use Rattle.pp_lines.proofs.Limits.{take-front}
 
 -- a front of a list that goes on is a front of the list's front
-take-goes_on : (most : ℕ) (xs : List ℕ) (x : ℕ) → take most (take most xs ++ x ∷ []) ≡ take most (xs ++ x ∷ [])
-take-goes_on most xs x = grind (arith, common_steps)
+take-goes_on : (most : ℕ) (xs ys : List ℕ) → take most (take most xs ++ ys) ≡ take most (xs ++ ys)
+take-goes_on most xs ys = grind (arith, common_steps)
 
 -- a byte is kept of a line that has room
 pub keeps_short : (most : ℕ) (xs : List ℕ) (x : ℕ) → length xs < most → xs ++ x ∷ [] ≡ take most (xs ++ x ∷ [])
@@ -24,7 +27,22 @@ no-feed byte h = grind (arith, nat_tests)
 
 pub front-byte : (kept : ℕ) (front new bytes : List ℕ) (byte : ℕ) → byte ≢ 10 → IsFrontOf kept front bytes → new ≡ take kept (front ++ byte ∷ []) → IsFrontOf kept new (bytes ++ byte ∷ [])
 front-byte kept front new bytes byte h is_front e =
-    rw (unfinished-byte bytes byte (no-feed byte h)) (e ∙ rw is_front (take-goes_on kept (unfinished bytes) byte))
+    rw (unfinished-byte bytes byte (no-feed byte h)) (e ∙ rw is_front (take-goes_on kept (unfinished bytes) (byte ∷ [])))
+
+-- what holds after a call that went well
+pub held : {T E P : Type 0} (result : Result T E) → IsOk result → OnOk result P → P
+held (Ok value) well p = p
+held (Err fault) well p = cc
+
+-- what a line keeps of more bytes
+pub keeps_text : (most : ℕ) (front text : List ℕ) → length front ≤ most → front ++ take (min (length text) (most - length front)) text ≡ take most (front ++ text)
+keeps_text most front text h =
+    let room : take (min (length text) (most - length front)) text ≡ take (most - length front) text = grind (arith, common_steps) in
+    ap (λ more. front ++ more) room ∙ sym (take-front most front text h)
+
+pub front-text : (kept : ℕ) (front new bytes text : List ℕ) → finished text ≡ [] → IsFrontOf kept front bytes → new ≡ take kept (front ++ text) → IsFrontOf kept new (bytes ++ text)
+front-text kept front new bytes text h is_front e =
+    rw (unfinished-text bytes text h) (e ∙ rw is_front (take-goes_on kept (unfinished bytes) text))
 
 front-nothing : (kept : ℕ) (none : List ℕ) → none ≡ [] → none ≡ take kept none
 front-nothing kept none e = rw e (grind (arith, common_steps))

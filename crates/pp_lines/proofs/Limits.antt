@@ -89,7 +89,7 @@ lines-further [] (byte ∷ more) h = begun-some byte (lines more) (eqb byte 10)
 lines-further (byte ∷ kept) more h = begun-longer byte (finished kept) (lines (kept ++ more)) (eqb byte 10) (lines-further kept more h)
 
 -- a front that is longer than the first part
-take-front : (most : ℕ) (kept more : List ℕ) → length kept ≤ most → take most (kept ++ more) ≡ kept ++ take (most - length kept) more
+pub take-front : (most : ℕ) (kept more : List ℕ) → length kept ≤ most → take most (kept ++ more) ≡ kept ++ take (most - length kept) more
 take-front most kept more h =
     let split : most ≡ length kept + (most - length kept) = omega arith in
     ap (λ n. take n (kept ++ more)) split ∙ take-append-add kept more (most - length kept)

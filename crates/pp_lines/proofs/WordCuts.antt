@@ -31,10 +31,10 @@ unfolding words
 words-none = refl
 
 -- how many bytes come before one that passes
-len-stop : (test : ℕ → Bool) (byte : ℕ) (bytes : List ℕ) → test byte ≡ true → position_or_len test (byte ∷ bytes) ≡ 0
+pub len-stop : (test : ℕ → Bool) (byte : ℕ) (bytes : List ℕ) → test byte ≡ true → position_or_len test (byte ∷ bytes) ≡ 0
 len-stop test byte bytes e = rw e refl
 
-len-more : (test : ℕ → Bool) (byte : ℕ) (bytes : List ℕ) → test byte ≡ false → position_or_len test (byte ∷ bytes) ≡ suc (position_or_len test bytes)
+pub len-more : (test : ℕ → Bool) (byte : ℕ) (bytes : List ℕ) → test byte ≡ false → position_or_len test (byte ∷ bytes) ≡ suc (position_or_len test bytes)
 len-more test byte bytes e = rw (e, one-add) refl
 
 -- blanks before the first word

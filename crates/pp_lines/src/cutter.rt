@@ -1,6 +1,6 @@
 //! Cuts bytes into lines.
-ghost use Rattle.std.specs.Prelude.{◌≡◌, ◌≢◌, ◌∷◌, ◌++◌, [], ℕ, List};
-ghost use Rattle.pp_lines.specs.Lines.{IsFrontOf, without_return};
+ghost use Rattle.std.specs.Prelude.{◌≡◌, ◌≢◌, ◌<◌, ◌==◌, ◌∷◌, ◌++◌, [], ℕ, List, length, position, IfSome, MatchOption};
+ghost use Rattle.pp_lines.specs.Lines.{IsFrontOf, finished, without_return};
 
 use arrayvec::ArrayVec;
 use std::marker::Model;
@@ -42,6 +42,16 @@ impl<const KEPT: usize> LineCutter<KEPT> {
         }
     }
 
+    /// Takes bytes of the line.
+    pub fn take_text(&mut self, text: &[u8])
+        requires { finished text.now ≡ [] }
+        ensures { (bytes : List ℕ) →
+            IsFrontOf KEPT self.old bytes → IsFrontOf KEPT self.new (bytes ++ text.now) }
+    {
+        let kept = text.len().min(self.front.remaining_capacity());
+        let _ = self.front.try_extend_from_slice(&text[..kept]);
+    }
+
     /// Takes a line feed.
     pub fn end_line(&mut self)
         ensures empty { self.new ≡ [] }
@@ -56,6 +66,24 @@ impl<const KEPT: usize> LineCutter<KEPT> {
     {
         self.front.as_slice()
     }
+}
+
+/// Where the first line feed stands.
+fn first_feed(text: &[u8]) -> Option<usize>
+    ensures value { result ≡ position (λ byte. byte == 10) text.now }
+    ensures within { IfSome result (λ feed. feed < length text.now) }
+{
+    text.iter().position(|byte| *byte == LINE_FEED)
+}
+
+/// The bytes before the first line feed, and those after it. `None` is a text without a line feed.
+pub fn next_line(text: &[u8]) -> Option<(&[u8], &[u8])>
+    ensures cut { MatchOption result (finished text.now ≡ [])
+        (λ cut. (text.now ≡ cut.0.now ++ 10 ∷ cut.1.now) × (finished cut.0.now ≡ [])) }
+    ensures shorter { IfSome result (λ cut. length cut.1.now < length text.now) }
+{
+    let (line, rest) = text.split_at(first_feed(text)?);
+    Some((line, &rest[1..]))
 }
 
 /// The line without one carriage return at its end.

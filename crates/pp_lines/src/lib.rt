@@ -13,7 +13,7 @@ mod text;
 mod words;
 
 pub use counted::Counted;
-pub use cutter::{LINE_FEED, LineCutter, without_return};
+pub use cutter::{LINE_FEED, LineCutter, next_line, without_return};
 pub use device::{Failed, Sink, Source};
 pub use fault::IoFault;
 pub use output::put_all;

@@ -1,14 +1,14 @@
 use Rattle.std.proofs.Common.{◌∙◌, ◌∷◌, [], arith, refl, sym, inl, inr}
 use Rattle.std.proofs.lemmas.Bool.Decides.{nat_tests}
 use Rattle.pp_lines.specs.Lines.{finished, unfinished}
-use Rattle.pp_console.proofs.Standing.{Stands-within, Stands-finishes, Stands-byte, Stands-feed}
-use Rattle.pp_console.proofs.serving.feed_byte.Goals as goal
-use Rattle.pp_console.proofs.serving.feed_byte.Goals.{then-progress-eq-BYTE_LIMIT-via-then-progress-eq-BYTE_LIMIT, then-progress-eq-BYTE_LIMIT-via-else-progress-eq-BYTE_LIMIT+then-progress-eq-LINE_LIMIT}
+use Rattle.pp_console.proofs.Standing.{Stands-within, Stands-finishes, Stands-feed}
+use Rattle.pp_console.proofs.serving.feed_end.Goals as goal
+use Rattle.pp_console.proofs.serving.feed_end.Goals.{then-progress-eq-BYTE_LIMIT-via-then-progress-eq-BYTE_LIMIT, then-progress-eq-BYTE_LIMIT-via-else-progress-eq-BYTE_LIMIT+then-progress-eq-LINE_LIMIT}
 
 pub returns-then-progress-eq-BYTE_LIMIT-clause-stands : goal.returns-then-progress-eq-BYTE_LIMIT-clause-stands
 returns-then-progress-eq-BYTE_LIMIT-clause-stands g c = λ origin bytes stands. (
   bytes,
-  c.args.byte ∷ [],
+  10 ∷ [],
   refl,
   omega arith,
   Stands-within _ _ _ _ _ stands,
@@ -21,20 +21,15 @@ returns-then-progress-eq-BYTE_LIMIT-clause-stands g c = λ origin bytes stands. 
 
 pub returns-in-Ok-clause-stands : goal.returns-in-Ok-clause-stands
 returns-in-Ok-clause-stands g c = λ origin bytes stands.
-    rw c.if-byte-eq-LINE_FEED.true
-    (Stands-feed _ _ _ _ _ _ origin bytes stands (c.in-Ok.ensures.line bytes) c.in-Ok.ensures.bytes c.in-Ok.ensures.lines
+    Stands-feed _ _ _ _ _ _ origin bytes stands (c.in-Ok.ensures.line bytes) c.in-Ok.ensures.bytes c.in-Ok.ensures.lines
     (c.in-Ok.ensures.refused origin (finished bytes) (unfinished bytes) stands.keeps stands.performed stands.counts_refused)
-    (c.in-Ok.ensures.performed origin (finished bytes) (unfinished bytes) stands.keeps stands.performed))
+    (c.in-Ok.ensures.performed origin (finished bytes) (unfinished bytes) stands.keeps stands.performed)
 
 pub returns-in-Err-clause-stands : goal.returns-in-Err-clause-stands
 returns-in-Err-clause-stands g c = λ origin bytes stands. (
   finished bytes,
   unfinished bytes,
   [],
-  rw c.if-byte-eq-LINE_FEED.true (Stands-finishes _ _ _ origin bytes stands (grind (arith, nat_tests)) (grind (arith, nat_tests))),
+  Stands-finishes _ _ _ origin bytes stands (grind (arith, nat_tests)) (grind (arith, nat_tests)),
   c.in-Err.ensures.performed origin (finished bytes) (unfinished bytes) stands.keeps stands.performed,
 )
-
-pub returns-clause-stands : goal.returns-clause-stands
-returns-clause-stands g c = λ origin bytes stands.
-    Stands-byte _ _ _ _ origin bytes c.args.byte (grind (arith, nat_tests)) stands (c.take_byte.ensures bytes stands.keeps) refl refl refl

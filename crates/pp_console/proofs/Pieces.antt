@@ -1,0 +1,68 @@
+-- Bytes that are taken in pieces, up to the limits.
+use Rattle.std.proofs.Common.{◌≡◌, ◌∙◌, ℕ, ◌-◌, ◌<◌, ◌≤◌, List, [], ◌∷◌, ◌++◌, length, take, drop, refl, sym, ap, arith, inl, inr, append_assoc, length-append, length-take, length-drop}
+use Rattle.std.specs.Prelude.{Option}
+use Rattle.std.proofs.lemmas.List.{take-append-drop}
+use Rattle.pp_lines.specs.declared.fault.IoFault.{IoFault}
+use Rattle.pp_lines.specs.declared.fault.IoFault.TheVariants.{LineLimit}
+use Rattle.pp_lines.specs.Lines.{finished, unfinished, IsWithin}
+use Rattle.pp_lines.proofs.Limits.{last_line-one, lines-count}
+use Rattle.pp_lines.proofs.OpenTexts.{open-take, finished-text}
+use Rattle.pp_console.specs.declared.progress.Progress.{Progress}
+use Rattle.pp_console.specs.declared.progress.TheConstants.{LINE_LIMIT, BYTE_LIMIT}
+use Rattle.pp_console.specs.Answers.{State}
+use Rattle.pp_console.specs.Serving.{Origin}
+use Rattle.pp_console.specs.ServingSteps.{Stands, Interrupts}
+use Rattle.pp_console.proofs.Standing.{Stands-within}
+use Rattle.pp_console.proofs.Ending.{Interrupts-more}
+
+-- a piece of which some bytes were taken
+pub fed-all : (bytes done rest piece : List ℕ) → piece ≡ done ++ rest → (bytes ++ done) ++ rest ≡ bytes ++ piece
+fed-all bytes done rest piece whole = append_assoc bytes done rest ∙ ap (λ all. bytes ++ all) (sym whole)
+
+-- and of which a line was taken after these
+pub fed-line : (done line later rest piece : List ℕ) → piece ≡ done ++ rest → rest ≡ line ++ 10 ∷ later → piece ≡ (done ++ (line ++ 10 ∷ [])) ++ later
+fed-line done line later rest piece whole cut =
+    whole ∙ ap (λ all. done ++ all) (cut ∙ sym (append_assoc line (10 ∷ []) later)) ∙ sym (append_assoc done (line ++ 10 ∷ []) later)
+
+pub fed-end : (bytes done line : List ℕ) → ((bytes ++ done) ++ line) ++ 10 ∷ [] ≡ bytes ++ (done ++ (line ++ 10 ∷ []))
+fed-end bytes done line = append_assoc (bytes ++ done) line (10 ∷ []) ∙ append_assoc bytes done (line ++ 10 ∷ [])
+
+-- a fault among the bytes of a piece up to one of them is one among all its bytes
+pub Interrupts-piece : (fault : IoFault) (session : State) (text : Option (List ℕ)) (origin : Origin) (bytes taken later piece : List ℕ) → piece ≡ taken ++ later →
+    Interrupts fault session text origin (bytes ++ taken) → Interrupts fault session text origin (bytes ++ piece)
+Interrupts-piece fault session text origin bytes taken later piece whole p =
+    rw (fed-all bytes taken later piece whole) at (Interrupts-more fault session text origin _ later p)
+
+-- no line may begin
+pub Interrupts-lines : (progress : Progress) (session : State) (written : Option (List ℕ)) (origin : Origin) (bytes text : List ℕ) →
+    Stands progress session written origin bytes → 0 < length text → progress.lines ≡ LINE_LIMIT → Interrupts LineLimit session written origin (bytes ++ text)
+Interrupts-lines progress session written origin bytes text stands some full =
+    (bytes, text, refl, some, Stands-within _ _ _ _ _ stands, inr (sym stands.counts_lines ∙ full), stands.performed)
+
+-- as many bytes of a text as the limit leaves room for
+over-bytes : (line_limit byte_limit : ℕ) (bytes text : List ℕ) → finished text ≡ [] → length bytes ≤ byte_limit → byte_limit - length bytes < length text → length (finished bytes) < line_limit →
+    (kept more : List ℕ) × (bytes ++ text ≡ kept ++ more) × (0 < length more) × IsWithin line_limit byte_limit kept × (length kept ≡ byte_limit) × (finished kept ≡ finished bytes)
+over-bytes line_limit byte_limit bytes text none few over lines =
+    let room = byte_limit - length bytes in
+    let kept = bytes ++ take room text in
+    let same : finished kept ≡ finished bytes = finished-text bytes (take room text) (open-take room text none) in
+    let size : length kept ≡ byte_limit = simp (length-append, length-take) (omega (arith, few, over)) in (
+      kept,
+      drop room text,
+      ap (λ all. bytes ++ all) (sym (take-append-drop room text)) ∙ sym (append_assoc bytes (take room text) (drop room text)),
+      simp length-drop (omega (arith, over)),
+      record {
+        few_lines = omega (arith, lines-count kept, last_line-one (unfinished kept), ap length same, lines);
+        few_bytes = omega (arith, size);
+      },
+      size,
+      same,
+    )
+
+-- no room is left for so many bytes
+pub Interrupts-bytes : (progress : Progress) (session : State) (written : Option (List ℕ)) (origin : Origin) (bytes text : List ℕ) → finished text ≡ [] →
+    Stands progress session written origin bytes → BYTE_LIMIT - progress.bytes < length text → progress.lines < LINE_LIMIT →
+    Interrupts LineLimit session written origin (bytes ++ text)
+Interrupts-bytes progress session written origin bytes text none stands over few_lines =
+    let cut = over-bytes LINE_LIMIT BYTE_LIMIT bytes text none (rw (← stands.counts_bytes) progress.bytes_within) (rw (← stands.counts_bytes) over) (rw (← stands.counts_lines) few_lines) in
+    (cut.0, cut.1, cut.2, cut.3, cut.4, inl cut.5, rw cut.6 stands.performed)
