@@ -27,35 +27,27 @@ answer_line-kept value line = ap (answer_parsed value) (command-kept KEPT line (
 abbrev pub Moves : State → State → List ℕ → Type 0
 Moves old new line = (value : Value) → IsAt rules old value → IsAt rules new (answer_line value line).value
 
-module _ (old new : State) (second third : Option (List ℕ)) (origin : Origin) (done : List (List ℕ)) (line kept : List ℕ) (same : kept ≡ take KEPT line) (before : Performed old second origin done) where
-  -- the answer to the line, from what was kept of it
-  answer-same : answer_line (run origin.start done).value kept ≡ answer_line (run origin.start done).value line
-  answer-same = ap (answer_line (run origin.start done).value) same ∙ answer_line-kept (run origin.start done).value line
-
-  pub leaves-line : Moves old new kept → IsAt rules new (run origin.start (done ++ line ∷ [])).value
-  leaves-line moves =
-      let at = rw answer-same at (moves _ before.leaves) in
-      rw (run-line origin.start done line) at
+module _ (old new : State) (second third : Option (List ℕ)) (origin : Origin) (done : List (List ℕ)) (line : List ℕ) (before : Performed old second origin done) where
+  pub leaves-line : Moves old new line → IsAt rules new (run origin.start (done ++ line ∷ [])).value
+  leaves-line moves = rw (run-line origin.start done line) (moves _ before.leaves)
 
   -- the line was performed, and its answer was written
-  pub Performed-line : Moves old new kept →
-      ((value : Value) → IsAt rules old value → Appends second third (answer_line value kept).text) →
+  pub Performed-line : Moves old new line →
+      ((value : Value) → IsAt rules old value → Appends second third (answer_line value line).text) →
       Performed new third origin (done ++ line ∷ [])
   Performed-line moves writes = record {
     leaves = leaves-line moves;
-    writes =
-        let answer = rw answer-same at (writes _ before.leaves) in
-        rw (run-line origin.start done line) (Appends-again _ _ _ _ _ before.writes answer);
+    writes = rw (run-line origin.start done line) (Appends-again _ _ _ _ _ before.writes (writes _ before.leaves));
   }
 
   -- the line was performed, and its answer was not written to the end
-  pub Breaks-line : Moves old new kept →
-      ((value : Value) → IsAt rules old value → AppendsFront second third (answer_line value kept).text) →
+  pub Breaks-line : Moves old new line →
+      ((value : Value) → IsAt rules old value → AppendsFront second third (answer_line value line).text) →
       Breaks new third origin done line
   Breaks-line moves writes = record {
     leaves = leaves-line moves;
     writes =
-        let answer = rw answer-same at (writes _ before.leaves) in (
+        let answer = writes _ before.leaves in (
           answer.0,
           answer.1,
           Appends-again _ _ _ _ _ before.writes answer.2,
@@ -66,8 +58,6 @@ module _ (old new : State) (second third : Option (List ℕ)) (origin : Origin) 
 
   -- a refused line is counted
   pub refused-line : (counted : ℕ) (refused : Bool) → counted ≡ (run origin.start done).refused →
-      ((value : Value) → IsAt rules old value → refused ≡ (answer_line value kept).refused) →
+      ((value : Value) → IsAt rules old value → refused ≡ (answer_line value line).refused) →
       counted + refusals refused ≡ (run origin.start (done ++ line ∷ [])).refused
-  refused-line counted refused e f =
-      let g = rw answer-same at (f _ before.leaves) in
-      rw (run-line origin.start done line, e, g) refl
+  refused-line counted refused e f = rw (run-line origin.start done line, e, f _ before.leaves) refl

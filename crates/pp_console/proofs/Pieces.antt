@@ -1,12 +1,12 @@
 -- Bytes that are taken in pieces, up to the limits.
-use Rattle.std.proofs.Common.{◌≡◌, ◌∙◌, ℕ, ◌-◌, ◌<◌, ◌≤◌, List, [], ◌∷◌, ◌++◌, length, take, drop, refl, sym, ap, arith, inl, inr, append_assoc, length-append, length-take, length-drop}
+use Rattle.std.proofs.Common.{◌≡◌, ◌∙◌, ℕ, ◌+◌, ◌-◌, ◌<◌, ◌≤◌, List, [], ◌∷◌, ◌++◌, length, take, drop, refl, sym, ap, arith, inl, inr, append_assoc, length-append, length-take, length-drop}
 use Rattle.std.specs.Prelude.{Option}
 use Rattle.std.proofs.lemmas.List.{take-append-drop}
 use Rattle.pp_lines.specs.declared.fault.IoFault.{IoFault}
 use Rattle.pp_lines.specs.declared.fault.IoFault.TheVariants.{LineLimit}
-use Rattle.pp_lines.specs.Lines.{finished, unfinished, IsWithin}
+use Rattle.pp_lines.specs.Lines.{finished, unfinished, IsWithin, IsFrontOf}
 use Rattle.pp_lines.proofs.Limits.{last_line-one, lines-count}
-use Rattle.pp_lines.proofs.OpenTexts.{open-take, finished-text}
+use Rattle.pp_lines.proofs.OpenTexts.{open-take, finished-text, unfinished-text}
 use Rattle.pp_console.specs.declared.progress.Progress.{Progress}
 use Rattle.pp_console.specs.declared.progress.TheConstants.{LINE_LIMIT, BYTE_LIMIT}
 use Rattle.pp_console.specs.Answers.{State}
@@ -34,23 +34,25 @@ Interrupts-piece fault session text origin bytes taken later piece whole p =
     rw (fed-all bytes taken later piece whole) at (Interrupts-more fault session text origin _ later p)
 
 -- no line may begin
-pub Interrupts-lines : (progress : Progress) (session : State) (written : Option (List ℕ)) (origin : Origin) (bytes text : List ℕ) →
-    Stands progress session written origin bytes → 0 < length text → progress.lines ≡ LINE_LIMIT → Interrupts LineLimit session written origin (bytes ++ text)
-Interrupts-lines progress session written origin bytes text stands some full =
-    (bytes, text, refl, some, Stands-within _ _ _ _ _ stands, inr (sym stands.counts_lines ∙ full), stands.performed)
+pub Interrupts-lines : (progress : Progress) (session : State) (written : Option (List ℕ)) (origin : Origin) (bytes text rest : List ℕ) →
+    Stands progress session written origin bytes → 0 < length text + length rest → progress.lines ≡ LINE_LIMIT → Interrupts LineLimit session written origin ((bytes ++ text) ++ rest)
+Interrupts-lines progress session written origin bytes text rest stands some full =
+    (bytes, text ++ rest, append_assoc bytes text rest, simp length-append some, Stands-within _ _ _ _ _ stands, inr (sym stands.counts_lines ∙ full), stands.performed)
 
 -- as many bytes of a text as the limit leaves room for
-over-bytes : (line_limit byte_limit : ℕ) (bytes text : List ℕ) → finished text ≡ [] → length bytes ≤ byte_limit → byte_limit - length bytes < length text → length (finished bytes) < line_limit →
-    (kept more : List ℕ) × (bytes ++ text ≡ kept ++ more) × (0 < length more) × IsWithin line_limit byte_limit kept × (length kept ≡ byte_limit) × (finished kept ≡ finished bytes)
-over-bytes line_limit byte_limit bytes text none few over lines =
+over-bytes : (line_limit byte_limit : ℕ) (bytes text rest : List ℕ) → finished text ≡ [] → length bytes ≤ byte_limit →
+    byte_limit - length bytes ≤ length text → byte_limit - length bytes < length text + length rest → length (finished bytes) < line_limit →
+    (kept more : List ℕ) × ((bytes ++ text) ++ rest ≡ kept ++ more) × (0 < length more) × IsWithin line_limit byte_limit kept × (length kept ≡ byte_limit) × (finished kept ≡ finished bytes)
+over-bytes line_limit byte_limit bytes text rest none few reached over lines =
     let room = byte_limit - length bytes in
     let kept = bytes ++ take room text in
     let same : finished kept ≡ finished bytes = finished-text bytes (take room text) (open-take room text none) in
-    let size : length kept ≡ byte_limit = simp (length-append, length-take) (omega (arith, few, over)) in (
+    let size : length kept ≡ byte_limit = simp (length-append, length-take) (omega (arith, few, reached)) in
+    let split : bytes ++ text ≡ kept ++ drop room text = ap (λ all. bytes ++ all) (sym (take-append-drop room text)) ∙ sym (append_assoc bytes (take room text) (drop room text)) in (
       kept,
-      drop room text,
-      ap (λ all. bytes ++ all) (sym (take-append-drop room text)) ∙ sym (append_assoc bytes (take room text) (drop room text)),
-      simp length-drop (omega (arith, over)),
+      drop room text ++ rest,
+      ap (λ all. all ++ rest) split ∙ append_assoc kept (drop room text) rest,
+      simp (length-append, length-drop) (omega (arith, over)),
       record {
         few_lines = omega (arith, lines-count kept, last_line-one (unfinished kept), ap length same, lines);
         few_bytes = omega (arith, size);
@@ -60,9 +62,18 @@ over-bytes line_limit byte_limit bytes text none few over lines =
     )
 
 -- no room is left for so many bytes
-pub Interrupts-bytes : (progress : Progress) (session : State) (written : Option (List ℕ)) (origin : Origin) (bytes text : List ℕ) → finished text ≡ [] →
-    Stands progress session written origin bytes → BYTE_LIMIT - progress.bytes < length text → progress.lines < LINE_LIMIT →
-    Interrupts LineLimit session written origin (bytes ++ text)
-Interrupts-bytes progress session written origin bytes text none stands over few_lines =
-    let cut = over-bytes LINE_LIMIT BYTE_LIMIT bytes text none (rw (← stands.counts_bytes) progress.bytes_within) (rw (← stands.counts_bytes) over) (rw (← stands.counts_lines) few_lines) in
+pub Interrupts-bytes : (progress : Progress) (session : State) (written : Option (List ℕ)) (origin : Origin) (bytes text rest : List ℕ) → finished text ≡ [] →
+    Stands progress session written origin bytes → BYTE_LIMIT - progress.bytes ≤ length text → BYTE_LIMIT - progress.bytes < length text + length rest → progress.lines < LINE_LIMIT →
+    Interrupts LineLimit session written origin ((bytes ++ text) ++ rest)
+Interrupts-bytes progress session written origin bytes text rest none stands reached over few_lines =
+    let cut = over-bytes LINE_LIMIT BYTE_LIMIT bytes text rest none (rw (← stands.counts_bytes) progress.bytes_within) (rw (← stands.counts_bytes) reached) (rw (← stands.counts_bytes) over) (rw (← stands.counts_lines) few_lines) in
     (cut.0, cut.1, cut.2, cut.3, cut.4, inl cut.5, rw cut.6 stands.performed)
+
+-- a line of which nothing was kept is the text that ends it
+begun-nothing : (most : ℕ) (rest : List ℕ) → 0 < most → length (take most rest) ≡ 0 → rest ≡ []
+begun-nothing most [] some e = refl
+begun-nothing most (byte ∷ rest) some e = absurd (omega (arith, rw length-take at e))
+
+pub whole-line : (kept : ℕ) (front bytes text : List ℕ) → 0 < kept → finished text ≡ [] → IsFrontOf kept front bytes → length front ≡ 0 → text ≡ unfinished (bytes ++ text)
+whole-line kept front bytes text some none is_front empty =
+    sym (unfinished-text bytes text none ∙ ap (λ begun. begun ++ text) (begun-nothing kept (unfinished bytes) some (sym (ap length is_front) ∙ empty)))

@@ -1,5 +1,5 @@
 -- How far a script was read, after some bytes more.
-use Rattle.std.proofs.Common.{◌≡◌, ◌∙◌, ℕ, ◌+◌, ◌<◌, List, [], ◌∷◌, ◌++◌, length, ap, arith, length-append}
+use Rattle.std.proofs.Common.{◌≡◌, ◌∙◌, ℕ, ◌+◌, ◌-◌, ◌<◌, List, [], ◌∷◌, ◌++◌, length, ap, arith, length-append}
 use Rattle.std.specs.Prelude.{Option}
 use Rattle.pp_lines.specs.Lines.{finished, unfinished, finished_within, IsWithin, IsFrontOf}
 use Rattle.pp_lines.proofs.LineCuts.{finished-feed}
@@ -36,11 +36,15 @@ Stands-within progress session text origin bytes stands = record {
   few_bytes = rw (← stands.counts_bytes) progress.bytes_within;
 }
 
--- a line feed finishes the line within the limits
-pub Stands-finishes : (progress : Progress) (session : State) (text : Option (List ℕ)) (origin : Origin) (bytes : List ℕ) → Stands progress session text origin bytes →
-    progress.bytes < BYTE_LIMIT → progress.lines < LINE_LIMIT → finished_within LINE_LIMIT BYTE_LIMIT (bytes ++ 10 ∷ []) ≡ finished bytes ++ unfinished bytes ∷ []
-Stands-finishes progress session text origin bytes stands few_bytes few_lines =
-    fed-within LINE_LIMIT BYTE_LIMIT bytes (rw (← stands.counts_bytes) few_bytes) (rw (← stands.counts_lines) few_lines)
+-- bytes and a line feed finish the line within the limits
+pub Stands-finishes : (progress : Progress) (session : State) (written : Option (List ℕ)) (origin : Origin) (bytes text : List ℕ) → finished text ≡ [] →
+    Stands progress session written origin bytes → length text < BYTE_LIMIT - progress.bytes → progress.lines < LINE_LIMIT →
+    finished_within LINE_LIMIT BYTE_LIMIT ((bytes ++ text) ++ 10 ∷ []) ≡ finished bytes ++ unfinished (bytes ++ text) ∷ []
+Stands-finishes progress session written origin bytes text none stands few_bytes few_lines =
+    let same = finished-text bytes text none in
+    let size : length (bytes ++ text) < BYTE_LIMIT = simp length-append (omega (arith, stands.counts_bytes, few_bytes)) in
+    let count : length (finished (bytes ++ text)) < LINE_LIMIT = rw same (rw (← stands.counts_lines) few_lines) in
+    rw same at (fed-within LINE_LIMIT BYTE_LIMIT (bytes ++ text) size count)
 
 -- bytes without a line feed
 pub Stands-text : (old new : Progress) (session : State) (written : Option (List ℕ)) (origin : Origin) (bytes text : List ℕ) → finished text ≡ [] →
@@ -55,17 +59,20 @@ Stands-text old new session written origin bytes text h stands kept more_bytes s
   performed = rw (finished-text bytes text h) stands.performed;
 }
 
--- a line feed
-pub Stands-feed : (old new : Progress) (session session' : State) (text text' : Option (List ℕ)) (origin : Origin) (bytes : List ℕ) →
-    Stands old session text origin bytes →
-    IsFrontOf KEPT new.line (bytes ++ 10 ∷ []) → new.bytes ≡ old.bytes + 1 → new.lines ≡ old.lines + 1 →
-    new.refused ≡ (run origin.start (finished bytes ++ unfinished bytes ∷ [])).refused →
-    Performed session' text' origin (finished bytes ++ unfinished bytes ∷ []) →
-    Stands new session' text' origin (bytes ++ 10 ∷ [])
-Stands-feed old new session session' text text' origin bytes stands kept more_bytes more_lines refused performed = record {
-  keeps = kept;
-  counts_bytes = more_bytes ∙ rw (length-append bytes (10 ∷ [])) (ap (λ n. n + 1) stands.counts_bytes);
-  counts_lines = rw (finished-feed bytes, length-append (finished bytes) (unfinished bytes ∷ [])) (more_lines ∙ ap (λ n. n + 1) stands.counts_lines);
-  counts_refused = rw (finished-feed bytes) refused;
-  performed = rw (finished-feed bytes) performed;
-}
+-- bytes without a line feed, and then one
+pub Stands-line : (old new : Progress) (session session' : State) (written written' : Option (List ℕ)) (origin : Origin) (bytes text : List ℕ) → finished text ≡ [] →
+    Stands old session written origin bytes →
+    IsFrontOf KEPT new.line ((bytes ++ text) ++ 10 ∷ []) → new.bytes ≡ old.bytes + (length text + 1) → new.lines ≡ old.lines + 1 →
+    new.refused ≡ (run origin.start (finished bytes ++ unfinished (bytes ++ text) ∷ [])).refused →
+    Performed session' written' origin (finished bytes ++ unfinished (bytes ++ text) ∷ []) →
+    Stands new session' written' origin ((bytes ++ text) ++ 10 ∷ [])
+Stands-line old new session session' written written' origin bytes text none stands kept more_bytes more_lines refused performed =
+    let all : finished ((bytes ++ text) ++ 10 ∷ []) ≡ finished bytes ++ unfinished (bytes ++ text) ∷ [] =
+    finished-feed (bytes ++ text) ∙ ap (λ done. done ++ unfinished (bytes ++ text) ∷ []) (finished-text bytes text none) in
+    record {
+      keeps = kept;
+      counts_bytes = simp length-append (omega (arith, more_bytes, stands.counts_bytes));
+      counts_lines = rw (all, length-append (finished bytes) (unfinished (bytes ++ text) ∷ [])) (more_lines ∙ ap (λ n. n + 1) stands.counts_lines);
+      counts_refused = rw all refused;
+      performed = rw all performed;
+    }

@@ -1,47 +1,73 @@
 //! A whole script, from bytes to bytes.
-ghost use Rattle.std.specs.Prelude.{◌≡◌, ◌+◌, ◌<◌, ◌∷◌, ◌++◌, [], Option, Some, ℕ, List, IfOk, IfErr, OnOk, MatchResult, length, take};
+ghost use Rattle.std.specs.Prelude.{◌≡◌, ◌+◌, ◌<◌, ◌∷◌, ◌++◌, [], Option, Some, ℕ, List, IfOk, IfErr, OnOk, MatchResult, length};
 ghost use Rattle.std.specs.Io.KnownBytes.{Consumes, IsAtEnd};
 ghost use Rattle.pp_lines.specs.Device.{Counts};
 ghost use Rattle.pp_history.specs.SessionValue.{IsAt};
 ghost use Rattle.pp_rig.specs.Rules.{rules};
-ghost use Rattle.pp_lines.specs.Lines.{IsFrontOf, finished};
+ghost use Rattle.pp_lines.specs.Lines.{IsFrontOf, finished, unfinished};
+ghost use Rattle.pp_lines.specs.Output.{Writes};
 ghost use Rattle.pp_console.specs.Answers.{State, Value};
-ghost use Rattle.pp_console.specs.Script.{run};
+ghost use Rattle.pp_console.specs.Script.{answer_line, run};
 ghost use Rattle.pp_console.specs.Serving.{Origin, Performed, Breaks, Serves, Stops, writes_after, reads_after, origin_of};
 ghost use Rattle.pp_console.specs.ServingSteps.{Stands, Interrupts, IsNoReadFault};
 
 use crate::commands::perform_line;
 use crate::progress::{BYTE_LIMIT, KEPT, LINE_LIMIT, Progress, Summary};
 use pp_history::Session;
-use pp_lines::{Failed, IoFault, Sink, Source, next_line};
+use pp_lines::{Failed, IoFault, LineCutter, Sink, Source, next_line};
 use pp_rig::Rig;
 
 /// The most bytes that are taken at once.
 const PIECE: usize = 4096;
 
-/// Performs the unfinished line, and begins the next.
+/// Performs the line of which this front is kept, and which ends with this text. Where nothing is
+/// kept, the text is the line, and is not copied.
+fn perform_kept<W: Sink>(
+    front: &mut LineCutter<KEPT>,
+    text: &[u8],
+    session: &mut Session<Rig>,
+    out: &mut W,
+) -> Result<bool, Failed>
+    requires { finished text.now ≡ [] }
+    ensures session { (bytes : List ℕ) (v : Value) → IsFrontOf KEPT front.old bytes → IsAt rules session.old v →
+        IsAt rules session.new (answer_line v (unfinished (bytes ++ text.now))).value }
+    ensures text { (bytes : List ℕ) (v : Value) → IsFrontOf KEPT front.old bytes → IsAt rules session.old v →
+        Writes (W.text out.old) (W.text out.new) result (answer_line v (unfinished (bytes ++ text.now))).text }
+    ensures refused { IfOk result (λ refused. (bytes : List ℕ) (v : Value) → IsFrontOf KEPT front.old bytes →
+        IsAt rules session.old v → refused ≡ (answer_line v (unfinished (bytes ++ text.now))).refused) }
+    ensures counted { Counts (W.failure_count out.old) (W.failure_count out.new) result }
+{
+    if front.line().is_empty() {
+        return perform_line(session, text, out);
+    }
+    front.take_text(text);
+    perform_line(session, front.line(), out)
+}
+
+/// Performs the unfinished line, which ends with this text, and begins the next.
 fn end_line<W: Sink>(
     progress: &mut Progress,
+    text: &[u8],
     session: &mut Session<Rig>,
     out: &mut W,
 ) -> Result<(), Failed>
-    requires { progress.old.lines < LINE_LIMIT }
-    ensures performed { (origin : Origin) (done : List (List ℕ)) (line : List ℕ) →
-        progress.old.line ≡ take KEPT line →
-        Performed session.old (W.text out.old) origin done →
-        MatchResult result (λ _. Performed session.new (W.text out.new) origin (done ++ line ∷ []))
-        (λ _. Breaks session.new (W.text out.new) origin done line) }
-    ensures refused { OnOk result ((origin : Origin) (done : List (List ℕ)) (line : List ℕ) →
-        progress.old.line ≡ take KEPT line →
-        Performed session.old (W.text out.old) origin done →
-        progress.old.refused ≡ (run origin.start done).refused →
-        progress.new.refused ≡ (run origin.start (done ++ line ∷ [])).refused) }
+    requires text { finished text.now ≡ [] }
+    requires lines { progress.old.lines < LINE_LIMIT }
+    ensures performed { (origin : Origin) (bytes : List ℕ) → IsFrontOf KEPT progress.old.line bytes →
+        Performed session.old (W.text out.old) origin (finished bytes) →
+        MatchResult result
+        (λ _. Performed session.new (W.text out.new) origin (finished bytes ++ unfinished (bytes ++ text.now) ∷ []))
+        (λ _. Breaks session.new (W.text out.new) origin (finished bytes) (unfinished (bytes ++ text.now))) }
+    ensures refused { OnOk result ((origin : Origin) (bytes : List ℕ) → IsFrontOf KEPT progress.old.line bytes →
+        Performed session.old (W.text out.old) origin (finished bytes) →
+        progress.old.refused ≡ (run origin.start (finished bytes)).refused →
+        progress.new.refused ≡ (run origin.start (finished bytes ++ unfinished (bytes ++ text.now) ∷ [])).refused) }
     ensures lines { OnOk result (progress.new.lines ≡ progress.old.lines + 1) }
     ensures line { OnOk result ((bytes : List ℕ) → IsFrontOf KEPT progress.new.line (bytes ++ 10 ∷ [])) }
     ensures bytes { progress.new.bytes ≡ progress.old.bytes }
     ensures counted { Counts (W.failure_count out.old) (W.failure_count out.new) result }
 {
-    let refused = perform_line(session, progress.line.line(), out)?;
+    let refused = perform_kept(&mut progress.line, text, session, out)?;
     progress.line.end_line();
     progress.lines += 1;
     if refused {
@@ -73,27 +99,30 @@ fn feed_text(progress: &mut Progress, text: &[u8]) -> Result<(), IoFault>
     Ok(())
 }
 
-/// Takes a line feed.
-fn feed_end<W: Sink>(
+/// Takes bytes of a line, and the line feed after them.
+fn feed_line<W: Sink>(
     progress: &mut Progress,
+    text: &[u8],
     session: &mut Session<Rig>,
     out: &mut W,
 ) -> Result<(), IoFault>
+    requires { finished text.now ≡ [] }
     ensures stands { (origin : Origin) (bytes : List ℕ) →
         Stands progress.old session.old (W.text out.old) origin bytes →
         MatchResult result
-        (λ _. Stands progress.new session.new (W.text out.new) origin (bytes ++ 10 ∷ []))
-        (λ fault. Interrupts fault session.new (W.text out.new) origin (bytes ++ 10 ∷ [])) }
-    ensures bytes { OnOk result (progress.new.bytes ≡ progress.old.bytes + 1) }
+        (λ _. Stands progress.new session.new (W.text out.new) origin ((bytes ++ text.now) ++ 10 ∷ []))
+        (λ fault. Interrupts fault session.new (W.text out.new) origin ((bytes ++ text.now) ++ 10 ∷ [])) }
+    ensures bytes { OnOk result (progress.new.bytes ≡ progress.old.bytes + (length text.now + 1)) }
     ensures counted { MatchResult result (λ _. W.failure_count out.new ≡ W.failure_count out.old)
         (λ fault. W.failure_count out.new ≡ writes_after fault (W.failure_count out.old)) }
     ensures faults { IfErr result IsNoReadFault }
 {
-    if progress.bytes == BYTE_LIMIT || progress.lines == LINE_LIMIT {
+    let room = (BYTE_LIMIT - progress.bytes) as usize;
+    if progress.lines == LINE_LIMIT || text.len() >= room {
         return Err(IoFault::LineLimit);
     }
-    progress.bytes += 1;
-    match end_line(progress, session, out) {
+    progress.bytes += text.len() as u32 + 1;
+    match end_line(progress, text, session, out) {
         Ok(()) => Ok(()),
         Err(Failed) => Err(IoFault::WriteFailed),
     }
@@ -118,8 +147,7 @@ fn feed<W: Sink>(
 {
     let mut rest = piece;
     'lines: while let Some((line, later)) = next_line(rest) {
-        feed_text(progress, line)?;
-        feed_end(progress, session, out)?;
+        feed_line(progress, line, session, out)?;
         rest = later;
     }
     feed_text(progress, rest)
@@ -143,7 +171,7 @@ fn finish<W: Sink>(
     if progress.line.line().is_empty() {
         return Ok(progress.summary());
     }
-    match end_line(progress, session, out) {
+    match end_line(progress, b"", session, out) {
         Ok(()) => Ok(progress.summary()),
         Err(Failed) => Err(IoFault::WriteFailed),
     }

@@ -1,5 +1,6 @@
 use Rattle.std.proofs.Common.{◌∙◌, ◌≡◌, ◌<◌, [], length, arith, inr}
 use Rattle.std.proofs.lemmas.Bool.Decides.{nat_tests}
+use Rattle.std.proofs.lemmas.List.{append-nil}
 use Rattle.pp_lines.specs.Lines.{finished, unfinished}
 use Rattle.pp_lines.proofs.Limits.{lines-last}
 use Rattle.pp_console.specs.declared.progress.TheConstants.{KEPT}
@@ -17,8 +18,8 @@ returns-in-Ok-clause-serves g c = λ origin bytes stands.
     let begun : 0 < length c.args.progress.now.line = grind (arith, nat_tests) in
     Serves-last _ c.args.progress.now _ _ (g.W.Sink.text c.args.out.now) _ origin bytes stands begun
     (c.summary-in-Ok.ensures.lines ∙ c.in-Ok.ensures.lines)
-    (c.summary-in-Ok.ensures.refused ∙ c.in-Ok.ensures.refused origin (finished bytes) (unfinished bytes) stands.keeps stands.performed stands.counts_refused)
-    (c.in-Ok.ensures.performed origin (finished bytes) (unfinished bytes) stands.keeps stands.performed)
+    (c.summary-in-Ok.ensures.refused ∙ rw (append-nil bytes) at (c.in-Ok.ensures.refused origin bytes stands.keeps stands.performed stands.counts_refused))
+    (rw (append-nil bytes) at (c.in-Ok.ensures.performed origin bytes stands.keeps stands.performed))
 
 pub returns-in-Err-clause-serves : goal.returns-in-Err-clause-serves
 returns-in-Err-clause-serves g c = λ origin bytes stands.
@@ -27,5 +28,5 @@ returns-in-Err-clause-serves g c = λ origin bytes stands.
       unfinished bytes,
       [],
       inr (lines-last KEPT c.args.progress.now.line bytes stands.keeps begun, Stands-within _ _ _ _ bytes stands),
-      c.in-Err.ensures.performed origin (finished bytes) (unfinished bytes) stands.keeps stands.performed,
+      rw (append-nil bytes) at (c.in-Err.ensures.performed origin bytes stands.keeps stands.performed),
     )
