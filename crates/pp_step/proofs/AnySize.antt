@@ -1,6 +1,7 @@
 -- Records that fit whatever the size of central memory is.
 use Rattle.std.proofs.Common.{ℕ}
-use Rattle.pp_step.specs.Pairs.{Fits, FitsAnySize}
+use Rattle.pp_step.specs.Inner.{FitsAnySize}
+use Rattle.pp_step.specs.Pairs.{Fits}
 use Rattle.pp_step.specs.declared.record.PpWrites.{PpWrites}
 
 pub fits_size : (size : ℕ) (r : PpWrites) → FitsAnySize r → Fits size r

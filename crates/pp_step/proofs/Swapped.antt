@@ -4,7 +4,8 @@ use Rattle.std.proofs.lemmas.List.{get_or-set_same, get_or-set_other}
 use Rattle.std.proofs.lemmas.List.FromFn.{get_or-map-range_with_len}
 use Rattle.pp_machine.specs.Frame.{frame_word}
 use Rattle.pp_step.proofs.Exchanged.{over-swap, length-stored_over}
-use Rattle.pp_step.specs.Exchange.{exchange, loaded, loaded_word, stored_over}
+use Rattle.pp_step.specs.Exchange.{exchange, loaded, loaded_word}
+use Rattle.pp_step.specs.Inner.{stored_over}
 use Rattle.pp_step.specs.View.{PpView, FrameWord, Word, number, over}
 use Rattle.pp_step.specs.Words.{central_after}
 

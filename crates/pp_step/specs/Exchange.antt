@@ -1,5 +1,5 @@
 -- The exchange of the frame with sixteen central words.
-use Rattle.std.specs.Prelude.{ℕ, List, [], ◌∷◌, ◌++◌, ◌+◌, nat_lt, if◌then◌else◌, map, length, slice_index, slice_set}
+use Rattle.std.specs.Prelude.{ℕ, List, [], ◌∷◌, ◌++◌, ◌+◌, nat_lt, if◌then◌else◌, map, length, slice_index}
 use Rattle.std.specs.List.{range_with_len}
 use Rattle.pp_machine.specs.Frame.{frame_word}
 use Rattle.pp_machine.specs.Writes.{Writes}
@@ -33,8 +33,3 @@ loaded a words = map (loaded_word a words) (range_with_len 0 16)
 abbrev pub exchange : ℕ → ℕ → List ℕ → List ℕ → Writes PpPlace
 exchange next a words frame =
     (P, next) ∷ (frame_pairs 0 (loaded a words) ++ word_pairs (length words) a 0 frame)
-
--- central memory with the numbers of a list put in from i words behind a on
-abbrev pub stored_over : ℕ → ℕ → List ℕ → List ℕ → List ℕ
-stored_over a i words [] = words
-stored_over a i words (w ∷ ws) = slice_set (stored_over a (i + 1) words ws) (central_after a i) w

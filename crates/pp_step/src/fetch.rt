@@ -2,6 +2,7 @@
 
 ghost use Rattle.std.specs.Prelude.{◌≡◌, ◌≤◌, slice_index};
 ghost use Rattle.pp_step.specs.Instruction as spec;
+ghost use Rattle.pp_step.specs.Inner.{numbers_of};
 
 use crate::cells::cell_after;
 use crate::code::{Code, decode};
@@ -82,7 +83,7 @@ fn next(mode: Mode, p: u16) -> u16
 /// The instruction at p.
 pub fn instruction_at(p: u16, memory: &Memory12) -> Instruction
     requires { p ≤ 0o7777 }
-    ensures value { spec.numbers_of result ≡ spec.instruction_at p memory.now }
+    ensures value { numbers_of result ≡ spec.instruction_at p memory.now }
     ensures word_in { slice_index memory.now p ≤ 0o7777 }
 {
     let op = decode(memory.get(p));
