@@ -66,10 +66,23 @@ impl TurnRecord {
         }
     }
 
-    /// The old number of a channel's state or register: the processor's part stands first, then the reader's. It stands
-    /// apart, so that no other look saves the registers that it needs.
-    #[inline(never)]
+    /// The old number of a channel's state or register. Most records are of turns in which no device did anything.
+    #[inline(always)]
     fn channel_was(&self, place: &Place) -> Option<u64>
+        ensures { result ≡ first_of_two (first_of_two (lookup (renamed (pp_place self.now.slot) (pp_pairs self.now.pp)) place.now)
+            (lookup (renamed (reader_place self.now.reader_channel) (reader_pairs self.now.reader)) place.now))
+            (lookup (renamed (printer_place self.now.printer_channel) (printer_pairs self.now.printer)) place.now) }
+    {
+        match (&self.reader, &self.printer) {
+            (ReaderRecord::Nothing, PrinterRecord::Nothing) => self.pp.was(self.slot, place),
+            _ => self.shared_was(place),
+        }
+    }
+
+    /// The same of any record: the processor's part stands first, then the reader's. It stands apart, so that no other
+    /// look saves the registers that it needs.
+    #[inline(never)]
+    fn shared_was(&self, place: &Place) -> Option<u64>
         ensures { result ≡ first_of_two (first_of_two (lookup (renamed (pp_place self.now.slot) (pp_pairs self.now.pp)) place.now)
             (lookup (renamed (reader_place self.now.reader_channel) (reader_pairs self.now.reader)) place.now))
             (lookup (renamed (printer_place self.now.printer_channel) (printer_pairs self.now.printer)) place.now) }
