@@ -133,7 +133,11 @@ fn is_printable(byte: u8) -> bool
 fn are_printable(text: &[u8]) -> bool
     ensures { result ≡ list_all spec.is_printable text.now }
 {
-    text.iter().all(|byte| is_printable(*byte))
+    let mut all = true;
+    for byte in text {
+        all &= is_printable(*byte);
+    }
+    all
 }
 
 /// What a line asks for: the line without its line feed, of which one carriage return at the end is
@@ -161,6 +165,8 @@ pub fn parse(line: &[u8]) -> Result<Option<Command>, LineFault>
     if first.first() == Some(&b'*') {
         return Ok(None);
     }
-    let request = named(first, rest)?;
-    Ok(Some(Command::new(request)))
+    match named(first, rest) {
+        Ok(request) => Ok(Some(Command::new(request))),
+        Err(fault) => Err(fault),
+    }
 }
