@@ -1,5 +1,5 @@
 //! The numbers of a command line.
-ghost use Rattle.std.specs.Prelude.{◌≡◌, ◌≤◌, IfOk};
+ghost use Rattle.std.specs.Prelude.{◌≡◌, ◌≤◌, if◌then◌else◌, IfOk};
 ghost use Rattle.pp_lines.specs.Words.{words};
 ghost use Rattle.pp_command.specs.Numbers as spec;
 
@@ -34,17 +34,26 @@ pub fn one(text: &[u8], most: u64) -> Result<u64, LineFault>
     number(word, most)
 }
 
+/// Why words are not the numbers that are asked for, by whether all of them are octal.
+fn fault_of(octal: bool) -> LineFault
+    ensures { result ≡ (if octal then LineFault.OutOfRange else LineFault.NotANumber) }
+{
+    if octal {
+        LineFault::OutOfRange
+    } else {
+        LineFault::NotANumber
+    }
+}
+
 /// The numbers that two words write, from 0 to `first` and to `second`.
 #[tactic(auto, unfolding(crate::specs::Numbers::pair))]
 pub fn pair(x: &[u8], y: &[u8], first: u64, second: u64) -> Result<(u64, u64), LineFault>
     ensures value { result ≡ spec.pair first second x.now y.now }
     ensures within { IfOk result (λ values. (values.0 ≤ first) × (values.1 ≤ second)) }
 {
-    if !is_octal(x) || !is_octal(y) {
-        return Err(LineFault::NotANumber);
-    }
-    let a = number(x, first)?;
-    let b = number(y, second)?;
+    let (Ok(a), Ok(b)) = (number(x, first), number(y, second)) else {
+        return Err(fault_of(is_octal(x) && is_octal(y)));
+    };
     Ok((a, b))
 }
 
@@ -84,12 +93,9 @@ pub fn three(text: &[u8], first: u64, second: u64, third: u64) -> Result<(u64, u
     if next_word(rest).is_some() {
         return Err(LineFault::WordCount);
     }
-    if !is_octal(x) || !is_octal(y) || !is_octal(z) {
-        return Err(LineFault::NotANumber);
-    }
-    let a = number(x, first)?;
-    let b = number(y, second)?;
-    let c = number(z, third)?;
+    let (Ok(a), Ok(b), Ok(c)) = (number(x, first), number(y, second), number(z, third)) else {
+        return Err(fault_of(is_octal(x) && is_octal(y) && is_octal(z)));
+    };
     Ok((a, b, c))
 }
 
