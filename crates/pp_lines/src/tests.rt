@@ -1,6 +1,6 @@
 use crate::{
-    Counted, Endless, Failed, Feed, IoFault, LineCutter, Sink, Source, Tray, is_ignored, next_word,
-    push_text, put_all, without_return,
+    Counted, Endless, Failed, Feed, IoFault, LineCutter, Sink, Source, Tray, is_ignored, next_line,
+    next_word, push_text, put_all, without_return,
 };
 use arrayvec::ArrayVec;
 use std::collections::VecDeque;
@@ -135,6 +135,26 @@ fn a_cutter_keeps_the_front_of_a_line(rt: HostRuntime) {
     assert_eq!(rt; cutter.line(), b"abc".as_slice());
     cutter.end_line();
     assert!(rt; cutter.line().is_empty());
+}
+
+#[test]
+fn a_cutter_takes_a_text_up_to_its_room(rt: HostRuntime) {
+    let mut cutter = LineCutter::<3>::new();
+    cutter.take_byte(b'a');
+    cutter.take_text(b"b");
+    assert_eq!(rt; cutter.line(), b"ab".as_slice());
+    cutter.take_text(b"cd");
+    assert_eq!(rt; cutter.line(), b"abc".as_slice());
+}
+
+#[test]
+fn a_text_is_cut_at_its_first_line_feed(rt: HostRuntime) {
+    assert_eq!(rt;
+        next_line(b"a\n\nb"),
+        Some((b"a".as_slice(), b"\nb".as_slice()))
+    );
+    assert_eq!(rt; next_line(b"\n"), Some((b"".as_slice(), b"".as_slice())));
+    assert_eq!(rt; next_line(b"ab"), None);
 }
 
 #[test]
