@@ -165,6 +165,7 @@ pub fn parse(line: &[u8]) -> Result<Option<Command>, LineFault>
     if first.first() == Some(&b'*') {
         return Ok(None);
     }
+    // Not by `?`, which would copy the request once more.
     match named(first, rest) {
         Ok(request) => Ok(Some(Command::new(request))),
         Err(fault) => Err(fault),
