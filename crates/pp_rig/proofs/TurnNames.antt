@@ -11,7 +11,8 @@ use Rattle.pp_machine.specs.declared.place.Place.TheVariants.{Cell, RegA, RegP, 
 use Rattle.pp_rig.specs.Turn.{clock_pairs, turn_pairs}
 use Rattle.pp_rig.specs.TurnLaws.{lookup-turn}
 use Rattle.pp_rig.specs.declared.rig.TurnRecord.{TurnRecord}
-use Rattle.pp_step.specs.Seen.{lookup-seen, lookup_seen, seen_by}
+use Rattle.pp_step.specs.Seen.{lookup_seen, seen_by}
+use Rattle.pp_step.specs.SeenLaws.{lookup-seen}
 use Rattle.pp_step.specs.Step.{pp_pairs}
 use Rattle.pp_step.specs.View.{PpPlace, pp_place}
 use Rattle.pp_step.specs.View as view
