@@ -1,6 +1,7 @@
 -- What a script led to, at its end or at a fault.
 use Rattle.std.proofs.Common.{◌≡◌, ◌∙◌, ℕ, ◌+◌, ◌<◌, ◌⊎◌, List, [], ◌∷◌, ◌++◌, length, refl, ap, arith, inl, length-append, append_assoc}
-use Rattle.std.specs.Prelude.{Option}
+use Rattle.std.specs.Prelude.{Option, Result, Ok, Err, MatchResult}
+use Rattle.std.specs.Io.KnownBytes.{IsAtEnd}
 use Rattle.pp_lines.specs.declared.fault.IoFault.{IoFault}
 use Rattle.pp_lines.specs.declared.fault.IoFault.TheVariants.{ReadFailed, WriteFailed, LineLimit}
 use Rattle.pp_lines.specs.Lines.{lines, finished, unfinished, finished_within, IsWithin}
@@ -61,12 +62,12 @@ Stops-limit line_limit byte_limit session text origin bytes kept more e h within
     rw e (rw (finished_within-kept line_limit byte_limit kept more within full) performed, passed line_limit byte_limit kept more h full)
 
 -- a fault among the bytes that were taken
-pub Stops-interrupted : (fault : IoFault) (session : State) (text : Option (List ℕ)) (origin : Origin) (bytes : List ℕ) →
-    Interrupts fault session text origin bytes → Stops fault session text origin bytes
-Stops-interrupted ReadFailed session text origin bytes p = absurd p
-Stops-interrupted LineLimit session text origin bytes p =
+pub Stops-interrupted : (fault : IoFault) (session : State) (text : Option (List ℕ)) (origin : Origin) (bytes : List ℕ) (left : Option (List ℕ)) →
+    Interrupts fault session text origin bytes → Stops fault session text origin bytes left
+Stops-interrupted ReadFailed session text origin bytes left p = absurd p
+Stops-interrupted LineLimit session text origin bytes left p =
     Stops-limit LINE_LIMIT BYTE_LIMIT session text origin bytes p.0 p.1 p.2 p.3 p.4 p.5 p.6
-Stops-interrupted WriteFailed session text origin bytes p =
+Stops-interrupted WriteFailed session text origin bytes left p =
     (p.0, p.1, p.2, inl p.3, p.4)
 
 -- the count of a source that did not fail
@@ -74,3 +75,9 @@ pub reads_after-kept : (fault : IoFault) (count : ℕ) → IsNoReadFault fault �
 reads_after-kept ReadFailed count p = absurd p
 reads_after-kept LineLimit count p = refl
 reads_after-kept WriteFailed count p = refl
+
+-- what is told of the end holds at the end
+pub told-at : {T E : Type 0} (result : Result T E) (left : Option (List ℕ)) (P : T → Type 0) (Q : E → Option (List ℕ) → Type 0) → IsAtEnd left →
+    MatchResult result P (λ fault. (left : Option (List ℕ)) → IsAtEnd left → Q fault left) → MatchResult result P (λ fault. Q fault left)
+told-at (Ok value) left P Q end known = known
+told-at (Err fault) left P Q end known = known left end

@@ -1,6 +1,6 @@
 -- What became of a script, as far as it was read.
 use Rattle.std.specs.Prelude.{◌≡◌, ℕ, ◌<◌, ◌⊎◌, List, [], ◌∷◌, ◌++◌, length, Option}
-use Rattle.std.specs.Io.KnownBytes.{Appends}
+use Rattle.std.specs.Io.KnownBytes.{Appends, IsAtEnd}
 use Rattle.pp_console.specs.declared.progress.Summary.{Summary}
 use Rattle.pp_console.specs.declared.progress.TheConstants.{LINE_LIMIT, BYTE_LIMIT}
 use Rattle.pp_lines.specs.declared.fault.IoFault.{IoFault}
@@ -38,20 +38,20 @@ pub record Serves (summary : Summary) (session : State) (text : Option (List ℕ
   pub counts_refused : summary.refused ≡ (script origin.start bytes).refused
   pub within : IsWithin LINE_LIMIT BYTE_LIMIT bytes
 
--- After these lines the script has this one, within the limits: a line feed ends it, or the whole script does.
-abbrev pub IsAnswered : List ℕ → List (List ℕ) → List ℕ → List (List ℕ) → Type 0
-IsAnswered bytes done line later =
+-- After these lines the script has this one, within the limits: a line feed ends it, or the whole script does, of which no byte is left.
+abbrev pub IsAnswered : List ℕ → Option (List ℕ) → List (List ℕ) → List ℕ → List (List ℕ) → Type 0
+IsAnswered bytes left done line later =
     (finished_within LINE_LIMIT BYTE_LIMIT bytes ≡ done ++ line ∷ later)
-    ⊎ ((lines bytes ≡ done ++ line ∷ []) × IsWithin LINE_LIMIT BYTE_LIMIT bytes)
+    ⊎ ((lines bytes ≡ done ++ line ∷ []) × IsWithin LINE_LIMIT BYTE_LIMIT bytes × IsAtEnd left)
 
--- what stands after a fault, where these bytes were taken
-abbrev pub Stops : IoFault → State → Option (List ℕ) → Origin → List ℕ → Type 0
-Stops ReadFailed session text origin bytes = Performed session text origin (finished_within LINE_LIMIT BYTE_LIMIT bytes)
-Stops LineLimit session text origin bytes =
+-- what stands after a fault, where these bytes were taken and those are left
+abbrev pub Stops : IoFault → State → Option (List ℕ) → Origin → List ℕ → Option (List ℕ) → Type 0
+Stops ReadFailed session text origin bytes left = Performed session text origin (finished_within LINE_LIMIT BYTE_LIMIT bytes)
+Stops LineLimit session text origin bytes left =
     Performed session text origin (finished_within LINE_LIMIT BYTE_LIMIT bytes)
     × ((BYTE_LIMIT < length bytes) ⊎ (LINE_LIMIT < length (lines bytes)))
-Stops WriteFailed session text origin bytes =
-    (done : List (List ℕ)) × (line : List ℕ) × (later : List (List ℕ)) × IsAnswered bytes done line later × Breaks session text origin done line
+Stops WriteFailed session text origin bytes left =
+    (done : List (List ℕ)) × (line : List ℕ) × (later : List (List ℕ)) × IsAnswered bytes left done line later × Breaks session text origin done line
 
 -- the sink's count of failures after a fault
 abbrev pub writes_after : IoFault → ℕ → ℕ

@@ -163,7 +163,7 @@ fn finish<W: Sink>(
         Stands progress.old session.old (W.text out.old) origin bytes →
         MatchResult result
         (λ summary. Serves summary session.new (W.text out.new) origin bytes)
-        (λ fault. Stops fault session.new (W.text out.new) origin bytes) }
+        (λ fault. (left : Option (List ℕ)) → IsAtEnd left → Stops fault session.new (W.text out.new) origin bytes left) }
     ensures counted { MatchResult result (λ _. W.failure_count out.new ≡ W.failure_count out.old)
         (λ fault. W.failure_count out.new ≡ writes_after fault (W.failure_count out.old)) }
     ensures faults { IfErr result IsNoReadFault }
@@ -183,11 +183,11 @@ fn read_all<R: Source, W: Sink>(
     source: &mut R,
     out: &mut W,
 ) -> Result<Summary, IoFault>
-    ensures serves { (start : Value) → IsAt rules session.old start →
-        (taken : List ℕ) × Consumes (R.rest source.old) (R.rest source.new) taken
-        × MatchResult result
+    ensures serves { (taken : List ℕ) × Consumes (R.rest source.old) (R.rest source.new) taken
+        × (R.given source.new ≡ R.given source.old ++ taken)
+        × ((start : Value) → IsAt rules session.old start → MatchResult result
         (λ summary. Serves summary session.new (W.text out.new) (origin_of start (W.text out.old)) taken)
-        (λ fault. Stops fault session.new (W.text out.new) (origin_of start (W.text out.old)) taken) }
+        (λ fault. Stops fault session.new (W.text out.new) (origin_of start (W.text out.old)) taken (R.rest source.new))) }
     ensures all { OnOk result (IsAtEnd (R.rest source.new)) }
     ensures reads { MatchResult result (λ _. R.failure_count source.new ≡ R.failure_count source.old)
         (λ fault. R.failure_count source.new ≡ reads_after fault (R.failure_count source.old)) }
@@ -229,10 +229,12 @@ pub fn serve<R: Source, W: Sink>(
     // The limits that the clauses name.
     ensures limits { (LINE_LIMIT ≡ 1000000) × (BYTE_LIMIT ≡ 268435456) }
 
-    // What stands after the fault, by the bytes that were taken.
-    ensures stopped { IfErr result (λ fault. (start : Value) → IsAt rules session.old start →
-        (taken : List ℕ) × Consumes (R.rest source.old) (R.rest source.new) taken
-        × Stops fault session.new (W.text out.new) (origin_of start (W.text out.old)) taken) }
+    // Whatever the source tells: the bytes that were taken are the script, and after a fault they say what stands.
+    ensures taken { (taken : List ℕ) × Consumes (R.rest source.old) (R.rest source.new) taken
+        × (R.given source.new ≡ R.given source.old ++ taken)
+        × ((start : Value) → IsAt rules session.old start → MatchResult result
+        (λ summary. Serves summary session.new (W.text out.new) (origin_of start (W.text out.old)) taken)
+        (λ fault. Stops fault session.new (W.text out.new) (origin_of start (W.text out.old)) taken (R.rest source.new))) }
 
     // Each count of failures rose by the fault that is told, and by no other.
     ensures reads { MatchResult result (λ _. R.failure_count source.new ≡ R.failure_count source.old)

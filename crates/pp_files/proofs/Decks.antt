@@ -1,11 +1,11 @@
 -- From the rows of a file to a deck or a panel.
 use Rattle.std.proofs.Common.{◌≡◌, ◌∙◌, ℕ, List, map, sym, ap, inl, inr}
-use Rattle.std.specs.Prelude.{Option, Result, Ok, Err, IfOk, IfErr}
+use Rattle.std.specs.Prelude.{Option, Result, Ok, Err, IfOk, IfErr, MatchResult}
 use Rattle.std.specs.List.{concat}
 use Rattle.pp_files.specs.declared.fault.LoadFault.{LoadFault}
 use Rattle.pp_files.specs.Rows.{Row}
 use Rattle.pp_files.specs.Files.{Rule, ◌>>=◌, file_limit, rows_of_file, card_rule, card_of_row, panel_rule, whole_panel, deck_of_file, panel_of_file}
-use Rattle.pp_files.specs.Loading.{Tells}
+use Rattle.pp_files.specs.Loading.{MayHold, Tells, TellsOf}
 use Rattle.pp_files.specs.Reading.{Reads}
 
 -- what is told of a file holds of what is made of its rows
@@ -40,3 +40,23 @@ pub panel-err : (result : Result Row LoadFault) (left : Option (List ℕ)) (IsTo
     IfErr result (λ fault. (bytes : List ℕ) → IsTold bytes → Tells panel_rule (panel_of_file bytes) bytes left fault)
 panel-err (Ok panel) left IsTold known = tt
 panel-err (Err fault) left IsTold known = λ bytes told. inl (known bytes told)
+
+-- ---- whatever the source tells
+
+carried-of : {A : Type 0} (rule : Rule) (rows : Result (List Row) LoadFault) (f : List Row → Result A LoadFault) (fault : LoadFault) (bytes : List ℕ) (old new : Option (List ℕ)) →
+    TellsOf rule rows bytes old new fault → TellsOf rule (rows >>= f) bytes old new fault
+carried-of rule rows f fault bytes old new (inl e) = inl (ap (λ read. read >>= f) e)
+carried-of rule rows f fault bytes old new (inr other) = inr other
+
+pub deck-fault-of : (fault : LoadFault) (bytes : List ℕ) (old new : Option (List ℕ)) → TellsOf card_rule (rows_of_file card_rule file_limit bytes) bytes old new fault → TellsOf card_rule (deck_of_file bytes) bytes old new fault
+unfolding deck_of_file
+deck-fault-of fault bytes old new told = carried-of card_rule (rows_of_file card_rule file_limit bytes) (λ rows. Ok (map card_of_row rows)) fault bytes old new told
+
+pub panel-fault-of : (fault : LoadFault) (bytes : List ℕ) (old new : Option (List ℕ)) → TellsOf panel_rule (rows_of_file panel_rule file_limit bytes) bytes old new fault → TellsOf panel_rule (panel_of_file bytes) bytes old new fault
+unfolding panel_of_file
+panel-fault-of fault bytes old new told = carried-of panel_rule (rows_of_file panel_rule file_limit bytes) (λ rows. whole_panel (concat rows)) fault bytes old new told
+
+pub panel-some : (result : Result Row LoadFault) (bytes : List ℕ) (old new : Option (List ℕ)) → panel_of_file bytes ≡ result →
+    MatchResult result (λ panel. panel_of_file bytes ≡ Ok panel) (λ fault. TellsOf panel_rule (panel_of_file bytes) bytes old new fault)
+panel-some (Ok panel) bytes old new known = known
+panel-some (Err fault) bytes old new known = inl known

@@ -1,5 +1,5 @@
 -- What a fault tells of a file.
-use Rattle.std.specs.Prelude.{◌≡◌, ℕ, ◌+◌, ◌≤◌, ◌⊎◌, List, [], ◌∷◌, ◌++◌, length, Option, Some, Result, Ok, Err}
+use Rattle.std.specs.Prelude.{◌≡◌, ℕ, ◌+◌, ◌≤◌, ◌⊎◌, List, [], ◌∷◌, ◌++◌, length, IfSome, Option, Some, Result, Ok, Err}
 use Rattle.std.specs.Io.KnownBytes.{Consumes}
 use Rattle.pp_lines.specs.Device.{one_more}
 use Rattle.pp_lines.specs.Lines.{finished}
@@ -36,3 +36,17 @@ Tells rule file bytes left fault =
 abbrev pub reads_after : LoadFault → ℕ → ℕ
 reads_after ReadFailed count = one_more count
 reads_after fault count = count
+
+-- the source had these bytes, as far as it tells any
+abbrev pub MayHold : Option (List ℕ) → List ℕ → Type 0
+MayHold known bytes = IfSome known (λ told. told ≡ bytes)
+
+-- a front of these bytes was taken, within the limit, and the lines that a line feed ended in it have no fault: there the source failed
+abbrev pub StopsShort : Rule → ℕ → List ℕ → Option (List ℕ) → Option (List ℕ) → Type 0
+StopsShort rule limit bytes old new =
+    (taken later : List ℕ) × (bytes ≡ taken ++ later) × Consumes old new taken × (length taken ≤ limit) × HasNoFault rule (finished taken)
+
+-- the fault is that of the file with these bytes, or memory or the source failed before any of the file
+abbrev pub TellsOf : {A : Type 0} → Rule → Result A LoadFault → List ℕ → Option (List ℕ) → Option (List ℕ) → LoadFault → Type 0
+TellsOf rule file bytes old new fault =
+    (file ≡ Err fault) ⊎ (((fault ≡ NoMemory) × RunsOut rule file_limit bytes) ⊎ ((fault ≡ ReadFailed) × StopsShort rule file_limit bytes old new))

@@ -2,7 +2,7 @@
 ghost use Rattle.std.specs.Io.KnownBytes.{IsAtEnd};
 ghost use Rattle.std.specs.Prelude.{◌≡◌, ◌≢◌, ◌<◌, ℕ, List, All, Some, Ok, IfOk, IfErr, OnOk, MatchResult};
 ghost use Rattle.pp_files.specs.Files.{card_rule, panel_rule, whole_panel, deck_of_file, panel_of_file};
-ghost use Rattle.pp_files.specs.Loading.{Tells, reads_after};
+ghost use Rattle.pp_files.specs.Loading.{MayHold, Tells, TellsOf, reads_after};
 
 use crate::fault::LoadFault;
 use crate::loading::read_sheet;
@@ -25,6 +25,9 @@ pub fn load_deck<R: Source>(alloc: Global, source: &mut R) -> Result<Vec<[u16; C
     ensures within { IfOk result (λ deck. All (All (λ value. value < 0o10000)) deck.items) }
     ensures fault { IfErr result (λ fault. (bytes : List ℕ) → R.rest source.old ≡ Some bytes →
         Tells card_rule (deck_of_file bytes) bytes (R.rest source.new) fault) }
+    ensures some { (bytes : List ℕ) × MayHold (R.rest source.old) bytes × MatchResult result
+        (λ deck. deck_of_file bytes ≡ Ok deck.items)
+        (λ fault. TellsOf card_rule (deck_of_file bytes) bytes (R.rest source.old) (R.rest source.new) fault) }
     ensures all { OnOk result (IsAtEnd (R.rest source.new)) }
     ensures reads { MatchResult result
         (λ _. R.failure_count source.new ≡ R.failure_count source.old)
@@ -49,6 +52,9 @@ pub fn load_panel<R: Source>(source: &mut R) -> Result<[u16; PANEL_WORDS], LoadF
     ensures within { IfOk result (λ panel. All (λ value. value < 0o10000) panel) }
     ensures fault { IfErr result (λ fault. (bytes : List ℕ) → R.rest source.old ≡ Some bytes →
         Tells panel_rule (panel_of_file bytes) bytes (R.rest source.new) fault) }
+    ensures some { (bytes : List ℕ) × MayHold (R.rest source.old) bytes × MatchResult result
+        (λ panel. panel_of_file bytes ≡ Ok panel)
+        (λ fault. TellsOf panel_rule (panel_of_file bytes) bytes (R.rest source.old) (R.rest source.new) fault) }
     ensures no_memory { IfErr result (λ fault. fault ≢ LoadFault.NoMemory) }
     ensures all { OnOk result (IsAtEnd (R.rest source.new)) }
     ensures reads { MatchResult result

@@ -1,5 +1,5 @@
 use crate::{LoadFault, load_deck, load_panel};
-use pp_lines::{Endless, Feed, Source};
+use pp_lines::{Endless, Feed, Log, Source};
 use std::test::Fail;
 
 /// The fault of a deck file, if it has one.
@@ -139,10 +139,19 @@ fn long_files(rt: HostRuntime) -> Result<(), Fail> {
         deck_fault(rt, feeds.as_bytes()),
         Some(LoadFault::FileTooLong)
     );
-    let endless = load_deck(rt.alloc(), &mut Endless { byte: b'1' });
+    let endless = load_deck(
+        rt.alloc(),
+        &mut Endless {
+            byte: b'1',
+            log: Log::new(),
+        },
+    );
     assert_eq!(rt; endless.err(), Some(LoadFault::FileTooLong));
     assert_eq!(rt;
-        load_panel(&mut Endless { byte: b'\n' }),
+        load_panel(&mut Endless {
+            byte: b'\n',
+            log: Log::new()
+        }),
         Err(LoadFault::FileTooLong)
     );
     Ok(())

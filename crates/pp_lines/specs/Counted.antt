@@ -1,5 +1,5 @@
 -- A counted device.
-use Rattle.std.specs.Prelude.{ℕ}
+use Rattle.std.specs.Prelude.{ℕ, List}
 use Rattle.pp_lines.specs.declared.counted.Counted.{Counted}
 
 abbrev pub device_of : {D : Type 0} → Counted D → D
@@ -7,3 +7,7 @@ device_of counted = counted.device
 
 abbrev pub failures_of : {D : Type 0} → Counted D → ℕ
 failures_of counted = counted.failures
+
+-- the bytes that were moved so far
+abbrev pub moved_by : {D : Type 0} → Counted D → List ℕ
+moved_by counted = counted.log.bytes

@@ -1,9 +1,10 @@
 //! A source or a sink made of any reader or writer.
-ghost use Rattle.std.specs.Prelude.{◌≡◌};
+ghost use Rattle.std.specs.Prelude.{◌≡◌, [], Some};
 ghost use Rattle.pp_lines.specs.Device.{one_more};
-ghost use Rattle.pp_lines.specs.Counted.{device_of, failures_of};
+ghost use Rattle.pp_lines.specs.Counted.{device_of, failures_of, moved_by};
 
 use crate::device::{Failed, Sink, Source};
+use crate::log::Log;
 use std::io::{Read, Write};
 
 /// A reader or a writer, and how many of its calls failed.
@@ -14,6 +15,7 @@ use std::io::{Read, Write};
 pub struct Counted<D> {
     device: D,
     failures: u64,
+    log: Log,
 }
 
 impl<D> Counted<D> {
@@ -21,10 +23,12 @@ impl<D> Counted<D> {
     pub fn new(device: D) -> Self
         ensures device { device_of result ≡ device }
         ensures failures { failures_of result ≡ 0 }
+        ensures moved { moved_by result ≡ [] }
     {
         Counted {
             device,
             failures: 0,
+            log: Log::new(),
         }
     }
 
@@ -39,6 +43,7 @@ impl<D> Counted<D> {
     fn count_failure(&mut self) -> Failed
         ensures device { device_of self.new ≡ device_of self.old }
         ensures failures { failures_of self.new ≡ one_more (failures_of self.old) }
+        ensures moved { moved_by self.new ≡ moved_by self.old }
     {
         self.failures = self.failures.saturating_add(1);
         Failed
@@ -48,11 +53,16 @@ impl<D> Counted<D> {
 impl<D: Read> Source for Counted<D> {
     ghost rest = { λ counted. D.remaining (device_of counted) };
 
+    ghost given = { moved_by };
+
     ghost failure_count = { failures_of };
 
     fn take(&mut self, into: &mut [u8]) -> Result<usize, Failed> {
         match self.device.read(into) {
-            Ok(count) => Ok(count),
+            Ok(count) => {
+                self.log.note(&into[..count]);
+                Ok(count)
+            }
             Err(_) => Err(self.count_failure()),
         }
     }
@@ -63,13 +73,17 @@ impl<D: Read> Source for Counted<D> {
 }
 
 impl<D: Write> Sink for Counted<D> {
-    ghost text = { λ counted. D.contents (device_of counted) };
+    // Whatever the writer tells: what it took of each call.
+    ghost text = { λ counted. Some (moved_by counted) };
 
     ghost failure_count = { failures_of };
 
     fn put(&mut self, from: &[u8]) -> Result<usize, Failed> {
         match self.device.write(from) {
-            Ok(count) if count > 0 || from.is_empty() => Ok(count),
+            Ok(count) if count > 0 || from.is_empty() => {
+                self.log.note(&from[..count]);
+                Ok(count)
+            }
             _ => Err(self.count_failure()),
         }
     }

@@ -1,7 +1,7 @@
 //! Where bytes come from and go to, with a count of the calls that failed.
 ghost use Rattle.std.specs.Prelude.{◌≡◌, ℕ, List, Option};
 ghost use Rattle.std.specs.Io.KnownBytes.{ReadConsumes, WriteAppends};
-ghost use Rattle.pp_lines.specs.Device.{Counts, AnswersWithin, TakesSome};
+ghost use Rattle.pp_lines.specs.Device.{Counts, AnswersWithin, Logs, TakesSome};
 
 /// A call of a device that failed: it moved no byte, and its device counted it.
 #[derive(Clone, Copy, Debug, PartialEq, Eq, Drop)]
@@ -15,6 +15,9 @@ pub trait Source {
     // The bytes still to come, where the source tells them.
     ghost rest: { Self → Option (List ℕ) };
 
+    // The bytes given so far: every source has them, whether it tells those to come or not.
+    ghost given: { Self → List ℕ };
+
     // How many calls failed, up to the greatest count.
     ghost failure_count: { Self → ℕ };
 
@@ -23,6 +26,7 @@ pub trait Source {
     fn take(&mut self, into: &mut [u8]) -> Result<usize, Failed>
         ensures within { AnswersWithin result into.new }
         ensures bytes { ReadConsumes (rest self.old) (rest self.new) result into.new }
+        ensures given { Logs (given self.old) (given self.new) result into.new }
         ensures counted { Counts (failure_count self.old) (failure_count self.new) result };
 
     /// How many calls failed.

@@ -5,6 +5,7 @@ mod counted;
 mod cutter;
 mod device;
 mod fault;
+mod log;
 mod output;
 pub mod testing;
 #[cfg(test)]
@@ -16,6 +17,7 @@ pub use counted::Counted;
 pub use cutter::{LINE_FEED, LineCutter, next_line, without_return};
 pub use device::{Failed, Sink, Source};
 pub use fault::IoFault;
+pub use log::Log;
 pub use output::put_all;
 pub use testing::{Endless, Feed, Tray};
 pub use text::push_text;

@@ -1,8 +1,9 @@
 //! Devices for tests: sources and sinks in memory, of which one call may be made to fail.
-ghost use Rattle.std.specs.Prelude.{◌≡◌, ◌<◌, [], Some, None};
+ghost use Rattle.std.specs.Prelude.{◌≡◌, ◌<◌, ◌↔◌, [], IsErr, Some, None};
 ghost use Rattle.pp_lines.specs.Device.{one_more, Counts};
 
 use crate::device::{Failed, Sink, Source};
+use crate::log::Log;
 use crate::text::push_text;
 use arrayvec::ArrayVec;
 
@@ -36,7 +37,9 @@ impl Calls {
 
     /// Counts a failure.
     fn fail(&mut self) -> Failed
-        ensures { self.new.failures ≡ one_more self.old.failures }
+        ensures failures { self.new.failures ≡ one_more self.old.failures }
+        ensures made { self.new.made ≡ self.old.made }
+        ensures failing { self.new.failing ≡ self.old.failing }
     {
         self.failures = self.failures.saturating_add(1);
         Failed
@@ -44,7 +47,10 @@ impl Calls {
 
     /// Counts a call, which fails where it is the failing one.
     fn begin(&mut self) -> Result<(), Failed>
-        ensures { Counts self.old.failures self.new.failures result }
+        ensures counted { Counts self.old.failures self.new.failures result }
+        ensures made { self.new.made ≡ one_more self.old.made }
+        ensures failing { self.new.failing ≡ self.old.failing }
+        ensures fails { IsErr result ↔ (self.old.failing ≡ Some (one_more self.old.made)) }
     {
         self.made = self.made.saturating_add(1);
         if self.failing == Some(self.made) {
@@ -62,6 +68,8 @@ pub struct Feed<'a> {
     /// The most bytes of a piece.
     pub piece: usize,
     pub calls: Calls,
+    /// What was given.
+    pub log: Log,
     ghost some_piece: { 0 < piece },
 }
 
@@ -78,6 +86,7 @@ impl<'a> Feed<'a> {
             bytes,
             piece,
             calls: Calls::new(None),
+            log: Log::new(),
         }
     }
 
@@ -94,12 +103,15 @@ impl<'a> Feed<'a> {
             bytes,
             piece,
             calls,
+            log: Log::new(),
         }
     }
 }
 
 impl Source for Feed<'_> {
     ghost rest = { λ feed. Some feed.bytes.now };
+
+    ghost given = { λ feed. feed.log.bytes };
 
     ghost failure_count = { λ feed. feed.calls.failures };
 
@@ -108,6 +120,7 @@ impl Source for Feed<'_> {
         let bytes = self.bytes;
         let count = bytes.len().min(self.piece).min(into.len());
         into[..count].copy_from_slice(&bytes[..count]);
+        self.log.note(&bytes[..count]);
         self.bytes = &bytes[count..];
         Ok(count)
     }
@@ -121,15 +134,20 @@ impl Source for Feed<'_> {
 #[derive(Drop)]
 pub struct Endless {
     pub byte: u8,
+    /// What was given.
+    pub log: Log,
 }
 
 impl Source for Endless {
     ghost rest = { λ _. None };
 
+    ghost given = { λ endless. endless.log.bytes };
+
     ghost failure_count = { λ _. 0 };
 
     fn take(&mut self, into: &mut [u8]) -> Result<usize, Failed> {
         into.fill(self.byte);
+        self.log.note(into);
         Ok(into.len())
     }
 

@@ -1,6 +1,6 @@
 use crate::{
-    Counted, Endless, Failed, Feed, IoFault, LineCutter, Sink, Source, Tray, is_ignored, next_line,
-    next_word, push_text, put_all, without_return,
+    Counted, Endless, Failed, Feed, IoFault, LineCutter, Log, Sink, Source, Tray, is_ignored,
+    next_line, next_word, push_text, put_all, without_return,
 };
 use arrayvec::ArrayVec;
 use std::collections::VecDeque;
@@ -89,7 +89,14 @@ fn a_feed_fails_once_and_goes_on(rt: HostRuntime) {
     assert_eq!(rt; feed.take(&mut piece), Ok(0));
     assert_eq!(rt; feed.failures(), 1);
     assert_eq!(rt; Feed::new(b"abc", 2).take(&mut piece), Ok(2));
-    assert_eq!(rt; Endless { byte: b'\n' }.take(&mut piece), Ok(8));
+    assert_eq!(rt;
+        Endless {
+            byte: b'\n',
+            log: Log::new()
+        }
+        .take(&mut piece),
+        Ok(8)
+    );
     assert_eq!(rt; piece, [b'\n'; 8]);
 }
 

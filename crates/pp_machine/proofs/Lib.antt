@@ -3,3 +3,4 @@ pub mod DevicePlaces
 pub mod DeviceStores
 pub mod Once
 pub mod PrinterLaws
+pub mod Same

@@ -6,7 +6,7 @@ ghost use Rattle.pp_machine.specs.Lookup.{lookup};
 ghost use Rattle.pp_machine.specs.Machine.{Machine, number, over};
 ghost use Rattle.pp_machine.specs.Printed.{PrinterView, FitsPrinter, printer_pairs, printer_place, printer_writes};
 ghost use Rattle.pp_machine.specs.Read.{ReaderView, reader_pairs, reader_place, reader_writes};
-ghost use Rattle.pp_machine.specs.Shape.{IsShaped};
+ghost use Rattle.pp_machine.specs.Shape.{Has, IsShaped};
 ghost use Rattle.pp_machine.specs.Writes.{places, renamed};
 
 use crate::place::Place;
@@ -30,4 +30,12 @@ pub fn device_records_tell()
 pub fn device_writes_are_distinct()
     ensures reader { (s : ReaderView) → AllPairs (λ one other. one ≢ other) (places (reader_writes s)) }
     ensures printer { (s : PrinterView) → AllPairs (λ one other. one ≢ other) (places (printer_writes s)) }
+{}
+
+/// A machine is its numbers: two of one shape and setup, with one deck, that have the same number at each
+/// place are the same.
+pub fn numbers_make_the_machine()
+    ensures { (size : ℕ) (m other : Machine) → IsShaped size m → IsShaped size other → m.setup ≡ other.setup →
+        m.reader.deck ≡ other.reader.deck →
+        ((place : Place) → Has size place → number m place ≡ number other place) → m ≡ other }
 {}

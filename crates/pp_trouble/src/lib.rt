@@ -1,6 +1,7 @@
 //! What ends the program early: its text and its status.
 #![tactic(auto)]
 
+mod message;
 #[cfg(test)]
 mod tests;
 mod trouble;

@@ -3,7 +3,7 @@
 use super::*;
 use pp_arguments::ArgFault;
 use pp_files::LoadFault;
-use pp_lines::IoFault;
+use pp_lines::{IoFault, Tray};
 use pp_rig::SetupFault;
 use std::test::Fail;
 
@@ -60,6 +60,9 @@ fn each_trouble_has_its_line_and_its_status(rt: HostRuntime) -> Result<(), Fail>
     ];
     for (trouble, line, status) in rows {
         assert_eq!(rt; trouble.to_string(rt.alloc())?.as_str(), line);
+        let mut tray = Tray::new(5);
+        assert_eq!(rt; trouble.put(&mut tray), Ok(()));
+        assert_eq!(rt; tray.text(), format!(in rt.alloc(); "{line}\n")?.as_bytes());
         assert_eq!(rt; trouble.status(), status, "{line}");
     }
     Ok(())
@@ -122,6 +125,9 @@ fn each_fault_of_a_file_names_it(rt: HostRuntime) -> Result<(), Fail> {
         assert!(rt; file != FileKind::Script);
         let trouble = Trouble::load(file, fault);
         assert_eq!(rt; trouble.to_string(rt.alloc())?.as_str(), line);
+        let mut tray = Tray::new(5);
+        assert_eq!(rt; trouble.put(&mut tray), Ok(()));
+        assert_eq!(rt; tray.text(), format!(in rt.alloc(); "{line}\n")?.as_bytes());
         assert_eq!(rt; trouble.status(), status, "{line}");
     }
     Ok(())

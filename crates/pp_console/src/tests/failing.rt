@@ -5,7 +5,7 @@ use super::{With, session_of};
 use crate::progress::Summary;
 use crate::serving::serve;
 use pp_history::{Reversible, Session};
-use pp_lines::{Endless, Feed, IoFault, Tray};
+use pp_lines::{Endless, Feed, IoFault, Log, Tray};
 use pp_machine::Place;
 use pp_rig::Rig;
 use std::alloc::Global;
@@ -253,7 +253,14 @@ fn command_stands_without_its_answer(rt: HostRuntime) -> Result<(), Fail> {
 fn lines_are_limited(rt: HostRuntime) -> Result<(), Fail> {
     let mut session = session_of(rt.alloc(), With::LittleMemory, 1)?;
     let mut out = Tray::new(100);
-    let endless = serve(&mut session, &mut Endless { byte: b'\n' }, &mut out);
+    let endless = serve(
+        &mut session,
+        &mut Endless {
+            byte: b'\n',
+            log: Log::new(),
+        },
+        &mut out,
+    );
     assert_eq!(rt; endless, Err(IoFault::LineLimit));
     let mut bytes = vec![in rt.alloc(); b'\n'; 1_000_000]?;
     let summary = serve(
@@ -304,7 +311,14 @@ fn answers_come_before_limits(rt: HostRuntime) -> Result<(), Fail> {
 fn bytes_are_limited(rt: HostRuntime) -> Result<(), Fail> {
     let mut session = session_of(rt.alloc(), With::LittleMemory, 1)?;
     let mut out = Tray::new(100);
-    let result = serve(&mut session, &mut Endless { byte: b'X' }, &mut out);
+    let result = serve(
+        &mut session,
+        &mut Endless {
+            byte: b'X',
+            log: Log::new(),
+        },
+        &mut out,
+    );
     assert_eq!(rt; result, Err(IoFault::LineLimit));
     assert_eq!(rt; out.text().len(), 0);
     Ok(())

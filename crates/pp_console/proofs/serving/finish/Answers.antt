@@ -22,11 +22,11 @@ returns-in-Ok-clause-serves g c = λ origin bytes stands.
     (rw (append-nil bytes) at (c.in-Ok.ensures.performed origin bytes stands.keeps stands.performed))
 
 pub returns-in-Err-clause-serves : goal.returns-in-Err-clause-serves
-returns-in-Err-clause-serves g c = λ origin bytes stands.
+returns-in-Err-clause-serves g c = λ origin bytes stands left end.
     let begun : 0 < length c.args.progress.now.line = grind (arith, nat_tests) in (
       finished bytes,
       unfinished bytes,
       [],
-      inr (lines-last KEPT c.args.progress.now.line bytes stands.keeps begun, Stands-within _ _ _ _ bytes stands),
+      inr (lines-last KEPT c.args.progress.now.line bytes stands.keeps begun, Stands-within _ _ _ _ bytes stands, end),
       rw (append-nil bytes) at (c.in-Err.ensures.performed origin bytes stands.keeps stands.performed),
     )

@@ -1,4 +1,4 @@
-use Rattle.std.proofs.Common.{◌-◌, ◌≡◌, ℕ, List}
+use Rattle.std.proofs.Common.{◌-◌, ◌++◌, ◌≡◌, ℕ, List}
 use Rattle.std.specs.Io.KnownBytes.{Consumes}
 use Rattle.pp_console.specs.declared.progress.TheConstants.{BYTE_LIMIT}
 use Rattle.pp_console.specs.Answers.{Value}
@@ -10,9 +10,10 @@ use Rattle.pp_console.proofs.serving.read_all.Given as goal
 
 abbrev pub invariant-pieces : goal.invariant-pieces
 invariant-pieces g l = record {
-  stands : (start : Value) → IsAt rules l.initial.session start →
-      (taken : List ℕ) × Consumes (g.R.Source.rest l.initial.source) (g.R.Source.rest l.source) taken
-      × Stands l.progress l.session (g.W.Sink.text l.out) (origin_of start (g.W.Sink.text l.initial.out)) taken;
+  stands : (taken : List ℕ) × Consumes (g.R.Source.rest l.initial.source) (g.R.Source.rest l.source) taken
+      × (g.R.Source.given l.source ≡ g.R.Source.given l.initial.source ++ taken)
+      × ((start : Value) → IsAt rules l.initial.session start →
+      Stands l.progress l.session (g.W.Sink.text l.out) (origin_of start (g.W.Sink.text l.initial.out)) taken);
   reads : g.R.Source.failure_count l.source ≡ g.R.Source.failure_count l.initial.source;
   writes : g.W.Sink.failure_count l.out ≡ g.W.Sink.failure_count l.initial.out;
 }
