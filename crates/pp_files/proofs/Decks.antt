@@ -1,62 +1,37 @@
 -- From the rows of a file to a deck or a panel.
 use Rattle.std.proofs.Common.{◌≡◌, ◌∙◌, ℕ, List, map, sym, ap, inl, inr}
-use Rattle.std.specs.Prelude.{Option, Result, Ok, Err, IfOk, IfErr, MatchResult}
+use Rattle.std.specs.Prelude.{Result, Ok, Err, MatchResult}
 use Rattle.std.specs.List.{concat}
 use Rattle.pp_files.specs.declared.fault.LoadFault.{LoadFault}
 use Rattle.pp_files.specs.Rows.{Row}
 use Rattle.pp_files.specs.Files.{Rule, ◌>>=◌, file_limit, rows_of_file, card_rule, card_of_row, panel_rule, whole_panel, deck_of_file, panel_of_file}
-use Rattle.pp_files.specs.Loading.{MayHold, Tells, TellsOf}
+use Rattle.pp_files.specs.Loading.{IsCauseOf}
 use Rattle.pp_files.specs.Reading.{Reads}
 
--- what is told of a file holds of what is made of its rows
-carried : {A : Type 0} (rule : Rule) (rows : Result (List Row) LoadFault) (f : List Row → Result A LoadFault) (fault : LoadFault) (bytes : List ℕ) (left : Option (List ℕ)) →
-    Tells rule rows bytes left fault → Tells rule (rows >>= f) bytes left fault
-carried rule rows f fault bytes left (inl e) = inl (ap (λ read. read >>= f) e)
-carried rule rows f fault bytes left (inr other) = inr other
+-- the cause of a fault of the rows is one of a fault of what is made of them
+carried : {A : Type 0} (rule : Rule) (rows : List ℕ → Result (List Row) LoadFault) (f : List Row → Result A LoadFault) (fault : LoadFault) (taken bytes : List ℕ) →
+    IsCauseOf rule rows taken bytes fault → IsCauseOf rule (λ file. rows file >>= f) taken bytes fault
+carried rule rows f fault taken bytes (inl e) = inl (ap (λ read. read >>= f) e)
+carried rule rows f fault taken bytes (inr other) = inr other
 
 pub deck-read : (cards : List Row) (bytes : List ℕ) → Reads (λ rows. cards ≡ map card_of_row rows) (rows_of_file card_rule file_limit bytes) → deck_of_file bytes ≡ Ok cards
 unfolding deck_of_file
 deck-read cards bytes read = ap (λ file. file >>= λ rows. Ok (map card_of_row rows)) read.1 ∙ ap Ok (sym read.2)
 
-pub deck-fault : (fault : LoadFault) (bytes : List ℕ) (left : Option (List ℕ)) → Tells card_rule (rows_of_file card_rule file_limit bytes) bytes left fault → Tells card_rule (deck_of_file bytes) bytes left fault
+pub deck-fault : (fault : LoadFault) (taken bytes : List ℕ) → IsCauseOf card_rule (rows_of_file card_rule file_limit) taken bytes fault → IsCauseOf card_rule deck_of_file taken bytes fault
 unfolding deck_of_file
-deck-fault fault bytes left told = carried card_rule (rows_of_file card_rule file_limit bytes) (λ rows. Ok (map card_of_row rows)) fault bytes left told
+deck-fault fault taken bytes cause = carried card_rule (rows_of_file card_rule file_limit) (λ rows. Ok (map card_of_row rows)) fault taken bytes cause
 
 pub panel-read : (words : Row) (bytes : List ℕ) → Reads (λ rows. words ≡ concat rows) (rows_of_file panel_rule file_limit bytes) → panel_of_file bytes ≡ whole_panel words
 unfolding panel_of_file
 panel-read words bytes read = ap (λ file. file >>= λ rows. whole_panel (concat rows)) read.1 ∙ ap whole_panel (sym read.2)
 
-pub panel-fault : (fault : LoadFault) (bytes : List ℕ) (left : Option (List ℕ)) → Tells panel_rule (rows_of_file panel_rule file_limit bytes) bytes left fault → Tells panel_rule (panel_of_file bytes) bytes left fault
+pub panel-fault : (fault : LoadFault) (taken bytes : List ℕ) → IsCauseOf panel_rule (rows_of_file panel_rule file_limit) taken bytes fault → IsCauseOf panel_rule panel_of_file taken bytes fault
 unfolding panel_of_file
-panel-fault fault bytes left told = carried panel_rule (rows_of_file panel_rule file_limit bytes) (λ rows. whole_panel (concat rows)) fault bytes left told
+panel-fault fault taken bytes cause = carried panel_rule (rows_of_file panel_rule file_limit) (λ rows. whole_panel (concat rows)) fault taken bytes cause
 
--- what is known of a file by its result, told by cases
-pub panel-ok : (result : Result Row LoadFault) (IsTold : List ℕ → Type 0) → ((bytes : List ℕ) → IsTold bytes → panel_of_file bytes ≡ result) →
-    IfOk result (λ panel. (bytes : List ℕ) → IsTold bytes → panel_of_file bytes ≡ Ok panel)
-panel-ok (Ok panel) IsTold known = known
-panel-ok (Err fault) IsTold known = tt
-
-pub panel-err : (result : Result Row LoadFault) (left : Option (List ℕ)) (IsTold : List ℕ → Type 0) → ((bytes : List ℕ) → IsTold bytes → panel_of_file bytes ≡ result) →
-    IfErr result (λ fault. (bytes : List ℕ) → IsTold bytes → Tells panel_rule (panel_of_file bytes) bytes left fault)
-panel-err (Ok panel) left IsTold known = tt
-panel-err (Err fault) left IsTold known = λ bytes told. inl (known bytes told)
-
--- ---- whatever the source tells
-
-carried-of : {A : Type 0} (rule : Rule) (rows : Result (List Row) LoadFault) (f : List Row → Result A LoadFault) (fault : LoadFault) (bytes : List ℕ) (old new : Option (List ℕ)) →
-    TellsOf rule rows bytes old new fault → TellsOf rule (rows >>= f) bytes old new fault
-carried-of rule rows f fault bytes old new (inl e) = inl (ap (λ read. read >>= f) e)
-carried-of rule rows f fault bytes old new (inr other) = inr other
-
-pub deck-fault-of : (fault : LoadFault) (bytes : List ℕ) (old new : Option (List ℕ)) → TellsOf card_rule (rows_of_file card_rule file_limit bytes) bytes old new fault → TellsOf card_rule (deck_of_file bytes) bytes old new fault
-unfolding deck_of_file
-deck-fault-of fault bytes old new told = carried-of card_rule (rows_of_file card_rule file_limit bytes) (λ rows. Ok (map card_of_row rows)) fault bytes old new told
-
-pub panel-fault-of : (fault : LoadFault) (bytes : List ℕ) (old new : Option (List ℕ)) → TellsOf panel_rule (rows_of_file panel_rule file_limit bytes) bytes old new fault → TellsOf panel_rule (panel_of_file bytes) bytes old new fault
-unfolding panel_of_file
-panel-fault-of fault bytes old new told = carried-of panel_rule (rows_of_file panel_rule file_limit bytes) (λ rows. whole_panel (concat rows)) fault bytes old new told
-
-pub panel-some : (result : Result Row LoadFault) (bytes : List ℕ) (old new : Option (List ℕ)) → panel_of_file bytes ≡ result →
-    MatchResult result (λ panel. panel_of_file bytes ≡ Ok panel) (λ fault. TellsOf panel_rule (panel_of_file bytes) bytes old new fault)
-panel-some (Ok panel) bytes old new known = known
-panel-some (Err fault) bytes old new known = inl known
+-- a file that was read to its end, by cases of its result
+pub panel-whole : (result : Result Row LoadFault) (taken bytes : List ℕ) → bytes ≡ taken → panel_of_file taken ≡ result →
+    MatchResult result (λ panel. panel_of_file taken ≡ Ok panel) (λ fault. IsCauseOf panel_rule panel_of_file taken bytes fault)
+panel-whole (Ok panel) taken bytes same known = known
+panel-whole (Err fault) taken bytes same known = inl (ap panel_of_file same ∙ known)

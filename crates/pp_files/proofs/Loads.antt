@@ -1,7 +1,7 @@
 -- How far a file was read, and what a fault tells of it.
 use Rattle.std.proofs.Common.{◌≡◌, ◌∙◌, ℕ, ◌+◌, ◌<◌, ◌≤◌, eqb, false, List, [], ◌∷◌, ◌++◌, length, take, refl, sym, ap, subst, arith, rules, inl, inr, length-append, append_assoc}
 use Rattle.std.specs.Prelude.{Option, Some, None, Result, Ok, Err, MatchResult, ◌⊎◌}
-use Rattle.std.specs.Io.KnownBytes.{Consumes, Keeps, IsAtEnd}
+use Rattle.std.specs.Io.KnownBytes.{IsAtEnd}
 use Rattle.std.proofs.lemmas.List.{append-nil}
 use Rattle.pp_files.specs.declared.fault.LoadFault.{LoadFault}
 use Rattle.pp_files.specs.declared.fault.LoadFault.TheVariants.{NoMemory, FileTooLong}
@@ -10,10 +10,10 @@ use Rattle.pp_files.specs.declared.progress.TheConstants.{KEPT}
 use Rattle.pp_lines.specs.Lines.{finished, unfinished, IsFrontOf}
 use Rattle.pp_lines.proofs.LineCuts.{finished-feed, finished-byte}
 use Rattle.pp_lines.proofs.Limits.{lines-whole, lines-last}
-use Rattle.pp_lines.proofs.Reading.{Consumes-keeps}
 use Rattle.pp_files.specs.Rows.{Row}
 use Rattle.pp_files.specs.Files.{Rule, with_line, with_lines, rows_of_lines, file_limit, lines_of_file, rows_of_file}
-use Rattle.pp_files.specs.Loading.{RunsOut, BreaksOff, Tells, MayHold, StopsShort, TellsOf}
+use Rattle.pp_files.specs.Loading.{RunsOut, BreaksOff, IsCauseOf}
+use Rattle.pp_lines.specs.Device.{known_rest}
 use Rattle.pp_files.specs.Reading.{Stands, Reads, FailsAt, FailsIn}
 use Rattle.pp_files.proofs.MoreLines.{row_of_front, line-kept, lines-one, lines-short, file-fault, file-short, file-long, lines_of_file-feed}
 
@@ -145,58 +145,25 @@ file-last progress rule Holds Holds' (Err fault) bytes stands begun line =
     (lines-short file_limit bytes (Stands-within progress rule Holds bytes stands) ∙ all ∙ sym (append-nil (finished bytes ++ unfinished bytes ∷ []))) read.1
     (FailsAt-kept rule (length (finished bytes) + 1) read.0 progress.cutter (unfinished bytes) fault stands.keeps fails)
 
--- ---- what the source told
+-- ---- what was read of the source
+
+-- at the end no byte is left
+pub no-rest : (left : Option (List ℕ)) (taken : List ℕ) → IsAtEnd left → taken ++ known_rest left ≡ taken
+no-rest None taken end = append-nil taken
+no-rest (Some bytes) taken end = ap (λ rest. taken ++ rest) end ∙ append-nil taken
+
+-- a fault of the file, or memory, is the cause
+pub fails-in : (rule : Rule) (taken bytes : List ℕ) (fault : LoadFault) → FailsIn rule bytes fault → IsCauseOf rule (rows_of_file rule file_limit) taken bytes fault
+fails-in rule taken bytes fault (inl fails) = inl fails
+fails-in rule taken bytes fault (inr refused) = inr (inl refused)
 
 -- the source failed
-pub breaks-off : (progress : Progress) (rule : Rule) (Holds : List Row → Type 0) (taken bytes : List ℕ) (first second third : Option (List ℕ)) → Stands progress rule Holds taken →
-    Consumes first second taken → Keeps second third → first ≡ Some bytes → BreaksOff rule file_limit bytes third
-breaks-off progress rule Holds taken bytes first second third stands p q told = (
-  taken,
-  subst (λ known. Consumes known third taken) told (Consumes-keeps first second third taken p q),
-  Stands-within progress rule Holds taken stands,
-  (stands.reads.0, stands.reads.1),
-)
+pub breaks-off : (progress : Progress) (rule : Rule) (Holds : List Row → Type 0) (taken : List ℕ) → Stands progress rule Holds taken → BreaksOff rule file_limit taken
+breaks-off progress rule Holds taken stands = (Stands-within progress rule Holds taken stands, (stands.reads.0, stands.reads.1))
 
--- what is told within a file is told of it
-pub FailsIn-told : (rule : Rule) (bytes : List ℕ) (left : Option (List ℕ)) (fault : LoadFault) → FailsIn rule bytes fault → Tells rule (rows_of_file rule file_limit bytes) bytes left fault
-FailsIn-told rule bytes left fault (inl fails) = inl fails
-FailsIn-told rule bytes left fault (inr refused) = inr (inl refused)
-
-pub ends-told : {T : Type 0} (result : Result T LoadFault) (P : T → Type 0) (rule : Rule) (bytes : List ℕ) (left : Option (List ℕ)) →
-    MatchResult result P (λ fault. FailsIn rule bytes fault) → MatchResult result P (λ fault. Tells rule (rows_of_file rule file_limit bytes) bytes left fault)
-ends-told (Ok value) P rule bytes left known = known
-ends-told (Err fault) P rule bytes left told = FailsIn-told rule bytes left fault told
-
--- ---- whatever the source tells
-
--- bytes that may come after those that were taken
-pub may-follow : (first second : Option (List ℕ)) (taken : List ℕ) → Consumes first second taken → (later : List ℕ) × MayHold first (taken ++ later)
-may-follow None second taken p = ([], tt)
-may-follow (Some x) None taken p = absurd p
-may-follow (Some x) (Some y) taken p = (y, p)
-
--- at the end there are none
-pub may-end : (first second : Option (List ℕ)) (taken : List ℕ) → Consumes first second taken → IsAtEnd second → MayHold first taken
-may-end None second taken p end = tt
-may-end (Some x) None taken p end = absurd p
-may-end (Some x) (Some y) taken p end = (rw end at p) ∙ append-nil taken
-
-pub stops-short : (progress : Progress) (rule : Rule) (Holds : List Row → Type 0) (taken later : List ℕ) (old new : Option (List ℕ)) → Stands progress rule Holds taken →
-    Consumes old new taken → StopsShort rule file_limit (taken ++ later) old new
-stops-short progress rule Holds taken later old new stands p = (
-  taken,
-  later,
-  refl,
-  p,
-  Stands-within progress rule Holds taken stands,
-  (stands.reads.0, stands.reads.1),
-)
-
-pub FailsIn-of : (rule : Rule) (bytes : List ℕ) (old new : Option (List ℕ)) (fault : LoadFault) → FailsIn rule bytes fault → TellsOf rule (rows_of_file rule file_limit bytes) bytes old new fault
-FailsIn-of rule bytes old new fault (inl fails) = inl fails
-FailsIn-of rule bytes old new fault (inr refused) = inr (inl refused)
-
-pub ends-of : {T : Type 0} (result : Result T LoadFault) (P : T → Type 0) (rule : Rule) (bytes : List ℕ) (old new : Option (List ℕ)) →
-    MatchResult result P (λ fault. FailsIn rule bytes fault) → MatchResult result P (λ fault. TellsOf rule (rows_of_file rule file_limit bytes) bytes old new fault)
-ends-of (Ok value) P rule bytes old new known = known
-ends-of (Err fault) P rule bytes old new told = FailsIn-of rule bytes old new fault told
+-- at the end of the input
+pub ends : {T : Type 0} (result : Result T LoadFault) (P : T → Type 0) (rule : Rule) (taken : List ℕ) (left : Option (List ℕ)) → IsAtEnd left →
+    MatchResult result P (λ fault. FailsIn rule taken fault) →
+    MatchResult result P (λ fault. IsCauseOf rule (rows_of_file rule file_limit) taken (taken ++ known_rest left) fault)
+ends (Ok value) P rule taken left end known = known
+ends (Err fault) P rule taken left end known = rw (no-rest left taken end) (fails-in rule taken taken fault known)

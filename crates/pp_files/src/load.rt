@@ -1,8 +1,9 @@
 //! Loads decks and panels.
-ghost use Rattle.std.specs.Io.KnownBytes.{IsAtEnd};
-ghost use Rattle.std.specs.Prelude.{◌≡◌, ◌≢◌, ◌<◌, ℕ, List, All, Some, Ok, IfOk, IfErr, OnOk, MatchResult};
+ghost use Rattle.std.specs.Io.KnownBytes.{Consumes, IsAtEnd};
+ghost use Rattle.std.specs.Prelude.{◌≡◌, ◌≢◌, ◌<◌, ◌++◌, ℕ, List, All, Ok, IfOk, IfErr, OnOk, MatchResult};
+ghost use Rattle.pp_lines.specs.Device.{known_rest};
 ghost use Rattle.pp_files.specs.Files.{card_rule, panel_rule, whole_panel, deck_of_file, panel_of_file};
-ghost use Rattle.pp_files.specs.Loading.{MayHold, Tells, TellsOf, reads_after};
+ghost use Rattle.pp_files.specs.Loading.{IsCauseOf, reads_after};
 
 use crate::fault::LoadFault;
 use crate::loading::read_sheet;
@@ -20,14 +21,13 @@ use std::alloc::Global;
 /// # Errors
 /// The file's first fault, in the order of `LoadFault`. `NoMemory` is told only at a card.
 pub fn load_deck<R: Source>(alloc: Global, source: &mut R) -> Result<Vec<[u16; COLUMNS]>, LoadFault>
-    ensures cards { IfOk result (λ deck. (bytes : List ℕ) → R.rest source.old ≡ Some bytes →
-        deck_of_file bytes ≡ Ok deck.items) }
+    // At every source: what was read is the file, or after a fault the part of it that was read.
+    ensures file { (taken : List ℕ) × Consumes (R.rest source.old) (R.rest source.new) taken
+        × (R.given source.new ≡ R.given source.old ++ taken)
+        × MatchResult result
+        (λ deck. deck_of_file taken ≡ Ok deck.items)
+        (λ fault. IsCauseOf card_rule deck_of_file taken (taken ++ known_rest (R.rest source.new)) fault) }
     ensures within { IfOk result (λ deck. All (All (λ value. value < 0o10000)) deck.items) }
-    ensures fault { IfErr result (λ fault. (bytes : List ℕ) → R.rest source.old ≡ Some bytes →
-        Tells card_rule (deck_of_file bytes) bytes (R.rest source.new) fault) }
-    ensures some { (bytes : List ℕ) × MayHold (R.rest source.old) bytes × MatchResult result
-        (λ deck. deck_of_file bytes ≡ Ok deck.items)
-        (λ fault. TellsOf card_rule (deck_of_file bytes) bytes (R.rest source.old) (R.rest source.new) fault) }
     ensures all { OnOk result (IsAtEnd (R.rest source.new)) }
     ensures reads { MatchResult result
         (λ _. R.failure_count source.new ≡ R.failure_count source.old)
@@ -47,14 +47,13 @@ pub fn load_deck<R: Source>(alloc: Global, source: &mut R) -> Result<Vec<[u16; C
 /// The file's first fault, in the order of `LoadFault`, and `PanelCount` where it ends with fewer
 /// than twelve words. It is never `NoMemory`, nor `TooManyWords`.
 pub fn load_panel<R: Source>(source: &mut R) -> Result<[u16; PANEL_WORDS], LoadFault>
-    ensures words { IfOk result (λ panel. (bytes : List ℕ) → R.rest source.old ≡ Some bytes →
-        panel_of_file bytes ≡ Ok panel) }
+    // At every source: what was read is the file, or after a fault the part of it that was read.
+    ensures file { (taken : List ℕ) × Consumes (R.rest source.old) (R.rest source.new) taken
+        × (R.given source.new ≡ R.given source.old ++ taken)
+        × MatchResult result
+        (λ panel. panel_of_file taken ≡ Ok panel)
+        (λ fault. IsCauseOf panel_rule panel_of_file taken (taken ++ known_rest (R.rest source.new)) fault) }
     ensures within { IfOk result (λ panel. All (λ value. value < 0o10000) panel) }
-    ensures fault { IfErr result (λ fault. (bytes : List ℕ) → R.rest source.old ≡ Some bytes →
-        Tells panel_rule (panel_of_file bytes) bytes (R.rest source.new) fault) }
-    ensures some { (bytes : List ℕ) × MayHold (R.rest source.old) bytes × MatchResult result
-        (λ panel. panel_of_file bytes ≡ Ok panel)
-        (λ fault. TellsOf panel_rule (panel_of_file bytes) bytes (R.rest source.old) (R.rest source.new) fault) }
     ensures no_memory { IfErr result (λ fault. fault ≢ LoadFault.NoMemory) }
     ensures all { OnOk result (IsAtEnd (R.rest source.new)) }
     ensures reads { MatchResult result

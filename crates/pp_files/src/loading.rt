@@ -1,9 +1,10 @@
 //! Reads a file into a sheet.
-ghost use Rattle.std.specs.Io.KnownBytes.{IsAtEnd};
-ghost use Rattle.std.specs.Prelude.{◌≡◌, ◌+◌, ◌∷◌, ◌++◌, [], ℕ, List, Some, IfErr, OnOk, MatchResult, length};
+ghost use Rattle.std.specs.Io.KnownBytes.{Consumes, IsAtEnd};
+ghost use Rattle.std.specs.Prelude.{◌≡◌, ◌+◌, ◌∷◌, ◌++◌, [], ℕ, List, IfErr, OnOk, MatchResult, length};
+ghost use Rattle.pp_lines.specs.Device.{known_rest};
 ghost use Rattle.pp_files.specs.Rows.{Row};
 ghost use Rattle.pp_files.specs.Files.{with_line, file_limit, rows_of_file};
-ghost use Rattle.pp_files.specs.Loading.{MayHold, Tells, TellsOf, reads_after};
+ghost use Rattle.pp_files.specs.Loading.{IsCauseOf, reads_after};
 ghost use Rattle.pp_files.specs.Reading.{Stands, Reads, FailsAt, FailsIn, MayTell, MayWant};
 
 use crate::fault::LoadFault;
@@ -95,13 +96,11 @@ fn finish<S: Sheet>(progress: &Progress, sheet: &mut S) -> Result<(), LoadFault>
 /// Reads all of the source into an empty sheet.
 pub fn read_sheet<R: Source, S: Sheet>(source: &mut R, sheet: &mut S) -> Result<(), LoadFault>
     requires { S.holds sheet.old [] }
-    ensures read { (bytes : List ℕ) → R.rest source.old ≡ Some bytes →
-        MatchResult result
-        (λ _. Reads (S.holds sheet.new) (rows_of_file S.rule file_limit bytes))
-        (λ fault. Tells S.rule (rows_of_file S.rule file_limit bytes) bytes (R.rest source.new) fault) }
-    ensures some { (bytes : List ℕ) × MayHold (R.rest source.old) bytes × MatchResult result
-        (λ _. Reads (S.holds sheet.new) (rows_of_file S.rule file_limit bytes))
-        (λ fault. TellsOf S.rule (rows_of_file S.rule file_limit bytes) bytes (R.rest source.old) (R.rest source.new) fault) }
+    ensures file { (taken : List ℕ) × Consumes (R.rest source.old) (R.rest source.new) taken
+        × (R.given source.new ≡ R.given source.old ++ taken)
+        × MatchResult result
+        (λ _. Reads (S.holds sheet.new) (rows_of_file S.rule file_limit taken))
+        (λ fault. IsCauseOf S.rule (rows_of_file S.rule file_limit) taken (taken ++ known_rest (R.rest source.new)) fault) }
     ensures all { OnOk result (IsAtEnd (R.rest source.new)) }
     ensures reads { MatchResult result
         (λ _. R.failure_count source.new ≡ R.failure_count source.old)

@@ -1,9 +1,9 @@
-use Rattle.std.proofs.Common.{◌≡◌, ◌∙◌, ◌++◌, [], refl, sym, take, rules, inr}
+use Rattle.std.proofs.Common.{◌≡◌, ◌∙◌, ◌++◌, [], refl, ap, sym, take, rules, inr, append_assoc}
 use Rattle.std.proofs.lemmas.Result.{err_from_is_err_and}
 use Rattle.std.proofs.lemmas.List.{append-nil}
 use Rattle.std.specs.Io.KnownBytes.{Consumes, IsAtEnd}
-use Rattle.pp_lines.proofs.Reading.{Consumes-nothing, Consumes-again, Consumes-keeps, taken-all, still}
-use Rattle.pp_files.proofs.Loads.{Stands-new, breaks-off, ends-told, FailsIn-told, may-follow, may-end, stops-short, FailsIn-of, ends-of}
+use Rattle.pp_lines.proofs.Reading.{Consumes-nothing, Consumes-again, Consumes-keeps}
+use Rattle.pp_files.proofs.Loads.{Stands-new, breaks-off, ends, fails-in}
 use Rattle.pp_files.proofs.loading.read_sheet.Goals as goal
 
 pub pieces-init : goal.pieces-init
@@ -11,25 +11,11 @@ pieces-init g c = record {
   stands = (
     [],
     Consumes-nothing (g.R.Source.rest c.args.source.now),
+    sym (append-nil (g.R.Source.given c.args.source.now)),
     Stands-new _ g.S.Sheet.rule _ c.new-progress.ensures.front c.new-progress.ensures.bytes c.new-progress.ensures.lines c.requires,
   );
   reads = refl;
 }
-
-pub returns-in-Err-clause-read : goal.returns-in-Err-clause-read
-returns-in-Err-clause-read g c = λ bytes told.
-    let past = c.pieces.invariant.stands in
-    inr (inr (refl, breaks-off c.pieces.progress g.S.Sheet.rule _ past.0 bytes _ (g.R.Source.rest c.pieces.source) _ past.2 past.1 c.in-Err.ensures.bytes told))
-
-pub returns-in-Ok-eq0-clause-read : goal.returns-in-Ok-eq0-clause-read
-returns-in-Ok-eq0-clause-read g c = λ bytes told.
-    let past = c.pieces.invariant.stands in
-    let nothing : Consumes (g.R.Source.rest c.pieces.source) (g.R.Source.rest c.take.new.self) [] = search rules in
-    let end : IsAtEnd (g.R.Source.rest c.take.new.self) = search rules in
-    let all : Consumes (g.R.Source.rest c.args.source.now) (g.R.Source.rest c.take.new.self) (past.0 ++ []) =
-    Consumes-again _ (g.R.Source.rest c.pieces.source) _ past.0 [] past.1 nothing in
-    let same : past.0 ≡ bytes = sym (append-nil past.0) ∙ taken-all _ (g.R.Source.rest c.take.new.self) (past.0 ++ []) bytes all end told in
-    ends-told c.finish.result _ g.S.Sheet.rule bytes _ (c.finish.ensures.read bytes (rw same at past.2))
 
 pub pieces-preserved : goal.pieces-preserved
 pieces-preserved g c = record {
@@ -37,39 +23,42 @@ pieces-preserved g c = record {
       let past = c.pieces.invariant.stands in (
         past.0 ++ take c.in-Ok.count c.take.new.into,
         Consumes-again _ (g.R.Source.rest c.pieces.source) _ past.0 _ past.1 c.in-Ok.ensures.bytes.0,
-        c.in_ok-feed-in-Ok.ensures.stands past.0 [] past.2,
+        c.in-Ok.ensures.given ∙ ap (λ front. front ++ take c.in-Ok.count c.take.new.into) past.2 ∙ append_assoc _ past.0 _,
+        c.in_ok-feed-in-Ok.ensures.stands past.0 [] past.3,
       );
   reads = search rules;
 }
 
-pub returns-in_err-feed-in-Ok-clause-read : goal.returns-in_err-feed-in-Ok-clause-read
-returns-in_err-feed-in-Ok-clause-read g c = λ bytes told.
-    let past = c.pieces.invariant.stands in
-    let p = err_from_is_err_and c.from_residual.result c.from_residual.ensures.1 in
-    let whole = Consumes-again _ (g.R.Source.rest c.pieces.source) _ past.0 _ past.1 c.in-Ok.ensures.bytes.0 in
-    let rest = still _ (g.R.Source.rest c.take.new.self) _ bytes whole told in
-    rw (p.1, p.2) (FailsIn-told g.S.Sheet.rule bytes _ _ (rw (← rest.1) at (c.in_err-feed-in-Ok.ensures.stands past.0 rest.0 past.2)))
+pub returns-in-Err-clause-file : goal.returns-in-Err-clause-file
+returns-in-Err-clause-file g c =
+    let past = c.pieces.invariant.stands in (
+      past.0,
+      Consumes-keeps _ (g.R.Source.rest c.pieces.source) _ past.0 past.1 c.in-Err.ensures.bytes,
+      c.in-Err.ensures.given ∙ past.2,
+      inr (inr (refl, breaks-off c.pieces.progress g.S.Sheet.rule _ past.0 past.3)),
+    )
 
-pub returns-in-Err-clause-some : goal.returns-in-Err-clause-some
-returns-in-Err-clause-some g c =
-    let past = c.pieces.invariant.stands in
-    let all = Consumes-keeps _ (g.R.Source.rest c.pieces.source) _ past.0 past.1 c.in-Err.ensures.bytes in
-    let more = may-follow _ (g.R.Source.rest c.take.new.self) past.0 all in
-    (past.0 ++ more.0, more.1, inr (inr (refl, stops-short c.pieces.progress g.S.Sheet.rule _ past.0 more.0 _ _ past.2 all)))
-
-pub returns-in-Ok-eq0-clause-some : goal.returns-in-Ok-eq0-clause-some
-returns-in-Ok-eq0-clause-some g c =
+pub returns-in-Ok-eq0-clause-file : goal.returns-in-Ok-eq0-clause-file
+returns-in-Ok-eq0-clause-file g c =
     let past = c.pieces.invariant.stands in
     let nothing : Consumes (g.R.Source.rest c.pieces.source) (g.R.Source.rest c.take.new.self) [] = search rules in
+    let same : g.R.Source.given c.take.new.self ≡ g.R.Source.given c.pieces.source ++ [] = search rules in
     let end : IsAtEnd (g.R.Source.rest c.take.new.self) = search rules in
     let all : Consumes (g.R.Source.rest c.args.source.now) (g.R.Source.rest c.take.new.self) (past.0 ++ []) =
-    Consumes-again _ (g.R.Source.rest c.pieces.source) _ past.0 [] past.1 nothing in
-    (past.0, may-end _ (g.R.Source.rest c.take.new.self) past.0 (rw (append-nil past.0) at all) end, ends-of c.finish.result _ g.S.Sheet.rule past.0 _ _ (c.finish.ensures.read past.0 past.2))
+    Consumes-again _ (g.R.Source.rest c.pieces.source) _ past.0 [] past.1 nothing in (
+      past.0,
+      rw (append-nil past.0) at all,
+      same ∙ append-nil (g.R.Source.given c.pieces.source) ∙ past.2,
+      ends c.finish.result _ g.S.Sheet.rule past.0 (g.R.Source.rest c.take.new.self) end (c.finish.ensures.read past.0 past.3),
+    )
 
-pub returns-in_err-feed-in-Ok-clause-some : goal.returns-in_err-feed-in-Ok-clause-some
-returns-in_err-feed-in-Ok-clause-some g c =
+pub returns-in_err-feed-in-Ok-clause-file : goal.returns-in_err-feed-in-Ok-clause-file
+returns-in_err-feed-in-Ok-clause-file g c =
     let past = c.pieces.invariant.stands in
     let p = err_from_is_err_and c.from_residual.result c.from_residual.ensures.1 in
-    let whole = Consumes-again _ (g.R.Source.rest c.pieces.source) _ past.0 _ past.1 c.in-Ok.ensures.bytes.0 in
-    let more = may-follow _ (g.R.Source.rest c.take.new.self) _ whole in
-    rw (p.1, p.2) ((past.0 ++ take c.in-Ok.count c.take.new.into) ++ more.0, more.1, FailsIn-of g.S.Sheet.rule _ _ _ _ (c.in_err-feed-in-Ok.ensures.stands past.0 more.0 past.2))
+    rw (p.1, p.2) (
+      past.0 ++ take c.in-Ok.count c.take.new.into,
+      Consumes-again _ (g.R.Source.rest c.pieces.source) _ past.0 _ past.1 c.in-Ok.ensures.bytes.0,
+      c.in-Ok.ensures.given ∙ ap (λ front. front ++ take c.in-Ok.count c.take.new.into) past.2 ∙ append_assoc _ past.0 _,
+      fails-in g.S.Sheet.rule _ _ _ (c.in_err-feed-in-Ok.ensures.stands past.0 _ past.3),
+    )
