@@ -220,21 +220,16 @@ pub fn serve<R: Source, W: Sink>(
     source: &mut R,
     out: &mut W,
 ) -> Result<Summary, IoFault>
-    // The bytes of the source are the script: all of it was performed, answered and counted.
-    ensures script { IfOk result (λ summary. (start : Value) (bytes : List ℕ) →
-        IsAt rules session.old start → R.rest source.old ≡ Some bytes →
-        Serves summary session.new (W.text out.new) (origin_of start (W.text out.old)) bytes) }
-    ensures all { OnOk result (IsAtEnd (R.rest source.new)) }
-
-    // The limits that the clauses name.
-    ensures limits { (LINE_LIMIT ≡ 1000000) × (BYTE_LIMIT ≡ 268435456) }
-
-    // Whatever the source tells: the bytes that were taken are the script, and after a fault they say what stands.
-    ensures taken { (taken : List ℕ) × Consumes (R.rest source.old) (R.rest source.new) taken
+    // At every source: the bytes that were read are the script, and after a fault they determine what was performed.
+    ensures script { (taken : List ℕ) × Consumes (R.rest source.old) (R.rest source.new) taken
         × (R.given source.new ≡ R.given source.old ++ taken)
         × ((start : Value) → IsAt rules session.old start → MatchResult result
         (λ summary. Serves summary session.new (W.text out.new) (origin_of start (W.text out.old)) taken)
         (λ fault. Stops fault session.new (W.text out.new) (origin_of start (W.text out.old)) taken (R.rest source.new))) }
+    ensures all { OnOk result (IsAtEnd (R.rest source.new)) }
+
+    // The limits that the clauses name.
+    ensures limits { (LINE_LIMIT ≡ 1000000) × (BYTE_LIMIT ≡ 268435456) }
 
     // Each count of failures rose by the fault that is told, and by no other.
     ensures reads { MatchResult result (λ _. R.failure_count source.new ≡ R.failure_count source.old)

@@ -1,7 +1,7 @@
 -- How far a file was read, and what a fault tells of it.
 use Rattle.std.proofs.Common.{◌≡◌, ◌∙◌, ℕ, ◌+◌, ◌<◌, ◌≤◌, eqb, false, List, [], ◌∷◌, ◌++◌, length, take, refl, sym, ap, subst, arith, rules, inl, inr, length-append, append_assoc}
 use Rattle.std.specs.Prelude.{Option, Some, None, Result, Ok, Err, MatchResult, ◌⊎◌}
-use Rattle.std.specs.Io.KnownBytes.{IsAtEnd}
+use Rattle.std.specs.Io.KnownBytes.{Consumes, IsAtEnd}
 use Rattle.std.proofs.lemmas.List.{append-nil}
 use Rattle.pp_files.specs.declared.fault.LoadFault.{LoadFault}
 use Rattle.pp_files.specs.declared.fault.LoadFault.TheVariants.{NoMemory, FileTooLong}
@@ -13,7 +13,8 @@ use Rattle.pp_lines.proofs.Limits.{lines-whole, lines-last}
 use Rattle.pp_files.specs.Rows.{Row}
 use Rattle.pp_files.specs.Files.{Rule, with_line, with_lines, rows_of_lines, file_limit, lines_of_file, rows_of_file}
 use Rattle.pp_files.specs.Loading.{RunsOut, BreaksOff, IsCauseOf}
-use Rattle.pp_lines.specs.Device.{known_rest}
+use Rattle.pp_lines.specs.Device.{all_bytes}
+use Rattle.pp_lines.proofs.Reading.{unread}
 use Rattle.pp_files.specs.Reading.{Stands, Reads, FailsAt, FailsIn}
 use Rattle.pp_files.proofs.MoreLines.{row_of_front, line-kept, lines-one, lines-short, file-fault, file-short, file-long, lines_of_file-feed}
 
@@ -147,23 +148,31 @@ file-last progress rule Holds Holds' (Err fault) bytes stands begun line =
 
 -- ---- what was read of the source
 
--- at the end no byte is left
-pub no-rest : (left : Option (List ℕ)) (taken : List ℕ) → IsAtEnd left → taken ++ known_rest left ≡ taken
-no-rest None taken end = append-nil taken
-no-rest (Some bytes) taken end = ap (λ rest. taken ++ rest) end ∙ append-nil taken
+-- at the end all bytes were read
+pub all-read : (first second : Option (List ℕ)) (taken : List ℕ) → Consumes first second taken → IsAtEnd second → all_bytes first taken ≡ taken
+all-read first second taken p end =
+    let rest = unread first second taken p in
+    rest.1 ∙ ap (λ later. taken ++ later) (rest.2 end) ∙ append-nil taken
 
 -- a fault of the file, or memory, is the cause
-pub fails-in : (rule : Rule) (taken bytes : List ℕ) (fault : LoadFault) → FailsIn rule bytes fault → IsCauseOf rule (rows_of_file rule file_limit) taken bytes fault
-fails-in rule taken bytes fault (inl fails) = inl fails
-fails-in rule taken bytes fault (inr refused) = inr (inl refused)
+caused : (rule : Rule) (taken bytes : List ℕ) (fault : LoadFault) → FailsIn rule bytes fault → IsCauseOf rule (rows_of_file rule file_limit) taken bytes fault
+caused rule taken bytes fault (inl fails) = inl fails
+caused rule taken bytes fault (inr refused) = inr (inl refused)
+
+-- so it is, whatever bytes follow
+pub fails-in : (rule : Rule) (first second : Option (List ℕ)) (taken : List ℕ) (fault : LoadFault) → Consumes first second taken →
+    ((later : List ℕ) → FailsIn rule (taken ++ later) fault) → IsCauseOf rule (rows_of_file rule file_limit) taken (all_bytes first taken) fault
+fails-in rule first second taken fault p fails =
+    let rest = unread first second taken p in
+    rw rest.1 (caused rule taken (taken ++ rest.0) fault (fails rest.0))
 
 -- the source failed
 pub breaks-off : (progress : Progress) (rule : Rule) (Holds : List Row → Type 0) (taken : List ℕ) → Stands progress rule Holds taken → BreaksOff rule file_limit taken
 breaks-off progress rule Holds taken stands = (Stands-within progress rule Holds taken stands, (stands.reads.0, stands.reads.1))
 
 -- at the end of the input
-pub ends : {T : Type 0} (result : Result T LoadFault) (P : T → Type 0) (rule : Rule) (taken : List ℕ) (left : Option (List ℕ)) → IsAtEnd left →
+pub ends : {T : Type 0} (result : Result T LoadFault) (P : T → Type 0) (rule : Rule) (first second : Option (List ℕ)) (taken : List ℕ) → Consumes first second taken → IsAtEnd second →
     MatchResult result P (λ fault. FailsIn rule taken fault) →
-    MatchResult result P (λ fault. IsCauseOf rule (rows_of_file rule file_limit) taken (taken ++ known_rest left) fault)
-ends (Ok value) P rule taken left end known = known
-ends (Err fault) P rule taken left end known = rw (no-rest left taken end) (fails-in rule taken taken fault known)
+    MatchResult result P (λ fault. IsCauseOf rule (rows_of_file rule file_limit) taken (all_bytes first taken) fault)
+ends (Ok value) P rule first second taken p end known = known
+ends (Err fault) P rule first second taken p end known = rw (all-read first second taken p end) (caused rule taken taken fault known)

@@ -1,7 +1,7 @@
 //! Loads decks and panels.
 ghost use Rattle.std.specs.Io.KnownBytes.{Consumes, IsAtEnd};
 ghost use Rattle.std.specs.Prelude.{◌≡◌, ◌≢◌, ◌<◌, ◌++◌, ℕ, List, All, Ok, IfOk, IfErr, OnOk, MatchResult};
-ghost use Rattle.pp_lines.specs.Device.{known_rest};
+ghost use Rattle.pp_lines.specs.Device.{all_bytes};
 ghost use Rattle.pp_files.specs.Files.{card_rule, panel_rule, whole_panel, deck_of_file, panel_of_file};
 ghost use Rattle.pp_files.specs.Loading.{IsCauseOf, reads_after};
 
@@ -26,7 +26,7 @@ pub fn load_deck<R: Source>(alloc: Global, source: &mut R) -> Result<Vec<[u16; C
         × (R.given source.new ≡ R.given source.old ++ taken)
         × MatchResult result
         (λ deck. deck_of_file taken ≡ Ok deck.items)
-        (λ fault. IsCauseOf card_rule deck_of_file taken (taken ++ known_rest (R.rest source.new)) fault) }
+        (λ fault. IsCauseOf card_rule deck_of_file taken (all_bytes (R.rest source.old) taken) fault) }
     ensures within { IfOk result (λ deck. All (All (λ value. value < 0o10000)) deck.items) }
     ensures all { OnOk result (IsAtEnd (R.rest source.new)) }
     ensures reads { MatchResult result
@@ -52,7 +52,7 @@ pub fn load_panel<R: Source>(source: &mut R) -> Result<[u16; PANEL_WORDS], LoadF
         × (R.given source.new ≡ R.given source.old ++ taken)
         × MatchResult result
         (λ panel. panel_of_file taken ≡ Ok panel)
-        (λ fault. IsCauseOf panel_rule panel_of_file taken (taken ++ known_rest (R.rest source.new)) fault) }
+        (λ fault. IsCauseOf panel_rule panel_of_file taken (all_bytes (R.rest source.old) taken) fault) }
     ensures within { IfOk result (λ panel. All (λ value. value < 0o10000) panel) }
     ensures no_memory { IfErr result (λ fault. fault ≢ LoadFault.NoMemory) }
     ensures all { OnOk result (IsAtEnd (R.rest source.new)) }

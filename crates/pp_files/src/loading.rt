@@ -1,7 +1,7 @@
 //! Reads a file into a sheet.
 ghost use Rattle.std.specs.Io.KnownBytes.{Consumes, IsAtEnd};
 ghost use Rattle.std.specs.Prelude.{◌≡◌, ◌+◌, ◌∷◌, ◌++◌, [], ℕ, List, IfErr, OnOk, MatchResult, length};
-ghost use Rattle.pp_lines.specs.Device.{known_rest};
+ghost use Rattle.pp_lines.specs.Device.{all_bytes};
 ghost use Rattle.pp_files.specs.Rows.{Row};
 ghost use Rattle.pp_files.specs.Files.{with_line, file_limit, rows_of_file};
 ghost use Rattle.pp_files.specs.Loading.{IsCauseOf, reads_after};
@@ -100,7 +100,7 @@ pub fn read_sheet<R: Source, S: Sheet>(source: &mut R, sheet: &mut S) -> Result<
         × (R.given source.new ≡ R.given source.old ++ taken)
         × MatchResult result
         (λ _. Reads (S.holds sheet.new) (rows_of_file S.rule file_limit taken))
-        (λ fault. IsCauseOf S.rule (rows_of_file S.rule file_limit) taken (taken ++ known_rest (R.rest source.new)) fault) }
+        (λ fault. IsCauseOf S.rule (rows_of_file S.rule file_limit) taken (all_bytes (R.rest source.old) taken) fault) }
     ensures all { OnOk result (IsAtEnd (R.rest source.new)) }
     ensures reads { MatchResult result
         (λ _. R.failure_count source.new ≡ R.failure_count source.old)

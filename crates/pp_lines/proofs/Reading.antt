@@ -2,6 +2,7 @@
 use Rattle.std.proofs.Common.{◌≡◌, ◌∙◌, ℕ, ◌+◌, ◌-◌, ◌<◌, List, [], ◌∷◌, ◌++◌, length, take, drop, get_or, refl, sym, ap, subst, arith, append_assoc}
 use Rattle.std.specs.Prelude.{Option, None, Some, Result, Ok, Err, MatchResult, IfOk, IfErr, OnOk}
 use Rattle.std.specs.Io.KnownBytes.{Consumes, Keeps, IsAtEnd}
+use Rattle.pp_lines.specs.Device.{all_bytes}
 use Rattle.std.proofs.lemmas.Grind.{common_steps}
 use Rattle.std.proofs.lemmas.List.{append-nil}
 
@@ -40,22 +41,11 @@ taken-all (Some x) (Some y) taken bytes p end e =
     let all : x ≡ taken ++ [] = rw end at p in
     sym (append-nil taken) ∙ sym all ∙ cc
 
--- where a run ended well, what it led to is told of all bytes
-pub told-of_all : {S T E : Type 0} (result : Result T E) (first second : Option (List ℕ)) (IsStart : S → Type 0) (P : S → List ℕ → T → Type 0) (Q : S → List ℕ → E → Type 0) →
-    ((start : S) → IsStart start → (taken : List ℕ) × Consumes first second taken × MatchResult result (P start taken) (Q start taken)) →
-    OnOk result (IsAtEnd second) →
-    IfOk result (λ value. (start : S) (bytes : List ℕ) → IsStart start → first ≡ Some bytes → P start bytes value)
-told-of_all (Ok value) first second IsStart P Q h end = λ start bytes at e.
-    let past = h start at in
-    subst (λ all. P start all value) (taken-all first second past.0 bytes past.1 end e) past.2
-told-of_all (Err fault) first second IsStart P Q h end = tt
-
--- where it did not, what it led to is told of the bytes that were taken
-pub told-of_fault : {S T E : Type 0} (result : Result T E) (first second : Option (List ℕ)) (IsStart : S → Type 0) (P : S → List ℕ → T → Type 0) (Q : S → List ℕ → E → Type 0) →
-    ((start : S) → IsStart start → (taken : List ℕ) × Consumes first second taken × MatchResult result (P start taken) (Q start taken)) →
-    IfErr result (λ fault. (start : S) → IsStart start → (taken : List ℕ) × Consumes first second taken × Q start taken fault)
-told-of_fault (Ok value) first second IsStart P Q h = tt
-told-of_fault (Err fault) first second IsStart P Q h = h
+-- the bytes that were not read, of which there are none at the end
+pub unread : (first second : Option (List ℕ)) (taken : List ℕ) → Consumes first second taken → (later : List ℕ) × (all_bytes first taken ≡ taken ++ later) × (IsAtEnd second → later ≡ [])
+unread None second taken p = ([], sym (append-nil taken), λ end. refl)
+unread (Some x) None taken p = absurd p
+unread (Some x) (Some y) taken p = (y, p, λ end. end)
 
 -- the slice of a piece up to a length
 pub slice_to : (count : ℕ) (piece : List ℕ) → take (count - 0) piece ≡ take count piece

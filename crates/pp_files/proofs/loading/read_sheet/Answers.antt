@@ -49,16 +49,17 @@ returns-in-Ok-eq0-clause-file g c =
       past.0,
       rw (append-nil past.0) at all,
       same ∙ append-nil (g.R.Source.given c.pieces.source) ∙ past.2,
-      ends c.finish.result _ g.S.Sheet.rule past.0 (g.R.Source.rest c.take.new.self) end (c.finish.ensures.read past.0 past.3),
+      ends c.finish.result _ g.S.Sheet.rule _ (g.R.Source.rest c.take.new.self) past.0 (rw (append-nil past.0) at all) end (c.finish.ensures.read past.0 past.3),
     )
 
 pub returns-in_err-feed-in-Ok-clause-file : goal.returns-in_err-feed-in-Ok-clause-file
 returns-in_err-feed-in-Ok-clause-file g c =
     let past = c.pieces.invariant.stands in
     let p = err_from_is_err_and c.from_residual.result c.from_residual.ensures.1 in
+    let all = Consumes-again _ (g.R.Source.rest c.pieces.source) _ past.0 _ past.1 c.in-Ok.ensures.bytes.0 in
     rw (p.1, p.2) (
       past.0 ++ take c.in-Ok.count c.take.new.into,
-      Consumes-again _ (g.R.Source.rest c.pieces.source) _ past.0 _ past.1 c.in-Ok.ensures.bytes.0,
+      all,
       c.in-Ok.ensures.given ∙ ap (λ front. front ++ take c.in-Ok.count c.take.new.into) past.2 ∙ append_assoc _ past.0 _,
-      fails-in g.S.Sheet.rule _ _ _ (c.in_err-feed-in-Ok.ensures.stands past.0 _ past.3),
+      fails-in g.S.Sheet.rule _ (g.R.Source.rest c.take.new.self) _ _ all (λ later. c.in_err-feed-in-Ok.ensures.stands past.0 later past.3),
     )
