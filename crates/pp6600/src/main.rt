@@ -1,65 +1,73 @@
-//! The console as a program, over the words, the files and the streams of the system.
+//! The program: its words, files and standard streams, handed to `pp_program::run`.
 #![tactic(auto)]
 
-ghost use Rattle.pp_program.specs.Hosts.{silent};
+ghost use Rattle.pp_program.specs.Hosts.{words_known};
 ghost use Rattle.std.specs.Prelude.{None};
 
 use pp_lines::{Counted, Source};
-use pp_program::{Host, OpenFault, WordsFault, run};
+use pp_program::{FileEvent, FileLog, Host, OpenFault, WordsFault, run};
 use pp_trouble::FileKind;
-use std::alloc::Global;
 use std::fs::File;
 use std::process::ExitCode;
-use std::{env, io};
+use std::{env, io, mem};
 
 /// The system that the program runs in.
 #[derive(Drop)]
 struct System<'a> {
     rt: &'a HostRuntime,
-    /// How many files had a failed read.
+    /// The words of the command line, until the program asked for them.
+    words: Result<Vec<String>, WordsFault>,
+    log: FileLog,
+    /// The number of files with a failed read.
     failures: u64,
 }
 
 impl Host for System<'_> {
     type File = Counted<File>;
 
-    ghost knowledge = { λ _. silent };
+    ghost known_words = { λ system. words_known system.words };
 
-    ghost asked = { λ _. None };
+    ghost known_files = { λ _ _. None };
+
+    ghost log = { λ system. system.log.events };
 
     ghost failure_count = { λ system. system.failures };
 
-    fn words(&mut self, alloc: Global) -> Result<Vec<String>, WordsFault> {
-        let words = match env::args(self.rt) {
-            Ok(words) => words,
-            Err(error) if error.kind() == io::ErrorKind::OutOfMemory => {
-                return Err(WordsFault::NoMemory);
-            }
-            Err(_) => return Err(WordsFault::NotText),
-        };
-        match words.collect(alloc) {
-            Ok(words) => Ok(words),
-            Err(_) => Err(WordsFault::NoMemory),
-        }
+    fn words(&mut self) -> Result<Vec<String>, WordsFault> {
+        mem::replace(&mut self.words, Err(WordsFault::NoMemory))
     }
 
-    fn open(&mut self, _kind: FileKind, path: &str) -> Result<Counted<File>, OpenFault> {
-        match File::open(self.rt, path) {
-            Ok(file) => Ok(Counted::new(file)),
-            Err(_) => Err(OpenFault::CannotOpen),
-        }
+    fn open(&mut self, kind: FileKind, path: &str) -> Result<Counted<File>, OpenFault> {
+        let Ok(file) = File::open(self.rt, path) else {
+            self.log = FileLog::with(&self.log, &FileEvent::missing(kind, path));
+            return Err(OpenFault::CannotOpen);
+        };
+        self.log = FileLog::with(&self.log, &FileEvent::opened(kind, path));
+        Ok(Counted::new(file))
     }
 
     fn close(&mut self, file: Counted<File>) {
         if Source::failures(&file) != 0 {
             self.failures = self.failures.saturating_add(1);
         }
+        self.log = FileLog::with(&self.log, &FileEvent::Closed(file.into_log()));
+    }
+}
+
+/// Returns the words that the system gave the program.
+fn words(rt: &HostRuntime) -> Result<Vec<String>, WordsFault> {
+    match env::args(rt) {
+        Ok(words) => words.collect(rt.alloc()).map_err(|_| WordsFault::NoMemory),
+        Err(error) if error.kind() == io::ErrorKind::OutOfMemory => Err(WordsFault::NoMemory),
+        Err(_) => Err(WordsFault::NotText),
     }
 }
 
 fn main(rt: HostRuntime) -> ExitCode {
     let mut system = System {
         rt: &rt,
+        words: words(&rt),
+        log: FileLog::new(),
         failures: 0,
     };
     ExitCode::from(run(

@@ -1,6 +1,6 @@
 -- How far a file was read, and what a fault tells of it.
-use Rattle.std.proofs.Common.{◌≡◌, ◌∙◌, ℕ, ◌+◌, ◌<◌, ◌≤◌, eqb, false, List, [], ◌∷◌, ◌++◌, length, take, refl, sym, ap, subst, arith, rules, inl, inr, length-append, append_assoc}
-use Rattle.std.specs.Prelude.{Option, Some, None, Result, Ok, Err, MatchResult, ◌⊎◌}
+use Rattle.std.proofs.Common.{◌≡◌, ◌∙◌, ℕ, ◌+◌, ◌<◌, ◌≤◌, eqb, false, List, [], ◌∷◌, ◌++◌, length, take, refl, sym, ap, arith, rules, inl, inr, length-append, append_assoc}
+use Rattle.std.specs.Prelude.{Option, Result, Ok, Err, MatchResult, ◌⊎◌}
 use Rattle.std.specs.Io.KnownBytes.{Consumes, IsAtEnd}
 use Rattle.std.proofs.lemmas.List.{append-nil}
 use Rattle.pp_files.specs.declared.fault.LoadFault.{LoadFault}
@@ -14,7 +14,7 @@ use Rattle.pp_files.specs.Rows.{Row}
 use Rattle.pp_files.specs.Files.{Rule, with_line, with_lines, rows_of_lines, file_limit, lines_of_file, rows_of_file}
 use Rattle.pp_files.specs.Loading.{RunsOut, BreaksOff, IsCauseOf}
 use Rattle.pp_lines.specs.Device.{all_bytes}
-use Rattle.pp_lines.proofs.Reading.{unread}
+use Rattle.pp_lines.proofs.Reading.{all-read, unread}
 use Rattle.pp_files.specs.Reading.{Stands, Reads, FailsAt, FailsIn}
 use Rattle.pp_files.proofs.MoreLines.{row_of_front, line-kept, lines-one, lines-short, file-fault, file-short, file-long, lines_of_file-feed}
 
@@ -147,12 +147,6 @@ file-last progress rule Holds Holds' (Err fault) bytes stands begun line =
     (FailsAt-kept rule (length (finished bytes) + 1) read.0 progress.cutter (unfinished bytes) fault stands.keeps fails)
 
 -- ---- what was read of the source
-
--- at the end all bytes were read
-pub all-read : (first second : Option (List ℕ)) (taken : List ℕ) → Consumes first second taken → IsAtEnd second → all_bytes first taken ≡ taken
-all-read first second taken p end =
-    let rest = unread first second taken p in
-    rest.1 ∙ ap (λ later. taken ++ later) (rest.2 end) ∙ append-nil taken
 
 -- a fault of the file, or memory, is the cause
 caused : (rule : Rule) (taken bytes : List ℕ) (fault : LoadFault) → FailsIn rule bytes fault → IsCauseOf rule (rows_of_file rule file_limit) taken bytes fault

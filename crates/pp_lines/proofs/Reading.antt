@@ -1,6 +1,6 @@
 -- Pieces that are read one after the other.
-use Rattle.std.proofs.Common.{◌≡◌, ◌∙◌, ℕ, ◌+◌, ◌-◌, ◌<◌, List, [], ◌∷◌, ◌++◌, length, take, drop, get_or, refl, sym, ap, subst, arith, append_assoc}
-use Rattle.std.specs.Prelude.{Option, None, Some, Result, Ok, Err, MatchResult, IfOk, IfErr, OnOk}
+use Rattle.std.proofs.Common.{◌≡◌, ◌∙◌, ℕ, ◌+◌, ◌-◌, ◌<◌, List, [], ◌∷◌, ◌++◌, length, take, drop, get_or, refl, sym, ap, arith, append_assoc}
+use Rattle.std.specs.Prelude.{Option, None, Some}
 use Rattle.std.specs.Io.KnownBytes.{Consumes, Keeps, IsAtEnd}
 use Rattle.pp_lines.specs.Device.{all_bytes}
 use Rattle.std.proofs.lemmas.Grind.{common_steps}
@@ -46,6 +46,12 @@ pub unread : (first second : Option (List ℕ)) (taken : List ℕ) → Consumes 
 unread None second taken p = ([], sym (append-nil taken), λ end. refl)
 unread (Some x) None taken p = absurd p
 unread (Some x) (Some y) taken p = (y, p, λ end. end)
+
+-- at the end all bytes were read
+pub all-read : (first second : Option (List ℕ)) (taken : List ℕ) → Consumes first second taken → IsAtEnd second → all_bytes first taken ≡ taken
+all-read first second taken p end =
+    let rest = unread first second taken p in
+    rest.1 ∙ ap (λ later. taken ++ later) (rest.2 end) ∙ append-nil taken
 
 -- the slice of a piece up to a length
 pub slice_to : (count : ℕ) (piece : List ℕ) → take (count - 0) piece ≡ take count piece

@@ -39,6 +39,15 @@ impl<D> Counted<D> {
         &self.device
     }
 
+    /// Returns the log of the bytes that were moved.
+    pub fn into_log(self) -> Log
+    where
+        D: Drop,
+        ensures { result.bytes ≡ moved_by self }
+    {
+        self.log
+    }
+
     /// Counts a call that failed.
     fn count_failure(&mut self) -> Failed
         ensures device { device_of self.new ≡ device_of self.old }

@@ -1,0 +1,43 @@
+//! What happens to the files of a program.
+ghost use Rattle.pp_program.specs.FileEvent.{event_of};
+ghost use Rattle.pp_program.specs.Events.{Missing, Opened};
+ghost use Rattle.std.specs.Prelude.{◌≡◌};
+
+use pp_lines::Log;
+use pp_trouble::FileKind;
+
+/// What a host logs of a file that the program asked for. The paths and bytes are for contracts alone.
+#[derive(Drop)]
+pub enum FileEvent {
+    /// The file was opened.
+    Opened(FileKind, Log),
+    /// The file could not be opened.
+    Missing(FileKind, Log),
+    /// The file that was opened last was closed, after these bytes were read from it.
+    Closed(Log),
+}
+
+impl FileEvent {
+    /// Returns the event of a file that was opened.
+    pub fn opened(kind: FileKind, path: &str) -> Self
+        ensures { event_of result ≡ Opened kind path.now }
+    {
+        FileEvent::Opened(kind, path_log(path))
+    }
+
+    /// Returns the event of a file that could not be opened.
+    pub fn missing(kind: FileKind, path: &str) -> Self
+        ensures { event_of result ≡ Missing kind path.now }
+    {
+        FileEvent::Missing(kind, path_log(path))
+    }
+}
+
+/// Makes the log of a path.
+fn path_log(path: &str) -> Log
+    ensures { result.bytes ≡ path.now }
+{
+    let mut log = Log::new();
+    log.note(path.as_bytes());
+    log
+}

@@ -1,0 +1,38 @@
+//! What happened to the files of a program, as contracts see it.
+ghost use Rattle.pp_program.specs.Events.{Event, coded_event};
+ghost use Rattle.pp_program.specs.FileEvent.{event_of};
+ghost use Rattle.std.specs.Borrow.{ftrue};
+ghost use Rattle.std.specs.Coded.{coded_list};
+ghost use Rattle.std.specs.Prelude.{◌≡◌, ◌∷◌, ◌++◌, [], List};
+
+use crate::file_event::FileEvent;
+use std::marker::Model;
+use std::mem::size_of;
+
+/// What happened to the files of a program so far, in order. Contracts see it; at run time the log takes no bytes.
+#[derive(Drop)]
+pub struct FileLog {
+    pub ghost events: { List Event } by { coded_list coded_event },
+}
+
+const _: () = prove!(size_of::<FileLog>() == 0);
+
+impl Model for FileLog {
+    ghost also_owns = { λ _. ftrue };
+}
+
+impl FileLog {
+    /// Makes an empty log.
+    pub fn new() -> FileLog
+        ensures { result.events ≡ [] }
+    {
+        FileLog {}
+    }
+
+    /// Makes the log with one more event.
+    pub fn with(_before: &FileLog, _event: &FileEvent) -> FileLog
+        ensures { result.events ≡ _before.now.events ++ event_of _event.now ∷ [] }
+    {
+        FileLog {}
+    }
+}
