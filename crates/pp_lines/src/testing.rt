@@ -1,6 +1,8 @@
 //! Devices for tests: sources and sinks in memory, of which one call may be made to fail.
-ghost use Rattle.std.specs.Prelude.{◌≡◌, ◌<◌, ◌↔◌, [], IsErr, Some, None};
-ghost use Rattle.pp_lines.specs.Device.{one_more, Counts};
+ghost use Rattle.std.specs.Io.KnownBytes.{ReadConsumes, WriteAppends};
+ghost use Rattle.std.specs.Prelude.{◌≡◌, ◌<◌, ◌↔◌, ◌⊎◌, [], IsErr, Some, None};
+ghost use Rattle.pp_lines.specs.Device.{AnswersWithin, Counts, Logs, TakesSome, one_more};
+ghost use Rattle.pp_lines.specs.Full.{IsFull};
 
 use crate::device::{Failed, Sink, Source};
 use crate::log::Log;
@@ -115,7 +117,15 @@ impl Source for Feed<'_> {
 
     ghost failure_count = { λ feed. feed.calls.failures };
 
-    fn take(&mut self, into: &mut [u8]) -> Result<usize, Failed> {
+    fn take(&mut self, into: &mut [u8]) -> Result<usize, Failed>
+        ensures within { AnswersWithin result into.new }
+        ensures bytes { ReadConsumes (Some self.old.bytes.now) (Some self.new.bytes.now) result into.new }
+        ensures given { Logs self.old.log.bytes self.new.log.bytes result into.new }
+        ensures counted { Counts self.old.calls.failures self.new.calls.failures result }
+        ensures made { self.new.calls.made ≡ one_more self.old.calls.made }
+        ensures failing { self.new.calls.failing ≡ self.old.calls.failing }
+        ensures fails { IsErr result ↔ (self.old.calls.failing ≡ Some (one_more self.old.calls.made)) }
+    {
         self.calls.begin()?;
         let bytes = self.bytes;
         let count = bytes.len().min(self.piece).min(into.len());
@@ -211,7 +221,15 @@ impl Sink for Tray {
 
     ghost failure_count = { λ tray. tray.calls.failures };
 
-    fn put(&mut self, from: &[u8]) -> Result<usize, Failed> {
+    fn put(&mut self, from: &[u8]) -> Result<usize, Failed>
+        ensures within { AnswersWithin result from.now }
+        ensures some { TakesSome result from.now }
+        ensures bytes { WriteAppends (Some self.old.text.items) (Some self.new.text.items) result from.now }
+        ensures counted { Counts self.old.calls.failures self.new.calls.failures result }
+        ensures made { self.new.calls.made ≡ one_more self.old.calls.made }
+        ensures failing { self.new.calls.failing ≡ self.old.calls.failing }
+        ensures fails { IsErr result ↔ ((self.old.calls.failing ≡ Some (one_more self.old.calls.made)) ⊎ IsFull self.old.text.items from.now) }
+    {
         self.calls.begin()?;
         let count = from.len().min(self.piece).min(ROOM - self.text.len());
         if count == 0 && !from.is_empty() {
