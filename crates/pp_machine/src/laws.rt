@@ -6,8 +6,8 @@ ghost use Rattle.pp_machine.specs.Lookup.{lookup};
 ghost use Rattle.pp_machine.specs.Machine.{Machine, number, over};
 ghost use Rattle.pp_machine.specs.Printed.{PrinterView, FitsPrinter, printer_pairs, printer_place, printer_writes};
 ghost use Rattle.pp_machine.specs.Read.{ReaderView, reader_pairs, reader_place, reader_writes};
-ghost use Rattle.pp_machine.specs.Shape.{Has, IsShaped};
-ghost use Rattle.pp_machine.specs.Writes.{places, renamed};
+ghost use Rattle.pp_machine.specs.Shape.{Has, HasAll, IsShaped};
+ghost use Rattle.pp_machine.specs.Writes.{Writes, places, renamed};
 
 use crate::place::Place;
 use crate::printer::PrinterRecord;
@@ -38,4 +38,11 @@ pub fn numbers_make_the_machine()
     ensures { (size : ℕ) (m other : Machine) → IsShaped size m → IsShaped size other → m.setup ≡ other.setup →
         m.reader.deck ≡ other.reader.deck →
         ((place : Place) → Has size place → number m place ≡ number other place) → m ≡ other }
+{}
+
+/// A write list whose places the machine has sets the numbers at these places and at no other: afterwards a place
+/// that the list names has the number of its first pair, and every other place has the number that it had before.
+pub fn writes_set_only_their_places()
+    ensures { (size : ℕ) (s : Machine) (list : Writes Place) (place : Place) → IsShaped size s → HasAll size list →
+        number (over s list) place ≡ unwrap_or (lookup list place) (number s place) }
 {}

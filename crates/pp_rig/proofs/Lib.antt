@@ -10,3 +10,4 @@ pub mod Turns
 pub mod Unwatching
 pub mod Watching
 pub mod WriteLists
+pub mod WrittenOnce

@@ -1,0 +1,137 @@
+-- No action other than a turn writes a place twice.
+use Rattle.std.proofs.Common.{◌≡◌, ◌≢◌, ◌∙◌, ℕ, ◌+◌, ◌%◌, ◌<◌, ◌≤◌, ◌==◌, List, [], ◌∷◌, ◌++◌, drop, length, true, zero, suc, refl, sym, ap, subst, arith}
+use Rattle.std.specs.Prelude.{Option, Some, None, position}
+use Rattle.std.specs.List.{All, AllPairs}
+use Rattle.std.proofs.lemmas.Bool.{eq-eqb}
+use Rattle.std.proofs.lemmas.List.{length-append}
+use Rattle.std.proofs.lemmas.List.Kept.{AllPairs-cons}
+use Rattle.pp_machine.specs.Lookup.{same_place}
+use Rattle.pp_machine.specs.Machine.{Machine}
+use Rattle.pp_machine.specs.Writes.{Writes, places}
+use Rattle.pp_machine.specs.declared.place.Place.{Place}
+use Rattle.pp_machine.specs.declared.place.Place.TheVariants.{Cell, RegA, RegP, RegQ, Phase, ChannelMode, ChannelWord, Central, FrameWord, PaperSymbol, Slot, WatchEntry}
+use Rattle.pp_machine.proofs.Once.{once, each-once}
+use Rattle.pp_rig.specs.Action.{most_places, writes, without_entry, moved_up}
+use Rattle.pp_rig.specs.Deadstart.{all_states, all_waiting, deadstart_list, deadstart_pairs}
+use Rattle.pp_rig.specs.Watching.{watch_code}
+use Rattle.pp_rig.specs.WriteLists.{cell_list, entry_list, register_list}
+use Rattle.pp_rig.specs.declared.action.Action.{Action}
+use Rattle.pp_rig.specs.declared.action.Action.TheVariants as action
+use Rattle.pp_rig.proofs.Unwatching.{length-entry_list}
+
+abbrev EachOnce : Writes Place → Type 0
+EachOnce w = AllPairs (λ one other. one ≢ other) (places w)
+
+-- ---- places one after another
+
+-- numbers at the places with these names, from index i on
+abbrev listed : (ℕ → Place) → ℕ → List ℕ → Writes Place
+listed name i [] = []
+listed name i (v ∷ vs) = (name i, v) ∷ listed name (i + 1) vs
+
+-- names of which so many in a row differ
+module _ (name : ℕ → Place) (room : ℕ) (apart : (i j : ℕ) → i < j → j < i + room → name i ≢ name j) where
+  behind : (i j : ℕ) (vs : List ℕ) → i < j → j + length vs ≤ i + room → All (λ other. name i ≢ other) (places (listed name j vs))
+  behind i j [] less few k d within = absurd (omega (arith, within))
+  behind i j (v ∷ vs) less few zero d within = apart i j less (omega arith)
+  behind i j (v ∷ vs) less few (suc k) d within = behind i (j + 1) vs (omega arith) (omega arith) k d (omega (arith, within))
+
+  listed-once : (i : ℕ) (vs : List ℕ) → length vs ≤ room → EachOnce (listed name i vs)
+  listed-once i [] few = λ k l d less within. absurd (omega (arith, within))
+  listed-once i (v ∷ vs) few =
+      AllPairs-cons (λ one other. one ≢ other) (name i) (places (listed name (i + 1) vs))
+      (behind i (i + 1) vs (omega arith) (omega arith))
+      (listed-once (i + 1) vs (omega arith))
+
+-- 4096 cells from any address on, round the end of the memory
+cell_list-listed : (n a : ℕ) (vs : List ℕ) → cell_list n a vs ≡ listed (λ i. Cell n (i % 4096)) a vs
+cell_list-listed n a [] = refl
+cell_list-listed n a (v ∷ vs) = ap (λ w. (Cell n (a % 4096), v) ∷ w) (cell_list-listed n (a + 1) vs)
+
+cells_apart : (n i j : ℕ) → i < j → j < i + 4096 → Cell n (i % 4096) ≢ Cell n (j % 4096)
+cells_apart n i j less near same =
+    let equal : i % 4096 ≡ j % 4096 = cc in
+    absurd (omega (arith, equal))
+
+cells-once : (n a : ℕ) (vs : List ℕ) → length vs ≤ 4096 → EachOnce (cell_list n a vs)
+cells-once n a vs few = rw cell_list-listed (listed-once (λ i. Cell n (i % 4096)) 4096 (cells_apart n) a vs few)
+
+entry_list-listed : (i : ℕ) (codes : List ℕ) → entry_list i codes ≡ listed WatchEntry i codes
+entry_list-listed i [] = refl
+entry_list-listed i (code ∷ codes) = ap (λ w. (WatchEntry i, code) ∷ w) (entry_list-listed (i + 1) codes)
+
+entries_apart : (i j : ℕ) → i < j → WatchEntry i ≢ WatchEntry j
+entries_apart i j less same =
+    let equal : i ≡ j = cc in
+    absurd (omega (arith, equal))
+
+entries-once : (i : ℕ) (codes : List ℕ) → EachOnce (entry_list i codes)
+entries-once i codes = rw entry_list-listed (listed-once WatchEntry (length codes) (λ k l less near. entries_apart k l less) i codes (omega arith))
+
+without_entry-once : (entries : List ℕ) (found : Option ℕ) → EachOnce (without_entry entries found)
+without_entry-once entries None = λ i j d less within. absurd (omega (arith, within))
+without_entry-once entries (Some i) = entries-once i (moved_up (drop (i + 1) entries))
+
+-- ---- lists of known places
+
+self : (x : Place) → same_place x x ≡ true
+self (Cell n a) = rw (eq-eqb n n refl, eq-eqb a a refl) refl
+self (RegA n) = eq-eqb n n refl
+self (RegP n) = eq-eqb n n refl
+self (RegQ n) = eq-eqb n n refl
+self (Phase n) = eq-eqb n n refl
+self (ChannelMode c) = eq-eqb c c refl
+self (ChannelWord c) = eq-eqb c c refl
+self (Central a) = eq-eqb a a refl
+self (FrameWord i) = eq-eqb i i refl
+self (PaperSymbol k) = eq-eqb k k refl
+self (WatchEntry i) = eq-eqb i i refl
+self _ = refl
+
+each : (w : Writes Place) → once same_place w ≡ true → EachOnce w
+each = each-once same_place self
+
+length-cell_list : (n a : ℕ) (vs : List ℕ) → length (cell_list n a vs) ≡ length vs
+length-cell_list n a [] = refl
+length-cell_list n a (v ∷ vs) = ap suc (length-cell_list n (a + 1) vs)
+
+length-deadstart_pairs : (panel : List ℕ) → length (deadstart_pairs panel) ≡ length panel + 64
+unfolding deadstart_pairs all_waiting all_states
+length-deadstart_pairs panel = simp (length-append, length-cell_list) (omega arith)
+
+-- the panel does not reach the cell behind it
+panel-once : (panel : List ℕ) → length panel ≤ 12 → once same_place (deadstart_pairs panel) ≡ true
+unfolding deadstart_pairs all_waiting all_states
+panel-once [] few = refl
+panel-once (_ ∷ []) few = refl
+panel-once (_ ∷ _ ∷ []) few = refl
+panel-once (_ ∷ _ ∷ _ ∷ []) few = refl
+panel-once (_ ∷ _ ∷ _ ∷ _ ∷ []) few = refl
+panel-once (_ ∷ _ ∷ _ ∷ _ ∷ _ ∷ []) few = refl
+panel-once (_ ∷ _ ∷ _ ∷ _ ∷ _ ∷ _ ∷ []) few = refl
+panel-once (_ ∷ _ ∷ _ ∷ _ ∷ _ ∷ _ ∷ _ ∷ []) few = refl
+panel-once (_ ∷ _ ∷ _ ∷ _ ∷ _ ∷ _ ∷ _ ∷ _ ∷ []) few = refl
+panel-once (_ ∷ _ ∷ _ ∷ _ ∷ _ ∷ _ ∷ _ ∷ _ ∷ _ ∷ []) few = refl
+panel-once (_ ∷ _ ∷ _ ∷ _ ∷ _ ∷ _ ∷ _ ∷ _ ∷ _ ∷ _ ∷ []) few = refl
+panel-once (_ ∷ _ ∷ _ ∷ _ ∷ _ ∷ _ ∷ _ ∷ _ ∷ _ ∷ _ ∷ _ ∷ []) few = refl
+panel-once (_ ∷ _ ∷ _ ∷ _ ∷ _ ∷ _ ∷ _ ∷ _ ∷ _ ∷ _ ∷ _ ∷ _ ∷ []) few = refl
+panel-once (_ ∷ _ ∷ _ ∷ _ ∷ _ ∷ _ ∷ _ ∷ _ ∷ _ ∷ _ ∷ _ ∷ _ ∷ _ ∷ rest) few = absurd (omega arith)
+
+deadstart-once : (panel : Option (List ℕ)) → length (deadstart_list panel) ≤ 76 → EachOnce (deadstart_list panel)
+deadstart-once None few = λ i j d less within. absurd (omega (arith, within))
+deadstart-once (Some panel) few = each (deadstart_pairs panel) (panel-once panel (omega (arith, few, length-deadstart_pairs panel)))
+
+-- ---- every action
+
+pub action-once : (s : Machine) (done : Action) → done ≢ action.Turn → length (writes s done) ≤ most_places done → EachOnce (writes s done)
+action-once s action.Turn other few = absurd (other refl)
+action-once s (action.SetCells n a values) other few = cells-once n a values (omega (arith, few, length-cell_list n a values))
+action-once s (action.SetA n v) other few = each ((RegA n, v) ∷ []) refl
+action-once s (action.SetP n v) other few = each ((RegP n, v) ∷ (Phase n, 0) ∷ []) refl
+action-once s (action.SetQ n v) other few = each ((RegQ n, v) ∷ []) refl
+action-once s (action.SetWord a v) other few = each ((Central a, v) ∷ []) refl
+action-once s (action.SetChannel c state None) other few = each (writes s (action.SetChannel c state None)) refl
+action-once s (action.SetChannel c state (Some w)) other few = each (writes s (action.SetChannel c state (Some w))) refl
+action-once s (action.Watch w) other few = each (writes s (action.Watch w)) refl
+action-once s (action.Unwatch w) other few = without_entry-once s.watches (position (λ code. code == watch_code w) s.watches)
+action-once s action.Deadstart other few = deadstart-once s.setup.panel few
