@@ -1,6 +1,5 @@
 -- A machine is its numbers: two of one shape and setup, with one deck, that have the same number at each place are the same.
-use Rattle.std.proofs.Common.{◌≡◌, ◌∙◌, ℕ, ◌<◌, List, length, get_or, refl, sym, ap, arith}
-use Rattle.std.specs.Prelude.{Option}
+use Rattle.std.proofs.Common.{◌≡◌, ◌∙◌, ℕ, ◌<◌, List, length, get_or, sym, ap}
 use Rattle.std.proofs.lemmas.List.{ext_get_or}
 use Rattle.pp_machine.specs.ChannelNumbers.{ChannelNumbers}
 use Rattle.pp_machine.specs.Machine.{Machine, ProcessorNumbers, Setup, no_processor, number, processor}

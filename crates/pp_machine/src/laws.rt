@@ -1,4 +1,5 @@
-//! Laws of the devices' write lists and records, each the contract of a function that does nothing.
+//! Theorems about write lists, the devices' records and the machine value, each the contract of a function that does
+//! nothing.
 
 ghost use Rattle.std.specs.Prelude.{◌≡◌, ◌≢◌, ◌<◌, ℕ, unwrap_or};
 ghost use Rattle.std.specs.List.{AllPairs};
@@ -40,8 +41,8 @@ pub fn numbers_make_the_machine()
         ((place : Place) → Has size place → number m place ≡ number other place) → m ≡ other }
 {}
 
-/// A write list whose places the machine has sets the numbers at these places and at no other: afterwards a place
-/// that the list names has the number of its first pair, and every other place has the number that it had before.
+/// A write list sets the numbers at its places and changes no others, if the machine has these places. Afterwards a
+/// place of the list has the number of its first pair, and every other place has the number that it had before.
 pub fn writes_set_only_their_places()
     ensures { (size : ℕ) (s : Machine) (list : Writes Place) (place : Place) → IsShaped size s → HasAll size list →
         number (over s list) place ≡ unwrap_or (lookup list place) (number s place) }

@@ -11,3 +11,4 @@ pub mod Unwatching
 pub mod Watching
 pub mod WriteLists
 pub mod WrittenOnce
+pub mod WrittenPlaces

@@ -1,5 +1,5 @@
 -- No action other than a turn writes a place twice.
-use Rattle.std.proofs.Common.{◌≡◌, ◌≢◌, ◌∙◌, ℕ, ◌+◌, ◌%◌, ◌<◌, ◌≤◌, ◌==◌, List, [], ◌∷◌, ◌++◌, drop, length, true, zero, suc, refl, sym, ap, subst, arith}
+use Rattle.std.proofs.Common.{◌≡◌, ◌≢◌, ℕ, ◌+◌, ◌%◌, ◌<◌, ◌≤◌, ◌==◌, List, [], ◌∷◌, drop, length, true, zero, suc, refl, ap, arith}
 use Rattle.std.specs.Prelude.{Option, Some, None, position}
 use Rattle.std.specs.List.{All, AllPairs}
 use Rattle.std.proofs.lemmas.Bool.{eq-eqb}
@@ -9,15 +9,14 @@ use Rattle.pp_machine.specs.Lookup.{same_place}
 use Rattle.pp_machine.specs.Machine.{Machine}
 use Rattle.pp_machine.specs.Writes.{Writes, places}
 use Rattle.pp_machine.specs.declared.place.Place.{Place}
-use Rattle.pp_machine.specs.declared.place.Place.TheVariants.{Cell, RegA, RegP, RegQ, Phase, ChannelMode, ChannelWord, Central, FrameWord, PaperSymbol, Slot, WatchEntry}
+use Rattle.pp_machine.specs.declared.place.Place.TheVariants.{Cell, RegA, RegP, RegQ, Phase, ChannelMode, ChannelWord, Central, FrameWord, PaperSymbol, WatchEntry}
 use Rattle.pp_machine.proofs.Once.{once, each-once}
 use Rattle.pp_rig.specs.Action.{most_places, writes, without_entry, moved_up}
 use Rattle.pp_rig.specs.Deadstart.{all_states, all_waiting, deadstart_list, deadstart_pairs}
 use Rattle.pp_rig.specs.Watching.{watch_code}
-use Rattle.pp_rig.specs.WriteLists.{cell_list, entry_list, register_list}
+use Rattle.pp_rig.specs.WriteLists.{cell_list, entry_list}
 use Rattle.pp_rig.specs.declared.action.Action.{Action}
 use Rattle.pp_rig.specs.declared.action.Action.TheVariants as action
-use Rattle.pp_rig.proofs.Unwatching.{length-entry_list}
 
 abbrev EachOnce : Writes Place → Type 0
 EachOnce w = AllPairs (λ one other. one ≢ other) (places w)

@@ -1,11 +1,14 @@
-//! Laws of runs and of write lists, each the contract of a function that does nothing.
-ghost use Rattle.std.specs.Prelude.{◌≡◌, ◌≢◌, ◌≤◌, ℕ, ◌++◌, length, replicate};
+//! Theorems about runs and write lists, each the contract of a function that does nothing.
+ghost use Rattle.std.specs.Prelude.{◌≡◌, ◌≢◌, ◌≤◌, ℕ, ◌++◌, length, None, replicate};
 ghost use Rattle.std.specs.List.{AllPairs};
 ghost use Rattle.pp_history.specs.SessionValue.{SessionValue};
 ghost use Rattle.pp_machine.specs.Machine.{Machine};
+ghost use Rattle.pp_machine.specs.Shape.{HasAll};
 ghost use Rattle.pp_machine.specs.Writes.{places};
 ghost use Rattle.pp_rig.specs.Action.{most_places, writes};
+ghost use Rattle.pp_rig.specs.Admitting.{first_fault};
 ghost use Rattle.pp_rig.specs.Stopping.{stopped, after_turns, IsShortest};
+ghost use Rattle.pp_rig.specs.WellFormed.{IsWellFormed};
 ghost use Rattle.pp_rig.specs.declared.action.Action.TheVariants.{Turn};
 
 use crate::action::Action;
@@ -17,14 +20,21 @@ pub fn runs_are_shortest()
         (after_turns turns v).standing ≡ replicate turns Turn ++ v.standing }
 {}
 
-/// No action other than a turn writes a place twice, if it writes no more places than an action of its kind may: 76
-/// for a dead start, 8 for any other (decimal). No action that a rig performs writes more.
+/// No action other than a turn writes a place twice, if it writes at most as many places as its kind may: 76 for a dead
+/// start, 8 for any other (decimal). Every action that a rig performs keeps within that (`Reversible::act`).
 ///
-/// In a turn each part's own list names no place twice (`pp_step::writes_are_distinct`,
-/// `pp_machine::device_writes_are_distinct`), and clock and slot are one place each. The list of the whole turn may
-/// name a place twice, since a processor and a device can both write the state of a channel: the first pair counts.
+/// In a turn, each part's own list names no place twice (`pp_step::writes_are_distinct`,
+/// `pp_machine::device_writes_are_distinct`), and the clock and the slot are one place each. The list of the whole turn
+/// may name a place twice, because a processor and a device can both write the state of one channel. Then the machine
+/// has the number of the later part, and in the record the first pair counts, which has the number before the turn.
 pub fn actions_write_each_place_once()
     ensures { (s : Machine) (action : Action) → action ≢ Turn →
         length (writes s action) ≤ most_places action →
         AllPairs (λ one other. one ≢ other) (places (writes s action)) }
+{}
+
+/// An admitted action writes only places that the machine has, if the machine is well formed. A turn does so too.
+pub fn actions_write_places_of_the_machine()
+    ensures { (s : Machine) (action : Action) → IsWellFormed s → first_fault s action ≡ None →
+        HasAll s.setup.central_words (writes s action) }
 {}

@@ -9,7 +9,7 @@ use Rattle.pp_step.specs.Inner.{stored_over}
 use Rattle.pp_step.specs.View.{PpView, FrameWord, Word, number, over}
 use Rattle.pp_step.specs.Words.{central_after}
 
-length-loaded : (a : ℕ) (words : List ℕ) → length (loaded a words) ≡ 16
+pub length-loaded : (a : ℕ) (words : List ℕ) → length (loaded a words) ≡ 16
 unfolding loaded
 length-loaded a words = refl
 

@@ -1,0 +1,99 @@
+-- An admitted action writes only places that the machine has.
+use Rattle.std.proofs.Common.{◌≡◌, ℕ, ◌+◌, ◌%◌, ◌<◌, ◌≤◌, ◌==◌, Bool, true, false, if◌then◌else◌, List, [], ◌∷◌, drop, length, position, refl, arith, length-drop, ⊎_elim}
+use Rattle.std.specs.Prelude.{Option, Some, None, IfSome}
+use Rattle.std.proofs.lemmas.Bool.Decides.{eqb_tells}
+use Rattle.std.proofs.lemmas.List.Quantifiers.{position-Some}
+use Rattle.pp_machine.proofs.DeviceWrites.{HasAll-reader_writes, HasAll-printer_writes}
+use Rattle.pp_machine.specs.Machine.{Machine, no_processor, over, processor}
+use Rattle.pp_machine.specs.Shape.{Has, HasAll}
+use Rattle.pp_machine.specs.WriteLaws.{AllPlaces-append}
+use Rattle.pp_machine.specs.declared.place.Place.TheVariants.{Clock}
+use Rattle.pp_step.proofs.StepPlaces.{HasAll-step}
+use Rattle.pp_rig.proofs.Admitting.{performable}
+use Rattle.pp_rig.proofs.Deadstart.{AreSettings-deadstart}
+use Rattle.pp_rig.proofs.Unwatching.{HasAll-entries}
+use Rattle.pp_rig.specs.Action.{moved_up, without_entry, writes}
+use Rattle.pp_rig.specs.Admitting.{first_fault}
+use Rattle.pp_rig.specs.CellLaws.{AreSettings-cell_list}
+use Rattle.pp_rig.specs.Deadstart.{deadstart_list, deadstart_pairs}
+use Rattle.pp_rig.specs.IsSetup.{IsPanel}
+use Rattle.pp_rig.specs.Lift.{pp_of, printer_of, reader_of}
+use Rattle.pp_rig.specs.MachineLaws.{setup-over}
+use Rattle.pp_rig.specs.Performing.{IsPerformable}
+use Rattle.pp_rig.specs.Settings.{HasAll-settings}
+use Rattle.pp_rig.specs.Turn.{turn_list, pp_list, reader_list, printer_list}
+use Rattle.pp_rig.specs.Watching.{watch_code}
+use Rattle.pp_rig.specs.WellFormed.{IsProcessor, IsWellFormed}
+use Rattle.pp_rig.specs.WriteLists.{cell_list}
+use Rattle.pp_rig.specs.declared.action.Action.{Action}
+use Rattle.pp_rig.specs.declared.action.Action.TheVariants as action
+
+-- ---- a turn
+
+HasAll-clock_list : (size value : ℕ) (last : Bool) → HasAll size (if last then (Clock, value) ∷ [] else [])
+HasAll-clock_list size value true = (tt, tt)
+HasAll-clock_list size value false = tt
+
+HasAll-turn_list : (s : Machine) → IsWellFormed s → HasAll s.setup.central_words (turn_list s)
+unfolding turn_list
+HasAll-turn_list s ok =
+    let size = s.setup.central_words in
+    let s1 = over s (pp_list s) in
+    let s2 = over s1 (reader_list s1) in
+    let s3 = over s2 (printer_list s2) in
+    let here : s.slot < length s.processors = omega (arith, ok.slot, ok.sizes.processors) in
+    let stepped : IsProcessor (processor s s.slot) = ok.processors s.slot no_processor here in
+    let low : (processor s s.slot).p < 4096 = omega (arith, stepped.p) in
+    let reads : s1.setup.reader_channel < 12 = rw (setup-over s (pp_list s)) ok.setup.reader_channel in
+    let prints : s2.setup.printer_channel < 12 = rw (setup-over s1 (reader_list s1), setup-over s (pp_list s)) ok.setup.printer_channel in
+    AllPlaces-append (Has size) _ _
+    (AllPlaces-append (Has size) _ _
+    (AllPlaces-append (Has size) _ _
+    (AllPlaces-append (Has size) (pp_list s) (reader_list s1)
+    (HasAll-step size s.slot ok.slot (pp_of s.slot s) low stepped.cells ok.sizes.central)
+    (HasAll-reader_writes size s1.setup.reader_channel reads (reader_of s1.setup.reader_channel s1)))
+    (HasAll-printer_writes size s2.setup.printer_channel prints (printer_of s2.setup.printer_channel s2)))
+    (HasAll-clock_list size ((s3.channels.clock + 1) % 4096) (s3.slot == 9)))
+    (tt, tt)
+
+-- ---- watches
+
+length-moved_up : (codes : List ℕ) → length (moved_up codes) ≤ length codes + 1
+length-moved_up [] = omega arith
+length-moved_up (code ∷ codes) =
+    ⊎_elim (λ t. rw t.0 (omega arith)) (λ t. rw t.0 (omega (arith, length-moved_up codes))) (eqb_tells code 0)
+
+HasAll-without_entry : (size : ℕ) (entries : List ℕ) (found : Option ℕ) → IfSome found (λ i. i < 8) → length entries ≡ 8 → HasAll size (without_entry entries found)
+HasAll-without_entry size entries None within all = tt
+HasAll-without_entry size entries (Some i) within all =
+    HasAll-entries size i (moved_up (drop (i + 1) entries)) (omega (arith, within, all, length-moved_up (drop (i + 1) entries), length-drop (i + 1) entries))
+
+position_within : (test : ℕ → Bool) (entries : List ℕ) (found : Option ℕ) → position test entries ≡ found → length entries ≡ 8 → IfSome found (λ i. i < 8)
+position_within test entries None e all = tt
+position_within test entries (Some i) e all = omega (arith, (position-Some test entries i 0 e).0, all)
+
+-- ---- a dead start
+
+HasAll-deadstart : (size : ℕ) (panel : Option (List ℕ)) → IfSome panel IsPanel → HasAll size (deadstart_list panel)
+HasAll-deadstart size None ok = tt
+HasAll-deadstart size (Some panel) ok = HasAll-settings size (deadstart_pairs panel) (AreSettings-deadstart size panel ok.small)
+
+-- ---- every action
+
+HasAll-performable : (s : Machine) (done : Action) → IsWellFormed s → IsPerformable s done → HasAll s.setup.central_words (writes s done)
+HasAll-performable s action.Turn ok h = HasAll-turn_list s ok
+HasAll-performable s (action.SetCells n a values) ok h = HasAll-settings s.setup.central_words (cell_list n a values) (AreSettings-cell_list s.setup.central_words n a values h.0 h.3)
+HasAll-performable s (action.SetA n v) ok h = (h.0, tt)
+HasAll-performable s (action.SetP n v) ok h = (h.0, (h.0, tt))
+HasAll-performable s (action.SetQ n v) ok h = (h.0, tt)
+HasAll-performable s (action.SetWord a v) ok h = (h.0, tt)
+HasAll-performable s (action.SetChannel c state None) ok h = (h.0, tt)
+HasAll-performable s (action.SetChannel c state (Some word)) ok h = (h.0, (h.0, tt))
+HasAll-performable s (action.Watch w) ok h = (h.1, tt)
+HasAll-performable s (action.Unwatch w) ok h =
+    let found = position (λ code. code == watch_code w) s.watches in
+    HasAll-without_entry s.setup.central_words s.watches found (position_within (λ code. code == watch_code w) s.watches found refl ok.sizes.watches) ok.sizes.watches
+HasAll-performable s action.Deadstart ok h = HasAll-deadstart s.setup.central_words s.setup.panel ok.setup.panel
+
+pub HasAll-action : (s : Machine) (done : Action) → IsWellFormed s → first_fault s done ≡ None → HasAll s.setup.central_words (writes s done)
+HasAll-action s done ok admitted = HasAll-performable s done ok (performable s done admitted)
