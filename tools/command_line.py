@@ -72,13 +72,17 @@ def add_script(parser):
     parser.add_argument("script", nargs="?", metavar="SCRIPT", help="without it, standard input is the script")
 
 
+def tell(message):
+    """Writes a line to standard error, after the tool's name."""
+    print(f"{os.path.basename(sys.argv[0])}: {message}", file=sys.stderr)
+
+
 def run(main):
     """Runs a tool. It ends with a message in place of a traceback."""
-    name = os.path.basename(sys.argv[0])
     try:
         sys.exit(main())
     except Failure as failure:
-        print(f"{name}: {failure}", file=sys.stderr)
+        tell(failure)
         sys.exit(2)
     except KeyboardInterrupt:
         sys.exit(130)
