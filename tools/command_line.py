@@ -72,7 +72,7 @@ def add_script(parser):
     parser.add_argument("script", nargs="?", metavar="SCRIPT", help="without it, standard input is the script")
 
 
-def tell(message):
+def complain(message):
     """Writes a line to standard error, after the tool's name."""
     print(f"{os.path.basename(sys.argv[0])}: {message}", file=sys.stderr)
 
@@ -82,7 +82,7 @@ def run(main):
     try:
         sys.exit(main())
     except Failure as failure:
-        tell(failure)
+        complain(failure)
         sys.exit(2)
     except KeyboardInterrupt:
         sys.exit(130)

@@ -1,4 +1,4 @@
-"""The actions of a script that stand at its end, and their replay."""
+"""The actions of a script that are in effect at its end, and their replay."""
 
 from console import Console
 
@@ -15,8 +15,8 @@ def take(actions, count):
     return taken
 
 
-def standing_actions(words, lines):
-    """Performs a script, and returns the actions that stand at its end: neither refused nor taken back. An action is
+def actions_in_effect(words, lines):
+    """Performs a script, and returns the actions in effect at its end: neither refused nor taken back. An action is
     its line and how often it was performed; that of turns is STEP. Watches are left out, for a replay stops nowhere."""
     console = Console(words)
     done, ahead = [], []
