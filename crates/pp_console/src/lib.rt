@@ -17,7 +17,10 @@ mod text;
 mod watches;
 
 pub use commands::perform;
+pub use pp_arguments::{ArgFault, Options, read_arguments};
 pub use pp_command::{Command, LineFault, parse};
+pub use pp_files::{LoadFault, load_deck, load_panel};
 pub use pp_lines::{Counted, Failed, IoFault, Sink, Source};
+pub use pp_trouble::{FileKind, Trouble};
 pub use progress::Summary;
 pub use serving::serve;

@@ -45,7 +45,8 @@ impl<D> Counted<D> {
         D: Drop,
         ensures { result.bytes ≡ moved_by self }
     {
-        self.log
+        let log = self.log;
+        log
     }
 
     /// Counts a call that failed.
