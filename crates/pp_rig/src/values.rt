@@ -40,6 +40,6 @@ impl Values {
         for word in self.as_slice() {
             words.push(*word);
         }
-        Values { words }
+        Values::new(words)
     }
 }

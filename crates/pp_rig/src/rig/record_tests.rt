@@ -1,14 +1,19 @@
 //! Each record of the machine, taken apart by its fields and made anew of them: the three records of the parts, places,
-//! numbers, and short lists of them.
+//! numbers, and short lists of them. The record made anew leads back to the whole machine before.
 ghost use Rattle.std.specs.Prelude.{◌≡◌, ◌≤◌, length};
 ghost use Rattle.pp_machine.specs.Machine.{Machine};
 ghost use Rattle.pp_rig.specs.Action.{FitsRecord};
 
+mod whole;
+
 use super::*;
 use crate::setup::Setup;
+use crate::tests::deck_of;
 use crate::values::Values;
 use std::alloc::Global;
+use std::process::Abort;
 use std::test::Fail;
+use whole::{is_true_of, numbers_at, places_of};
 
 fn same_pairs(pairs: &[Kept]) -> ArrayVec<Kept, 8>
     requires { length pairs.now ≤ 8 }
@@ -79,73 +84,163 @@ fn made_anew(back: RigRecord) -> RigRecord
     }
 }
 
+/// A machine with one card in the reader, on channel 0o10, and the printer on channel 0o11.
 fn make(alloc: Global) -> Result<Rig, &'static str> {
+    let deck = deck_of(alloc, 1, 0o1234).map_err(|_| "memory")?;
     let setup = Setup {
         central: CentralSize::K32,
         reader: 8,
         printer: 9,
-        deck: Vec::new(alloc),
+        deck,
         panel: Some([0o1405, 0o3420, 0o300, 0, 0, 0, 0, 0, 0, 0, 0, 0]),
     };
     Rig::new(alloc, setup).map_err(|_| "refused")
 }
 
-/// Numbers of which each action of the test changes one.
-fn numbers(rig: &Rig) -> [u64; 8] {
-    let word = if rig.central_size().words() > 0o1000 {
-        rig.value(&Place::Central { a: 0o1000 })
-    } else {
-        0
-    };
-    [
-        rig.value(&Place::Cell { pp: 0, a: 0o100 }),
-        rig.value(&Place::RegA { pp: 0 }),
-        rig.value(&Place::RegP { pp: 0 }),
-        rig.value(&Place::ChannelMode { c: 3 }),
-        word,
-        rig.value(&Place::WatchEntry { i: 0 }),
-        rig.value(&Place::WatchEntry { i: 1 }),
-        rig.value(&Place::Slot),
-    ]
+/// Performs an action, takes it back by the record made anew, and performs it again. Each time the whole machine is as
+/// it was then, and the record has the old number of each place that changed.
+fn act_and_back(
+    rt: &impl Abort,
+    alloc: Global,
+    rig: &mut Rig,
+    places: &[Place],
+    action: &Action,
+) -> Result<(), Fail> {
+    let before = numbers_at(alloc, rig, places)?;
+    assert_eq!(rt; before.len(), places.len());
+    assert!(rt; rig.admits(action));
+    let record = rig.act(action);
+    let after = numbers_at(alloc, rig, places)?;
+    assert!(rt; before.as_slice() != after.as_slice());
+    assert!(rt; is_true_of(&record, places, before.as_slice(), after.as_slice()));
+    rig.undo(made_anew(record));
+    assert!(rt; numbers_at(alloc, rig, places)?.as_slice() == before.as_slice());
+    assert!(rt; rig.admits(action));
+    let _record = rig.act(action);
+    assert!(rt; numbers_at(alloc, rig, places)?.as_slice() == after.as_slice());
+    Ok(())
+}
+
+/// `act_and_back`, for one action after the other.
+fn act_all(
+    rt: &impl Abort,
+    alloc: Global,
+    rig: &mut Rig,
+    places: &[Place],
+    actions: &[Action],
+) -> Result<(), Fail> {
+    for action in actions {
+        act_and_back(rt, alloc, rig, places, action)?;
+    }
+    Ok(())
+}
+
+/// Performs turns until the slot is this one.
+fn turn_to(rt: &impl Abort, rig: &mut Rig, slot: u8) {
+    for _turn in 0..10u8 {
+        if rig.slot() != slot {
+            assert!(rt; rig.admits(&Action::Turn));
+            let _record = rig.act(&Action::Turn);
+        }
+    }
+    assert_eq!(rt; rig.slot(), slot);
+}
+
+fn set_cells(pp: u8, a: u16, words: &[u16]) -> Action {
+    let mut values = ArrayVec::new();
+    for word in words {
+        if values.len() < 8 {
+            values.push(*word);
+        }
+    }
+    Action::SetCells {
+        pp,
+        a,
+        values: Values::new(values),
+    }
+}
+
+fn set_channel(c: u8, state: pp_machine::ChannelState, word: u16) -> Action {
+    Action::SetChannel {
+        c,
+        state,
+        word: Some(word),
+    }
 }
 
 #[test]
-fn each_record_is_its_fields(rt: HostRuntime) -> Result<(), Fail> {
+fn each_record_leads_back(rt: HostRuntime) -> Result<(), Fail> {
     let mut rig = make(rt.alloc())?;
-    let mut values = ArrayVec::new();
-    values.push(0o1405);
-    for action in [
-        Action::SetCells {
-            pp: 0,
-            a: 0o100,
-            values: Values::new(values),
-        },
-        Action::SetP { pp: 0, v: 0o100 },
+    let places = places_of(rt.alloc(), 0o100000)?;
+    let actions = [
+        set_cells(0, 0o7777, &[0o1405, 0o7777]),
+        Action::SetP { pp: 0, v: 0o7777 },
         Action::Turn,
         Action::SetA { pp: 0, v: 0o777777 },
-        Action::SetWord { a: 0o1000, v: 1 },
-        Action::SetChannel {
-            c: 3,
-            state: pp_machine::ChannelState::Full,
-            word: Some(0o17),
-        },
+        Action::SetQ { pp: 9, v: 0o7777 },
+        Action::SetWord { a: 0o77777, v: 1 },
+        set_channel(3, pp_machine::ChannelState::Full, 0o17),
         Action::Watch(Watched::RegA { pp: 0 }),
         Action::Watch(Watched::RegP { pp: 0 }),
         Action::Unwatch(Watched::RegA { pp: 0 }),
         Action::Deadstart,
         Action::Turn,
-    ] {
-        let before = numbers(&rig);
-        assert!(rt; rig.admits(&action));
-        let record = rig.act(&action);
-        let after = numbers(&rig);
-        assert!(rt; before != after);
-        rig.undo(made_anew(record));
-        assert_eq!(rt; numbers(&rig), before);
-        assert!(rt; rig.admits(&action));
-        let _record = rig.act(&action);
-        assert_eq!(rt; numbers(&rig), after);
-    }
+    ];
+    act_all(&rt, rt.alloc(), &mut rig, places.as_slice(), &actions)?;
+    Ok(())
+}
+
+/// An exchange in slot 0: central memory, the frame and P change.
+#[test]
+fn an_exchange_leads_back(rt: HostRuntime) -> Result<(), Fail> {
+    let mut rig = make(rt.alloc())?;
+    let places = places_of(rt.alloc(), 0o100000)?;
+    let actions = [
+        set_cells(0, 0o100, &[0o2600]),
+        Action::SetP { pp: 0, v: 0o100 },
+        Action::SetA { pp: 0, v: 0o77770 },
+        Action::SetWord {
+            a: 0o77777,
+            v: (1 << 60) - 1,
+        },
+        Action::Turn,
+    ];
+    act_all(&rt, rt.alloc(), &mut rig, places.as_slice(), &actions)?;
+    assert_eq!(rt; rig.value(&Place::FrameWord { i: 7 }), (1 << 60) - 1);
+    Ok(())
+}
+
+/// In one turn of slot 0o11 a processor stores, the reader sends a column, the printer prints two symbols, and the clock
+/// ticks.
+#[test]
+fn a_turn_of_all_parts_leads_back(rt: HostRuntime) -> Result<(), Fail> {
+    let mut rig = make(rt.alloc())?;
+    let places = places_of(rt.alloc(), 0o100000)?;
+    let actions = [
+        set_cells(0, 0o100, &[0o7710, 1]),
+        Action::SetP { pp: 0, v: 0o100 },
+        set_cells(1, 0o100, &[0o7711, 1]),
+        Action::SetP { pp: 1, v: 0o100 },
+        Action::Turn,
+        Action::Turn,
+    ];
+    act_all(&rt, rt.alloc(), &mut rig, places.as_slice(), &actions)?;
+    turn_to(&rt, &mut rig, 9);
+    let actions = [
+        set_cells(9, 0o100, &[0o3420]),
+        Action::SetP { pp: 9, v: 0o100 },
+        Action::SetA { pp: 9, v: 0o4321 },
+        set_channel(8, pp_machine::ChannelState::Empty, 0),
+        set_channel(9, pp_machine::ChannelState::Full, 0o0102),
+        Action::Turn,
+    ];
+    act_all(&rt, rt.alloc(), &mut rig, places.as_slice(), &actions)?;
+    assert_eq!(rt; rig.value(&Place::Cell { pp: 9, a: 0o20 }), 0o4321);
+    assert_eq!(rt; rig.value(&Place::CardColumn), 1);
+    assert_eq!(rt; rig.value(&Place::ChannelWord { c: 8 }), 0o1234);
+    assert_eq!(rt; rig.value(&Place::PaperSymbol { k: 1 }), 2);
+    assert_eq!(rt; rig.value(&Place::Clock), 1);
+    assert_eq!(rt; rig.slot(), 0);
     Ok(())
 }
 

@@ -1,0 +1,112 @@
+//! All numbers of a machine, by the places that name them.
+ghost use Rattle.std.specs.Prelude.{IsTrue};
+ghost use Rattle.pp_machine.specs.Shape.{Has};
+
+use crate::rig::{Rig, RigRecord};
+use pp_history::Reversible;
+use pp_machine::Place;
+use std::alloc::{AllocError, Global};
+
+/// Adds the places of a processor: its memory, its registers and its phase.
+fn push_processor(places: &mut Vec<Place>, pp: u8) -> Result<(), AllocError> {
+    for a in 0..4096u16 {
+        places.push(Place::Cell { pp, a })?;
+    }
+    for place in [
+        Place::RegA { pp },
+        Place::RegP { pp },
+        Place::RegQ { pp },
+        Place::Phase { pp },
+    ] {
+        places.push(place)?;
+    }
+    Ok(())
+}
+
+/// Adds the places of the channels, of the devices and of the barrel.
+fn push_parts(places: &mut Vec<Place>) -> Result<(), AllocError> {
+    for c in 0..12u8 {
+        places.push(Place::ChannelMode { c })?;
+        places.push(Place::ChannelWord { c })?;
+    }
+    for i in 0..8u8 {
+        places.push(Place::WatchEntry { i })?;
+    }
+    for place in [
+        Place::Clock,
+        Place::Slot,
+        Place::Card,
+        Place::CardColumn,
+        Place::ReaderMode,
+        Place::PaperLength,
+        Place::PaperColumn,
+        Place::PrinterMode,
+    ] {
+        places.push(place)?;
+    }
+    Ok(())
+}
+
+/// Adds the places of central memory, of the frame and of the paper.
+fn push_words(places: &mut Vec<Place>, central_words: u32) -> Result<(), AllocError> {
+    for a in 0..central_words {
+        places.push(Place::Central { a })?;
+    }
+    for i in 0..16u8 {
+        places.push(Place::FrameWord { i })?;
+    }
+    for k in 0..65536u32 {
+        places.push(Place::PaperSymbol { k })?;
+    }
+    Ok(())
+}
+
+/// Returns every place of a machine with so many central words.
+pub fn places_of(alloc: Global, central_words: u32) -> Result<Vec<Place>, AllocError> {
+    let mut places = Vec::new(alloc);
+    for pp in 0..10u8 {
+        push_processor(&mut places, pp)?;
+    }
+    push_parts(&mut places)?;
+    push_words(&mut places, central_words)?;
+    Ok(places)
+}
+
+/// Whether the machine has a place.
+fn has(rig: &Rig, place: &Place) -> bool
+    ensures { IsTrue result → Has rig.now.setup.central_words place.now }
+{
+    match *place {
+        Place::Cell { pp, a } => pp < 10 && a < 4096,
+        Place::RegA { pp } | Place::RegP { pp } | Place::RegQ { pp } | Place::Phase { pp } => pp
+            < 10,
+        Place::ChannelMode { c } | Place::ChannelWord { c } => c < 12,
+        Place::Central { a } => a < rig.central_size().words(),
+        Place::FrameWord { i } => i < 16,
+        Place::PaperSymbol { k } => k < 65536,
+        Place::WatchEntry { i } => i < 8,
+        _ => true,
+    }
+}
+
+/// Returns the numbers at the places, and fewer if the machine lacks one.
+pub fn numbers_at(alloc: Global, rig: &Rig, places: &[Place]) -> Result<Vec<u64>, AllocError> {
+    let mut numbers = Vec::new(alloc);
+    for place in places {
+        if has(rig, place) {
+            numbers.push(rig.value(place))?;
+        }
+    }
+    Ok(numbers)
+}
+
+/// Whether the record has the old number of each place that changed, and no other number than the old one.
+pub fn is_true_of(record: &RigRecord, places: &[Place], before: &[u64], after: &[u64]) -> bool {
+    for i in 0..places.len().min(before.len()).min(after.len()) {
+        let old = before[i];
+        if Rig::was(record, &places[i]).unwrap_or(after[i]) != old {
+            return false;
+        }
+    }
+    true
+}
