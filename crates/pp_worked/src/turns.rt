@@ -17,6 +17,7 @@ ghost use Rattle.pp_machine.specs.declared.place.Place.TheVariants.{
   RegP,
   Slot,
 };
+ghost use Rattle.pp_machine.specs.Machine.{over};
 ghost use Rattle.pp_rig.specs.Action.{next};
 ghost use Rattle.pp_rig.specs.Deadstart.{deadstart_pairs};
 ghost use Rattle.pp_rig.specs.Starting.{starting};
@@ -51,10 +52,11 @@ pub fn clock_ticks()
         ((Slot, 0o11) ∷ (Clock, 0o1234) ∷ (RegP 0o11, 0o100) ∷ (Cell 0o11 0o100, 0o7014) ∷ []) 1
         ((RegA 0o11, 0o1234) ∷ (RegP 0o11, 0o101) ∷ (Clock, 0o1235) ∷ (Slot, 0) ∷ []) }
     ensures read { Leads (blank [] None) ((RegP 0, 0o100) ∷ (Cell 0 0o100, 0o2400) ∷ (Cell 0 0o101, 0o7014) ∷ []) 0o13
-        ((RegA 0, 1) ∷ (RegP 0, 0o102) ∷ (Slot, 1) ∷ []) }
+        ((RegA 0, 1) ∷ (RegP 0, 0o102) ∷ (Clock, 1) ∷ (Slot, 1) ∷ []) }
     ensures block { Leads (blank [] None)
         ((RegA 0, 2) ∷ (RegP 0, 0o100) ∷ (Cell 0 0o100, 0o7114) ∷ (Cell 0 0o101, 0o300) ∷ []) 0o37
-        ((RegA 0, 0) ∷ (RegP 0, 0o102) ∷ (Phase 0, 0) ∷ (Cell 0 0o300, 1) ∷ (Cell 0 0o301, 2) ∷ (Slot, 1) ∷ []) }
+        ((RegA 0, 0) ∷ (RegP 0, 0o102) ∷ (Phase 0, 0) ∷ (Cell 0 0o300, 1) ∷ (Cell 0 0o301, 2) ∷ (Clock, 3) ∷
+        (Slot, 1) ∷ []) }
 {}
 
 /// 7712 0001 7412 7012: the reader is started, its channel activated, and a column read. The reader steps behind the
@@ -80,7 +82,7 @@ pub fn line_through_a_program()
 {}
 
 /// A dead start writes 114 places, whatever the panel. Processor 00 begins at the panel, each other one waits to read
-/// 10000 words from its own channel, and the clock goes on.
+/// 10000 words from its own channel, and the clock goes on from its number.
 #[tactic(auto, unfolding(pp_step::specs::Step::pp_writes, pp_rig::specs::Turn::turn, pp_rig::specs::Deadstart::deadstart_pairs, pp_rig::specs::Deadstart::all_waiting, pp_rig::specs::Deadstart::all_states))]
 pub fn dead_start()
     ensures places { (a b c d e f g h i j k l : ℕ) →
@@ -94,4 +96,16 @@ pub fn dead_start()
     ensures runs { Shows
         (after 1 (next (blank [] (Some (0o1405 ∷ 0o3420 ∷ 0o300 ∷ 0 ∷ 0 ∷ 0 ∷ 0 ∷ 0 ∷ 0 ∷ 0 ∷ 0 ∷ 0 ∷ []))) Deadstart))
         ((RegP 0, 2) ∷ (RegA 0, 5) ∷ (RegP 1, 0) ∷ (RegA 1, 0o10000) ∷ (Phase 1, 0o7101) ∷ (Slot, 1) ∷ []) }
+    ensures clock_stays { Shows
+        (next
+        (over (blank [] (Some (0o1405 ∷ 0o3420 ∷ 0o300 ∷ 0 ∷ 0 ∷ 0 ∷ 0 ∷ 0 ∷ 0 ∷ 0 ∷ 0 ∷ 0 ∷ []))) ((Clock, 0o1234) ∷ (Slot, 5) ∷ []))
+        Deadstart)
+        ((Clock, 0o1234) ∷ (Slot, 0) ∷ []) }
+    ensures clock_goes_on { Shows
+        (after
+        0o12
+        (next
+        (over (blank [] (Some (0o1405 ∷ 0o3420 ∷ 0o300 ∷ 0 ∷ 0 ∷ 0 ∷ 0 ∷ 0 ∷ 0 ∷ 0 ∷ 0 ∷ 0 ∷ []))) ((Clock, 0o1234) ∷ (Slot, 5) ∷ []))
+        Deadstart))
+        ((Clock, 0o1235) ∷ (Slot, 0) ∷ []) }
 {}
