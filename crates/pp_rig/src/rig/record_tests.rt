@@ -1,5 +1,5 @@
 //! Each record of the machine, taken apart by its fields and made anew of them: the three records of the parts, places,
-//! numbers, and short lists of them. The record made anew leads back to the whole machine before.
+//! numbers, and short lists of them. The record made anew leads back to the whole machine as it was before.
 ghost use Rattle.std.specs.Prelude.{◌≡◌, ◌≤◌, length};
 ghost use Rattle.pp_machine.specs.Machine.{Machine};
 ghost use Rattle.pp_rig.specs.Action.{FitsRecord};
@@ -84,7 +84,7 @@ fn made_anew(back: RigRecord) -> RigRecord
     }
 }
 
-/// A machine with one card in the reader, on channel 0o10, and the printer on channel 0o11.
+/// Returns a machine with one card in the reader, on channel 0o10, and the printer on channel 0o11.
 fn make(alloc: Global) -> Result<Rig, &'static str> {
     let deck = deck_of(alloc, 1, 0o1234).map_err(|_| "memory")?;
     let setup = Setup {
@@ -97,8 +97,8 @@ fn make(alloc: Global) -> Result<Rig, &'static str> {
     Rig::new(alloc, setup).map_err(|_| "refused")
 }
 
-/// Performs an action, takes it back by the record made anew, and performs it again. Each time the whole machine is as
-/// it was then, and the record has the old number of each place that changed.
+/// Performs an action, undoes it by the record made anew, and performs it again. Checks every number of the machine each
+/// time, and checks that the record has the old number of each place that changed.
 fn act_and_back(
     rt: &impl Abort,
     alloc: Global,
@@ -121,7 +121,7 @@ fn act_and_back(
     Ok(())
 }
 
-/// `act_and_back`, for one action after the other.
+/// Runs `act_and_back` for each action in turn.
 fn act_all(
     rt: &impl Abort,
     alloc: Global,
@@ -135,7 +135,7 @@ fn act_all(
     Ok(())
 }
 
-/// Performs turns until the slot is this one.
+/// Performs turns until it is this processor's turn.
 fn turn_to(rt: &impl Abort, rig: &mut Rig, slot: u8) {
     for _turn in 0..10u8 {
         if rig.slot() != slot {
@@ -190,7 +190,7 @@ fn each_record_leads_back(rt: HostRuntime) -> Result<(), Fail> {
     Ok(())
 }
 
-/// An exchange in slot 0: central memory, the frame and P change.
+/// An exchange in slot 0 changes central memory, the frame and P.
 #[test]
 fn an_exchange_leads_back(rt: HostRuntime) -> Result<(), Fail> {
     let mut rig = make(rt.alloc())?;

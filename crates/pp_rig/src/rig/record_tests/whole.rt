@@ -1,4 +1,4 @@
-//! All numbers of a machine, by the places that name them.
+//! All numbers of a machine, by their places.
 ghost use Rattle.std.specs.Prelude.{IsTrue};
 ghost use Rattle.pp_machine.specs.Shape.{Has};
 
@@ -61,7 +61,7 @@ fn push_words(places: &mut Vec<Place>, central_words: u32) -> Result<(), AllocEr
     Ok(())
 }
 
-/// Returns every place of a machine with so many central words.
+/// Returns every place of a machine with this many central words.
 pub fn places_of(alloc: Global, central_words: u32) -> Result<Vec<Place>, AllocError> {
     let mut places = Vec::new(alloc);
     for pp in 0..10u8 {
@@ -72,7 +72,7 @@ pub fn places_of(alloc: Global, central_words: u32) -> Result<Vec<Place>, AllocE
     Ok(places)
 }
 
-/// Whether the machine has a place.
+/// Returns whether the machine has a place.
 fn has(rig: &Rig, place: &Place) -> bool
     ensures { IsTrue result → Has rig.now.setup.central_words place.now }
 {
@@ -89,7 +89,7 @@ fn has(rig: &Rig, place: &Place) -> bool
     }
 }
 
-/// Returns the numbers at the places, and fewer if the machine lacks one.
+/// Returns the numbers at the places. There are fewer if the machine lacks a place.
 pub fn numbers_at(alloc: Global, rig: &Rig, places: &[Place]) -> Result<Vec<u64>, AllocError> {
     let mut numbers = Vec::new(alloc);
     for place in places {
@@ -100,7 +100,7 @@ pub fn numbers_at(alloc: Global, rig: &Rig, places: &[Place]) -> Result<Vec<u64>
     Ok(numbers)
 }
 
-/// Whether the record has the old number of each place that changed, and no other number than the old one.
+/// Returns whether the record has the old number of each place that changed, and only old numbers.
 pub fn is_true_of(record: &RigRecord, places: &[Place], before: &[u64], after: &[u64]) -> bool {
     for i in 0..places.len().min(before.len()).min(after.len()) {
         let old = before[i];
