@@ -15,8 +15,16 @@ use super::{Rig, RigRecord, TurnRecord};
 use pp_machine::{Place, PrinterRecord, ReaderRecord};
 use pp_step::{PpRecord, PpWrites};
 
+impl RigRecord {
+    /// Returns a record to write over.
+    #[inline(always)]
+    pub(super) fn blank() -> RigRecord {
+        RigRecord::Turn(TurnRecord::blank())
+    }
+}
+
 impl TurnRecord {
-    /// A record to write over.
+    /// Returns a record to write over.
     pub(super) fn blank() -> TurnRecord {
         TurnRecord {
             slot: 0,

@@ -5,8 +5,8 @@ use Rattle.pp_rig.proofs.rig.RigReversible.act_into.Goals as goal
 pub perform-requires : goal.perform-requires
 perform-requires c = performable c.args.self.now c.args.action.now c.requires
 
-pub returns-clause-before : goal.returns-clause-before
-returns-clause-before c = rw (c.perform.ensures.stood, c.perform.ensures.step) (action-taken_back c.args.self.now c.args.action.now)
+pub returns-in-Some-clause-before : goal.returns-in-Some-clause-before
+returns-in-Some-clause-before c = rw (c.perform.ensures.stood, c.perform.ensures.step) (action-taken_back c.args.self.now c.args.action.now)
 
-pub returns-clause-named : goal.returns-clause-named
-returns-clause-named c = rw c.perform.ensures.stood (places-overwritten c.args.self.now c.args.action.now)
+pub returns-in-Some-clause-named : goal.returns-in-Some-clause-named
+returns-in-Some-clause-named c = rw c.perform.ensures.stood (places-overwritten c.args.self.now c.args.action.now)

@@ -1,0 +1,118 @@
+//! Sessions of a gauge: a machine that writes its undo records in place, and undoes by a record where it is.
+
+ghost use Rattle.std.specs.Prelude.{◌≤◌};
+
+use super::super::*;
+use std::alloc::Global;
+use std::test::Fail;
+
+/// One number, which can be set.
+#[derive(Drop)]
+struct Gauge {
+    number: u64,
+}
+
+impl Reversible for Gauge {
+    type Action = u64;
+
+    type Record = u64;
+
+    type Place = ();
+
+    ghost use Rattle.std.specs.Prelude.{◌≡◌, IsSomeAnd, Some, ⊤};
+    ghost use Rattle.std.proofs.Common.{refl};
+
+    ghost admitted = { λ gauge to. ⊤ };
+
+    ghost next = { λ gauge to. record gauge { number = to } };
+
+    ghost fits = { λ old gauge. ⊤ };
+
+    ghost before = { λ old gauge. record gauge { number = old } };
+
+    ghost has_place = { λ gauge place. ⊤ };
+
+    ghost number = { λ gauge place. gauge.number };
+
+    ghost old_number = { λ old place. Some old };
+
+    ghost keeps_places = { λ old gauge place fits has. has };
+
+    ghost tells_numbers = { λ old gauge place fits has. refl };
+
+    fn admits(&self, _to: &u64) -> bool {
+        true
+    }
+
+    fn act(&mut self, to: &u64) -> u64 {
+        let old = self.number;
+        self.number = *to;
+        old
+    }
+
+    fn undo(&mut self, old: u64) {
+        self.number = old;
+    }
+
+    fn spare() -> Option<u64> {
+        Some(0)
+    }
+
+    fn act_into(&mut self, to: &u64, back: &mut Option<u64>) {
+        match back {
+            Some(old) => *old = self.number,
+            None => *back = Some(self.number),
+        }
+        self.number = *to;
+    }
+
+    fn undo_from(&mut self, back: &mut Option<u64>) {
+        if let Some(old) = back {
+            self.number = *old;
+        }
+    }
+
+    fn value(&self, _place: &()) -> u64 {
+        self.number
+    }
+
+    fn was(old: &u64, _place: &()) -> Option<u64> {
+        Some(*old)
+    }
+}
+
+fn session_of(alloc: Global, capacity: u32) -> Result<Session<Gauge>, Fail>
+    requires { (1 ≤ capacity) × (capacity ≤ 10000) }
+{
+    let gauge = Gauge { number: 0 };
+    Ok(Session::new(alloc, gauge, capacity).map_err(|_| "no memory")?)
+}
+
+#[test]
+fn goes_back_and_forward_in_place(rt: HostRuntime) -> Result<(), Fail> {
+    let mut session = session_of(rt.alloc(), 3)?;
+    session.act(5);
+    session.act(6);
+    session.act(6);
+    session.act(7);
+    assert_eq!(rt; session.back(2), Ok(()));
+    assert_eq!(rt; session.machine().number, 6);
+    assert_eq!(rt; session.forward(1), Ok(()));
+    assert_eq!(rt; session.machine().number, 6);
+    assert_eq!(rt; session.forward(1), Ok(()));
+    assert_eq!(rt; session.machine().number, 7);
+    assert_eq!(rt; session.back(3), Ok(()));
+    assert_eq!(rt; session.machine().number, 5);
+    assert_eq!(rt; session.back(1), Err(BackFault::TooFew { kept: 0 }));
+    assert_eq!(rt; session.forward(2), Ok(()));
+    session.act(9);
+    assert_eq!(rt; (session.kept(), session.ahead()), (3, 0));
+    assert_eq!(rt; session.back_to_change(&[()]), Ok(1));
+    assert_eq!(rt; session.back_to_change(&[()]), Ok(2));
+    assert_eq!(rt; session.machine().number, 5);
+    assert_eq!(rt;
+        session.back_to_change(&[()]),
+        Err(BackFault::NoChange { kept: 0 })
+    );
+    Ok(())
+}
