@@ -1,0 +1,83 @@
+//! A client of the crates, as a user writes one from their pages. It is compiled, proved and run by the checks alone.
+#![tactic(auto)]
+
+use arrayvec::ArrayVec;
+use pp_console::{Counted, load_deck, serve};
+use pp_history::{Looks, Reversible, Session};
+use pp_rig::{Action, CentralSize, Place, Rig, Setup, Values, Watched, run};
+use std::alloc::Global;
+use std::process::ExitCode;
+
+/// Makes a session of a machine with one card in its reader.
+fn session(alloc: Global) -> Option<Session<Rig>> {
+    let deck = load_deck(alloc, &mut Counted::new(b"1 2 3\n".as_slice())).ok()?;
+    let setup = Setup {
+        central: CentralSize::K32,
+        reader: 0o12,
+        printer: 0o13,
+        deck,
+        panel: None,
+    };
+    let rig = Rig::new(alloc, setup).ok()?;
+    Session::new(alloc, rig, 100).ok()
+}
+
+/// Performs an action that the machine admits, and returns whether it did.
+fn act(session: &mut Session<Rig>, action: Action) -> bool {
+    if !session.machine().admits(&action) {
+        return false;
+    }
+    session.act(action);
+    true
+}
+
+/// Loads a program of three instructions: load 5, store it in cell 0050, stop.
+fn load(session: &mut Session<Rig>) -> bool {
+    let mut words = ArrayVec::new();
+    words.push(0o1405);
+    words.push(0o3450);
+    words.push(0o0300);
+    let cells = Action::SetCells {
+        pp: 0,
+        a: 0o100,
+        values: Values::new(words),
+    };
+    act(session, cells) && act(session, Action::SetP { pp: 0, v: 0o100 })
+}
+
+/// Runs up to the store, and goes back to just before it and forward again.
+fn work(rt: &HostRuntime) -> Option<()> {
+    let mut session = session(rt.alloc())?;
+    let loaded = load(&mut session)
+        && act(
+            &mut session,
+            Action::Watch(Watched::Cell { pp: 0, a: 0o50 }),
+        );
+    let refused = !act(&mut session, Action::SetP { pp: 0, v: 0o10000 });
+    let _ = println!(rt; "loaded {loaded}, refused {refused}");
+    let stopped = run(&mut session, 25);
+    let _ = println!(rt; "turns {}, hit {}", stopped.turns, stopped.hit.is_some());
+    let found = session.find_change(&[Place::Cell { pp: 0, a: 0o50 }], &mut Looks::new());
+    let _ = println!(rt; "the latest change is {found:?} action back");
+    let back = session.back(1).is_ok();
+    let before = session.machine().value(&Place::Cell { pp: 0, a: 0o50 });
+    let forward = session.forward(1).is_ok();
+    let after = session.machine().value(&Place::Cell { pp: 0, a: 0o50 });
+    let _ = println!(rt; "back {back} to {before}, forward {forward} to {after}");
+    let script = b"BACK W\nDUMP PP 0\nDUMP CR\nGO\n".as_slice();
+    let summary = serve(
+        &mut session,
+        &mut Counted::new(script),
+        &mut Counted::new(rt.stdout()),
+    )
+    .ok()?;
+    let _ = println!(rt; "lines {}, refused {}", summary.lines, summary.refused);
+    Some(())
+}
+
+fn main(rt: HostRuntime) -> ExitCode {
+    match work(&rt) {
+        Some(()) => ExitCode::SUCCESS,
+        None => ExitCode::FAILURE,
+    }
+}
