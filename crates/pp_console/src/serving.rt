@@ -11,6 +11,9 @@ ghost use Rattle.pp_console.specs.Script.{answer_line, run};
 ghost use Rattle.pp_console.specs.Serving.{Origin, Performed, Breaks, Serves, Stops, writes_after, reads_after, origin_of};
 ghost use Rattle.pp_console.specs.ServingSteps.{Stands, Interrupts, IsNoReadFault};
 
+#[cfg(test)]
+mod limit_tests;
+
 use crate::commands::perform_line;
 use crate::progress::{BYTE_LIMIT, KEPT, LINE_LIMIT, Progress, Summary};
 use pp_history::Session;

@@ -20,7 +20,7 @@ use std::test::Fail;
 
 /// What a machine has beside its memories.
 #[derive(Clone, Copy, PartialEq, Eq, Drop)]
-enum With {
+pub(crate) enum With {
     Nothing,
     /// A deck of one card, `1 2 3`.
     Card,
@@ -87,7 +87,7 @@ fn panel_of(with: With) -> Option<[u16; 12]>
 
 /// A session of a new machine, reader on channel 12 and printer on channel 13, that keeps so many
 /// actions.
-fn session_of(alloc: Global, with: With, capacity: u32) -> Result<Session<Rig>, Fail>
+pub(crate) fn session_of(alloc: Global, with: With, capacity: u32) -> Result<Session<Rig>, Fail>
     requires { (1 ≤ capacity) × (capacity ≤ 10000) }
 {
     let setup = Setup {

@@ -306,24 +306,6 @@ fn answers_come_before_limits(rt: HostRuntime) -> Result<(), Fail> {
     Ok(())
 }
 
-/// A script has at most 268,435,456 bytes, and a line that they do not end is not performed.
-#[test]
-fn bytes_are_limited(rt: HostRuntime) -> Result<(), Fail> {
-    let mut session = session_of(rt.alloc(), With::LittleMemory, 1)?;
-    let mut out = Tray::new(100);
-    let result = serve(
-        &mut session,
-        &mut Endless {
-            byte: b'X',
-            log: Log::new(),
-        },
-        &mut out,
-    );
-    assert_eq!(rt; result, Err(IoFault::LineLimit));
-    assert_eq!(rt; out.text().len(), 0);
-    Ok(())
-}
-
 /// The status of a run that ended well tells whether a line was refused.
 #[test]
 fn status_tells_of_refused_lines(rt: HostRuntime) {
