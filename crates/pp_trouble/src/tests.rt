@@ -7,6 +7,18 @@ use pp_lines::{IoFault, Tray};
 use pp_rig::SetupFault;
 use std::test::Fail;
 
+/// Whether the trouble prints this line, in pieces of five bytes.
+fn prints(trouble: &Trouble, line: &str) -> bool {
+    let mut tray = Tray::new(5);
+    if trouble.put(&mut tray).is_err() {
+        return false;
+    }
+    match tray.text().split_last() {
+        Some((last, text)) => *last == b'\n' && text == line.as_bytes(),
+        None => false,
+    }
+}
+
 #[test]
 fn each_trouble_has_its_line_and_its_status(rt: HostRuntime) -> Result<(), Fail> {
     let usage =
@@ -60,9 +72,7 @@ fn each_trouble_has_its_line_and_its_status(rt: HostRuntime) -> Result<(), Fail>
     ];
     for (trouble, line, status) in rows {
         assert_eq!(rt; trouble.to_string(rt.alloc())?.as_str(), line);
-        let mut tray = Tray::new(5);
-        assert_eq!(rt; trouble.put(&mut tray), Ok(()));
-        assert_eq!(rt; tray.text(), format!(in rt.alloc(); "{line}\n")?.as_bytes());
+        assert!(rt; prints(&trouble, line));
         assert_eq!(rt; trouble.status(), status, "{line}");
     }
     Ok(())
@@ -125,9 +135,7 @@ fn each_fault_of_a_file_names_it(rt: HostRuntime) -> Result<(), Fail> {
         assert!(rt; file != FileKind::Script);
         let trouble = Trouble::load(file, fault);
         assert_eq!(rt; trouble.to_string(rt.alloc())?.as_str(), line);
-        let mut tray = Tray::new(5);
-        assert_eq!(rt; trouble.put(&mut tray), Ok(()));
-        assert_eq!(rt; tray.text(), format!(in rt.alloc(); "{line}\n")?.as_bytes());
+        assert!(rt; prints(&trouble, line));
         assert_eq!(rt; trouble.status(), status, "{line}");
     }
     Ok(())
