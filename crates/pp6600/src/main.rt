@@ -11,14 +11,13 @@ use std::fs::File;
 use std::process::ExitCode;
 use std::{env, io, mem};
 
-/// The system that the program runs in.
+/// The system that the program runs in. It counts the files with a failed read.
 #[derive(Drop)]
 struct System<'a> {
     rt: &'a HostRuntime,
     /// The words of the command line, until the program asked for them.
     words: Result<Vec<String>, WordsFault>,
     log: FileLog,
-    /// The number of files with a failed read.
     failures: u64,
 }
 
