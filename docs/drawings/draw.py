@@ -135,7 +135,7 @@ def channel(number):
 def device(number, name, what, fill, edge):
     y = channel_y(number)
     return [
-        line([(672, y), (704, y)], tail=number < 12),
+        line([(704, y), (672, y)], tail=number < 12),
         box(708, y - 28, 176, 56, fill, edge),
         text(796, y - 9, name, 14, True),
         text(796, y + 11, what, 12, fill=SOFT),
@@ -150,9 +150,9 @@ def channels():
         line([(448, channel_y(0)), (448, channel_y(12))], head=False, width=3),
         line([(400, RING[1]), (446, RING[1])], tail=True),
         [channel(number) for number in range(13)],
-        lines(708, 80, ["Every processor reaches", "every channel."], anchor="start"),
-        lines(708, 140, ["Channels carry words", "between processors, and to", "and from devices."], anchor="start"),
-        lines(708, 218, ["Shown: the channels after", "the dead start of a new", "machine."], anchor="start"),
+        lines(708, 80, ["Every processor reaches", "every channel, with the", "codes 64 to 77."], anchor="start"),
+        lines(708, 148, ["Channels carry words", "between processors, and to", "and from devices."], anchor="start"),
+        lines(708, 224, ["Shown: the channels after", "the dead start of a new", "machine."], anchor="start"),
         device(10, "card reader", "reads a deck of cards", AMBER, AMBER_EDGE),
         device(11, "printer", "prints on its paper", AMBER, AMBER_EDGE),
         device(12, "clock", "grows by 1 each round", BLUE, BLUE_EDGE),
@@ -165,12 +165,12 @@ def memories():
         text(212, 578, "central memory", 15, True),
         lines(212, 600, ["100000, 200000 or 400000 words", "of 60 bits"]),
         line([(212, 484), (212, 556)], tail=True),
-        lines(224, 512, ["60 to 63: words to cells,", "cells to words"], 12, anchor="start"),
+        lines(224, 512, ["codes 60 to 63: words", "to cells, cells to words"], 12, anchor="start"),
         box(580, 560, 304, 74, GREEN, GREEN_EDGE),
         text(732, 578, "exchange package", 15, True),
-        lines(732, 600, ["words 0 to 17 of 60 bits, the registers", "of the central processor; 27 reads its P"]),
+        lines(732, 600, ["words 0 to 17 of 60 bits, the registers", "of the central processor; code 27 reads P"]),
         line([(368, 597), (576, 597)], tail=True),
-        text(472, 582, "26: exchange jump", 12, fill=SOFT),
+        text(472, 582, "code 26: exchange jump", 12, fill=SOFT),
         text(472, 612, "at central address A", 12, fill=SOFT),
     ]
 
