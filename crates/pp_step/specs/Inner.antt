@@ -4,14 +4,14 @@ use Rattle.pp_step.specs.Instruction.{InstructionNumbers}
 use Rattle.pp_step.specs.Pairs.{Fits}
 use Rattle.pp_step.specs.Words.{central_after}
 use Rattle.pp_step.specs.declared.instruction.Instruction.{Instruction}
-use Rattle.pp_step.specs.declared.record.PpWrites.{PpWrites}
+use Rattle.pp_step.specs.declared.record.StepRecord.{StepRecord}
 
 -- the fields of an instruction, as the definitions see them
 abbrev pub numbers_of : Instruction → InstructionNumbers
 numbers_of i = record { code = i.code; d = i.d; second = i.second; address = i.address; next = i.next }
 
 -- a list fits a machine whatever the size of its central memory
-pub record FitsAnySize (r : PpWrites) : Type 0 where
+pub record FitsAnySize (r : StepRecord) : Type 0 where
   pub fits : (size : ℕ) → Fits size r
 
 -- central memory with the numbers of a list put in from i words behind a on

@@ -6,7 +6,7 @@ ghost use Rattle.pp_step.specs.View.{pp_view, over, olds};
 ghost use Rattle.pp_step.specs.Pairs.{pairs, Fits};
 
 use crate::cells::{five_cells, put_five_cells};
-use crate::record::PpWrites;
+use crate::record::StepRecord;
 use pp_machine::{Central, Channel, ChannelState, Channels, Memory12, Pp};
 use std::mem::replace;
 
@@ -14,7 +14,7 @@ use std::mem::replace;
 /// writes the list, where its case is known and need not be chosen again.
 #[inline(always)]
 pub fn swap_all(
-    writes: &mut PpWrites,
+    writes: &mut StepRecord,
     pp: &mut Pp,
     memory: &mut Memory12,
     channels: &mut Channels,
@@ -28,17 +28,17 @@ pub fn swap_all(
     ensures fits { Fits (length central.new) writes.new }
 {
     match writes {
-        PpWrites::Nothing => {}
-        PpWrites::Jump { p } => pp.p = replace(p, pp.p),
-        PpWrites::Load { p, a } => {
+        StepRecord::Nothing => {}
+        StepRecord::Jump { p } => pp.p = replace(p, pp.p),
+        StepRecord::Load { p, a } => {
             pp.p = replace(p, pp.p);
             pp.a = replace(a, pp.a);
         }
-        PpWrites::Store { p, address, value } => {
+        StepRecord::Store { p, address, value } => {
             pp.p = replace(p, pp.p);
             swap_cell(*address, value, memory);
         }
-        PpWrites::Replace {
+        StepRecord::Replace {
             p,
             a,
             address,
@@ -48,8 +48,8 @@ pub fn swap_all(
             pp.a = replace(a, pp.a);
             swap_cell(*address, value, memory);
         }
-        &mut PpWrites::Parts { p, address, parts } => {
-            *writes = PpWrites::Parts {
+        &mut StepRecord::Parts { p, address, parts } => {
+            *writes = StepRecord::Parts {
                 p: pp.p,
                 address,
                 parts: five_cells(memory, address),
@@ -57,7 +57,7 @@ pub fn swap_all(
             pp.p = p;
             put_five_cells(memory, address, parts);
         }
-        PpWrites::CentralWord {
+        StepRecord::CentralWord {
             p,
             central: at,
             word,
@@ -65,7 +65,7 @@ pub fn swap_all(
             pp.p = replace(p, pp.p);
             swap_word(*at, word, central);
         }
-        PpWrites::Input {
+        StepRecord::Input {
             p,
             a,
             channel,
@@ -75,7 +75,7 @@ pub fn swap_all(
             pp.a = replace(a, pp.a);
             swap_state(*channel, state, channels);
         }
-        PpWrites::Output {
+        StepRecord::Output {
             p,
             channel,
             state,
@@ -84,26 +84,26 @@ pub fn swap_all(
             pp.p = replace(p, pp.p);
             swap_channel(*channel, state, register, channels);
         }
-        PpWrites::Activity { p, channel, state } => {
+        StepRecord::Activity { p, channel, state } => {
             pp.p = replace(p, pp.p);
             swap_state(*channel, state, channels);
         }
-        PpWrites::Issue { p, phase, zero } => {
+        StepRecord::Issue { p, phase, zero } => {
             pp.p = replace(p, pp.p);
             pp.phase = replace(phase, pp.phase);
             swap_cell(0, zero, memory);
         }
-        PpWrites::IssueCounted { p, q, phase, zero } => {
+        StepRecord::IssueCounted { p, q, phase, zero } => {
             pp.p = replace(p, pp.p);
             pp.q = replace(q, pp.q);
             pp.phase = replace(phase, pp.phase);
             swap_cell(0, zero, memory);
         }
-        PpWrites::Finish { p, phase } => {
+        StepRecord::Finish { p, phase } => {
             pp.p = replace(p, pp.p);
             pp.phase = replace(phase, pp.phase);
         }
-        PpWrites::FinishInput {
+        StepRecord::FinishInput {
             p,
             phase,
             address,
@@ -113,14 +113,14 @@ pub fn swap_all(
             pp.phase = replace(phase, pp.phase);
             swap_cell(*address, value, memory);
         }
-        &mut PpWrites::PartsMove {
+        &mut StepRecord::PartsMove {
             p,
             a,
             q,
             address,
             parts,
         } => {
-            *writes = PpWrites::PartsMove {
+            *writes = StepRecord::PartsMove {
                 p: pp.p,
                 a: pp.a,
                 q: pp.q,
@@ -132,7 +132,7 @@ pub fn swap_all(
             pp.q = q;
             put_five_cells(memory, address, parts);
         }
-        PpWrites::WordMove {
+        StepRecord::WordMove {
             p,
             a,
             q,
@@ -144,12 +144,12 @@ pub fn swap_all(
             pp.q = replace(q, pp.q);
             swap_word(*at, word, central);
         }
-        PpWrites::CountMove { p, a, q } => {
+        StepRecord::CountMove { p, a, q } => {
             pp.p = replace(p, pp.p);
             pp.a = replace(a, pp.a);
             pp.q = replace(q, pp.q);
         }
-        PpWrites::InputMove {
+        StepRecord::InputMove {
             p,
             a,
             address,
@@ -162,7 +162,7 @@ pub fn swap_all(
             swap_cell(*address, value, memory);
             swap_state(*channel, state, channels);
         }
-        PpWrites::OutputMove {
+        StepRecord::OutputMove {
             p,
             a,
             channel,

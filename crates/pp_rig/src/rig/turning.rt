@@ -13,7 +13,7 @@ ghost use Rattle.pp_step.specs.View.{pp_place};
 
 use super::{Rig, RigRecord, TurnRecord};
 use pp_machine::{Place, PrinterRecord, ReaderRecord};
-use pp_step::{PpRecord, PpWrites};
+use pp_step::{PpRecord, StepRecord};
 
 impl RigRecord {
     /// Returns a record to write over.
@@ -28,7 +28,7 @@ impl TurnRecord {
     pub(super) fn blank() -> TurnRecord {
         TurnRecord {
             slot: 0,
-            pp: PpRecord::Step(PpWrites::Nothing),
+            pp: PpRecord::Step(StepRecord::nothing()),
             reader_channel: 0,
             reader: ReaderRecord::Nothing,
             printer_channel: 0,

@@ -1,7 +1,7 @@
 use Rattle.std.proofs.Common.{sym, ◌∙◌}
 use Rattle.pp_machine.specs.CentralSizes.{words_of}
 use Rattle.pp_step.proofs.ExchangeLookup.{frame_word_lookup}
-use Rattle.pp_step.proofs.record.ExchangeWrites.register.Goals as goal
+use Rattle.pp_step.proofs.record.ExchangeRecord.register.Goals as goal
 
 pub returns : goal.returns
 returns c =
