@@ -31,7 +31,7 @@ struct Set {
 }
 
 /// The number that a dial had.
-#[derive(Drop)]
+#[derive(Clone, Copy, Drop)]
 struct Had {
     dial: usize,
     number: u64,
@@ -43,6 +43,8 @@ impl Reversible for Dials {
     type Record = Had;
 
     type Place = usize;
+
+    type Short = Had;
 
     ghost use Rattle.std.proofs.Common.{arith, ◌≡◌, inl, inr, false};
     ghost use Rattle.std.proofs.lemmas.Bool.Decides.{nat_tests};
@@ -63,6 +65,8 @@ impl Reversible for Dials {
     ghost number = { λ dials dial. slice_index dials dial };
 
     ghost old_number = { λ had dial. if had.dial == dial then Some had.number else None };
+
+    ghost whole = { λ had. had };
 
     ghost keeps_places = { λ had dials dial fits has. has };
 
@@ -90,6 +94,10 @@ impl Reversible for Dials {
 
     fn undo(&mut self, had: Had) {
         self.numbers[had.dial] = had.number;
+    }
+
+    fn lengthen(had: &Had) -> Had {
+        *had
     }
 
     fn value(&self, dial: &usize) -> u64 {

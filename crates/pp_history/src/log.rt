@@ -1,0 +1,473 @@
+//! The newest actions with their undo records: one list, which two rings hold.
+
+ghost use Rattle.std.specs.Prelude.{◌≡◌, ◌∷◌, [], take, drop, slice_get, slice_set, Some, None, Option, ℕ, List, ◌+◌, ◌-◌, ◌<◌, ◌≤◌, length, IfOk, IsSomeAnd, MatchOption, IfSome, ◌*◌};
+ghost use Rattle.circular_buffer.specs.Buffer.{buffer};
+ghost use Rattle.std.specs.List.{All};
+ghost use Rattle.pp_history.specs.Joining.{Entry, HaveRecords, IsLeft, joined, longs_behind, record_of, recorded};
+ghost use Rattle.pp_history.specs.LogValue.{LogValue};
+ghost use Rattle.pp_history.specs.Search.{changes, first_changing, names_other};
+
+use crate::looks::Looks;
+use crate::reversible::Reversible;
+use circular_buffer::HeapCircularBuffer;
+use std::alloc::{AllocError, Global};
+use std::marker::Model;
+
+/// The newest actions, at most `capacity`. Some were taken back; the others have undo records. An entry is a few bytes,
+/// with its short undo record. The long undo records are apart, and memory is touched only for those that are made.
+#[derive(Drop)]
+pub(crate) struct Log<T: Reversible> {
+    /// In front the actions that were taken back, the next to perform last of them; then the kept ones, the newest
+    /// first. The undo record of a kept action without a short one is the newest long one that no newer action has.
+    entries: HeapCircularBuffer<(T::Action, Option<T::Short>)>,
+    /// The long undo records of kept actions, the newest first, and behind them those of discarded actions.
+    longs: HeapCircularBuffer<Option<T::Record>>,
+    /// How many of the entries were taken back.
+    ahead: usize,
+}
+
+impl<T: Reversible> Model for Log<T> {
+    ghost use Rattle.pp_history.specs.LogValue.{LogValue};
+    ghost use Rattle.pp_history.specs.Joining.{IsLog, log_value};
+
+    ghost Value = { LogValue T.Action T.Record };
+
+    ghost view = { λ l. log_value T.whole l.entries l.longs l.ahead };
+
+    ghost invariant = { λ l. IsLog T.whole l.entries l.longs l.ahead };
+}
+
+impl<T: Reversible> Log<T> {
+    /// Returns an empty log.
+    pub(crate) fn new(alloc: Global, capacity: u32) -> Result<Log<T>, AllocError>
+        requires { (1 ≤ capacity) × (capacity ≤ 10000) }
+        ensures { IfOk result (λ log. log ≡ record { records = []; ahead = []; capacity = capacity }) }
+    {
+        let entries = HeapCircularBuffer::with_capacity(alloc, capacity as usize)?;
+        let longs = HeapCircularBuffer::with_capacity(alloc, capacity as usize)?;
+        Ok(Log {
+            entries,
+            longs,
+            ahead: 0,
+        })
+    }
+
+    /// Returns the most actions that it holds.
+    pub(crate) fn capacity(&self) -> u32
+        ensures value { result ≡ self.now.capacity }
+        ensures in_range { (1 ≤ result) × (result ≤ 10000) }
+        ensures room { length self.now.records + length self.now.ahead ≤ result }
+    {
+        self.entries.capacity() as u32
+    }
+
+    /// Returns the number of undo records.
+    pub(crate) fn kept(&self) -> u32
+        ensures value { result ≡ length self.now.records }
+        ensures held { result ≤ self.now.capacity }
+    {
+        (self.entries.len() - self.ahead) as u32
+    }
+
+    /// Returns the number of actions that were taken back.
+    pub(crate) fn ahead(&self) -> u32
+        ensures value { result ≡ length self.now.ahead }
+        ensures room { length self.now.records + result ≤ self.now.capacity }
+    {
+        self.ahead as u32
+    }
+
+    /// Performs an action that the machine admits, and keeps it in front of the others. If the log is full, the oldest
+    /// is discarded. So are the actions ahead.
+    #[inline(always)]
+    pub(crate) fn perform(&mut self, machine: &mut T, action: T::Action)
+        requires { T.admitted machine.old action }
+        ensures machine { machine.new ≡ T.next machine.old action }
+        ensures kept { (back : T.Record) × (T.fits back machine.new) × (T.before back machine.new ≡ machine.old)
+            × (self.new ≡ record { records = take self.old.capacity ((action, back) ∷ self.old.records); ahead = []; capacity = self.old.capacity }) }
+    {
+        forget(&mut self.entries, self.ahead);
+        self.ahead = 0;
+        perform(machine, &mut self.entries, &mut self.longs, action);
+    }
+
+    /// Takes the newest action back.
+    #[inline(always)]
+    pub(crate) fn take_back(&mut self, machine: &mut T)
+        requires some { 0 < length self.old.records }
+        requires fits { (newest : T.Action × T.Record) → slice_get self.old.records 0 ≡ Some newest → T.fits newest.1 machine.old }
+        ensures { (newest : T.Action × T.Record) × (slice_get self.old.records 0 ≡ Some newest)
+            × (machine.new ≡ T.before newest.1 machine.old)
+            × (self.new ≡ record { records = drop 1 self.old.records; ahead = newest.0 ∷ self.old.ahead; capacity = self.old.capacity }) }
+    {
+        take_back(machine, &self.entries, &mut self.longs, self.ahead);
+        self.ahead += 1;
+    }
+
+    /// Performs the first of the actions ahead again.
+    #[inline(always)]
+    pub(crate) fn perform_again(&mut self, machine: &mut T)
+        requires some { 0 < length self.old.ahead }
+        requires admitted { (action : T.Action) → slice_get self.old.ahead 0 ≡ Some action → T.admitted machine.old action }
+        ensures { (action : T.Action) × (back : T.Record) × (slice_get self.old.ahead 0 ≡ Some action)
+            × (machine.new ≡ T.next machine.old action) × (T.fits back machine.new) × (T.before back machine.new ≡ machine.old)
+            × (self.new ≡ record { records = (action, back) ∷ self.old.records; ahead = drop 1 self.old.ahead; capacity = self.old.capacity }) }
+    {
+        self.ahead -= 1;
+        perform_again(machine, &mut self.entries, &mut self.longs, self.ahead);
+    }
+
+    /// Returns the old number that the newest undo record names for the place.
+    #[inline(always)]
+    pub(crate) fn newest_old_value(&self, place: &T::Place) -> Option<u64>
+        ensures value { (newest : T.Action × T.Record) → slice_get self.now.records 0 ≡ Some newest → result ≡ T.old_number newest.1 place.now }
+        ensures none_kept { length self.now.records ≡ 0 → result ≡ None }
+        ensures some_room { 1 ≤ self.now.capacity }
+    {
+        match self.entries.get(self.ahead) {
+            Some(newest) => match &newest.1 {
+                Some(short) => T::was_short(short, place),
+                None => newest_long_was::<T>(&self.longs, place),
+            },
+            None => None,
+        }
+    }
+
+    /// Returns the position, counted from 1, of the first undo record that names another number for one of the places
+    /// than the machine has.
+    pub(crate) fn find_change(
+        &self,
+        machine: &T,
+        places: &[T::Place],
+        looks: &mut Looks,
+    ) -> Option<u32>
+        requires { All (λ place. T.has_place machine.now place) places.now }
+        ensures value { result ≡ first_changing T.Reversible (λ place. T.number machine.now place) places.now self.now.records }
+        ensures counts_up { looks.old.count ≤ looks.new.count }
+        ensures cost { MatchOption result (looks.new.count ≤ looks.old.count + length places.now * length self.now.records) (λ k. looks.new.count ≤ looks.old.count + length places.now * k) }
+        ensures looks_at_each { 1 ≤ length places.now → MatchOption result (looks.old.count + length self.now.records ≤ looks.new.count) (λ k. looks.old.count + k ≤ looks.new.count) }
+        ensures kept { IfSome result (λ k. k ≤ length self.now.records) }
+    {
+        find_change(
+            machine,
+            &self.entries,
+            &self.longs,
+            self.ahead,
+            places,
+            looks,
+        )
+    }
+}
+
+/// Returns whether the machine has another number at the place than the old one that an undo record names. This is one
+/// look at that record.
+#[inline(always)]
+fn is_other<T: Reversible>(
+    machine: &T,
+    place: &T::Place,
+    old: Option<u64>,
+    looks: &mut Looks,
+) -> bool
+    requires { T.has_place machine.now place.now }
+    ensures value { result ≡ names_other old (T.number machine.now place.now) }
+    ensures counted { looks.new.count ≡ looks.old.count + 1 }
+{
+    looks.tick();
+    match old {
+        Some(old) => old != machine.value(place),
+        None => false,
+    }
+}
+
+/// Returns whether a long undo record gives one of the places another number than it has now.
+fn changes<T: Reversible>(
+    machine: &T,
+    back: &T::Record,
+    places: &[T::Place],
+    looks: &mut Looks,
+) -> bool
+    requires { All (λ place. T.has_place machine.now place) places.now }
+    ensures value { result ≡ changes T.Reversible (λ place. T.number machine.now place) places.now back.now }
+    ensures counts_up { looks.old.count ≤ looks.new.count }
+    ensures cost { looks.new.count ≤ looks.old.count + length places.now }
+    ensures looks_at_each { 1 ≤ length places.now → looks.old.count + 1 ≤ looks.new.count }
+{
+    for place in places {
+        if is_other(machine, place, T::was(back, place), looks) {
+            return true;
+        }
+    }
+    false
+}
+
+/// Returns whether a short undo record gives one of the places another number than it has now.
+#[inline(always)]
+fn short_changes<T: Reversible>(
+    machine: &T,
+    back: &T::Short,
+    places: &[T::Place],
+    looks: &mut Looks,
+) -> bool
+    requires { All (λ place. T.has_place machine.now place) places.now }
+    ensures value { result ≡ changes T.Reversible (λ place. T.number machine.now place) places.now (T.whole back.now) }
+    ensures counts_up { looks.old.count ≤ looks.new.count }
+    ensures cost { looks.new.count ≤ looks.old.count + length places.now }
+    ensures looks_at_each { 1 ≤ length places.now → looks.old.count + 1 ≤ looks.new.count }
+{
+    for place in places {
+        if is_other(machine, place, T::was_short(back, place), looks) {
+            return true;
+        }
+    }
+    false
+}
+
+/// Returns whether the long undo record behind `long` others gives one of the places another number than it has now.
+#[inline(never)]
+fn long_changes<T: Reversible>(
+    machine: &T,
+    longs: &HeapCircularBuffer<Option<T::Record>>,
+    long: usize,
+    places: &[T::Place],
+    looks: &mut Looks,
+) -> bool
+    requires { All (λ place. T.has_place machine.now place) places.now }
+    ensures value { (back : T.Record) → slice_get longs.now.items long ≡ Some (Some back) →
+        result ≡ changes T.Reversible (λ place. T.number machine.now place) places.now back }
+    ensures counts_up { looks.old.count ≤ looks.new.count }
+    ensures cost { looks.new.count ≤ looks.old.count + length places.now }
+    ensures looks_at_each { (back : T.Record) → slice_get longs.now.items long ≡ Some (Some back) →
+        1 ≤ length places.now → looks.old.count + 1 ≤ looks.new.count }
+{
+    match longs.get(long) {
+        Some(named) => match named {
+            Some(back) => changes(machine, back, places, looks),
+            None => false,
+        },
+        None => false,
+    }
+}
+
+/// Returns whether the undo record of an entry gives one of the places another number than it has now, and how many long
+/// undo records are before those of the entries behind it. Before its own there are `long`.
+#[inline(always)]
+fn changes_at<T: Reversible>(
+    machine: &T,
+    entries: &HeapCircularBuffer<(T::Action, Option<T::Short>)>,
+    longs: &HeapCircularBuffer<Option<T::Record>>,
+    at: usize,
+    long: usize,
+    places: &[T::Place],
+    looks: &mut Looks,
+) -> (bool, usize)
+    requires present { All (λ place. T.has_place machine.now place) places.now }
+    requires within { at < length entries.now.items }
+    requires small { long ≤ 10000 }
+    ensures value { (entry : Entry T.Action T.Short) (back : T.Record) → slice_get entries.now.items at ≡ Some entry →
+        record_of T.whole entry.1 (drop long longs.now.items) ≡ Some back →
+        result.0 ≡ changes T.Reversible (λ place. T.number machine.now place) places.now back }
+    ensures behind { (entry : Entry T.Action T.Short) → slice_get entries.now.items at ≡ Some entry →
+        drop result.1 longs.now.items ≡ longs_behind entry.1 (drop long longs.now.items) }
+    ensures small { result.1 ≤ long + 1 }
+    ensures counts_up { looks.old.count ≤ looks.new.count }
+    ensures cost { looks.new.count ≤ looks.old.count + length places.now }
+    ensures looks_at_each { (entry : Entry T.Action T.Short) (back : T.Record) → slice_get entries.now.items at ≡ Some entry →
+        record_of T.whole entry.1 (drop long longs.now.items) ≡ Some back →
+        1 ≤ length places.now → looks.old.count + 1 ≤ looks.new.count }
+{
+    match entries.get(at) {
+        Some(entry) => match &entry.1 {
+            Some(short) => (short_changes(machine, short, places, looks), long),
+            None => (long_changes(machine, longs, long, places, looks), long + 1),
+        },
+        None => (false, long),
+    }
+}
+
+/// Returns the position, counted from 1, of the first of the entries from `ahead` on whose undo record gives one of the
+/// places another number than it has now.
+fn find_change<T: Reversible>(
+    machine: &T,
+    entries: &HeapCircularBuffer<(T::Action, Option<T::Short>)>,
+    longs: &HeapCircularBuffer<Option<T::Record>>,
+    ahead: usize,
+    places: &[T::Place],
+    looks: &mut Looks,
+) -> Option<u32>
+    requires present { All (λ place. T.has_place machine.now place) places.now }
+    requires within { ahead ≤ length entries.now.items }
+    requires full { length entries.now.items ≤ 10000 }
+    requires kept { HaveRecords (joined T.whole (drop ahead entries.now.items) longs.now.items) }
+    ensures value { result ≡ first_changing T.Reversible (λ place. T.number machine.now place) places.now (recorded (joined T.whole (drop ahead entries.now.items) longs.now.items)) }
+    ensures counts_up { looks.old.count ≤ looks.new.count }
+    ensures cost { MatchOption result (looks.new.count ≤ looks.old.count + length places.now * (length entries.now.items - ahead)) (λ k. looks.new.count ≤ looks.old.count + length places.now * k) }
+    ensures looks_at_each { 1 ≤ length places.now → MatchOption result (looks.old.count + (length entries.now.items - ahead) ≤ looks.new.count) (λ k. looks.old.count + k ≤ looks.new.count) }
+    ensures kept { IfSome result (λ k. k ≤ length entries.now.items - ahead) }
+{
+    let kept = (entries.len() - ahead) as u32;
+    let mut long = 0;
+    for k in 0..kept {
+        let at = ahead + k as usize;
+        let (found, behind) = changes_at(machine, entries, longs, at, long, places, looks);
+        if found {
+            return Some(k + 1);
+        }
+        long = behind;
+    }
+    None
+}
+
+/// Returns the old number that the newest long undo record names for the place.
+#[inline(never)]
+fn newest_long_was<T: Reversible>(
+    longs: &HeapCircularBuffer<Option<T::Record>>,
+    place: &T::Place,
+) -> Option<u64>
+    ensures { (back : T.Record) → slice_get longs.now.items 0 ≡ Some (Some back) → result ≡ T.old_number back place.now }
+{
+    match longs.get(0) {
+        Some(named) => match named {
+            Some(back) => T::was(back, place),
+            None => None,
+        },
+        None => None,
+    }
+}
+
+/// Discards the first n items.
+fn forget<E: Drop>(items: &mut HeapCircularBuffer<E>, n: usize)
+    requires { n ≤ length items.old.items }
+    ensures { items.new ≡ buffer (drop n items.old.items) items.old.capacity }
+{
+    if n > 0 {
+        items.truncate_front(items.len() - n);
+    }
+}
+
+/// Performs an action, and leaves its undo record in front of the long ones.
+#[inline(never)]
+fn act_at_length<T: Reversible>(
+    machine: &mut T,
+    action: &T::Action,
+    longs: &mut HeapCircularBuffer<Option<T::Record>>,
+)
+    requires admitted { T.admitted machine.old action.now }
+    requires room { 1 ≤ longs.old.capacity }
+    ensures next { machine.new ≡ T.next machine.old action.now }
+    ensures left { (back : T.Record) × (T.fits back machine.new) × (T.before back machine.new ≡ machine.old)
+        × (longs.new ≡ buffer (take longs.old.capacity (Some back ∷ longs.old.items)) longs.old.capacity) }
+{
+    let _oldest = longs.push_front(T::spare_record());
+    if let Some(long) = longs.get_mut(0) {
+        machine.act_into(action, long);
+    }
+}
+
+/// Performs an action, and leaves its undo record over the short one that is given, or else in front of the long ones.
+#[inline(always)]
+fn act<T: Reversible>(
+    machine: &mut T,
+    action: &T::Action,
+    back: &mut Option<T::Short>,
+    longs: &mut HeapCircularBuffer<Option<T::Record>>,
+)
+    requires admitted { T.admitted machine.old action.now }
+    requires room { 1 ≤ longs.old.capacity }
+    ensures next { machine.new ≡ T.next machine.old action.now }
+    ensures left { (left : T.Record) × (T.fits left machine.new) × (T.before left machine.new ≡ machine.old)
+        × IsLeft T.whole back.new left longs.old longs.new }
+{
+    if let Some(short) = back {
+        if machine.act_short(action, short) {
+            return;
+        }
+    }
+    *back = None;
+    act_at_length(machine, action, longs);
+}
+
+/// Performs an action that the machine admits, and keeps it in front of the others. Of a full ring the oldest goes.
+#[inline(always)]
+fn perform<T: Reversible>(
+    machine: &mut T,
+    entries: &mut HeapCircularBuffer<(T::Action, Option<T::Short>)>,
+    longs: &mut HeapCircularBuffer<Option<T::Record>>,
+    action: T::Action,
+)
+    requires admitted { T.admitted machine.old action }
+    requires room { 1 ≤ entries.old.capacity }
+    requires long_room { 1 ≤ longs.old.capacity }
+    ensures machine { machine.new ≡ T.next machine.old action }
+    ensures kept { (short : Option T.Short) × (back : T.Record)
+        × (entries.new ≡ buffer (take entries.old.capacity ((action, short) ∷ entries.old.items)) entries.old.capacity)
+        × IsLeft T.whole short back longs.old longs.new
+        × T.fits back machine.new × (T.before back machine.new ≡ machine.old) }
+{
+    let _oldest = entries.push_front((action, T::spare()));
+    if let Some(newest) = entries.get_mut(0) {
+        act(machine, &newest.0, &mut newest.1, longs);
+    }
+}
+
+/// Performs the action of an entry again, which the machine admits.
+#[inline(always)]
+fn perform_again<T: Reversible>(
+    machine: &mut T,
+    entries: &mut HeapCircularBuffer<(T::Action, Option<T::Short>)>,
+    longs: &mut HeapCircularBuffer<Option<T::Record>>,
+    at: usize,
+)
+    requires within { at < length entries.old.items }
+    requires long_room { 1 ≤ longs.old.capacity }
+    requires admitted { (entry : Entry T.Action T.Short) → slice_get entries.old.items at ≡ Some entry → T.admitted machine.old entry.0 }
+    ensures { (entry : Entry T.Action T.Short) → slice_get entries.old.items at ≡ Some entry → (short : Option T.Short) × (back : T.Record)
+        × (machine.new ≡ T.next machine.old entry.0)
+        × (entries.new ≡ buffer (slice_set entries.old.items at (entry.0, short)) entries.old.capacity)
+        × IsLeft T.whole short back longs.old longs.new
+        × T.fits back machine.new × (T.before back machine.new ≡ machine.old) }
+{
+    if let Some(entry) = entries.get_mut(at) {
+        act(machine, &entry.0, &mut entry.1, longs);
+    }
+}
+
+/// Takes the action of an entry back by its undo record: its short one, or else the newest long one, which is discarded.
+#[inline(always)]
+fn take_back<T: Reversible>(
+    machine: &mut T,
+    entries: &HeapCircularBuffer<(T::Action, Option<T::Short>)>,
+    longs: &mut HeapCircularBuffer<Option<T::Record>>,
+    at: usize,
+)
+    requires within { at < length entries.now.items }
+    requires fits { (entry : Entry T.Action T.Short) → slice_get entries.now.items at ≡ Some entry →
+        IsSomeAnd (record_of T.whole entry.1 longs.old.items) (λ back. T.fits back machine.old) }
+    ensures { (entry : Entry T.Action T.Short) → slice_get entries.now.items at ≡ Some entry →
+        IsSomeAnd (record_of T.whole entry.1 longs.old.items) (λ back. machine.new ≡ T.before back machine.old)
+        × (longs.new ≡ buffer (longs_behind entry.1 longs.old.items) longs.old.capacity) }
+{
+    if let Some(entry) = entries.get(at) {
+        match &entry.1 {
+            Some(short) => machine.undo_short(short),
+            None => take_back_at_length(machine, longs),
+        }
+    }
+}
+
+/// Takes an action back by the newest long undo record, which is discarded.
+#[inline(never)]
+fn take_back_at_length<T: Reversible>(
+    machine: &mut T,
+    longs: &mut HeapCircularBuffer<Option<T::Record>>,
+)
+    requires { (back : T.Record) × (slice_get longs.old.items 0 ≡ Some (Some back)) × T.fits back machine.old }
+    ensures machine { (back : T.Record) → slice_get longs.old.items 0 ≡ Some (Some back) → machine.new ≡ T.before back machine.old }
+    ensures longs { longs.new ≡ buffer (drop 1 longs.old.items) longs.old.capacity }
+{
+    if let Some(long) = longs.get_mut(0) {
+        machine.undo_from(long);
+    }
+    if longs.len() > 0 {
+        forget(longs, 1);
+    }
+}
