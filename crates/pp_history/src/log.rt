@@ -464,8 +464,8 @@ fn take_back_at_length<T: Reversible>(
     ensures machine { (back : T.Record) → slice_get longs.old.items 0 ≡ Some (Some back) → machine.new ≡ T.before back machine.old }
     ensures longs { longs.new ≡ buffer (drop 1 longs.old.items) longs.old.capacity }
 {
-    if let Some(long) = longs.get_mut(0) {
-        machine.undo_from(long);
+    if let Some(newest) = longs.get_mut(0) {
+        machine.undo_from(newest);
     }
     if longs.len() > 0 {
         forget(longs, 1);

@@ -1,4 +1,5 @@
-//! Sessions of two machines: one with the five methods alone, and one that writes its undo records in place.
+//! Sessions of two machines: one with the required methods alone, and one that writes short and long undo records in
+//! place.
 
 mod dials;
 mod gauge;

@@ -1,4 +1,4 @@
-//! Sessions of three dials: a machine with the five methods that every machine has, and no other.
+//! Sessions of three dials: a machine with one kind of undo record, and no method but those that every machine has.
 
 ghost use Rattle.std.specs.Prelude.{◌≤◌};
 
@@ -209,6 +209,18 @@ fn performs_again_what_was_undone_in_part(rt: HostRuntime) -> Result<(), Fail> {
     assert_eq!(rt; session.machine().numbers, [3, 4, 0]);
     assert_eq!(rt; session.back_to_change(&[0]), Ok(2));
     assert_eq!(rt; session.machine().numbers, [1, 2, 0]);
+    Ok(())
+}
+
+#[test]
+fn names_the_number_before_the_newest_action(rt: HostRuntime) -> Result<(), Fail> {
+    let mut session = session_of(rt.alloc(), 2)?;
+    session.act(Set { dial: 1, to: 3 });
+    session.act(Set { dial: 1, to: 4 });
+    assert_eq!(rt; session.newest_old_value(&1), Some(3));
+    assert_eq!(rt; session.newest_old_value(&0), None);
+    assert_eq!(rt; session.back(1), Ok(()));
+    assert_eq!(rt; session.newest_old_value(&1), Some(0));
     Ok(())
 }
 

@@ -1,4 +1,5 @@
-//! Sessions of a gauge: a machine that writes its undo records in place, and undoes by a record where it is.
+//! Sessions of a gauge: a machine with short and long undo records, which it writes in place, and undoes by a record
+//! where it is.
 
 ghost use Rattle.std.specs.Prelude.{◌≤◌};
 
@@ -19,6 +20,9 @@ impl Reversible for Gauge {
 
     type Place = ();
 
+    /// An old number of one byte.
+    type Short = u8;
+
     ghost use Rattle.std.specs.Prelude.{◌≡◌, IsSomeAnd, Some, ⊤};
     ghost use Rattle.std.proofs.Common.{refl};
 
@@ -35,6 +39,8 @@ impl Reversible for Gauge {
     ghost number = { λ gauge place. gauge.number };
 
     ghost old_number = { λ old place. Some old };
+
+    ghost whole = { λ old. old };
 
     ghost keeps_places = { λ old gauge place fits has. has };
 
@@ -54,7 +60,32 @@ impl Reversible for Gauge {
         self.number = old;
     }
 
-    fn spare() -> Option<u64> {
+    fn lengthen(old: &u8) -> u64 {
+        u64::from(*old)
+    }
+
+    fn spare() -> Option<u8> {
+        Some(0)
+    }
+
+    fn act_short(&mut self, to: &u64, back: &mut u8) -> bool {
+        let Ok(old) = u8::try_from(self.number) else {
+            return false;
+        };
+        *back = old;
+        self.number = *to;
+        true
+    }
+
+    fn undo_short(&mut self, old: &u8) {
+        self.number = u64::from(*old);
+    }
+
+    fn was_short(old: &u8, _place: &()) -> Option<u64> {
+        Some(u64::from(*old))
+    }
+
+    fn spare_record() -> Option<u64> {
         Some(0)
     }
 
@@ -114,5 +145,53 @@ fn goes_back_and_forward_in_place(rt: HostRuntime) -> Result<(), Fail> {
         session.back_to_change(&[()]),
         Err(BackFault::NoChange { kept: 0 })
     );
+    Ok(())
+}
+
+#[test]
+fn keeps_short_and_long_records_in_order(rt: HostRuntime) -> Result<(), Fail> {
+    let mut session = session_of(rt.alloc(), 3)?;
+    for to in [5, 300, 301, 6, 7, 1000, 8, 1001, 9] {
+        session.act(to);
+    }
+    assert_eq!(rt; session.newest_old_value(&()), Some(1001));
+    for number in [1001, 8, 1000] {
+        assert_eq!(rt; session.back(1), Ok(()));
+        assert_eq!(rt; session.machine().number, number);
+    }
+    assert_eq!(rt; session.back(1), Err(BackFault::TooFew { kept: 0 }));
+    assert_eq!(rt; session.newest_old_value(&()), None);
+    assert_eq!(rt; session.forward(2), Ok(()));
+    assert_eq!(rt; session.machine().number, 1001);
+    assert_eq!(rt; session.newest_old_value(&()), Some(8));
+    session.act(2000);
+    session.act(10);
+    assert_eq!(rt; session.back(3), Ok(()));
+    assert_eq!(rt; session.machine().number, 8);
+    assert_eq!(rt; session.forward(3), Ok(()));
+    assert_eq!(rt; session.machine().number, 10);
+    Ok(())
+}
+
+#[test]
+fn searches_short_and_long_records(rt: HostRuntime) -> Result<(), Fail> {
+    let mut session = session_of(rt.alloc(), 5)?;
+    for to in [300, 400, 400, 400, 7, 7] {
+        session.act(to);
+    }
+    let mut looks = Looks::new();
+    assert_eq!(rt; session.find_change(&[()], &mut looks), Some(2));
+    assert_eq!(rt; session.back_to_change(&[()]), Ok(2));
+    assert_eq!(rt; session.machine().number, 400);
+    assert_eq!(rt; session.back_to_change(&[()]), Ok(3));
+    assert_eq!(rt; session.machine().number, 300);
+    assert_eq!(rt;
+        session.back_to_change(&[()]),
+        Err(BackFault::NoChange { kept: 0 })
+    );
+    assert_eq!(rt; session.forward(5), Ok(()));
+    assert_eq!(rt; session.back(1), Ok(()));
+    assert_eq!(rt; session.back_to_change(&[()]), Ok(1));
+    assert_eq!(rt; session.machine().number, 400);
     Ok(())
 }
