@@ -54,25 +54,21 @@ impl<T: Reversible> Log<T> {
 
     /// Returns the most actions that it holds.
     pub(crate) fn capacity(&self) -> u32
-        ensures value { result ≡ self.now.capacity }
-        ensures in_range { (1 ≤ result) × (result ≤ 10000) }
-        ensures room { length self.now.records + length self.now.ahead ≤ result }
+        ensures { result ≡ self.now.capacity }
     {
         self.entries.capacity() as u32
     }
 
     /// Returns the number of undo records.
     pub(crate) fn kept(&self) -> u32
-        ensures value { result ≡ length self.now.records }
-        ensures held { result ≤ self.now.capacity }
+        ensures { result ≡ length self.now.records }
     {
         (self.entries.len() - self.ahead) as u32
     }
 
     /// Returns the number of actions that were taken back.
     pub(crate) fn ahead(&self) -> u32
-        ensures value { result ≡ length self.now.ahead }
-        ensures room { length self.now.records + result ≤ self.now.capacity }
+        ensures { result ≡ length self.now.ahead }
     {
         self.ahead as u32
     }
@@ -122,7 +118,6 @@ impl<T: Reversible> Log<T> {
     pub(crate) fn newest_old_value(&self, place: &T::Place) -> Option<u64>
         ensures value { (newest : T.Action × T.Record) → slice_get self.now.records 0 ≡ Some newest → result ≡ T.old_number newest.1 place.now }
         ensures none_kept { length self.now.records ≡ 0 → result ≡ None }
-        ensures some_room { 1 ≤ self.now.capacity }
     {
         match self.entries.get(self.ahead) {
             Some(newest) => match &newest.1 {
@@ -179,27 +174,6 @@ fn is_other<T: Reversible>(
     }
 }
 
-/// Returns whether a long undo record gives one of the places another number than it has now.
-fn changes<T: Reversible>(
-    machine: &T,
-    back: &T::Record,
-    places: &[T::Place],
-    looks: &mut Looks,
-) -> bool
-    requires { All (λ place. T.has_place machine.now place) places.now }
-    ensures value { result ≡ changes T.Reversible (λ place. T.number machine.now place) places.now back.now }
-    ensures counts_up { looks.old.count ≤ looks.new.count }
-    ensures cost { looks.new.count ≤ looks.old.count + length places.now }
-    ensures looks_at_each { 1 ≤ length places.now → looks.old.count + 1 ≤ looks.new.count }
-{
-    for place in places {
-        if is_other(machine, place, T::was(back, place), looks) {
-            return true;
-        }
-    }
-    false
-}
-
 /// Returns whether a short undo record gives one of the places another number than it has now.
 #[inline(always)]
 fn short_changes<T: Reversible>(
@@ -239,13 +213,15 @@ fn long_changes<T: Reversible>(
     ensures looks_at_each { (back : T.Record) → slice_get longs.now.items long ≡ Some (Some back) →
         1 ≤ length places.now → looks.old.count + 1 ≤ looks.new.count }
 {
-    match longs.get(long) {
-        Some(named) => match named {
-            Some(back) => changes(machine, back, places, looks),
-            None => false,
-        },
-        None => false,
+    let Some(Some(back)) = longs.get(long) else {
+        return false;
+    };
+    for place in places {
+        if is_other(machine, place, T::was(back, place), looks) {
+            return true;
+        }
     }
+    false
 }
 
 /// Returns whether the undo record of an entry gives one of the places another number than it has now, and how many long
@@ -326,11 +302,8 @@ fn newest_long_was<T: Reversible>(
     ensures { (back : T.Record) → slice_get longs.now.items 0 ≡ Some (Some back) → result ≡ T.old_number back place.now }
 {
     match longs.get(0) {
-        Some(named) => match named {
-            Some(back) => T::was(back, place),
-            None => None,
-        },
-        None => None,
+        Some(Some(back)) => T::was(back, place),
+        _ => None,
     }
 }
 

@@ -1,6 +1,6 @@
 use Rattle.std.proofs.Common.{◌≡◌, ◌+◌, ◌≤◌, Bool, List, drop}
 use Rattle.pp_history.specs.Search.{changes}
-use Rattle.pp_history.proofs.log.changes.Given as goal
+use Rattle.pp_history.proofs.log.long_changes.Given as goal
 
 abbrev pub invariant-loop-place : goal.invariant-loop-place
 invariant-loop-place g l =
