@@ -17,14 +17,12 @@ use Rattle.pp_step.specs.Channels.{is_clock, is_in, is_active}
 use Rattle.pp_step.specs.Codes.{code_of}
 use Rattle.pp_step.specs.Effect.{effect}
 use Rattle.pp_step.specs.Exchange.{frame_pairs, word_pairs, loaded}
-use Rattle.pp_step.specs.Instruction.{InstructionNumbers, address_of, instruction_at, mode_of}
+use Rattle.pp_step.specs.Instruction.{InstructionNumbers, Mode, Direct, Indirect, Memory, Constant, address_of, instruction_at, mode_of}
 use Rattle.pp_step.specs.PpPlaces.{Held, five_held, frame_held, words_held}
 use Rattle.pp_step.specs.Step.{pp_writes}
 use Rattle.pp_step.specs.View.{PpView, PpPlace, pp_place}
 use Rattle.pp_step.specs.declared.code.Code.{Code}
 use Rattle.pp_step.specs.declared.code.Code.TheVariants as code
-use Rattle.pp_step.specs.declared.instruction.Mode.{Mode}
-use Rattle.pp_step.specs.declared.instruction.Mode.TheVariants.{Direct, Indirect, Memory, Constant}
 
 -- ---- addresses of cells
 

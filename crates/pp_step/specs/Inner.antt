@@ -1,18 +1,22 @@
 -- Words of the contracts of inner functions alone: no definition of a step, and no contract of a public call, needs them.
-use Rattle.std.specs.Prelude.{ℕ, List, [], ◌∷◌, ◌+◌, slice_set}
-use Rattle.pp_step.specs.Instruction.{InstructionNumbers}
+use Rattle.std.specs.Prelude.{ℕ, List, [], ◌∷◌, ◌+◌, slice_index, slice_set}
 use Rattle.pp_step.specs.Pairs.{Fits}
-use Rattle.pp_step.specs.Words.{central_after}
-use Rattle.pp_step.specs.declared.instruction.Instruction.{Instruction}
+use Rattle.pp_step.specs.Words.{cell_after, central_after}
 use Rattle.pp_step.specs.declared.record.StepRecord.{StepRecord}
 
--- the fields of an instruction, as the definitions see them
-abbrev pub numbers_of : Instruction → InstructionNumbers
-numbers_of i = record { code = i.code; d = i.d; second = i.second; address = i.address; next = i.next }
-
--- a list fits a machine whatever the size of its central memory
+-- a record fits a machine whatever the size of its central memory
 pub record FitsAnySize (r : StepRecord) : Type 0 where
   pub fits : (size : ℕ) → Fits size r
+
+-- the cells with five numbers put in from an address on
+abbrev pub five_over : ℕ → List ℕ → List ℕ → List ℕ
+five_over address parts cells =
+    slice_set (slice_set (slice_set (slice_set (slice_set cells
+    (cell_after address 4) (slice_index parts 4))
+    (cell_after address 3) (slice_index parts 3))
+    (cell_after address 2) (slice_index parts 2))
+    (cell_after address 1) (slice_index parts 1))
+    (cell_after address 0) (slice_index parts 0)
 
 -- central memory with the numbers of a list put in from i words behind a on
 abbrev pub stored_over : ℕ → ℕ → List ℕ → List ℕ → List ℕ
