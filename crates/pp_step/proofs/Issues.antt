@@ -1,5 +1,5 @@
 -- What an instruction leaves in the phase.
-use Rattle.std.proofs.Common.{◌≡◌, ℕ, ◌+◌, ◌*◌, ◌/◌, ◌≤◌, Bool, true, false, List, [], ◌∷◌, ◌++◌, ◌⊎◌, if◌then◌else◌, nat_lt, length, slice_index, inl, inr, refl, ◌∙◌, arith}
+use Rattle.std.proofs.Common.{◌≡◌, ℕ, ◌+◌, ◌*◌, ◌/◌, ◌≤◌, Bool, true, false, List, [], ◌∷◌, ◌++◌, ◌⊎◌, if◌then◌else◌, nat_lt, length, slice_index, inl, inr, refl, ap, ◌∙◌, arith}
 use Rattle.pp_machine.specs.Writes.{Writes}
 use Rattle.pp_machine.specs.declared.channel.ChannelState.{ChannelState}
 use Rattle.pp_machine.specs.declared.channel.ChannelState.TheVariants.{Inactive, Empty, Full, Function}
@@ -10,7 +10,7 @@ use Rattle.pp_step.specs.Effect.{effect}
 use Rattle.pp_step.specs.Exchange.{frame_pairs, word_pairs, loaded}
 use Rattle.pp_step.specs.Instruction.{InstructionNumbers, instruction_at}
 use Rattle.pp_step.specs.Rows.{jump, load, input, output, activity}
-use Rattle.pp_step.specs.Step.{instruction_writes}
+use Rattle.pp_step.specs.Step.{instruction_writes, pp_writes}
 use Rattle.pp_step.specs.View.{PpView, PpPlace, P, Word, over}
 use Rattle.pp_step.specs.Words.{central_after, lower12, joined_cells}
 use Rattle.pp_step.specs.declared.code.Code.{Code}
@@ -74,3 +74,11 @@ issued m idle fits busy =
       | inl stays ↦ absurd (busy (stays ∙ idle))
       | inr own ↦ own ∙ (let k = number_of-code_of (w / 0o100) (omega arith) in omega (arith, k))
     ]
+
+-- the same of the state after a step
+pub issued_after : (m n : PpView) → n ≡ over m (pp_writes m) → m.phase ≡ 0 → slice_index m.cells m.p ≤ 0o7777 → (n.phase ≡ 0 → ⊥) → n.phase ≡ slice_index m.cells m.p
+unfolding pp_writes
+issued_after m n after idle fits busy =
+    let outside : pp_writes m ≡ instruction_writes m = rw idle refl in
+    let phase = ap (λ v. v.phase) (after ∙ ap (over m) outside) in
+    phase ∙ issued m idle fits (λ none. busy (phase ∙ none))

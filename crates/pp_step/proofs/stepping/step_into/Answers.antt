@@ -1,26 +1,34 @@
-use Rattle.std.proofs.Common.{◌≡◌, ap, sym, ◌∙◌}
-use Rattle.pp_step.specs.Step.{instruction_writes, block_writes}
-use Rattle.pp_step.specs.View.{pp_view, over}
+use Rattle.std.proofs.Common.{rules}
 use Rattle.pp_step.proofs.FewPlaces.{few_places}
-use Rattle.pp_step.proofs.Issues.{issued}
-use Rattle.pp_step.proofs.Store.{taken_back}
+use Rattle.pp_step.proofs.Issues.{issued_after}
+use Rattle.pp_step.proofs.Store.{leads_back}
+use Rattle.pp_step.specs.declared.record.PpRecord.TheVariants.{Step}
 use Rattle.pp_step.proofs.stepping.step_into.Goals as goal
 
-pub returns-then-pp-eq0-clause-back : goal.returns-then-pp-eq0-clause-back
-returns-then-pp-eq0-clause-back c =
-    let old = pp_view c.args.pp.now c.args.memory.now c.args.channels.now c.args.central.now c.args.frame.now in
-    rw (c.perform.ensures.step, c.perform.ensures.record) (taken_back old (instruction_writes old))
+pub returns-then-not-perform-clause-step : goal.returns-then-not-perform-clause-step
+returns-then-not-perform-clause-step c = search rules
 
-pub returns-then-pp-eq0-clause-few : goal.returns-then-pp-eq0-clause-few
-returns-then-pp-eq0-clause-few c = few_places _ c.perform.new.back c.perform.ensures.fits
+pub returns-then-not-perform-clause-record : goal.returns-then-not-perform-clause-record
+returns-then-not-perform-clause-record c = search rules
 
-pub returns-then-pp-eq0-clause-issue : goal.returns-then-pp-eq0-clause-issue
-returns-then-pp-eq0-clause-issue c = λ idle busy.
-    let old = pp_view c.args.pp.now c.args.memory.now c.args.channels.now c.args.central.now c.args.frame.now in
-    let after : (over old (instruction_writes old)).phase ≡ c.perform.new.pp.phase = ap (λ m. m.phase) (sym c.perform.ensures.step) in
-    sym after ∙ issued old idle c.perform.ensures.word_in (λ e. busy (sym after ∙ e))
+pub returns-then-not-perform-clause-back : goal.returns-then-not-perform-clause-back
+returns-then-not-perform-clause-back c =
+    leads_back _ _ _ _ (returns-then-not-perform-clause-step c) (returns-then-not-perform-clause-record c)
 
-pub returns-else-pp-eq0-clause-back : goal.returns-else-pp-eq0-clause-back
-returns-else-pp-eq0-clause-back c =
-    let old = pp_view c.args.pp.now c.args.memory.now c.args.channels.now c.args.central.now c.args.frame.now in
-    rw (c.go_on.ensures.step, c.go_on.ensures.record) (taken_back old (block_writes old))
+pub returns-then-not-perform-clause-few : goal.returns-then-not-perform-clause-few
+returns-then-not-perform-clause-few c = few_places _ c.exchange_into.new.back c.exchange_into.ensures.fits
+
+pub returns-then-not-perform-clause-issue : goal.returns-then-not-perform-clause-issue
+returns-then-not-perform-clause-issue c = λ idle busy.
+    issued_after _ _ (returns-then-not-perform-clause-step c) idle (c.perform.ensures.word_in idle) busy
+
+pub returns-else-not-perform-clause-back : goal.returns-else-not-perform-clause-back
+returns-else-not-perform-clause-back c =
+    leads_back _ _ _ _ (c.perform.ensures.step c.if-not-perform.false) (c.perform.ensures.record c.if-not-perform.false)
+
+pub returns-else-not-perform-clause-few : goal.returns-else-not-perform-clause-few
+returns-else-not-perform-clause-few c = few_places _ (Step c.perform.new.back) (c.perform.ensures.fits c.if-not-perform.false)
+
+pub returns-else-not-perform-clause-issue : goal.returns-else-not-perform-clause-issue
+returns-else-not-perform-clause-issue c = λ idle busy.
+    issued_after _ _ (c.perform.ensures.step c.if-not-perform.false) idle (c.perform.ensures.word_in idle) busy
