@@ -1,5 +1,6 @@
 -- Words of the contracts of inner functions alone: no definition of a step, and no contract of a public call, needs them.
-use Rattle.std.specs.Prelude.{ℕ, List, [], ◌∷◌, ◌+◌, slice_index, slice_set}
+use Rattle.std.specs.Prelude.{ℕ, List, [], ◌∷◌, ◌+◌, ◌≡◌, slice_index, slice_set}
+use Rattle.pp_machine.specs.declared.pp.Pp.{Pp}
 use Rattle.pp_step.specs.Pairs.{Fits}
 use Rattle.pp_step.specs.Words.{cell_after, central_after}
 use Rattle.pp_step.specs.declared.record.StepRecord.{StepRecord}
@@ -7,6 +8,10 @@ use Rattle.pp_step.specs.declared.record.StepRecord.{StepRecord}
 -- a record fits a machine whatever the size of its central memory
 pub record FitsAnySize (r : StepRecord) : Type 0 where
   pub fits : (size : ℕ) → Fits size r
+
+-- a processor has these numbers
+abbrev pub HasRegisters : Pp → ℕ → ℕ → ℕ → ℕ → Type 0
+HasRegisters pp p a q phase = (pp.p ≡ p) × (pp.a ≡ a) × (pp.q ≡ q) × (pp.phase ≡ phase)
 
 -- the cells with five numbers put in from an address on
 abbrev pub five_over : ℕ → List ℕ → List ℕ → List ℕ
