@@ -5,6 +5,7 @@ pub mod MachineStore
 pub mod Overwritten
 pub mod Runs
 pub mod Shortest
+pub mod Stepped
 pub mod TurnNames
 pub mod Turns
 pub mod Unwatching

@@ -1,5 +1,5 @@
 -- What an action overwrites leads back, and stands at the places that it writes.
-use Rattle.std.specs.Prelude.{ℕ, ◌≡◌, ◌≤◌, Option, Some, None, length}
+use Rattle.std.specs.Prelude.{ℕ, Bool, true, false, ◌≡◌, ◌==◌, ◌≤◌, [], ◌∷◌, if◌then◌else◌, length}
 use Rattle.std.proofs.Common.{arith}
 use Rattle.std.proofs.lemmas.List.{length-append}
 use Rattle.pp_machine.specs.Machine.{Machine, number, over}
@@ -11,7 +11,9 @@ use Rattle.pp_machine.specs.Writes.{places}
 use Rattle.pp_step.specs.Step.{pp_pairs}
 use Rattle.pp_step.specs.View.{pp_place}
 use Rattle.pp_rig.specs.Action.{writes, next, overwritten}
-use Rattle.pp_rig.specs.Turn.{turn, turn_list, turn_olds, turn_pairs, clock_pairs}
+use Rattle.pp_rig.specs.Turn.{turn, turn_list, turn_olds, turn_pairs, rest_pairs, reader_record, printer_record}
+use Rattle.pp_machine.specs.declared.place.Place.{Place}
+use Rattle.pp_machine.specs.declared.place.Place.TheVariants.{Clock}
 use Rattle.pp_rig.specs.declared.action.Action.{Action}
 use Rattle.pp_rig.specs.declared.action.Action.TheVariants.{Turn}
 use Rattle.pp_rig.specs.declared.rig.TurnRecord.{TurnRecord}
@@ -38,17 +40,18 @@ places-overwritten m action = places-olds number m (writes m action)
 
 -- ---- how many places a turn's record names
 
-few-clock : (o : Option ℕ) → length (clock_pairs o) ≤ 1
-few-clock None = omega arith
-few-clock (Some v) = omega arith
+few-clock : (last : Bool) (clock : ℕ) → length {A = Place × ℕ} (if last then (Clock, clock) ∷ [] else []) ≤ 1
+few-clock true clock = omega arith
+few-clock false clock = omega arith
 
 pub few-turn : (r : TurnRecord) → length (pp_pairs r.pp) ≤ 33 → length (turn_pairs r) ≤ 44
-unfolding turn_pairs
+unfolding turn_pairs rest_pairs
 few-turn r few =
-    let pp = length-renamed (pp_place r.slot) (pp_pairs r.pp) in
-    let reader = length-renamed (reader_place r.reader_channel) (reader_pairs r.reader) in
-    let printer = length-renamed (printer_place r.printer_channel) (printer_pairs r.printer) in
-    let r4 = reader_few r.reader in
-    let p5 = printer_few r.printer in
-    let c1 = few-clock r.clock in
+    let rest = r.rest in
+    let pp = length-renamed (pp_place rest.slot) (pp_pairs r.pp) in
+    let reader = length-renamed (reader_place rest.reader_channel) (reader_pairs (reader_record rest)) in
+    let printer = length-renamed (printer_place rest.printer_channel) (printer_pairs (printer_record rest)) in
+    let r4 = reader_few (reader_record rest) in
+    let p5 = printer_few (printer_record rest) in
+    let c1 = few-clock (rest.slot == 9) rest.clock in
     simp length-append (omega arith)

@@ -1,16 +1,19 @@
 -- Runs, one turn after another.
 use Rattle.std.proofs.lemmas.Bool.Decides.{nat_tests}
-use Rattle.std.proofs.Common.{◌≡◌, ◌==◌, Bool, true, false, if◌then◌else◌, [], ◌∷◌, ℕ, suc, ◌+◌, ◌-◌, ◌<◌, ◌≤◌, refl, ap, sym, ◌∙◌, arith, List}
+use Rattle.std.proofs.Common.{drop, get_or, length, min, ◌≡◌, ◌==◌, true, false, ◌∷◌, ℕ, suc, ◌+◌, ◌-◌, ◌<◌, ◌≤◌, refl, ap, sym, ◌∙◌, arith, List}
 use Rattle.std.specs.Prelude.{Option, Some, None}
 use Rattle.pp_history.specs.SessionValue.{SessionValue, after_act}
 use Rattle.pp_machine.specs.Machine.{Machine, number}
-use Rattle.pp_rig.specs.Stopping.{first_change, hit_of, numbers_at, stopped, after_turns}
+use Rattle.pp_rig.specs.Stopping.{first_change, hit_of, stopped, after_turns}
 use Rattle.pp_rig.specs.Turn.{turn}
 use Rattle.pp_rig.specs.Watches.{watches_of, watched_in, watched_place}
 use Rattle.pp_rig.proofs.Turns.{turn-watches}
 use Rattle.pp_rig.specs.declared.action.Action.{Action}
 use Rattle.pp_rig.specs.declared.action.Action.TheVariants.{Turn}
 use Rattle.pp_rig.specs.declared.watched.Watched.{Watched}
+use Rattle.pp_rig.specs.declared.watched.Watched.TheVariants.{Cell}
+use Rattle.pp_machine.specs.declared.place.Place.{Place}
+use Rattle.std.proofs.lemmas.List.{at_drop_more}
 use Rattle.pp_rig.specs.declared.stopping.Hit.{Hit}
 use Rattle.pp_rig.specs.declared.stopping.Stopped.{Stopped}
 
@@ -62,32 +65,33 @@ pub after_turns-none : (v : SessionValue Machine Action) → after_turns 0 v ≡
 unfolding after_turns
 after_turns-none v = refl
 
--- the numbers before a turn tell what it changed
-pub hit-found : (old seen new : Machine) (kept numbers : List ℕ) {found : Option Hit} → seen ≡ old → kept ≡ numbers_at seen (watches_of seen) → numbers ≡ kept → new ≡ turn old →
-    ((before : Machine) → numbers ≡ numbers_at before (watches_of new) → found ≡ first_change before new (watches_of new)) → hit_of old ≡ found
-hit-found old seen new kept numbers {found} same taken whole turned tells =
-    let watched : watches_of new ≡ watches_of old = ap watches_of turned ∙ ap watched_in (turn-watches old) in
-    let at_seen : kept ≡ numbers_at old (watches_of old) = taken ∙ ap (λ m. numbers_at m (watches_of m)) same in
-    let at_old : numbers ≡ numbers_at old (watches_of new) = whole ∙ (at_seen ∙ ap (numbers_at old) (sym watched)) in
-    let told : found ≡ first_change old new (watches_of new) = tells old at_old in
-    sym (told ∙ (ap (first_change old new) watched ∙ ap (λ m. first_change old m (watches_of old)) turned))
-
-unchanged : (same : Bool) (hit : Hit) (rest : Option Hit) → (if same then rest else Some hit) ≡ None → (same ≡ true) × (rest ≡ None)
-unchanged true hit rest none = (refl, none)
-unchanged false hit rest none = cc
-
--- where no watched place has another number, the numbers are the same
-same-numbers : (old new : Machine) (watches : List Watched) → first_change old new watches ≡ None → numbers_at old watches ≡ numbers_at new watches
-same-numbers old new [] none = refl
-same-numbers old new (watched ∷ others) none =
-    let now = number new (watched_place watched) in
-    let was = number old (watched_place watched) in
-    let first = unchanged (now == was) (record { place = watched; was = was; now = now }) (first_change old new others) none in
-    let here : was ≡ now = grind (arith, nat_tests, first.0) in
-    rw (here, same-numbers old new others first.1) refl
-
--- after a turn that changed none of them the watched numbers are still those that were taken
-pub still-taken : (old new : Machine) (numbers : List ℕ) → numbers ≡ numbers_at old (watches_of old) → new ≡ turn old → hit_of old ≡ None → numbers ≡ numbers_at new (watches_of new)
-still-taken old new numbers taken turned none =
+-- the change between the machines before and after a turn is the one that the turn made
+pub hit-found : (old new before : Machine) {found : Option Hit} → new ≡ turn old → old ≡ before → found ≡ first_change before new (watches_of new) → hit_of old ≡ found
+hit-found old new before {found} turned same seen =
     let watched : watches_of (turn old) ≡ watches_of old = ap watched_in (turn-watches old) in
-    rw (turned, watched) (taken ∙ same-numbers old (turn old) (watches_of old) none)
+    let after : found ≡ first_change old (turn old) (watches_of (turn old)) = seen ∙ (ap (λ m. first_change m new (watches_of new)) (sym same) ∙ ap (λ m. first_change old m (watches_of m)) turned) in
+    sym (after ∙ ap (first_change old (turn old)) watched)
+
+-- the search for a change, at watched place i
+module _ (old new machine : Machine) (watches seen : List Watched) (i : ℕ) (place : Place) (same_machine : machine ≡ new) (same_watches : seen ≡ watches) (at_place : place ≡ watched_place (get_or seen i (Cell 0 0))) (within : i < length seen) (before : first_change old new watches ≡ first_change old new (drop i watches)) where
+  to_next : first_change old new watches ≡ first_change old new (get_or seen i (Cell 0 0) ∷ drop (i + 1) watches)
+  to_next =
+      before ∙ (ap (λ w. first_change old new (drop i w)) (sym same_watches)
+      ∙ (at_drop_more (first_change old new) seen i (Cell 0 0) within ∙ ap (λ w. first_change old new (get_or seen i (Cell 0 0) ∷ drop (i + 1) w)) same_watches))
+
+  -- whose number is the same
+  pub first-passed : number old place ≡ number new place → first_change old new watches ≡ first_change old new (drop (i + 1) watches)
+  first-passed same =
+      let here : number old (watched_place (get_or seen i (Cell 0 0))) ≡ number new (watched_place (get_or seen i (Cell 0 0))) = rw (← at_place) same in
+      let equal : (number new (watched_place (get_or seen i (Cell 0 0))) == number old (watched_place (get_or seen i (Cell 0 0)))) ≡ true = grind (arith, nat_tests, here) in
+      to_next ∙ rw equal refl
+
+  -- whose number is another
+  pub first-hit : (was now : ℕ) → number old place ≡ was → now ≡ number machine place → (now == was) ≡ false → first_change old new watches ≡ Some (record { place = get_or seen i (Cell 0 0); was = was; now = now })
+  first-hit was now at_old at_new other =
+      let was_here : number old (watched_place (get_or seen i (Cell 0 0))) ≡ was = rw (← at_place) at_old in
+      let now_here : number new (watched_place (get_or seen i (Cell 0 0))) ≡ now = rw (← at_place, ← same_machine) (sym at_new) in
+      to_next ∙ rw (was_here, now_here, other) refl
+
+pub one_kept : (capacity kept : ℕ) → 1 ≤ capacity → 1 ≤ min capacity (kept + 1)
+one_kept capacity kept room = omega (arith, room)

@@ -1,5 +1,5 @@
 -- A run of turns that stops at the first change of a watched number.
-use Rattle.std.specs.Prelude.{◌≡◌, ℕ, zero, suc, ◌+◌, ◌<◌, ◌≤◌, ◌==◌, List, [], ◌∷◌, Option, Some, None, map, replicate, if◌then◌else◌}
+use Rattle.std.specs.Prelude.{◌≡◌, ℕ, zero, suc, ◌+◌, ◌<◌, ◌≤◌, ◌==◌, List, [], ◌∷◌, Option, Some, None, replicate, if◌then◌else◌}
 use Rattle.pp_history.specs.SessionValue.{SessionValue, after_act, replay}
 use Rattle.pp_machine.specs.Machine.{Machine, number}
 use Rattle.pp_rig.specs.Rules.{rules}
@@ -10,10 +10,6 @@ use Rattle.pp_rig.specs.declared.action.Action.{Action}
 use Rattle.pp_rig.specs.declared.action.Action.TheVariants.{Turn}
 use Rattle.pp_rig.specs.declared.stopping.Hit.{Hit}
 use Rattle.pp_rig.specs.declared.stopping.Stopped.{Stopped}
-
--- the numbers at watched places
-abbrev pub numbers_at : Machine → List Watched → List ℕ
-numbers_at m watches = map (λ watched. number m (watched_place watched)) watches
 
 -- the first of the watched places whose number is another in the later machine
 abbrev pub first_change : Machine → Machine → List Watched → Option Hit

@@ -1,15 +1,14 @@
 //! Runs of turns that stop at the first change of a watched number.
 ghost use Rattle.std.specs.Prelude.{◌≡◌};
-ghost use Rattle.pp_history.specs.SessionValue.{SessionValue, IsAt, replay};
+ghost use Rattle.pp_history.specs.SessionValue.{SessionValue, IsAt, after_act, replay};
 ghost use Rattle.pp_machine.specs.Machine.{Machine};
 ghost use Rattle.pp_rig.specs.Rules.{rules};
-ghost use Rattle.pp_rig.specs.Stopping.{first_change, numbers_at, stopped, after_turns};
+ghost use Rattle.pp_rig.specs.Stopping.{first_change, stopped, after_turns};
 ghost use Rattle.pp_rig.specs.Watches.{watches_of};
 
 use crate::action::Action;
 use crate::rig::Rig;
 use crate::watched::Watched;
-use arrayvec::ArrayVec;
 use pp_history::{Reversible, Session};
 
 /// A change of a watched number in one turn.
@@ -32,31 +31,25 @@ pub struct Stopped {
     pub hit: Option<Hit>,
 }
 
-/// The numbers at the watched places, in their order.
-fn watched_numbers(machine: &Rig) -> ArrayVec<u64, 8>
-    ensures { result.items ≡ numbers_at machine.now (watches_of machine.now) }
+/// Returns the first watched place, in watch order, whose number the newest action, a turn, changed.
+#[inline(always)]
+fn first_change(session: &Session<Rig>) -> Option<Hit>
+    ensures { (v : SessionValue Machine Action) → IsAt rules session.now (after_act v Action.Turn) →
+        result ≡ first_change (replay rules v.start v.standing) session.now.machine (watches_of session.now.machine) }
 {
-    let mut numbers = ArrayVec::new();
-    for watched in machine.watches() {
-        numbers.push(machine.value(&watched.place()));
-    }
-    numbers
-}
-
-/// The first watched place whose number is another than these, which an earlier machine had.
-fn first_change(machine: &Rig, numbers: &[u64]) -> Option<Hit>
-    ensures { (old : Machine) → numbers.now ≡ numbers_at old (watches_of machine.now) →
-        result ≡ first_change old machine.now (watches_of machine.now) }
-{
+    let machine = session.machine();
     let watches = machine.watches();
-    for i in 0..watches.len().min(numbers.len()) {
-        let now = machine.value(&watches[i].place());
-        if now != numbers[i] {
-            return Some(Hit {
-                place: watches[i],
-                was: numbers[i],
-                now,
-            });
+    for i in 0..watches.len() {
+        let place = watches[i].place();
+        if let Some(was) = session.newest_old_value(&place) {
+            let now = machine.value(&place);
+            if now != was {
+                return Some(Hit {
+                    place: watches[i],
+                    was,
+                    now,
+                });
+            }
         }
     }
     None
@@ -74,11 +67,10 @@ pub fn run(session: &mut Session<Rig>, n: u32) -> Stopped
     ensures at { (v : SessionValue Machine Action) → IsAt rules session.old v →
         IsAt rules session.new (after_turns result.turns v) }
 {
-    // After a turn that changed none of them the numbers are still those before the next one.
-    let numbers = watched_numbers(session.machine());
+    session.has_session_value();
     for turns in 0..n {
         session.act(Action::Turn);
-        if let Some(hit) = first_change(session.machine(), numbers.as_slice()) {
+        if let Some(hit) = first_change(session) {
             return Stopped {
                 turns: turns + 1,
                 hit: Some(hit),

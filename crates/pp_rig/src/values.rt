@@ -1,5 +1,5 @@
 //! The words of one setting of cells.
-ghost use Rattle.std.specs.Prelude.{◌≡◌, ℕ, ◌≤◌, List, length};
+ghost use Rattle.std.specs.Prelude.{◌≡◌, ℕ, ◌≤◌, List, length, take};
 
 use arrayvec::ArrayVec;
 use std::marker::Model;
@@ -7,39 +7,48 @@ use std::marker::Model;
 /// Words for cells, at most eight. Contracts see them as a list.
 #[derive(Drop)]
 pub struct Values {
-    words: ArrayVec<u16, 8>,
+    count: u8,
+    /// The words, and behind them any.
+    words: [u16; 8],
 }
 
 impl Model for Values {
     ghost Value = { List ℕ };
 
-    ghost view = { λ values. values.words.items };
+    ghost view = { λ values. take values.count values.words };
+
+    ghost invariant = { λ values. values.count ≤ 8 };
 }
 
 impl Values {
-    /// These words.
+    /// Returns a value with these words.
     pub fn new(words: ArrayVec<u16, 8>) -> Values
         ensures { result ≡ words.items }
     {
-        Values { words }
+        let count = words.len();
+        let mut all = [0; 8];
+        all[..count].copy_from_slice(words.as_slice());
+        Values {
+            count: count as u8,
+            words: all,
+        }
     }
 
-    /// The words in their order.
+    /// Returns the words in their order.
     pub fn as_slice(&self) -> &[u16]
         ensures value { result.now ≡ self.now }
         ensures few { length result.now ≤ 8 }
     {
-        self.words.as_slice()
+        &self.words[..self.count as usize]
     }
 
-    /// The same words once more.
+    /// Returns a copy.
     pub fn copied(&self) -> Values
         ensures { result ≡ self.now }
     {
-        let mut words = ArrayVec::new();
-        for word in self.as_slice() {
-            words.push(*word);
+        Values {
+            count: self.count,
+            words: self.words,
         }
-        Values::new(words)
     }
 }

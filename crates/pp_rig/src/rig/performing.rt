@@ -1,72 +1,29 @@
 //! An action of any kind.
-ghost use Rattle.std.specs.Prelude.{◌≡◌, ◌≢◌, ◌≤◌, None, IsSomeAnd, length};
-ghost use Rattle.pp_machine.specs.Writes.{places};
-ghost use Rattle.pp_rig.specs.Action.{FitsRecord, before, most_places, next, overwritten, record_pairs, writes};
-ghost use Rattle.pp_rig.specs.Admitting.{first_fault};
+ghost use Rattle.std.specs.Prelude.{◌≡◌, ◌≤◌, length};
+ghost use Rattle.pp_rig.specs.Action.{FitsRecord, most_places, next, overwritten, record_pairs};
 ghost use Rattle.pp_rig.specs.Performing.{IsPerformable};
 
 use super::settings::push_cells;
-use super::{Rig, RigRecord};
+use super::{Rig, RigRecord, TurnRecord};
 use crate::action::Action;
 use arrayvec::ArrayVec;
-use pp_history::Reversible;
 use pp_machine::{Kept, Place};
 
 impl Rig {
-    /// Performs an action whose numbers are in their ranges and that nothing stands against, with its record written
-    /// over another.
-    #[inline(always)]
-    pub(super) fn perform(&mut self, action: &Action, back: &mut RigRecord)
+    /// Performs an action whose numbers are in their ranges and that nothing rules out, and returns its undo record.
+    pub(super) fn perform(&mut self, action: &Action) -> RigRecord
         requires { IsPerformable self.old action.now }
-        ensures step { self.new ≡ next self.old action.now }
-        ensures stood { record_pairs back.new ≡ overwritten self.old action.now }
-        ensures few { length (record_pairs back.new) ≤ most_places action.now }
-        ensures fits { FitsRecord back.new self.new }
-    {
-        match action {
-            Action::Turn => self.turn_kept(back),
-            _ => self.change_into(action, back),
-        }
-    }
-
-    /// Performs an action that the rig admits, and writes a new record to `back`. It stands apart, so that a turn has no
-    /// room to clear for the new record.
-    #[inline(never)]
-    pub(super) fn act_anew(&mut self, action: &Action, back: &mut Option<RigRecord>)
-        requires { first_fault self.old action.now ≡ None }
-        ensures next { self.new ≡ next self.old action.now }
-        ensures fits { IsSomeAnd back.new (λ left. FitsRecord left self.new) }
-        ensures before { IsSomeAnd back.new (λ left. before left self.new ≡ self.old) }
-        ensures named { IsSomeAnd back.new (λ left. places (record_pairs left) ≡ places (writes self.old action.now)) }
-        ensures stood { IsSomeAnd back.new (λ left. record_pairs left ≡ overwritten self.old action.now) }
-        ensures few { IsSomeAnd back.new (λ left. length (record_pairs left) ≤ most_places action.now) }
-    {
-        *back = Some(self.act(action));
-    }
-
-    /// Performs what is no turn. It stands apart, so that a turn has no room to clear for it.
-    #[inline(never)]
-    fn change_into(&mut self, action: &Action, back: &mut RigRecord)
-        requires performable { IsPerformable self.old action.now }
-        requires no_turn { action.now ≢ Action.Turn }
-        ensures step { self.new ≡ next self.old action.now }
-        ensures stood { record_pairs back.new ≡ overwritten self.old action.now }
-        ensures few { length (record_pairs back.new) ≤ most_places action.now }
-        ensures fits { FitsRecord back.new self.new }
-    {
-        *back = self.change(action);
-    }
-
-    fn change(&mut self, action: &Action) -> RigRecord
-        requires performable { IsPerformable self.old action.now }
-        requires no_turn { action.now ≢ Action.Turn }
         ensures step { self.new ≡ next self.old action.now }
         ensures stood { record_pairs result ≡ overwritten self.old action.now }
         ensures few { length (record_pairs result) ≤ most_places action.now }
         ensures fits { FitsRecord result self.new }
     {
         match action {
-            Action::Turn => unreachable!(),
+            Action::Turn => {
+                let mut turn = TurnRecord::blank();
+                self.turn(&mut turn);
+                RigRecord::Turn(turn)
+            }
             Action::SetCells { pp, a, values } => {
                 let mut list: ArrayVec<Kept, 8> = ArrayVec::new();
                 push_cells(&mut list, *pp, *a, values.as_slice());

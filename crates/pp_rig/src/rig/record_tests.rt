@@ -13,7 +13,7 @@ use crate::values::Values;
 use std::alloc::Global;
 use std::process::Abort;
 use std::test::Fail;
-use whole::{is_true_of, numbers_at, places_of};
+use whole::{is_short_true_of, is_true_of, numbers_at, places_of};
 
 fn same_pairs(pairs: &[Kept]) -> ArrayVec<Kept, 8>
     requires { length pairs.now ≤ 8 }
@@ -55,22 +55,28 @@ fn made_anew(back: RigRecord) -> RigRecord
     match back {
         RigRecord::Turn(
             TurnRecord {
-                slot,
                 pp,
-                reader_channel,
-                reader,
-                printer_channel,
-                printer,
-                clock,
+                rest: TurnRest {
+                    slot,
+                    are_devices_called,
+                    reader_channel,
+                    printer_channel,
+                    clock,
+                    reader,
+                    printer,
+                },
             },
         ) => RigRecord::Turn(TurnRecord {
-            slot,
             pp,
-            reader_channel,
-            reader,
-            printer_channel,
-            printer,
-            clock,
+            rest: TurnRest {
+                slot,
+                are_devices_called,
+                reader_channel,
+                printer_channel,
+                clock,
+                reader,
+                printer,
+            },
         }),
         RigRecord::Settings(standing) => RigRecord::Settings(same_pairs(standing.as_slice())),
         RigRecord::Watched(i) => RigRecord::Watched(i),
@@ -97,6 +103,34 @@ fn make(alloc: Global) -> Result<Rig, &'static str> {
     Rig::new(alloc, setup).map_err(|_| "refused")
 }
 
+/// Does the same as `act_and_back` with a short record, if the action leaves one.
+fn act_short_and_back(
+    rt: &impl Abort,
+    alloc: Global,
+    rig: &mut Rig,
+    places: &[Place],
+    action: &Action,
+) -> Result<(), Fail> {
+    let before = numbers_at(alloc, rig, places)?;
+    let mut short = ShortTurn::blank();
+    assert!(rt; rig.admits(action));
+    if rig.act_short(action, &mut short) {
+        let after = numbers_at(alloc, rig, places)?;
+        assert!(rt;
+            is_true_of(
+                &Rig::lengthen(&short),
+                places,
+                before.as_slice(),
+                after.as_slice()
+            )
+        );
+        assert!(rt; is_short_true_of(&short, places, before.as_slice(), after.as_slice()));
+        rig.undo_short(&short);
+        assert!(rt; numbers_at(alloc, rig, places)?.as_slice() == before.as_slice());
+    }
+    Ok(())
+}
+
 /// Performs an action, undoes it by the record made anew, and performs it again. Checks every number of the machine each
 /// time, and checks that the record has the old number of each place that changed.
 fn act_and_back(
@@ -115,6 +149,7 @@ fn act_and_back(
     assert!(rt; is_true_of(&record, places, before.as_slice(), after.as_slice()));
     rig.undo(made_anew(record));
     assert!(rt; numbers_at(alloc, rig, places)?.as_slice() == before.as_slice());
+    act_short_and_back(rt, alloc, rig, places, action)?;
     assert!(rt; rig.admits(action));
     let _record = rig.act(action);
     assert!(rt; numbers_at(alloc, rig, places)?.as_slice() == after.as_slice());
@@ -244,8 +279,10 @@ fn a_turn_of_all_parts_leads_back(rt: HostRuntime) -> Result<(), Fail> {
     Ok(())
 }
 
-/// A record is kept for each action, so it is no larger than an exchange and the devices need.
+/// A short record is kept for most turns, and one that is no larger than an exchange and the devices need for each other
+/// action.
 #[test]
 fn records_are_small(rt: HostRuntime) {
+    assert!(rt; size_of::<ShortTurn>() <= 64);
     assert!(rt; size_of::<RigRecord>() <= 400);
 }

@@ -48,20 +48,8 @@ fn restarted_was(numbers: &[u32], place: &Place) -> Option<u64>
 }
 
 impl RigRecord {
-    /// The old number of a place that the record names. Most records are a turn's.
-    #[inline(always)]
+    /// Returns the old number of a place that the record names, else `None`.
     pub(super) fn named(&self, place: &Place) -> Option<u64>
-        ensures { result ≡ lookup (record_pairs self.now) place.now }
-    {
-        match self {
-            RigRecord::Turn(turn) => turn.was(place),
-            _ => self.rarely_named(place),
-        }
-    }
-
-    /// The same of any record. It stands apart, so that a look at a turn's does not choose among all kinds.
-    #[inline(never)]
-    fn rarely_named(&self, place: &Place) -> Option<u64>
         ensures { result ≡ lookup (record_pairs self.now) place.now }
     {
         match self {

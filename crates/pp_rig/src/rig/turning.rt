@@ -1,47 +1,129 @@
-//! One turn of the barrel, and what takes it back.
-ghost use Rattle.std.specs.Prelude.{◌≡◌, ◌<◌, ◌≤◌, [], ◌∷◌, length};
+//! One turn of the barrel, and its undoing.
+ghost use Rattle.std.specs.Prelude.{◌≡◌, ◌<◌, ◌≤◌, true, false, None, [], ◌∷◌, length};
 ghost use Rattle.pp_machine.specs.Lookup.{lookup};
 ghost use Rattle.pp_machine.specs.Machine.{olds, over};
 ghost use Rattle.pp_machine.specs.Printed.{FitsPrinter, printer_pairs, printer_place};
 ghost use Rattle.pp_machine.specs.Read.{FitsReader, reader_pairs, reader_place};
 ghost use Rattle.pp_machine.specs.Writes.{first_of_two, renamed};
-ghost use Rattle.pp_rig.specs.Action.{FitsRecord, record_pairs};
+ghost use Rattle.pp_rig.specs.IsMachine.{IsMachine};
 ghost use Rattle.pp_rig.specs.Lift.{printer_of, reader_of};
-ghost use Rattle.pp_rig.specs.Turn.{FitsClock, FitsTurn, KeepsSlot, clock_list, clock_pairs, pp_list, printer_list, reader_list, slot_list, turn as turn_of, turn_olds, turn_pairs};
+ghost use Rattle.pp_rig.specs.Short.{IsTurned, whole, whole_turn};
+ghost use Rattle.pp_rig.specs.Turn.{AreDevicesStepped, FitsRest, FitsTurn, IsSlotStep, KeepsSlot, clock_list, clock_part, printer_list, printer_part, reader_list, reader_part, rest_of_turn, rest_olds, rest_pairs, slot_list, turn_pairs};
 ghost use Rattle.pp_step.specs.Step.{FitsPp, pp_pairs};
 ghost use Rattle.pp_step.specs.View.{pp_place};
 
-use super::{Rig, RigRecord, TurnRecord};
-use pp_machine::{Place, PrinterRecord, ReaderRecord};
-use pp_step::{PpRecord, StepRecord};
+use super::{Rig, RigRecord, ShortTurn, TurnRecord, TurnRest};
+use pp_machine::{CentralSize, ChannelState, Kept, Place, PrinterRecord, ReaderRecord, first_kept};
+use pp_step::{ExchangeRecord, PpRecord, StepRecord};
 
-impl RigRecord {
+impl TurnRest {
     /// Returns a record to write over.
     #[inline(always)]
-    pub(super) fn blank() -> RigRecord {
-        RigRecord::Turn(TurnRecord::blank())
+    fn blank() -> TurnRest {
+        TurnRest {
+            slot: 0,
+            are_devices_called: false,
+            reader_channel: 0,
+            printer_channel: 0,
+            clock: 0,
+            reader: ReaderRecord::Nothing,
+            printer: PrinterRecord::Nothing,
+        }
+    }
+
+    /// Returns the old number of a place that a device overwrote, else `None`. It is apart, so that no other lookup saves
+    /// the registers that it needs.
+    #[inline(never)]
+    fn device_was(&self, place: &Place) -> Option<u64>
+        ensures { result ≡ first_of_two (lookup (reader_part self.now) place.now) (lookup (printer_part self.now) place.now) }
+    {
+        if !self.are_devices_called {
+            return None;
+        }
+        let reader = self.reader.was(self.reader_channel, place);
+        let printer = self.printer.was(self.printer_channel, place);
+        first_of(reader, printer)
+    }
+
+    /// Returns the clock before, if the record names it, else `None`.
+    #[inline(always)]
+    fn clock_was(&self) -> Option<u64>
+        ensures { result ≡ lookup (clock_part self.now.slot self.now.clock) Place.Clock }
+    {
+        if self.slot == 9 {
+            Some(u64::from(self.clock))
+        } else {
+            None
+        }
+    }
+
+    /// Returns the old number of the clock or of the slot.
+    fn end_was(&self, place: &Place) -> Option<u64>
+        ensures { result ≡ first_of_two (lookup (clock_part self.now.slot self.now.clock) place.now) (lookup ((Place.Slot, self.now.slot) ∷ []) place.now) }
+    {
+        let slot = Kept::new(Place::Slot, u64::from(self.slot));
+        if self.slot == 9 {
+            let clock = Kept::new(Place::Clock, u64::from(self.clock));
+            first_of(first_kept(&[clock], place), first_kept(&[slot], place))
+        } else {
+            first_kept(&[slot], place)
+        }
     }
 }
 
 impl TurnRecord {
-    /// Returns a record to write over.
+    /// Returns a record to write over: that of an exchange, which is written in its place.
     pub(super) fn blank() -> TurnRecord {
+        let exchange = ExchangeRecord {
+            p: 0,
+            size: CentralSize::K32,
+            central: 0,
+            registers: [0; 16],
+            words: [0; 16],
+        };
         TurnRecord {
-            slot: 0,
-            pp: PpRecord::Step(StepRecord::nothing()),
-            reader_channel: 0,
-            reader: ReaderRecord::Nothing,
-            printer_channel: 0,
-            printer: PrinterRecord::Nothing,
-            clock: None,
+            pp: PpRecord::Exchange(exchange),
+            rest: TurnRest::blank(),
         }
     }
 
-    /// The old number of a place that the record names. Only the parts that may name a place of its kind are asked.
+    /// Returns the old number of a place that the record names, else `None`.
+    #[tactic(auto, using(crate::proofs::TurnNames::lookup_parts))]
+    pub(super) fn was(&self, place: &Place) -> Option<u64>
+        ensures { result ≡ lookup (turn_pairs self.now) place.now }
+    {
+        let pp = self.pp.was(self.rest.slot, place);
+        let device = self.rest.device_was(place);
+        first_of(pp, first_of(device, self.rest.end_was(place)))
+    }
+}
+
+impl ShortTurn {
+    /// Returns a record to write over.
+    #[inline(always)]
+    pub(super) fn blank() -> ShortTurn {
+        ShortTurn {
+            pp: StepRecord::nothing(),
+            rest: TurnRest::blank(),
+        }
+    }
+
+    /// Returns the undo record that this one stands for.
+    pub(super) fn lengthen(&self) -> RigRecord
+        ensures { result ≡ whole self.now }
+    {
+        RigRecord::Turn(TurnRecord {
+            pp: PpRecord::Step(self.pp),
+            rest: self.rest,
+        })
+    }
+
+    /// Returns the old number of a place that the record names, else `None`. Only the parts are asked that may name a
+    /// place of its kind.
     #[inline(always)]
     #[tactic(auto, using(crate::proofs::TurnNames::lookup_told))]
     pub(super) fn was(&self, place: &Place) -> Option<u64>
-        ensures { result ≡ lookup (turn_pairs self.now) place.now }
+        ensures { result ≡ lookup (turn_pairs (whole_turn self.now)) place.now }
     {
         match *place {
             Place::Cell { pp, .. }
@@ -49,56 +131,32 @@ impl TurnRecord {
             | Place::RegP { pp }
             | Place::RegQ { pp }
             | Place::Phase { pp } => {
-                if self.slot == pp {
-                    self.pp.was(self.slot, place)
+                if self.rest.slot == pp {
+                    self.pp.was(self.rest.slot, place)
                 } else {
                     None
                 }
             }
-            Place::Central { .. } | Place::FrameWord { .. } => self.pp.was(self.slot, place),
-            Place::ChannelMode { .. } | Place::ChannelWord { .. } => self.channel_was(place),
-            Place::Clock => clock_was(self.clock),
-            Place::Slot => Some(u64::from(self.slot)),
-            Place::Card | Place::CardColumn | Place::ReaderMode => {
-                reader_named(&self.reader, self.reader_channel, place)
+            Place::Central { .. } | Place::FrameWord { .. } => self.pp.was(self.rest.slot, place),
+            Place::ChannelMode { .. } | Place::ChannelWord { .. } => {
+                let pp = self.pp.was(self.rest.slot, place);
+                if self.rest.are_devices_called {
+                    first_of(pp, self.rest.device_was(place))
+                } else {
+                    pp
+                }
             }
-            Place::PaperLength
+            Place::Clock => self.rest.clock_was(),
+            Place::Slot => Some(u64::from(self.rest.slot)),
+            Place::Card
+            | Place::CardColumn
+            | Place::ReaderMode
+            | Place::PaperLength
             | Place::PaperColumn
             | Place::PrinterMode
-            | Place::PaperSymbol { .. } => printer_named(
-                &self.printer,
-                self.printer_channel,
-                place,
-            ),
+            | Place::PaperSymbol { .. } => self.rest.device_was(place),
             Place::WatchEntry { .. } => None,
         }
-    }
-
-    /// The old number of a channel's state or register. Most records are of turns in which no device did anything.
-    #[inline(always)]
-    fn channel_was(&self, place: &Place) -> Option<u64>
-        ensures { result ≡ first_of_two (first_of_two (lookup (renamed (pp_place self.now.slot) (pp_pairs self.now.pp)) place.now)
-            (lookup (renamed (reader_place self.now.reader_channel) (reader_pairs self.now.reader)) place.now))
-            (lookup (renamed (printer_place self.now.printer_channel) (printer_pairs self.now.printer)) place.now) }
-    {
-        match (&self.reader, &self.printer) {
-            (ReaderRecord::Nothing, PrinterRecord::Nothing) => self.pp.was(self.slot, place),
-            _ => self.shared_was(place),
-        }
-    }
-
-    /// The same of any record: the processor's part stands first, then the reader's. It stands apart, so that no other
-    /// look saves the registers that it needs.
-    #[inline(never)]
-    fn shared_was(&self, place: &Place) -> Option<u64>
-        ensures { result ≡ first_of_two (first_of_two (lookup (renamed (pp_place self.now.slot) (pp_pairs self.now.pp)) place.now)
-            (lookup (renamed (reader_place self.now.reader_channel) (reader_pairs self.now.reader)) place.now))
-            (lookup (renamed (printer_place self.now.printer_channel) (printer_pairs self.now.printer)) place.now) }
-    {
-        let pp = self.pp.was(self.slot, place);
-        let reader = reader_named(&self.reader, self.reader_channel, place);
-        let printer = printer_named(&self.printer, self.printer_channel, place);
-        first_of(first_of(pp, reader), printer)
     }
 }
 
@@ -111,57 +169,9 @@ fn first_of(first: Option<u64>, second: Option<u64>) -> Option<u64>
     }
 }
 
-fn reader_named(back: &ReaderRecord, c: u8, place: &Place) -> Option<u64>
-    ensures { result ≡ lookup (renamed (reader_place c) (reader_pairs back.now)) place.now }
-{
-    match back {
-        ReaderRecord::Nothing => None,
-        _ => reader_was(back, c, place),
-    }
-}
-
-/// What a reader that did something overwrote. It stands apart, so that no other look has room to clear for its lists.
-#[inline(never)]
-fn reader_was(back: &ReaderRecord, c: u8, place: &Place) -> Option<u64>
-    ensures { result ≡ lookup (renamed (reader_place c) (reader_pairs back.now)) place.now }
-{
-    back.was(c, place)
-}
-
-fn printer_named(back: &PrinterRecord, c: u8, place: &Place) -> Option<u64>
-    ensures { result ≡ lookup (renamed (printer_place c) (printer_pairs back.now)) place.now }
-{
-    match back {
-        PrinterRecord::Nothing => None,
-        _ => printer_was(back, c, place),
-    }
-}
-
-/// The same of a printer.
-#[inline(never)]
-fn printer_was(back: &PrinterRecord, c: u8, place: &Place) -> Option<u64>
-    ensures { result ≡ lookup (renamed (printer_place c) (printer_pairs back.now)) place.now }
-{
-    back.was(c, place)
-}
-
-fn clock_was(clock: Option<u16>) -> Option<u64>
-    ensures { result ≡ lookup (clock_pairs clock) Place.Clock }
-{
-    match clock {
-        Some(v) => Some(u64::from(v)),
-        None => None,
-    }
-}
-
 impl Rig {
     fn step_processor(&mut self, back: &mut PpRecord)
-        ensures step { self.new ≡ over self.old (pp_list self.old) }
-        ensures record { renamed (pp_place self.old.slot) (pp_pairs back.new) ≡ olds self.old (pp_list self.old) }
-        ensures back { over self.new (renamed (pp_place self.old.slot) (pp_pairs back.new)) ≡ self.old }
-        ensures fits { FitsPp self.new.setup.central_words back.new }
-        ensures kept { KeepsSlot self.old self.new }
-        ensures few { length (pp_pairs back.new) ≤ 33 }
+        ensures { IsSlotStep self.old self.new back.new }
     {
         self.processors[self.slot as usize].step(
             &mut self.channels,
@@ -171,10 +181,23 @@ impl Rig {
         );
     }
 
+    #[inline(always)]
+    fn step_processor_short(&mut self, back: &mut StepRecord) -> bool
+        ensures step { result ≡ true → IsSlotStep self.old self.new (PpRecord.Step back.new) }
+        ensures unchanged { result ≡ false → self.new ≡ self.old }
+    {
+        self.processors[self.slot as usize].step_short(
+            &mut self.channels,
+            &mut self.central,
+            &self.frame,
+            back,
+        )
+    }
+
     fn undo_processor(&mut self, slot: u8, back: &PpRecord)
         requires slot { slot < 10 }
         requires fits { FitsPp self.old.setup.central_words back.now }
-        ensures undone { self.new ≡ over self.old (renamed (pp_place slot) (pp_pairs back.now)) }
+        ensures { self.new ≡ over self.old (renamed (pp_place slot) (pp_pairs back.now)) }
     {
         self.processors[slot as usize].undo(
             back,
@@ -184,10 +207,18 @@ impl Rig {
         );
     }
 
+    #[inline(always)]
+    fn undo_processor_short(&mut self, slot: u8, back: &StepRecord)
+        requires slot { slot < 10 }
+        requires fits { FitsPp self.old.setup.central_words (PpRecord.Step back.now) }
+        ensures { self.new ≡ over self.old (renamed (pp_place slot) (pp_pairs (PpRecord.Step back.now))) }
+    {
+        self.processors[slot as usize].undo_short(back, &mut self.channels, &mut self.central);
+    }
+
     fn step_reader(&mut self) -> ReaderRecord
         ensures step { self.new ≡ over self.old (reader_list self.old) }
         ensures record { renamed (reader_place self.old.setup.reader_channel) (reader_pairs result) ≡ olds self.old (reader_list self.old) }
-        ensures back { over self.new (renamed (reader_place self.old.setup.reader_channel) (reader_pairs result)) ≡ self.old }
         ensures fits { FitsReader result (reader_of self.new.setup.reader_channel self.new) }
         ensures kept { KeepsSlot self.old self.new }
     {
@@ -210,7 +241,6 @@ impl Rig {
     fn step_printer(&mut self) -> PrinterRecord
         ensures step { self.new ≡ over self.old (printer_list self.old) }
         ensures record { renamed (printer_place self.old.setup.printer_channel) (printer_pairs result) ≡ olds self.old (printer_list self.old) }
-        ensures back { over self.new (renamed (printer_place self.old.setup.printer_channel) (printer_pairs result)) ≡ self.old }
         ensures fits { FitsPrinter result (printer_of self.new.setup.printer_channel self.new) }
         ensures kept { KeepsSlot self.old self.new }
     {
@@ -230,43 +260,101 @@ impl Rig {
         self.channels.set(self.printer_channel, channel);
     }
 
-    fn tick(&mut self) -> Option<u16>
-        ensures step { self.new ≡ over self.old (clock_list self.old) }
-        ensures record { clock_pairs result ≡ olds self.old (clock_list self.old) }
-        ensures back { over self.new (clock_pairs result) ≡ self.old }
-        ensures fits { FitsClock result }
+    /// Steps the reader and the printer. It is apart, since in most turns no channel of a device is active.
+    #[inline(never)]
+    fn step_called_devices(&mut self) -> (ReaderRecord, PrinterRecord)
+        ensures step { let m2 = over self.old (reader_list self.old) in self.new ≡ over m2 (printer_list m2) }
+        ensures reader { renamed (reader_place self.old.setup.reader_channel) (reader_pairs result.0) ≡ olds self.old (reader_list self.old) }
+        ensures printer { let m2 = over self.old (reader_list self.old) in renamed (printer_place self.old.setup.printer_channel) (printer_pairs result.1) ≡ olds m2 (printer_list m2) }
+        ensures fits_reader { FitsReader result.0 (reader_of self.old.setup.reader_channel (over self.old (reader_list self.old))) }
+        ensures fits_printer { FitsPrinter result.1 (printer_of self.old.setup.printer_channel self.new) }
         ensures kept { KeepsSlot self.old self.new }
     {
-        if self.slot != 9 {
-            return None;
-        }
-        let clock = self.channels.clock();
-        self.channels.set_clock((clock + 1) % 4096);
-        Some(clock)
+        let reader = self.step_reader();
+        let printer = self.step_printer();
+        (reader, printer)
     }
 
-    fn undo_tick(&mut self, back: Option<u16>)
-        requires { FitsClock back }
-        ensures undone { self.new ≡ over self.old (clock_pairs back) }
+    /// Returns whether the channel of a device is active. If none is, the devices do nothing.
+    #[inline(always)]
+    fn are_devices_called(&self) -> bool
+        ensures { result ≡ false → (reader_list self.now ≡ []) × (printer_list self.now ≡ []) }
+    {
+        self.channels.get(self.reader_channel).state != ChannelState::Inactive
+            || self.channels.get(self.printer_channel).state != ChannelState::Inactive
+    }
+
+    /// Steps the devices, if the channel of one is active.
+    #[inline(always)]
+    fn step_devices(&mut self, back: &mut TurnRest)
+        ensures { AreDevicesStepped self.old self.new back.new }
+    {
+        back.reader_channel = self.reader_channel;
+        back.printer_channel = self.printer_channel;
+        back.are_devices_called = self.are_devices_called();
+        if back.are_devices_called {
+            let (reader, printer) = self.step_called_devices();
+            back.reader = reader;
+            back.printer = printer;
+        }
+    }
+
+    #[inline(never)]
+    fn undo_devices(&mut self, back: &TurnRest)
+        requires called { back.now.are_devices_called ≡ true }
+        requires reader_channel { back.now.reader_channel ≡ self.old.setup.reader_channel }
+        requires printer_channel { back.now.printer_channel ≡ self.old.setup.printer_channel }
+        requires printer { FitsPrinter back.now.printer (printer_of back.now.printer_channel self.old) }
+        requires reader { FitsReader back.now.reader (reader_of back.now.reader_channel (over self.old (printer_part back.now))) }
+        ensures undone { self.new ≡ over (over self.old (printer_part back.now)) (reader_part back.now) }
         ensures kept { KeepsSlot self.old self.new }
     {
-        if let Some(clock) = back {
+        self.undo_printer(back.printer);
+        self.undo_reader(back.reader);
+    }
+
+    /// Counts the clock up in the turn of the last processor. Returns the clock before.
+    #[inline(always)]
+    fn tick(&mut self) -> u16
+        ensures step { self.new ≡ over self.old (clock_list self.old) }
+        ensures record { clock_part self.old.slot result ≡ olds self.old (clock_list self.old) }
+        ensures back { over self.new (clock_part self.old.slot result) ≡ self.old }
+        ensures small { result < 4096 }
+        ensures kept { KeepsSlot self.old self.new }
+    {
+        let clock = self.channels.clock();
+        if self.slot == 9 {
+            self.channels.set_clock((clock + 1) % 4096);
+        }
+        clock
+    }
+
+    #[inline(always)]
+    fn undo_tick(&mut self, slot: u8, clock: u16)
+        requires { clock < 4096 }
+        ensures undone { self.new ≡ over self.old (clock_part slot clock) }
+        ensures kept { KeepsSlot self.old self.new }
+    {
+        if slot == 9 {
             self.channels.set_clock(clock);
         }
     }
 
+    #[inline(always)]
     fn advance(&mut self) -> u8
         ensures step { self.new ≡ over self.old (slot_list self.old) }
         ensures back { over self.new ((Place.Slot, result) ∷ []) ≡ self.old }
         ensures was { result ≡ self.old.slot }
         ensures small { result < 10 }
         ensures setup { self.new.setup ≡ self.old.setup }
+        ensures machine { IsMachine self.new }
     {
         let slot = self.slot;
         self.slot = if slot == 9 { 0 } else { slot + 1 };
         slot
     }
 
+    #[inline(always)]
     fn set_slot(&mut self, slot: u8)
         requires { slot < 10 }
         ensures { self.new ≡ record self.old { slot = slot } }
@@ -274,69 +362,70 @@ impl Rig {
         self.slot = slot;
     }
 
-    /// One turn of the barrel, with its record written over another.
-    fn turn(&mut self, back: &mut TurnRecord)
-        ensures step { self.new ≡ turn_of self.old }
-        ensures record { turn_pairs back.new ≡ turn_olds self.old }
-        ensures back { over self.new (turn_pairs back.new) ≡ self.old }
-        ensures fits { FitsTurn back.new self.new }
-        ensures few { length (turn_pairs back.new) ≤ 44 }
+    /// Does what a turn does after the processor's step.
+    #[inline(always)]
+    fn finish_turn(&mut self, back: &mut TurnRest)
+        ensures step { self.new ≡ rest_of_turn self.old }
+        ensures record { rest_pairs back.new ≡ rest_olds self.old }
+        ensures fits { FitsRest back.new self.new }
+        ensures slot { back.new.slot ≡ self.old.slot }
+        ensures setup { self.new.setup ≡ self.old.setup }
+        ensures machine { IsMachine self.new }
     {
-        back.reader_channel = self.reader_channel;
-        back.printer_channel = self.printer_channel;
-        self.step_processor(&mut back.pp);
-        back.reader = self.step_reader();
-        back.printer = self.step_printer();
+        self.step_devices(back);
         back.clock = self.tick();
         back.slot = self.advance();
+    }
+
+    #[inline(always)]
+    fn undo_rest(&mut self, back: &TurnRest)
+        requires { FitsRest back.now self.old }
+        ensures undone { self.new ≡ over self.old (rest_pairs back.now) }
+        ensures setup { self.new.setup ≡ self.old.setup }
+    {
+        self.set_slot(back.slot);
+        self.undo_tick(back.slot, back.clock);
+        if back.are_devices_called {
+            self.undo_devices(back);
+        }
+    }
+
+    /// Performs one turn of the barrel, and writes its undo record over `back`.
+    pub(super) fn turn(&mut self, back: &mut TurnRecord)
+        ensures { IsTurned self.old self.new back.new }
+    {
+        self.step_processor(&mut back.pp);
+        self.finish_turn(&mut back.rest);
+    }
+
+    /// Performs one turn of the barrel, unless the processor would exchange, and writes its undo record over `back`. Returns
+    /// `false` if the processor would exchange: then nothing has changed.
+    #[inline(always)]
+    pub(super) fn turn_short(&mut self, back: &mut ShortTurn) -> bool
+        ensures turned { result ≡ true → IsTurned self.old self.new (whole_turn back.new) }
+        ensures unchanged { result ≡ false → self.new ≡ self.old }
+    {
+        if !self.step_processor_short(&mut back.pp) {
+            return false;
+        }
+        self.finish_turn(&mut back.rest);
+        true
     }
 
     pub(super) fn undo_turn(&mut self, back: &TurnRecord)
         requires { FitsTurn back.now self.old }
         ensures { self.new ≡ over self.old (turn_pairs back.now) }
     {
-        self.set_slot(back.slot);
-        self.undo_tick(back.clock);
-        self.undo_printer(back.printer);
-        self.undo_reader(back.reader);
-        self.undo_processor(back.slot, &back.pp);
+        self.undo_rest(&back.rest);
+        self.undo_processor(back.rest.slot, &back.pp);
     }
 
-    /// `turn`, which leaves a record that fits the machine.
-    fn turn_noted(&mut self, back: &mut TurnRecord)
-        ensures step { self.new ≡ turn_of self.old }
-        ensures stood { turn_pairs back.new ≡ turn_olds self.old }
-        ensures few { length (turn_pairs back.new) ≤ 44 }
-        ensures fits { FitsRecord (RigRecord.Turn back.new) self.new }
-    {
-        self.turn(back);
-        let _ = &self.slot;
-    }
-
-    /// One turn, with its record written over another: in its place where that is a turn's, so that few bytes are.
     #[inline(always)]
-    pub(super) fn turn_kept(&mut self, back: &mut RigRecord)
-        ensures step { self.new ≡ turn_of self.old }
-        ensures stood { record_pairs back.new ≡ turn_olds self.old }
-        ensures few { length (record_pairs back.new) ≤ 44 }
-        ensures fits { FitsRecord back.new self.new }
+    pub(super) fn undo_turn_short(&mut self, back: &ShortTurn)
+        requires { FitsTurn (whole_turn back.now) self.old }
+        ensures { self.new ≡ over self.old (turn_pairs (whole_turn back.now)) }
     {
-        match back {
-            RigRecord::Turn(turn) => self.turn_noted(turn),
-            _ => self.turn_anew(back),
-        }
-    }
-
-    /// One turn, with its record written over one of another kind.
-    #[inline(never)]
-    fn turn_anew(&mut self, back: &mut RigRecord)
-        ensures step { self.new ≡ turn_of self.old }
-        ensures stood { record_pairs back.new ≡ turn_olds self.old }
-        ensures few { length (record_pairs back.new) ≤ 44 }
-        ensures fits { FitsRecord back.new self.new }
-    {
-        let mut turn = TurnRecord::blank();
-        self.turn_noted(&mut turn);
-        *back = RigRecord::Turn(turn);
+        self.undo_rest(&back.rest);
+        self.undo_processor_short(back.rest.slot, &back.pp);
     }
 }

@@ -2,7 +2,7 @@
 ghost use Rattle.std.specs.Prelude.{IsTrue};
 ghost use Rattle.pp_machine.specs.Shape.{Has};
 
-use crate::rig::{Rig, RigRecord};
+use crate::rig::{Rig, RigRecord, ShortTurn};
 use pp_history::Reversible;
 use pp_machine::Place;
 use std::alloc::{AllocError, Global};
@@ -105,6 +105,22 @@ pub fn is_true_of(record: &RigRecord, places: &[Place], before: &[u64], after: &
     for i in 0..places.len().min(before.len()).min(after.len()) {
         let old = before[i];
         if Rig::was(record, &places[i]).unwrap_or(after[i]) != old {
+            return false;
+        }
+    }
+    true
+}
+
+/// Returns the same of a short record.
+pub fn is_short_true_of(
+    record: &ShortTurn,
+    places: &[Place],
+    before: &[u64],
+    after: &[u64],
+) -> bool {
+    for i in 0..places.len().min(before.len()).min(after.len()) {
+        let old = before[i];
+        if Rig::was_short(record, &places[i]).unwrap_or(after[i]) != old {
             return false;
         }
     }

@@ -1,12 +1,9 @@
-use Rattle.pp_rig.proofs.Admitting.{performable}
+use Rattle.pp_rig.specs.declared.action.Action.TheVariants.{Turn}
 use Rattle.pp_rig.proofs.Overwritten.{action-taken_back, places-overwritten}
 use Rattle.pp_rig.proofs.rig.RigReversible.act_into.Goals as goal
 
-pub perform-requires : goal.perform-requires
-perform-requires c = performable c.args.self.now c.args.action.now c.requires
+pub returns-in-Turn-Some-Turn-clause-before : goal.returns-in-Turn-Some-Turn-clause-before
+returns-in-Turn-Some-Turn-clause-before c = rw (c.turn.ensures.olds, c.turn.ensures.step) (action-taken_back c.args.self.now Turn)
 
-pub returns-in-Some-clause-before : goal.returns-in-Some-clause-before
-returns-in-Some-clause-before c = rw (c.perform.ensures.stood, c.perform.ensures.step) (action-taken_back c.args.self.now c.args.action.now)
-
-pub returns-in-Some-clause-named : goal.returns-in-Some-clause-named
-returns-in-Some-clause-named c = rw c.perform.ensures.stood (places-overwritten c.args.self.now c.args.action.now)
+pub returns-in-Turn-Some-Turn-clause-named : goal.returns-in-Turn-Some-Turn-clause-named
+returns-in-Turn-Some-Turn-clause-named c = rw (c.turn.ensures.olds, c.in-Turn-Some-Turn.is-0) (places-overwritten c.args.self.now Turn)

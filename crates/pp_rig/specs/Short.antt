@@ -1,0 +1,24 @@
+-- The undo records of turns, short and long.
+use Rattle.std.specs.Prelude.{◌≡◌, ◌≤◌, length}
+use Rattle.pp_machine.specs.Machine.{Machine}
+use Rattle.pp_rig.specs.Action.{FitsRecord}
+use Rattle.pp_rig.specs.Turn.{turn, turn_olds, turn_pairs}
+use Rattle.pp_step.specs.declared.record.PpRecord.TheVariants.{Step}
+use Rattle.pp_rig.specs.declared.rig.TurnRecord.{TurnRecord}
+use Rattle.pp_rig.specs.declared.rig.ShortTurn.{ShortTurn}
+use Rattle.pp_rig.specs.declared.rig.RigRecord.{RigRecord}
+use Rattle.pp_rig.specs.declared.rig.RigRecord.TheVariants as kept
+
+-- the undo record that a short one stands for
+abbrev pub whole_turn : ShortTurn → TurnRecord
+whole_turn s = record { pp = Step s.pp; rest = s.rest }
+
+abbrev pub whole : ShortTurn → RigRecord
+whole s = kept.Turn (whole_turn s)
+
+-- a turn and its undo record
+pub record IsTurned (old new : Machine) (back : TurnRecord) : Type 0 where
+  pub step : new ≡ turn old
+  pub olds : turn_pairs back ≡ turn_olds old
+  pub fits : FitsRecord (kept.Turn back) new
+  pub few : length (turn_pairs back) ≤ 44
