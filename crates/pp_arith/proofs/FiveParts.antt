@@ -1,4 +1,4 @@
--- Five parts of a word: put together and taken apart again.
+-- The five parts of a word: joined, and split again.
 use Rattle.std.proofs.Common.{◌≡◌, ◌∙◌, ℕ, suc, ◌+◌, ◌*◌, ◌/◌, ◌%◌, ◌^◌, ◌<◌, ◌≤◌, List, [], ◌∷◌, length, slice_index_or, refl, sym, arith}
 use Rattle.pp_arith.specs.Words60.{split60}
 

@@ -7,7 +7,7 @@ use Rattle.std.proofs.lemmas.Nat.{pow-add, shr_split, mod_below, pow_pos, mul-le
 use Rattle.std.proofs.Math.Nat.{pow-suc, pow-le-pow_right, max-eq_left, max-eq_right}
 use Rattle.pp_arith.specs.Octal.{octal_digits, octal_length}
 
--- one digit more
+-- one more digit
 pub digit-next : (before : List ℕ) (left value : ℕ) → 0 < left →
     (before ++ (48 + value / 8 ^ (left - 1) % 8) ∷ []) ++ octal_digits (left - 1) value ≡ before ++ octal_digits left value
 unfolding octal_digits
@@ -23,7 +23,7 @@ three_bits (suc digits) =
     let e : 3 * suc digits ≡ 3 * digits + 3 = omega arith in
     rw (e, pow-add 2 (3 * digits) 3, three_bits digits) (sym (pow-suc 8 digits))
 
--- nothing stands above the last `width` digits
+-- a value with no bits above its last `width` digits is below 8 ^ width
 pub fits : (width value : ℕ) → value / 2 ^ (3 * width) ≡ 0 → value < 8 ^ width
 fits width value e =
     let whole = shr_split value (3 * width) in
@@ -38,7 +38,7 @@ exceeds width value h =
 pub grows : (low high : ℕ) → low ≤ high → 8 ^ low ≤ 8 ^ high
 grows low high h = pow-le-pow_right {n = 8} (omega arith) h
 
--- a value that fits a width has no more digits
+-- a value that fits in `width` digits has no more than `width` digits
 length-least : (places width value : ℕ) → value < 8 ^ width → octal_length places value ≤ width
 unfolding octal_length
 length-least zero width value h = omega arith
@@ -54,7 +54,7 @@ length-least (suc places) width value h = elim (cases_lt value (8 ^ places)) [
       ])
 ]
 
--- a value that does not fit a width has more
+-- a value that does not fit in `width` digits has more than `width` digits
 length-over : (places width value : ℕ) → 8 ^ width ≤ value → width < places → width < octal_length places value
 unfolding octal_length
 length-over zero width value h k = absurd (omega arith)

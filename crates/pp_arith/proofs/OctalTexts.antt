@@ -1,4 +1,4 @@
--- The digits that are written are read as the value.
+-- The digits written for a value are read as that value.
 use Rattle.std.proofs.Common.{◌≡◌, ◌∙◌, ℕ, zero, suc, ◌+◌, ◌-◌, ◌*◌, ◌/◌, ◌%◌, ◌^◌, ◌<◌, ◌≤◌, inl, inr, refl, sym, ap, subst, arith}
 use Rattle.std.specs.Prelude.{fold, max, true, false, nat_le, nat_lt, length, Ok}
 use Rattle.std.specs.List.{list_all}
@@ -15,7 +15,7 @@ use Rattle.pp_arith.proofs.OctalValues.{with_digit}
 eights_pos : (digits : ℕ) → 0 < 8 ^ digits
 eights_pos digits = subst (λ eights. 0 < eights) (three_bits digits) (pow_pos (3 * digits))
 
--- the digits are put behind the number read before them
+-- reading the digits appends them to the number read so far
 digits-read : (digits before value : ℕ) → fold with_digit before (octal_digits digits value) ≡ before * 8 ^ digits + value % 8 ^ digits
 unfolding octal_digits
 digits-read zero before value = omega arith
@@ -71,7 +71,7 @@ text-octal value digits some =
     let e : nat_lt 0 (length (octal_digits width value)) ≡ true = grind (arith, nat_tests) in
     rw (e, digits-octal width value) refl
 
--- so a text is read as its value
+-- so the text of a value is read as that value
 pub text-read : (value digits greatest : ℕ) → 1 ≤ digits → value < 2 ^ 64 → value ≤ greatest → octal_read (octal_text value digits) greatest ≡ Ok value
 text-read value digits greatest some h within =
     let e : nat_le value greatest ≡ true = grind (arith, nat_tests) in

@@ -12,12 +12,12 @@ use Rattle.pp_arith.specs.OctalRead.{octal_read}
 abbrev pub with_digit : ℕ → ℕ → ℕ
 with_digit value digit = value * 8 + (digit - 48)
 
--- digits make a number greater
+-- further digits never make a number smaller
 value-grows : (value : ℕ) (digits : List ℕ) → value ≤ fold with_digit value digits
 value-grows value [] = omega arith
 value-grows value (digit ∷ digits) = omega (arith, value-grows (value * 8 + (digit - 48)) digits)
 
--- one digit or more make it eight times as great
+-- one or more further digits make the number at least eight times as large
 value-times : (value : ℕ) (digits : List ℕ) → 0 < length digits → value * 8 ≤ fold with_digit value digits
 value-times value [] h = absurd (omega arith)
 value-times value (digit ∷ digits) h = omega (arith, value-grows (value * 8 + (digit - 48)) digits)
@@ -33,13 +33,13 @@ value-before word i h =
     let some : 0 < length (drop i word) = simp length-drop (omega arith) in
     omega (arith, value-split word i, value-times (octal_value (take i word)) (drop i word) some)
 
--- a value over the greatest one
+-- a value above the maximum is an error
 pub octal_read-over : (word : List ℕ) (max : ℕ) → is_octal word ≡ true → max < octal_value word → Err TooLarge ≡ octal_read word max
 octal_read-over word max digits over =
     let large : nat_le (octal_value word) max ≡ false = grind (arith, nat_tests) in
     rw (digits, large) refl
 
--- the value of one digit more
+-- the value with one more digit
 pub value-next : (word : List ℕ) (i : ℕ) → i < length word → octal_value (take (i + 1) word) ≡ octal_value (take i word) * 8 + (get_or word i 0 - 48)
 value-next word i h =
     ap octal_value (take_more word i 0 h) ∙ fold-append with_digit 0 (take i word) (get_or word i 0 ∷ [])

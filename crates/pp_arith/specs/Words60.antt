@@ -1,10 +1,10 @@
--- Words of 60 bits and their five parts of twelve bits, leftmost first.
+-- 60-bit words and their five 12-bit parts, leftmost first.
 use Rattle.std.specs.Prelude.{ℕ, ◌+◌, ◌*◌, ◌/◌, ◌%◌, ◌^◌, List, [], ◌∷◌, fold}
 
 -- the five parts of a word
 abbrev pub split60 : ℕ → List ℕ
 split60 w = w / 2 ^ 48 % 2 ^ 12 ∷ w / 2 ^ 36 % 2 ^ 12 ∷ w / 2 ^ 24 % 2 ^ 12 ∷ w / 2 ^ 12 % 2 ^ 12 ∷ w % 2 ^ 12 ∷ []
 
--- the word of the parts: each part moves those before it twelve bits to the left
+-- the word with these parts: each part shifts those before it left by twelve bits
 abbrev pub join60 : List ℕ → ℕ
 join60 parts = fold (λ word part. word * 2 ^ 12 + part) 0 parts

@@ -2,9 +2,9 @@
 ghost use Rattle.std.specs.Prelude.{◌≡◌, ◌<◌, ◌≤◌};
 ghost use Rattle.pp_arith.specs.Arith as spec;
 
-/// The sum of two one's complement numbers, all of 18 bits, 0 to 0o777777. 0o777777 is minus zero.
-/// That numbers in A are one's complement is the manual's (peripheral processor instructions); that
-/// a sum is minus zero only where both terms are is this project's choice.
+/// Returns the sum of two 18-bit one's complement numbers. Both terms and the sum are 0 to 0o777777,
+/// and 0o777777 is minus zero. That numbers in A are one's complement is from the manual (peripheral
+/// processor instructions). That a sum is minus zero only if both terms are is this project's choice.
 pub fn add18(a: u32, b: u32) -> u32
     requires a_in { a ≤ 0o777777 }
     requires b_in { b ≤ 0o777777 }
@@ -15,9 +15,9 @@ pub fn add18(a: u32, b: u32) -> u32
     if sum < 0o777777 { sum } else { sum - 0o777777 }
 }
 
-/// The difference a - b of two one's complement numbers, all of 18 bits, 0 to 0o777777. That numbers
-/// in A are one's complement is the manual's (peripheral processor instructions); that equal numbers
-/// differ by plus zero is this project's choice.
+/// Returns the difference a - b of two 18-bit one's complement numbers. Both numbers and the
+/// difference are 0 to 0o777777. That numbers in A are one's complement is from the manual (peripheral
+/// processor instructions). That equal numbers differ by plus zero is this project's choice.
 pub fn sub18(a: u32, b: u32) -> u32
     requires a_in { a ≤ 0o777777 }
     requires b_in { b ≤ 0o777777 }
@@ -27,7 +27,7 @@ pub fn sub18(a: u32, b: u32) -> u32
     if a < b { a + 0o777777 - b } else { a - b }
 }
 
-/// `a`, turned left by fewer than 18 places within 18 bits.
+/// Returns `a` rotated left by `n` bits within 18 bits. `a` is 0 to 0o777777, and `n` is 0 to 17.
 fn turn_left18(a: u32, n: u8) -> u32
     requires a_in { a ≤ 0o777777 }
     requires n_in { n < 18 }
@@ -38,9 +38,10 @@ fn turn_left18(a: u32, n: u8) -> u32
     ((wide & 0o777777) | (wide >> 18)) as u32
 }
 
-/// The 18-bit number `a`, 0 to 0o777777, shifted as the six-bit field `d` says: for 0 to 0o37 left by
-/// `d` places in a circle, for 0o40 to 0o77 right by 0o77 - `d` places, end off and without sign
-/// extension (the manual, peripheral processor instructions).
+/// Returns the 18-bit number `a` shifted by the six-bit field `d`. `a` and the result are 0 to
+/// 0o777777. For `d` from 0 to 0o37 the shift is left by `d` bits, circular. For `d` from 0o40 to
+/// 0o77 it is right by 0o77 - `d` bits, end off and without sign extension (the manual, peripheral
+/// processor instructions).
 pub fn shift18(a: u32, d: u8) -> u32
     requires a_in { a ≤ 0o777777 }
     requires d_in { d ≤ 0o77 }

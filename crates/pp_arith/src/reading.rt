@@ -1,19 +1,19 @@
-//! Numbers that are read in octal.
+//! Reads octal numbers.
 ghost use Rattle.std.specs.List.{list_all};
 ghost use Rattle.std.specs.Prelude.{◌≡◌};
 ghost use Rattle.pp_arith.specs.Octal.{is_octal, is_octal_digit};
 ghost use Rattle.pp_arith.specs.OctalRead.{octal_read};
 
-/// Why a word is not an octal number in range.
+/// Why a word is not an octal number within range.
 #[derive(Clone, Copy, Debug, PartialEq, Eq, Drop)]
 pub enum OctalFault {
     /// The word is empty, or has a byte that is not `0` to `7`.
     NotOctal,
-    /// The word is octal, and its value is over the greatest one allowed.
+    /// The word is octal, but its value is above the maximum.
     TooLarge,
 }
 
-/// Whether the byte is `0` to `7`.
+/// Returns whether the byte is `0` to `7`.
 fn is_octal_digit(byte: u8) -> bool
     ensures { result ≡ is_octal_digit byte }
 {
@@ -26,19 +26,20 @@ fn are_octal_digits(word: &[u8]) -> bool
     word.iter().all(|byte| is_octal_digit(*byte))
 }
 
-/// Whether the word is one octal digit or more, `0` to `7`, and nothing else (this project's choice).
+/// Returns whether the word is one or more octal digits, `0` to `7`, and nothing else (this project's
+/// choice).
 pub fn is_octal(word: &[u8]) -> bool
     ensures { result ≡ is_octal word.now }
 {
     !word.is_empty() && are_octal_digits(word)
 }
 
-/// The number that the octal word writes, from 0 to `max`, with any number of zeros in front
-/// (this project's choice).
+/// Returns the value of an octal word, 0 to `max`. Any number of leading zeros is allowed (this
+/// project's choice).
 ///
 /// # Errors
-/// `NotOctal` where the word is empty or has a byte that is not `0` to `7`, and else `TooLarge`
-/// where its value is over `max`.
+/// `NotOctal` if the word is empty or has a byte that is not `0` to `7`. Otherwise `TooLarge` if its
+/// value is above `max`.
 pub fn read_octal(word: &[u8], max: u64) -> Result<u64, OctalFault>
     ensures { result ≡ octal_read word.now max }
 {

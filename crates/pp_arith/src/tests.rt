@@ -1,4 +1,4 @@
-//! Worked sums, shifts, addresses and octal texts.
+//! Worked examples of sums, shifts, addresses and octal texts.
 
 use super::*;
 use arrayvec::ArrayVec;

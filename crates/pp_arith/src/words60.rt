@@ -1,11 +1,11 @@
-//! Words of 60 bits and their five parts of twelve bits.
+//! 60-bit words and their five 12-bit parts.
 ghost use Rattle.std.specs.List.{All};
 ghost use Rattle.std.specs.Prelude.{◌≡◌, ◌<◌, ◌≤◌, ◌^◌};
 ghost use Rattle.pp_arith.specs.Words60 as spec;
 
-/// The five twelve-bit parts of a 60-bit word, leftmost first: the order in which the manual's
-/// peripheral processor instructions move central words to and from cells. `w` is below 2^60,
-/// and each part is 0 to 0o7777.
+/// Returns the five 12-bit parts of a 60-bit word, leftmost first. This is the order in which the manual's
+/// peripheral processor instructions move central words to and from cells. `w` is below 2^60, and each
+/// part is 0 to 0o7777.
 pub fn split60(w: u64) -> [u16; 5]
     requires w_in { w < 2 ^ 60 }
     ensures value { result ≡ spec.split60 w }
@@ -21,8 +21,8 @@ pub fn split60(w: u64) -> [u16; 5]
     ]
 }
 
-/// The 60-bit word of five twelve-bit parts, leftmost first: what `split60` takes apart. Each part
-/// is 0 to 0o7777, and the word is below 2^60.
+/// Returns the 60-bit word with these five 12-bit parts, leftmost first. It is the inverse of `split60`.
+/// Each part is 0 to 0o7777, and the word is below 2^60.
 pub fn join60(parts: &[u16; 5]) -> u64
     requires parts_in { All (λ part. part ≤ 0o7777) parts.now }
     ensures value { result ≡ spec.join60 parts.now }

@@ -1,4 +1,4 @@
-//! Numbers that are written in octal.
+//! Writes octal numbers.
 ghost use Rattle.std.specs.Prelude.{◌≡◌, ℕ, ◌+◌, ◌≤◌, ◌++◌, max, Ok};
 ghost use Rattle.arrayvec.specs.ArrayVec.{array_vec_len};
 ghost use Rattle.pp_arith.specs.Octal.{octal_digits, octal_length, octal_text};
@@ -6,8 +6,8 @@ ghost use Rattle.pp_arith.specs.OctalRead.{octal_read};
 
 use arrayvec::ArrayVec;
 
-/// Adds the last `digits` octal digits of the value to the line, the highest first: a number of fixed
-/// width. `digits` is 0 to 22, and the line has room for them.
+/// Appends the last `digits` octal digits of the value to the line, most significant first: a number of
+/// fixed width. `digits` is 0 to 22, and the line has room for them.
 pub fn push_octal<const N: usize>(line: &mut ArrayVec<u8, N>, value: u64, digits: u8)
     requires few { digits ≤ 22 }
     requires room { array_vec_len line.old + digits ≤ N }
@@ -21,7 +21,7 @@ pub fn push_octal<const N: usize>(line: &mut ArrayVec<u8, N>, value: u64, digits
     }
 }
 
-/// The least width from `digits` on, in octal digits, that the value fits.
+/// Returns the smallest width, in octal digits, that is at least `digits` and holds the value.
 fn width(value: u64, digits: u8) -> u8
     requires { digits ≤ 22 }
     ensures value { result ≡ max digits (octal_length 22 value) }
@@ -35,8 +35,8 @@ fn width(value: u64, digits: u8) -> u8
 }
 
 #[tactic(auto, unfolding(crate::specs::Octal::octal_text))]
-/// The octal digits of the value, with zeros in front up to `digits` (1 to 22), and more digits where
-/// the value needs more: ASCII `0` to `7`, the highest first.
+/// Returns the octal digits of the value as ASCII `0` to `7`, most significant first. There are at least
+/// `digits` (1 to 22), with leading zeros, and more if the value needs more.
 pub fn octal(value: u64, digits: u8) -> ArrayVec<u8, 22>
     requires some { 1 ≤ digits }
     requires few { digits ≤ 22 }
