@@ -1,4 +1,4 @@
--- The numbers of the channels are in range, since those of each channel are.
+-- The numbers of the channels are in range, because those of each channel are.
 use Rattle.std.proofs.Common.{ℕ, ◌≤◌, List, get_or, lit≤}
 use Rattle.std.proofs.lemmas.List.Elements.{All-map}
 use Rattle.pp_machine.specs.ChannelNumbers.{IsChannels, state_number, channel_numbers}

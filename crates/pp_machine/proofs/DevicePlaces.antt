@@ -1,4 +1,4 @@
--- The places that the devices' records name.
+-- The places in the devices' records.
 use Rattle.std.proofs.Common.{ℕ, ◌<◌, ◌≤◌, ◌≡◌, ◌∙◌, ap, arith, length, lit≤}
 use Rattle.pp_machine.specs.Printed.{PrinterView, PrinterPlace, number_printer, olds_printer, printer_pairs, printer_place, FitsPrinter}
 use Rattle.pp_machine.specs.Read.{ReaderView, ReaderPlace, number_reader, olds_reader, reader_pairs, reader_place}
@@ -10,7 +10,7 @@ use Rattle.pp_machine.specs.declared.printer.PrinterRecord.TheVariants as printe
 use Rattle.pp_machine.specs.declared.reader.ReaderRecord.{ReaderRecord}
 use Rattle.pp_machine.specs.declared.reader.ReaderRecord.TheVariants as read
 
--- a record of what a write list overwrote names the places of that list
+-- a record of the old values of a write list has the places of that list
 pub reader_names : (r : ReaderRecord) (s : ReaderView) (w : Writes ReaderPlace) → reader_pairs r ≡ olds_reader s w → places (reader_pairs r) ≡ places w
 reader_names r s w named = ap (λ pairs. places pairs) named ∙ places-olds number_reader s w
 
@@ -37,7 +37,7 @@ printer_few (printed.WordPrinted len column) = lit≤ tt
 printer_few (printed.StatusSent word) = lit≤ tt
 printer_few printed.StatusEnded = lit≤ tt
 
--- these are places of the machine
+-- the places of a record are places of the machine
 pub HasAll-printer : (size c : ℕ) (r : PrinterRecord) (s : PrinterView) → c < 12 → FitsPrinter r s → HasAll size (renamed (printer_place c) (printer_pairs r))
 HasAll-printer size c printed.Nothing s h f = tt
 HasAll-printer size c (printed.Called mode) s h f = (h, (tt, tt))

@@ -14,7 +14,7 @@ use Rattle.pp_machine.specs.Writes.{Writes, AllPlaces, renamed}
 use Rattle.pp_machine.specs.declared.printer.PrinterMode.TheVariants as printing
 use Rattle.pp_machine.specs.declared.reader.ReaderMode.TheVariants as reading
 
--- one list or another, by a test
+-- the places of a conditional write list are good if those of both branches are
 pub AllPlaces-if : {P : Type 0} (Good : P → Type 0) (b : Bool) (x y : Writes P) → (b ≡ true → AllPlaces Good x) → (b ≡ false → AllPlaces Good y) → AllPlaces Good (if b then x else y)
 AllPlaces-if Good true x y h k = h refl
 AllPlaces-if Good false x y h k = k refl
@@ -51,7 +51,7 @@ module _ (size c : ℕ) (small : c < 12) where
   printer_if : (b : Bool) (x y : Writes PrinterPlace) → (b ≡ true → PrinterHas x) → PrinterHas y → PrinterHas (if b then x else y)
   printer_if b x y h k = AllPlaces-if (λ p. Has size (printer_place c p)) b x y h (λ _. k)
 
-  -- symbols that fit stand on the paper
+  -- symbols that fit end within the room of the paper
   fits : (len count : ℕ) → nat_le (len + count) 65536 ≡ true → len + count ≤ 65536
   fits len count h = grind (arith, nat_tests, h)
 

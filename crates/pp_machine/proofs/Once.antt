@@ -1,4 +1,4 @@
--- Write lists that name no place twice.
+-- Write lists in which no place occurs twice.
 use Rattle.std.proofs.Common.{◌≡◌, ◌≢◌, ◌∙◌, ℕ, zero, suc, ◌+◌, ◌&&◌, ◌==◌, nat_lt, nat_le, Bool, true, false, if◌then◌else◌, [], ◌∷◌, Some, None, sym, ap, subst, refl, arith}
 use Rattle.std.specs.Prelude.{Option}
 use Rattle.std.specs.List.{All, AllPairs}
@@ -28,12 +28,12 @@ not_found true v o h = absurd (false≢true (ap is_none h))
 not_found false v o h = (refl, h)
 
 module _ {P : Type 0} (same : P → P → Bool) where
-  -- whether no pair is for the place of one before it
+  -- whether no place occurs twice
   abbrev pub once : Writes P → Bool
   once [] = true
   once (pair ∷ rest) = is_none (lookup_by same rest pair.0) && once rest
 
-  -- no pair is for the place of one before it
+  -- no place occurs twice
   pub record IsOnce (ws : Writes P) : Type 0 where
     pub holds : once ws ≡ true
 

@@ -1,4 +1,4 @@
--- A machine is its numbers: two of one shape and setup, with one deck, that have the same number at each place are the same.
+-- A machine is its numbers: two machines with the same shape, setup and deck that have the same number at each place are equal.
 use Rattle.std.proofs.Common.{◌≡◌, ◌∙◌, ℕ, ◌<◌, List, length, get_or, sym, ap}
 use Rattle.std.proofs.lemmas.List.{ext_get_or}
 use Rattle.pp_machine.specs.ChannelNumbers.{ChannelNumbers}

@@ -3,12 +3,12 @@ ghost use Rattle.pp_machine.specs.declared.fault.MakeFault.TheVariants.{NoMemory
 
 use std::alloc::{AllocError, AllocFailed};
 
-/// Why a part of the machine was not made. A refused maker drops what it was handed.
+/// Why a part of the machine could not be made. A constructor that fails drops its arguments.
 #[derive(Clone, Copy, PartialEq, Eq, Debug, Drop)]
 pub enum MakeFault {
-    /// There was no memory for it.
+    /// Memory ran out.
     NoMemory,
-    /// The deck has more than 2000 (decimal) cards; of a reader alone.
+    /// The deck has more than 2000 (decimal) cards. Only the card reader has this error.
     DeckTooLong,
 }
 

@@ -14,8 +14,8 @@ use crate::place::Place;
 use crate::printer::PrinterRecord;
 use crate::reader::ReaderRecord;
 
-/// In the machine that a record leads back to, a place has the number that the record tells of it, and the present
-/// one where it tells none.
+/// After the undo record of a device is written back into a machine, each place in the record has the number that
+/// the record holds for it, and every other place keeps its number.
 pub fn device_records_tell()
     ensures reader { (m : Machine) (c : ℕ) (back : ReaderRecord) (place : Place) →
         IsShaped m.setup.central_words m → c < 12 →
@@ -33,8 +33,8 @@ pub fn device_writes_are_distinct()
     ensures printer { (s : PrinterView) → AllPairs (λ one other. one ≢ other) (places (printer_writes s)) }
 {}
 
-/// A machine is its numbers: two of one shape and setup, with one deck, that have the same number at each
-/// place are the same.
+/// A machine is its numbers. Two machines with the same shape, setup and deck that have the same number at each
+/// place are equal.
 pub fn numbers_make_the_machine()
     ensures { (size : ℕ) (m other : Machine) → IsShaped size m → IsShaped size other → m.setup ≡ other.setup →
         m.reader.deck ≡ other.reader.deck →

@@ -1,4 +1,4 @@
-//! Each maker once, and the parts that no clause compares with the manual.
+//! Each constructor once, and the parts that no clause compares with the manual.
 
 use crate::{Central, CentralSize, Frame, Memory12};
 use std::test::Fail;

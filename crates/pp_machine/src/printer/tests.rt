@@ -1,4 +1,4 @@
-//! The printer with its channel, by worked steps.
+//! Worked steps of the printer and its channel.
 
 ghost use Rattle.std.specs.Prelude.{◌≡◌, ◌≤◌};
 
@@ -13,7 +13,7 @@ fn channel(state: ChannelState, word: u16) -> Channel
     Channel { state, word }
 }
 
-/// The record, taken apart and built anew from its fields alone.
+/// Returns the record, rebuilt from its fields alone.
 fn rebuilt(back: PrinterRecord) -> PrinterRecord
     ensures { result ≡ back }
 {
@@ -35,7 +35,8 @@ fn rebuilt(back: PrinterRecord) -> PrinterRecord
     }
 }
 
-/// A step, taken back by its rebuilt record and made again; the record has the wanted numbers.
+/// Makes a step, undoes it by its rebuilt record and makes it again. Checks that the record has the
+/// expected numbers.
 fn step(rt: &impl Abort, printer: &mut Printer, channel: &mut Channel, record: PrinterRecord) {
     let length = printer.length();
     let column = printer.column();
@@ -157,7 +158,7 @@ fn tells_whether_the_paper_is_full(rt: HostRuntime) -> Result<(), Fail> {
     Ok(())
 }
 
-/// A record is small enough to be handed on by value.
+/// Checks that a record is small enough to be passed by value.
 #[test]
 fn record_takes_few_bytes(rt: HostRuntime) {
     assert!(rt; size_of::<PrinterRecord>() <= 16);

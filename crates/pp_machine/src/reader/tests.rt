@@ -1,4 +1,4 @@
-//! The card reader with its channel, by worked steps.
+//! Worked steps of the card reader and its channel.
 
 ghost use Rattle.std.specs.Prelude.{◌≡◌, ◌≤◌, All, IfOk};
 ghost use Rattle.pp_machine.specs.ReaderNumbers.{IsCard};
@@ -10,7 +10,7 @@ use std::alloc::{AllocError, Global};
 use std::process::Abort;
 use std::test::Fail;
 
-/// A card that begins with the columns 1, 2, 3.
+/// Returns a card that begins with the columns 1, 2, 3.
 fn card() -> [u16; 80]
     ensures { IsCard result }
 {
@@ -21,7 +21,7 @@ fn card() -> [u16; 80]
     card
 }
 
-/// So many of these cards.
+/// Returns a deck of `cards` such cards.
 fn deck_of(alloc: Global, cards: u16) -> Result<Vec<[u16; 80]>, AllocError>
     ensures { IfOk result (λ deck. All IsCard deck.items) }
 {
@@ -42,7 +42,7 @@ fn channel(state: ChannelState, word: u16) -> Channel
     Channel { state, word }
 }
 
-/// The record, taken apart and built anew from its fields alone.
+/// Returns the record, rebuilt from its fields alone.
 fn rebuilt(back: ReaderRecord) -> ReaderRecord
     ensures { result ≡ back }
 {
@@ -60,7 +60,8 @@ fn rebuilt(back: ReaderRecord) -> ReaderRecord
     }
 }
 
-/// A step, taken back by its rebuilt record and made again; the record has the wanted numbers.
+/// Makes a step, undoes it by its rebuilt record and makes it again. Checks that the record has the
+/// expected numbers.
 fn step(rt: &impl Abort, reader: &mut Reader, channel: &mut Channel, record: ReaderRecord) {
     let card = reader.card();
     let column = reader.column();
@@ -182,7 +183,7 @@ fn refuses_a_deck_over_2000_cards(rt: HostRuntime) -> Result<(), Fail> {
     Ok(())
 }
 
-/// A record is small enough to be handed on by value.
+/// Checks that a record is small enough to be passed by value.
 #[test]
 fn record_takes_few_bytes(rt: HostRuntime) {
     assert!(rt; size_of::<ReaderRecord>() <= 16);
