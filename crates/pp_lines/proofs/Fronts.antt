@@ -1,4 +1,4 @@
--- The front of a line, after one byte more.
+-- The kept prefix of a line, after one more byte.
 use Rattle.std.proofs.Common.{◌≡◌, ◌≢◌, ◌∙◌, ℕ, ◌-◌, ◌<◌, ◌≤◌, min, eqb, List, [], ◌∷◌, ◌++◌, length, take, refl, sym, ap, arith, false, length-append}
 use Rattle.std.specs.Prelude.{Result, Ok, Err, IsOk, OnOk}
 use Rattle.std.proofs.lemmas.Grind.{common_steps}
@@ -10,15 +10,15 @@ use Rattle.pp_lines.proofs.LineCuts.{unfinished-feed, unfinished-byte}
 use Rattle.pp_lines.proofs.OpenTexts.{unfinished-text}
 use Rattle.pp_lines.proofs.Limits.{take-front}
 
--- a front of a list that goes on is a front of the list's front
+-- the prefix is the same if it was already taken before more bytes were appended
 take-goes_on : (most : ℕ) (xs ys : List ℕ) → take most (take most xs ++ ys) ≡ take most (xs ++ ys)
 take-goes_on most xs ys = grind (arith, common_steps)
 
--- a byte is kept of a line that has room
+-- with room left, one more byte is kept
 pub keeps_short : (most : ℕ) (xs : List ℕ) (x : ℕ) → length xs < most → xs ++ x ∷ [] ≡ take most (xs ++ x ∷ [])
 keeps_short most xs x h = sym (take_all most (xs ++ x ∷ []) (rw (length-append xs (x ∷ [])) (omega arith)))
 
--- no byte is kept of a line that has none
+-- with no room left, one more byte is dropped
 pub keeps_full : (most : ℕ) (xs : List ℕ) (x : ℕ) → length xs ≡ most → xs ≡ take most (xs ++ x ∷ [])
 keeps_full most xs x h = sym (rw (← h) (take-append_seam xs (x ∷ [])))
 
@@ -29,12 +29,12 @@ pub front-byte : (kept : ℕ) (front new bytes : List ℕ) (byte : ℕ) → byte
 front-byte kept front new bytes byte h is_front e =
     rw (unfinished-byte bytes byte (no-feed byte h)) (e ∙ rw is_front (take-goes_on kept (unfinished bytes) (byte ∷ [])))
 
--- what holds after a call that went well
+-- what holds after a call that succeeded
 pub held : {T E P : Type 0} (result : Result T E) → IsOk result → OnOk result P → P
 held (Ok value) well p = p
 held (Err fault) well p = cc
 
--- what a line keeps of more bytes
+-- the part of a text that a line keeps
 pub keeps_text : (most : ℕ) (front text : List ℕ) → length front ≤ most → front ++ take (min (length text) (most - length front)) text ≡ take most (front ++ text)
 keeps_text most front text h =
     let room : take (min (length text) (most - length front)) text ≡ take (most - length front) text = grind (arith, common_steps) in

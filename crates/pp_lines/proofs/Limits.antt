@@ -1,21 +1,21 @@
--- Lines up to a limit of lines and of bytes, and lines of which a front is kept.
+-- Lines within a limit of lines and of bytes, and lines of which a prefix is kept.
 use Rattle.std.proofs.Common.{◌≡◌, ◌∙◌, ℕ, zero, suc, ◌+◌, ◌-◌, ◌<◌, ◌≤◌, ◌⊎◌, Bool, true, false, cond, eqb, List, [], ◌∷◌, ◌++◌, length, take, refl, sym, ap, arith, inl, inr, length-append, length-take}
 use Rattle.std.proofs.lemmas.List.{append-nil, take_all}
 use Rattle.std.proofs.Math.Seq.{take-append_seam, take-append-add}
 use Rattle.pp_lines.specs.Lines.{lines, begin_first, extend_first, finished, unfinished, last_line, finished_within, IsWithin, IsFrontOf}
 use Rattle.pp_lines.proofs.LineCuts.{lines_split, finished-more}
 
--- at most one line stands unfinished
+-- at most one line is unfinished
 pub last_line-one : (rest : List ℕ) → length (last_line rest) ≤ 1
 last_line-one [] = omega arith
 last_line-one (byte ∷ rest) = omega arith
 
--- a line that was begun has a byte that is kept
+-- if a line was begun, at least one byte of it is kept
 pub kept-begun : (most : ℕ) (rest : List ℕ) → 0 < most → length (last_line rest) ≤ length (take most rest)
 kept-begun most [] h = omega arith
 kept-begun most (byte ∷ rest) h = rw (length-take most (byte ∷ rest)) (omega arith)
 
--- where nothing is kept of a line, none was begun
+-- if no byte of a line is kept, no line was begun
 nothing-kept : (most : ℕ) (rest : List ℕ) → 0 < most → length (take most rest) ≡ 0 → last_line rest ≡ []
 nothing-kept most [] h e = refl
 nothing-kept most (byte ∷ rest) h e = absurd (omega (arith, rw length-take at e))
@@ -24,17 +24,17 @@ something-kept : (most : ℕ) (rest : List ℕ) → 0 < length (take most rest) 
 something-kept most [] e = absurd (omega (arith, rw length-take at e))
 something-kept most (byte ∷ rest) e = refl
 
--- the lines, where the last one ends with a line feed
+-- the lines, if the last one ends with a line feed
 pub lines-whole : (kept : ℕ) (front bytes : List ℕ) → 0 < kept → IsFrontOf kept front bytes → length front ≡ 0 → lines bytes ≡ finished bytes
 lines-whole kept front bytes some is_front empty =
     lines_split bytes ∙ rw (nothing-kept kept (unfinished bytes) some (sym (ap length is_front) ∙ empty)) (append-nil (finished bytes))
 
--- the lines, where the last one does not
+-- the lines, if the last one does not end with a line feed
 pub lines-last : (kept : ℕ) (front bytes : List ℕ) → IsFrontOf kept front bytes → 0 < length front → lines bytes ≡ finished bytes ++ unfinished bytes ∷ []
 lines-last kept front bytes is_front begun =
     lines_split bytes ∙ ap (λ last. finished bytes ++ last) (something-kept kept (unfinished bytes) (omega (arith, ap length is_front)))
 
--- there are as many lines as finished ones, or one more
+-- there are as many lines as finished lines, or one more
 pub lines-count : (bytes : List ℕ) → length (lines bytes) ≡ length (finished bytes) + length (last_line (unfinished bytes))
 lines-count bytes = ap length (lines_split bytes) ∙ length-append (finished bytes) (last_line (unfinished bytes))
 
@@ -50,7 +50,7 @@ unfolding finished_within
 finished_within-whole line_limit byte_limit bytes few_bytes few_lines =
     rw (take_all byte_limit bytes few_bytes) (take_all line_limit (finished bytes) few_lines)
 
--- so many elements of a longer list begin with as many of the shorter one
+-- the first n elements of a longer list begin with the first n of the shorter one
 take_more : {X : Type 0} (n : ℕ) (xs more : List X) → (extra : List X) × (take n (xs ++ more) ≡ take n xs ++ extra)
 take_more zero xs more = ([], refl)
 take_more (suc n) [] more = (take (suc n) more, refl)
@@ -58,7 +58,7 @@ take_more (suc n) (x ∷ xs) more =
     let rest = take_more n xs more in
     (rest.0, ap (λ ys. x ∷ ys) rest.1)
 
--- finished lines within the limits stay, whatever follows
+-- more bytes do not change the finished lines within the limits
 pub finished_within-more : (line_limit byte_limit : ℕ) (bytes more : List ℕ) → (extra : List (List ℕ)) × (finished_within line_limit byte_limit (bytes ++ more) ≡ finished_within line_limit byte_limit bytes ++ extra)
 unfolding finished_within
 finished_within-more line_limit byte_limit bytes more =
@@ -82,19 +82,19 @@ begun-some byte [] false = omega arith
 begun-some byte (first ∷ all) true = omega arith
 begun-some byte (first ∷ all) false = omega arith
 
--- bytes after a line feed are a line more
+-- bytes after a line feed add at least one line
 pub lines-further : (kept more : List ℕ) → 0 < length more → length (finished kept) < length (lines (kept ++ more))
 lines-further [] [] h = absurd (omega arith)
 lines-further [] (byte ∷ more) h = begun-some byte (lines more) (eqb byte 10)
 lines-further (byte ∷ kept) more h = begun-longer byte (finished kept) (lines (kept ++ more)) (eqb byte 10) (lines-further kept more h)
 
--- a front that is longer than the first part
+-- a prefix that is longer than the first part
 pub take-front : (most : ℕ) (kept more : List ℕ) → length kept ≤ most → take most (kept ++ more) ≡ kept ++ take (most - length kept) more
 take-front most kept more h =
     let split : most ≡ length kept + (most - length kept) = omega arith in
     ap (λ n. take n (kept ++ more)) split ∙ take-append-add kept more (most - length kept)
 
--- the finished lines within the limits, where a limit is reached
+-- the finished lines within the limits, once a limit is reached
 pub finished_within-kept : (line_limit byte_limit : ℕ) (kept more : List ℕ) → IsWithin line_limit byte_limit kept →
     (length kept ≡ byte_limit) ⊎ (length (finished kept) ≡ line_limit) → finished_within line_limit byte_limit (kept ++ more) ≡ finished kept
 unfolding finished_within

@@ -1,8 +1,8 @@
--- The lines of a list of bytes that goes on.
+-- The lines of a list of bytes to which more bytes are appended.
 use Rattle.std.proofs.Common.{◌≡◌, ℕ, cond, eqb, List, [], ◌∷◌, ◌++◌, refl, Bool, true, false}
 use Rattle.pp_lines.specs.Lines.{lines, begin_first, extend_first, finished, extend_unfinished, unfinished, last_line}
 
--- a line feed, with what it begins with
+-- a line feed after a list that begins with this byte
 finished-feed_step : (feed : Bool) (byte : ℕ) (done : List (List ℕ)) (rest : List ℕ) →
     cond feed ([] ∷ (done ++ rest ∷ [])) (extend_first byte (done ++ rest ∷ [])) ≡ cond feed ([] ∷ done) (extend_first byte done) ++ cond feed rest (extend_unfinished byte done rest) ∷ []
 finished-feed_step true byte done rest = refl
@@ -24,7 +24,7 @@ pub unfinished-feed : (bytes : List ℕ) → unfinished (bytes ++ 10 ∷ []) ≡
 unfinished-feed [] = refl
 unfinished-feed (byte ∷ bytes) = rw (unfinished-feed bytes, finished-feed bytes) (unfinished-feed_step (eqb byte 10) byte (finished bytes) (unfinished bytes))
 
--- another byte finishes no line
+-- any other byte finishes no line
 pub finished-byte : (bytes : List ℕ) (next : ℕ) → eqb next 10 ≡ false → finished (bytes ++ next ∷ []) ≡ finished bytes
 finished-byte [] next h = rw h refl
 finished-byte (byte ∷ bytes) next h = rw (finished-byte bytes next h) refl
@@ -35,7 +35,7 @@ unfinished-byte_step true byte next done rest = refl
 unfinished-byte_step false byte next [] rest = refl
 unfinished-byte_step false byte next (line ∷ done) rest = refl
 
--- another byte goes on with the unfinished line
+-- any other byte extends the unfinished line
 pub unfinished-byte : (bytes : List ℕ) (next : ℕ) → eqb next 10 ≡ false → unfinished (bytes ++ next ∷ []) ≡ unfinished bytes ++ next ∷ []
 unfinished-byte [] next h = rw h refl
 unfinished-byte (byte ∷ bytes) next h = rw (unfinished-byte bytes next h, finished-byte bytes next h) (unfinished-byte_step (eqb byte 10) byte next (finished bytes) (unfinished bytes))
@@ -47,7 +47,7 @@ lines_step false byte [] [] = refl
 lines_step false byte [] (next ∷ rest) = refl
 lines_step false byte (line ∷ done) rest = refl
 
--- the lines are the finished ones and what stands unfinished
+-- the lines are the finished lines and the unfinished one
 pub lines_split : (bytes : List ℕ) → lines bytes ≡ finished bytes ++ last_line (unfinished bytes)
 lines_split [] = refl
 lines_split (byte ∷ bytes) = rw (lines_split bytes) (lines_step (eqb byte 10) byte (finished bytes) (unfinished bytes))
@@ -58,7 +58,7 @@ more_step true byte done extra = (extra, refl)
 more_step false byte [] extra = (extend_first byte extra, refl)
 more_step false byte (line ∷ done) extra = (extra, refl)
 
--- finished lines stay, whatever follows
+-- more bytes do not change the finished lines
 pub finished-more : (bytes more : List ℕ) → (extra : List (List ℕ)) × (finished (bytes ++ more) ≡ finished bytes ++ extra)
 finished-more [] more = (finished more, refl)
 finished-more (byte ∷ bytes) more =

@@ -1,4 +1,4 @@
--- Of a line that is too long, its front tells as much as the whole.
+-- For a line that is too long, a kept prefix is as good as the whole line.
 use Rattle.std.proofs.Common.{◌≡◌, ◌∙◌, ℕ, ◌+◌, ◌-◌, ◌<◌, ◌≤◌, cond, eqb, Bool, true, false, List, length, take, refl, sym, ap, arith, length-take, ltb-true, ltb-false}
 use Rattle.std.specs.Prelude.{nat_lt, slice_index}
 use Rattle.std.proofs.lemmas.List.{take_all}
@@ -12,7 +12,7 @@ without_return-long line = by_test (eqb (slice_index line (length line - 1)) 13)
     by_test true = rw (length-take (length line - 1) line) (omega arith)
     by_test false = omega arith
 
--- what is told of each text over a length alike is told of a line by a front that shows that length
+-- if `tell` has one result for all texts over a length, a prefix over that length has the result of the whole line
 pub told-kept : {A : Type 0} (tell : List ℕ → A) (long : A) (longest most : ℕ) (line : List ℕ) →
     ((text : List ℕ) → longest < length text → tell text ≡ long) → longest + 1 < most → tell (without_return (take most line)) ≡ tell (without_return line)
 told-kept tell long longest most line is_long more = by_test (nat_lt most (length line)) refl

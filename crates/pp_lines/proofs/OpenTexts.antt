@@ -21,11 +21,11 @@ open-first byte bytes h = by_test (eqb byte 10) refl (finished bytes) refl h
     by_test false e [] d none = (e, d)
     by_test false e (line ∷ done) d none = cc
 
--- a text without a line feed, from its first byte on
+-- a text without a line feed, from its first byte and the others
 open-more : (byte : ℕ) (bytes : List ℕ) → eqb byte 10 ≡ false → finished bytes ≡ [] → finished (byte ∷ bytes) ≡ []
 open-more byte bytes e h = rw (e, h) refl
 
--- its fronts have none either
+-- its prefixes have no line feed either
 pub open-take : (n : ℕ) (text : List ℕ) → finished text ≡ [] → finished (take n text) ≡ []
 open-take zero text h = refl
 open-take (suc n) [] h = refl
@@ -40,7 +40,7 @@ finished-text bytes (byte ∷ text) h =
     let first = open-first byte text h in
     ap finished (sym (append_assoc bytes (byte ∷ []) text)) ∙ finished-text (bytes ++ byte ∷ []) text first.1 ∙ finished-byte bytes byte first.0
 
--- it goes on with the unfinished line
+-- it extends the unfinished line
 pub unfinished-text : (bytes text : List ℕ) → finished text ≡ [] → unfinished (bytes ++ text) ≡ unfinished bytes ++ text
 unfinished-text bytes [] h = ap unfinished (append-nil bytes) ∙ sym (append-nil (unfinished bytes))
 unfinished-text bytes (byte ∷ text) h =
@@ -48,11 +48,11 @@ unfinished-text bytes (byte ∷ text) h =
     ap unfinished (sym (append_assoc bytes (byte ∷ []) text)) ∙ unfinished-text (bytes ++ byte ∷ []) text first.1
     ∙ ap (λ begun. begun ++ text) (unfinished-byte bytes byte first.0) ∙ append_assoc (unfinished bytes) (byte ∷ []) text
 
--- how many bytes come before the first line feed
+-- the number of bytes before the first line feed
 abbrev before_feed : List ℕ → ℕ
 before_feed = position_or_len (λ byte. byte == 10)
 
--- there is none before the first one
+-- the bytes before the first line feed contain no line feed
 before-open : (text : List ℕ) → finished (take (before_feed text) text) ≡ []
 before-open [] = refl
 before-open (byte ∷ text) = by_test (eqb byte 10) refl (before-open text)
@@ -74,7 +74,7 @@ feed-splits (byte ∷ text) less = by_test (eqb byte 10) refl (feed-splits text)
         let size = len-more (λ byte. byte == 10) byte text e in
         rw size (ap (λ others. byte ∷ others) (later (omega (arith, size))))
 
--- a text whose line feeds were looked for in vain
+-- a text in which no line feed is found
 pub feed-none : (text : List ℕ) → position (λ byte. byte == 10) text ≡ None → finished text ≡ []
 feed-none text e = by_test (nat_lt (before_feed text) (length text)) refl e
   where
@@ -84,7 +84,7 @@ feed-none text e = by_test (nat_lt (before_feed text) (length text)) refl e
         let all : take (before_feed text) text ≡ text = take_all (before_feed text) text (ltb-false (before_feed text) (length text) less) in
         rw all at (before-open text)
 
--- a text that is cut at a line feed that was found
+-- a text that is cut at the line feed found
 pub feed-cut : (text : List ℕ) (feed : ℕ) (line rest : List ℕ) → position (λ byte. byte == 10) text ≡ Some feed → line ≡ take feed text → rest ≡ drop feed text →
     (text ≡ line ++ 10 ∷ take (length rest - 1) (drop 1 rest)) × (finished line ≡ [])
 feed-cut text feed line rest e front back =

@@ -16,12 +16,12 @@ words-skip : (byte : ℕ) (bytes : List ℕ) → is_blank byte ≡ true → word
 unfolding words
 words-skip byte bytes e = rw e refl
 
--- a letter before a word
+-- a letter in front of a word extends it
 words-more : (byte : ℕ) (bytes : List ℕ) → is_blank byte ≡ false → goes_on bytes ≡ true → words (byte ∷ bytes) ≡ extend_first byte (words bytes)
 unfolding words
 words-more byte bytes e g = rw (e, g) refl
 
--- a letter that is a word
+-- a letter that is followed by no other letter is a word
 words-stop : (byte : ℕ) (bytes : List ℕ) → is_blank byte ≡ false → goes_on bytes ≡ false → words (byte ∷ bytes) ≡ (byte ∷ []) ∷ words bytes
 unfolding words
 words-stop byte bytes e g = rw (e, g) refl
@@ -30,7 +30,7 @@ words-none : words [] ≡ []
 unfolding words
 words-none = refl
 
--- how many bytes come before one that passes
+-- the number of bytes before the first one that passes a test
 pub len-stop : (test : ℕ → Bool) (byte : ℕ) (bytes : List ℕ) → test byte ≡ true → position_or_len test (byte ∷ bytes) ≡ 0
 len-stop test byte bytes e = rw e refl
 
@@ -47,7 +47,7 @@ words-blanks (byte ∷ bytes) = by_test (is_blank byte) refl (words-blanks bytes
     by_test true e more = rw (len-more is_letter byte bytes (ap not e)) (words-skip byte bytes e ∙ more)
     by_test false e more = rw (len-stop is_letter byte bytes (ap not e)) refl
 
--- after the blanks a word begins, where any byte is left
+-- after the blanks a word begins, if any byte is left
 pub letter-after : (text : List ℕ) → position_or_len is_letter text < length text → goes_on (drop (position_or_len is_letter text) text) ≡ true
 letter-after [] h = absurd (omega arith)
 letter-after (byte ∷ bytes) h = by_test (is_blank byte) refl (letter-after bytes) h
@@ -115,7 +115,7 @@ pick-or n len h = by_test (nat_lt n len) refl
     by_test true less = refl
     by_test false less = omega (arith, ltb-false n len less)
 
--- where a byte that passes stands, or the end
+-- the position of the first byte that passes a test, or the length of the text
 pub position-or : (test : ℕ → Bool) (text : List ℕ) → unwrap_or (position test text) (length text) ≡ position_or_len test text
 position-or test text = pick-or (position_or_len test text) (length text) (prefix_len-le-length (λ byte. not (test byte)) text)
 
@@ -140,7 +140,7 @@ word-some text start e =
     begun [] h = cc
     begun (byte ∷ bytes) h = rw (len-more is_blank byte bytes (no-letter byte h)) (omega arith)
 
--- what a cut of a text gives
+-- the result of cutting a text
 module _ (text : List ℕ) (start len : ℕ) (rest front back : List ℕ) (found : position is_letter text ≡ Some start)
     (from : rest ≡ drop start text) (size : len ≡ position_or_len is_blank rest) (first : front ≡ take len rest) (others : back ≡ drop len rest) where
   pub cut-words : words text ≡ front ∷ words back

@@ -34,7 +34,7 @@ Appends-keeps (Some x) (Some y) (Some z) a p q = q ∙ p
 pub slice_from : (done : ℕ) (text : List ℕ) → take (length text - done) (drop done text) ≡ drop done text
 slice_from done text = grind (arith, common_steps)
 
--- a piece is written of the text from an index on
+-- a piece of the text is written, from an index on
 pub Appends-further : (first second third : Option (List ℕ)) (done more : ℕ) (text : List ℕ) →
     Appends first second (take done text) → Appends second third (take more (take (length text - done) (drop done text))) → Appends first third (take (done + more) text)
 Appends-further first second third done more text p q =
@@ -47,15 +47,15 @@ pub AppendsFront-at : (first second third : Option (List ℕ)) (done : ℕ) (tex
 AppendsFront-at first second third done text within p q =
     (take done text, drop done text, Appends-keeps first second third _ p q, sym (take-append-drop done text), simp length-drop (omega arith))
 
--- of the whole text a front was written, and this is left
+-- a prefix of the whole text was written, and this is left
 abbrev pub Remains : Option (List ℕ) → Option (List ℕ) → List ℕ → List ℕ → Type 0
 Remains old new whole left = (front : List ℕ) × Appends old new front × (whole ≡ front ++ left)
 
--- all is left before the first piece
+-- before the first piece all of the text is left
 pub Remains-all : (known : Option (List ℕ)) (whole : List ℕ) → Remains known known whole whole
 Remains-all known whole = ([], Appends-nothing known, refl)
 
--- a piece more was written
+-- one more piece was written
 pub Remains-next : (first second third : Option (List ℕ)) (whole piece left : List ℕ) →
     Remains first second whole (piece ++ left) → Appends second third piece → Remains first third whole left
 Remains-next first second third whole piece left p q =
@@ -79,7 +79,7 @@ Remains-fails first second third whole piece left p q = (
 pub Remains-none : (first second : Option (List ℕ)) (whole : List ℕ) → Remains first second whole [] → Appends first second whole
 Remains-none first second whole p = Appends-same first second p.0 whole (sym (p.2 ∙ append-nil p.0)) p.1
 
--- the sink failed, and more was to come
+-- the sink failed, and more text would have followed
 pub front_longer : (first second : Option (List ℕ)) (text more : List ℕ) → AppendsFront first second text → AppendsFront first second (text ++ more)
 front_longer first second text more p =
     (p.0, p.1 ++ more, p.2, ap (λ whole. whole ++ more) p.3 ∙ append_assoc p.0 p.1 more, simp length-append (omega (arith, p.4)))

@@ -8,6 +8,6 @@ device_of counted = counted.device
 abbrev pub failures_of : {D : Type 0} → Counted D → ℕ
 failures_of counted = counted.failures
 
--- the bytes that were moved so far
+-- the bytes moved so far
 abbrev pub moved_by : {D : Type 0} → Counted D → List ℕ
 moved_by counted = counted.log.bytes

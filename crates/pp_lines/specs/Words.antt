@@ -6,7 +6,7 @@ use Rattle.pp_lines.specs.Lines.{extend_first}
 abbrev pub is_blank : ℕ → Bool
 is_blank byte = byte == 32 || byte == 9
 
--- whether a word goes on with these bytes
+-- whether the bytes begin with a letter of a word
 abbrev pub goes_on : List ℕ → Bool
 goes_on [] = false
 goes_on (byte ∷ bytes) = not (is_blank byte)
@@ -17,7 +17,7 @@ words [] = []
 words (byte ∷ bytes) = if is_blank byte then words bytes
     else (if goes_on bytes then extend_first byte (words bytes) else (byte ∷ []) ∷ words bytes)
 
--- a line without words, and one whose first word begins with a star, is passed over
+-- a line is ignored if it has no words, or if its first word begins with a star
 abbrev pub is_ignored : List (List ℕ) → Bool
 is_ignored [] = true
 is_ignored (first ∷ others) = slice_index first 0 == 42

@@ -1,4 +1,4 @@
-//! A source or a sink made of any reader or writer.
+//! A source or a sink over any reader or writer.
 ghost use Rattle.std.specs.Prelude.{◌≡◌, [], Some};
 ghost use Rattle.pp_lines.specs.Device.{one_more};
 ghost use Rattle.pp_lines.specs.Counted.{device_of, failures_of, moved_by};
@@ -7,10 +7,10 @@ use crate::device::{Failed, Sink, Source};
 use crate::log::Log;
 use std::io::{Read, Write};
 
-/// A reader or a writer, and how many of its calls failed.
+/// A reader or writer that counts its failed calls.
 ///
-/// Every error of the device is `Failed`, an interrupted call included, and so is a write that
-/// takes no byte of a slice that has some.
+/// Every error of the device is `Failed`, including an interrupted call. A write that takes no byte
+/// of a slice that is not empty is `Failed` too.
 #[derive(Drop)]
 pub struct Counted<D> {
     device: D,
@@ -19,7 +19,7 @@ pub struct Counted<D> {
 }
 
 impl<D> Counted<D> {
-    /// A device none of whose calls failed yet.
+    /// Returns a device with no failed calls so far.
     pub fn new(device: D) -> Self
         ensures device { device_of result ≡ device }
         ensures failures { failures_of result ≡ 0 }
@@ -32,7 +32,7 @@ impl<D> Counted<D> {
         }
     }
 
-    /// The reader or writer.
+    /// Returns the reader or writer.
     pub fn device(&self) -> &D
         ensures { result.now ≡ device_of self.now }
     {
@@ -49,7 +49,7 @@ impl<D> Counted<D> {
         log
     }
 
-    /// Counts a call that failed.
+    /// Counts a failed call.
     fn count_failure(&mut self) -> Failed
         ensures device { device_of self.new ≡ device_of self.old }
         ensures failures { failures_of self.new ≡ one_more (failures_of self.old) }
@@ -83,7 +83,7 @@ impl<D: Read> Source for Counted<D> {
 }
 
 impl<D: Write> Sink for Counted<D> {
-    // Whatever the writer tells: what it took of each call.
+    // The bytes that each call took, for an opaque writer too.
     ghost text = { λ counted. Some (moved_by counted) };
 
     ghost failure_count = { failures_of };

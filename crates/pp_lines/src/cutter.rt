@@ -8,8 +8,8 @@ use std::marker::Model;
 /// The byte that ends a line.
 pub const LINE_FEED: u8 = b'\n';
 
-/// The front of the line that no line feed has ended yet: its first `KEPT` bytes. Further bytes
-/// are dropped, so a line of any length takes no memory.
+/// A prefix of the current line: its first `KEPT` bytes since the last line feed. Further bytes are
+/// dropped, so a line of any length needs no more memory.
 #[derive(Drop)]
 pub struct LineCutter<const KEPT: usize> {
     front: ArrayVec<u8, KEPT>,
@@ -22,7 +22,7 @@ impl<const KEPT: usize> Model for LineCutter<KEPT> {
 }
 
 impl<const KEPT: usize> LineCutter<KEPT> {
-    /// Before the first byte of a line.
+    /// Returns a cutter before the first byte of a line.
     pub fn new() -> Self
         ensures { result ≡ [] }
     {
@@ -31,7 +31,7 @@ impl<const KEPT: usize> LineCutter<KEPT> {
         }
     }
 
-    /// Takes a byte of the line.
+    /// Adds a byte to the line.
     pub fn take_byte(&mut self, byte: u8)
         requires { byte ≢ 10 }
         ensures { (bytes : List ℕ) →
@@ -42,7 +42,7 @@ impl<const KEPT: usize> LineCutter<KEPT> {
         }
     }
 
-    /// Takes bytes of the line.
+    /// Adds bytes to the line.
     pub fn take_text(&mut self, text: &[u8])
         requires { finished text.now ≡ [] }
         ensures { (bytes : List ℕ) →
@@ -52,7 +52,7 @@ impl<const KEPT: usize> LineCutter<KEPT> {
         let _ = self.front.try_extend_from_slice(&text[..kept]);
     }
 
-    /// Takes a line feed.
+    /// Ends the line with a line feed.
     pub fn end_line(&mut self)
         ensures empty { self.new ≡ [] }
         ensures front { (bytes : List ℕ) → IsFrontOf KEPT self.new (bytes ++ 10 ∷ []) }
@@ -60,7 +60,7 @@ impl<const KEPT: usize> LineCutter<KEPT> {
         self.front.clear();
     }
 
-    /// The front of the line.
+    /// Returns the kept prefix of the line.
     pub fn line(&self) -> &[u8]
         ensures { result.now ≡ self.now }
     {
@@ -68,7 +68,7 @@ impl<const KEPT: usize> LineCutter<KEPT> {
     }
 }
 
-/// Where the first line feed stands.
+/// Returns the position of the first line feed.
 fn first_feed(text: &[u8]) -> Option<usize>
     ensures value { result ≡ position (λ byte. byte == 10) text.now }
     ensures within { IfSome result (λ feed. feed < length text.now) }
@@ -76,7 +76,7 @@ fn first_feed(text: &[u8]) -> Option<usize>
     text.iter().position(|byte| *byte == LINE_FEED)
 }
 
-/// The bytes before the first line feed, and those after it. `None` is a text without a line feed.
+/// Returns the bytes before the first line feed and those after it, or `None` if there is no line feed.
 pub fn next_line(text: &[u8]) -> Option<(&[u8], &[u8])>
     ensures cut { MatchOption result (finished text.now ≡ [])
         (λ cut. (text.now ≡ cut.0.now ++ 10 ∷ cut.1.now) × (finished cut.0.now ≡ [])) }
@@ -86,7 +86,7 @@ pub fn next_line(text: &[u8]) -> Option<(&[u8], &[u8])>
     Some((line, &rest[1..]))
 }
 
-/// The line without one carriage return at its end.
+/// Returns the line without one carriage return at its end.
 pub fn without_return(line: &[u8]) -> &[u8]
     ensures { result.now ≡ without_return line.now }
 {

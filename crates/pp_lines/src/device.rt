@@ -1,59 +1,65 @@
-//! Where bytes come from and go to, with a count of the calls that failed.
+//! Sources and sinks of bytes, which count their failed calls.
 ghost use Rattle.std.specs.Prelude.{◌≡◌, ℕ, List, Option};
 ghost use Rattle.std.specs.Io.KnownBytes.{ReadConsumes, WriteAppends};
 ghost use Rattle.pp_lines.specs.Device.{Counts, AnswersWithin, Logs, TakesSome};
 
-/// A call of a device that failed: it moved no byte, and its device counted it.
+/// A failed call of a device. It moved no byte, and the device counted it.
 #[derive(Clone, Copy, Debug, PartialEq, Eq, Drop)]
 pub struct Failed;
 
-/// Gives bytes, in pieces of its own choice.
+/// A source of bytes. It chooses how many bytes each call reads.
 ///
-/// Each `Failed` raises the count of failures by one, up to `u64::MAX`, and nothing else changes
-/// that count.
+/// Each `Failed` raises the count of failures by one, up to `u64::MAX`. Nothing else changes that
+/// count.
 pub trait Source {
-    // The bytes still to come, where the source tells them.
+    // The remaining bytes, if they are known. An opaque source has none.
     ghost rest: { Self → Option (List ℕ) };
 
-    // The bytes given so far: every source has them, whether it tells those to come or not.
+    // The bytes read so far. Every source has them, an opaque one too.
     ghost given: { Self → List ℕ };
 
-    // How many calls failed, up to the greatest count.
+    // The number of failed calls, up to the largest `u64`.
     ghost failure_count: { Self → ℕ };
 
-    /// Moves the next bytes into the front of the slice, and answers how many: at most the
-    /// slice's length, and none only at the end or into an empty slice.
+    /// Reads the next bytes into the start of the slice, and returns how many. The count is at most
+    /// the slice's length. It is 0 only at the end of input or if the slice is empty.
+    ///
+    /// # Errors
+    /// `Failed` if the device fails. No byte is then read, and the call is counted.
     fn take(&mut self, into: &mut [u8]) -> Result<usize, Failed>
         ensures within { AnswersWithin result into.new }
         ensures bytes { ReadConsumes (rest self.old) (rest self.new) result into.new }
         ensures given { Logs (given self.old) (given self.new) result into.new }
         ensures counted { Counts (failure_count self.old) (failure_count self.new) result };
 
-    /// How many calls failed.
+    /// Returns the number of failed calls.
     fn failures(&self) -> u64
         ensures { result ≡ failure_count self.now };
 }
 
-/// Takes bytes, in pieces of its own choice.
+/// A sink of bytes. It chooses how many bytes each call takes.
 ///
-/// Each `Failed` raises the count of failures by one, up to `u64::MAX`, and nothing else changes
-/// that count.
+/// Each `Failed` raises the count of failures by one, up to `u64::MAX`. Nothing else changes that
+/// count.
 pub trait Sink {
-    // The text written, where the sink tells it.
+    // The text written so far, if it is known.
     ghost text: { Self → Option (List ℕ) };
 
-    // How many calls failed, up to the greatest count.
+    // The number of failed calls, up to the largest `u64`.
     ghost failure_count: { Self → ℕ };
 
-    /// Takes a front of the slice, and answers its length: at least one byte of a slice that has
-    /// any, and at most all of it.
+    /// Writes a prefix of the slice, and returns its length. The length is at most the slice's length,
+    /// and at least 1 unless the slice is empty.
+    ///
+    /// # Errors
+    /// `Failed` if the device fails. No byte is then written, and the call is counted.
     fn put(&mut self, from: &[u8]) -> Result<usize, Failed>
         ensures within { AnswersWithin result from.now }
         ensures some { TakesSome result from.now }
         ensures bytes { WriteAppends (text self.old) (text self.new) result from.now }
         ensures counted { Counts (failure_count self.old) (failure_count self.new) result };
 
-    /// How many calls failed.
+    /// Returns the number of failed calls.
     fn failures(&self) -> u64
         ensures { result ≡ failure_count self.now };
 }

@@ -10,7 +10,7 @@ pub enum IoFault {
     /// A call of the sink failed.
     #[error("WRITE FAILED")]
     WriteFailed,
-    /// The input has more lines or bytes than the console takes.
+    /// The input has more lines or bytes than the console accepts.
     #[error("LINE LIMIT")]
     LineLimit,
 }

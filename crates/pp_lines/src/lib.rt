@@ -1,4 +1,4 @@
-//! Bytes, lines, words and rows of text: what the console and the file loaders share.
+//! Bytes, lines, words and rows of text, shared by the console and the file loaders.
 #![tactic(auto)]
 
 mod counted;

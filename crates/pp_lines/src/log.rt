@@ -1,12 +1,12 @@
-//! A list of bytes that contracts alone see.
+//! A list of bytes that only contracts see.
 ghost use Rattle.std.specs.Prelude.{◌≡◌, ◌++◌, List, [], ℕ};
 ghost use Rattle.std.specs.Borrow.{ftrue};
 
 use std::marker::{Model, PhantomData};
 use std::mem::size_of;
 
-/// The bytes that a device moved so far. Contracts see them; at run time there are none, and the log
-/// takes no bytes.
+/// The bytes that a device has moved so far. Only contracts see them. At run time the log holds no
+/// bytes and has size zero.
 #[derive(Drop)]
 pub struct Log {
     marker: PhantomData<u8>,
@@ -20,7 +20,7 @@ impl Model for Log {
 }
 
 impl Log {
-    /// No byte so far.
+    /// Returns an empty log.
     pub fn new() -> Log
         ensures { result.bytes ≡ [] }
     {
@@ -29,7 +29,7 @@ impl Log {
         }
     }
 
-    /// Bytes were moved.
+    /// Appends bytes that were moved.
     pub fn note(&mut self, _bytes: &[u8])
         ensures { self.new.bytes ≡ self.old.bytes ++ _bytes.now }
     {}

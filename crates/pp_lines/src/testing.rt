@@ -1,4 +1,4 @@
-//! Devices for tests: sources and sinks in memory, of which one call may be made to fail.
+//! Devices for tests: sources and sinks in memory. One call of each can be made to fail.
 ghost use Rattle.std.specs.Io.KnownBytes.{ReadConsumes, WriteAppends};
 ghost use Rattle.std.specs.Prelude.{◌≡◌, ◌<◌, ◌↔◌, ◌⊎◌, [], IsErr, Some, None};
 ghost use Rattle.pp_lines.specs.Device.{AnswersWithin, Counts, Logs, TakesSome, one_more};
@@ -9,22 +9,22 @@ use crate::log::Log;
 use crate::text::push_text;
 use arrayvec::ArrayVec;
 
-/// The bytes that a tray has room for.
+/// The number of bytes that a tray holds.
 pub const ROOM: usize = 4096;
 
-/// Counts the calls of a device, of which one may fail.
+/// Counts the calls of a device. One call may fail.
 #[derive(Drop)]
 pub struct Calls {
-    /// The calls so far.
+    /// The number of calls so far.
     pub made: u64,
-    /// The call that fails, counted from 1.
+    /// The call that fails, counted from 1, or `None`.
     pub failing: Option<u64>,
-    /// The calls that failed so far.
+    /// The number of failed calls so far.
     pub failures: u64,
 }
 
 impl Calls {
-    /// No call yet; the call `failing`, counted from 1, will fail, if any.
+    /// Returns a count of no calls. The call `failing`, counted from 1, will fail, if there is one.
     pub fn new(failing: Option<u64>) -> Self
         ensures failures { result.failures ≡ 0 }
         ensures failing { result.failing ≡ failing }
@@ -47,7 +47,7 @@ impl Calls {
         Failed
     }
 
-    /// Counts a call, which fails where it is the failing one.
+    /// Counts a call, and fails if it is the failing one.
     fn begin(&mut self) -> Result<(), Failed>
         ensures counted { Counts self.old.failures self.new.failures result }
         ensures made { self.new.made ≡ one_more self.old.made }
@@ -62,21 +62,22 @@ impl Calls {
     }
 }
 
-/// Gives the bytes of a list in pieces. The calls after a failing one go on where it stood.
+/// A source that reads the bytes of a slice in pieces. After a failed call the next one reads the
+/// bytes that the failed call would have read.
 #[derive(Drop)]
 pub struct Feed<'a> {
-    /// The bytes still to come.
+    /// The remaining bytes.
     pub bytes: &'a [u8],
-    /// The most bytes of a piece.
+    /// The largest number of bytes that a call reads.
     pub piece: usize,
     pub calls: Calls,
-    /// What was given.
+    /// The bytes read so far.
     pub log: Log,
     ghost some_piece: { 0 < piece },
 }
 
 impl<'a> Feed<'a> {
-    /// Gives at most `piece` bytes a call, and never fails.
+    /// Returns a source that reads at most `piece` bytes a call and never fails.
     pub fn new(bytes: &'a [u8], piece: usize) -> Self
         requires { 0 < piece }
         ensures bytes { result.bytes.now ≡ bytes.now }
@@ -92,7 +93,7 @@ impl<'a> Feed<'a> {
         }
     }
 
-    /// Gives at most `piece` bytes a call, and fails at one call, counted from 1.
+    /// Returns a source that reads at most `piece` bytes a call and fails at one call, counted from 1.
     pub fn failing(bytes: &'a [u8], piece: usize, call: u64) -> Self
         requires { 0 < piece }
         ensures bytes { result.bytes.now ≡ bytes.now }
@@ -140,11 +141,11 @@ impl Source for Feed<'_> {
     }
 }
 
-/// Gives one byte without end, and never fails.
+/// A source that repeats one byte forever and never fails.
 #[derive(Drop)]
 pub struct Endless {
     pub byte: u8,
-    /// What was given.
+    /// The bytes read so far.
     pub log: Log,
 }
 
@@ -166,19 +167,19 @@ impl Source for Endless {
     }
 }
 
-/// Takes 4096 bytes in all; once it is full, each call fails.
+/// A sink that holds 4096 bytes. Once it is full, every call with a byte to write fails.
 #[derive(Drop)]
 pub struct Tray {
-    /// What was put.
+    /// The bytes written so far.
     pub text: ArrayVec<u8, ROOM>,
-    /// The most bytes of a call.
+    /// The largest number of bytes that a call writes.
     pub piece: usize,
     pub calls: Calls,
     ghost some_piece: { 0 < piece },
 }
 
 impl Tray {
-    /// Takes at most `piece` bytes a call, and fails only when it is full.
+    /// Returns a sink that takes at most `piece` bytes a call and fails only when it is full.
     pub fn new(piece: usize) -> Self
         requires { 0 < piece }
         ensures text { result.text.items ≡ [] }
@@ -193,7 +194,8 @@ impl Tray {
         }
     }
 
-    /// Takes at most `piece` bytes a call, and fails at one call, counted from 1, too.
+    /// Returns a sink that takes at most `piece` bytes a call, and fails at one call, counted from 1, and
+    /// when it is full.
     pub fn failing(piece: usize, call: u64) -> Self
         requires { 0 < piece }
         ensures text { result.text.items ≡ [] }
@@ -208,7 +210,7 @@ impl Tray {
         }
     }
 
-    /// What was put.
+    /// Returns the bytes written so far.
     pub fn text(&self) -> &[u8]
         ensures { result.now ≡ self.now.text.items }
     {

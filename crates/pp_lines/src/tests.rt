@@ -7,7 +7,7 @@ use std::collections::VecDeque;
 use std::io::{self, Error, ErrorKind, Read, Write};
 use std::test::Fail;
 
-/// A device that is interrupted once. After that it reads the byte `x`, and takes no byte.
+/// A device whose first call is interrupted. After that it reads the byte `x`, and writes nothing.
 #[derive(Drop)]
 struct Uneasy {
     interrupted: bool,

@@ -3,28 +3,28 @@ ghost use Rattle.std.specs.Prelude.{◌≡◌, ◌∷◌, ◌<◌, ◌≤◌, []
 ghost use Rattle.std.specs.List.{position_or_len};
 ghost use Rattle.pp_lines.specs.Words.{is_blank, is_ignored, words};
 
-/// Whether the byte stands between words.
+/// Returns whether the byte is a blank or a tab.
 fn is_blank(byte: u8) -> bool
     ensures { result ≡ is_blank byte }
 {
     byte == b' ' || byte == b'\t'
 }
 
-/// Where the first blank or tab stands.
+/// Returns the position of the first blank or tab.
 fn first_blank(text: &[u8]) -> Option<usize>
     ensures { result ≡ position is_blank text.now }
 {
     text.iter().position(|byte| is_blank(*byte))
 }
 
-/// Where the first byte of a word stands.
+/// Returns the position of the first byte of a word.
 fn first_letter(text: &[u8]) -> Option<usize>
     ensures { result ≡ position (λ byte. not (is_blank byte)) text.now }
 {
     text.iter().position(|byte| !is_blank(*byte))
 }
 
-/// The length of the word that the text begins with.
+/// Returns the length of the word that the text begins with.
 fn word_len(text: &[u8]) -> usize
     ensures len { result ≡ position_or_len is_blank text.now }
     ensures within { result ≤ length text.now }
@@ -32,7 +32,8 @@ fn word_len(text: &[u8]) -> usize
     first_blank(text).unwrap_or(text.len())
 }
 
-/// The first word of a text, and what follows it. `None` is a text of blanks and tabs alone.
+/// Returns the first word of a text and the text after it, or `None` if the text has only blanks and
+/// tabs.
 pub fn next_word(text: &[u8]) -> Option<(&[u8], &[u8])>
     ensures cut { MatchOption result (words text.now ≡ [])
         (λ cut. words text.now ≡ cut.0.now ∷ words cut.1.now) }
@@ -42,7 +43,8 @@ pub fn next_word(text: &[u8]) -> Option<(&[u8], &[u8])>
     Some(word.split_at(word_len(word)))
 }
 
-/// Whether a line of this text is passed over: it has no word, or begins with a star.
+/// Returns whether a line with this text is ignored: it has no words, or its first word begins with a
+/// star.
 pub fn is_ignored(text: &[u8]) -> bool
     ensures { result ≡ is_ignored (words text.now) }
 {
