@@ -14,7 +14,7 @@ use Rattle.pp_rig.specs.declared.action.Action.TheVariants.{Turn, SetCells, SetA
 use Rattle.pp_rig.specs.declared.watched.Watched.{Watched}
 use Rattle.pp_rig.specs.declared.watched.Watched.TheVariants.{Cell, RegA, RegP, RegQ, Central, Register}
 
--- ---- what the tests of a machine tell, in a line's terms
+-- ---- the tests of a machine, in terms of a line
 
 -- the number of a processor
 is_processor : (n : ℕ) → Decides (nat_lt n 10) (n ≤ 9)

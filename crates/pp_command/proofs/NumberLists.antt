@@ -5,7 +5,7 @@ use Rattle.std.proofs.lemmas.List.{append-nil}
 use Rattle.pp_command.specs.declared.fault.LineFault.{LineFault}
 use Rattle.pp_command.specs.Numbers.{number, numbers, ◌>>=◌}
 
--- the numbers with more before them
+-- the numbers after those already read
 abbrev pub with_front : List ℕ → Result (List ℕ) LineFault → Result (List ℕ) LineFault
 with_front front read = read >>= λ values. Ok (front ++ values)
 
@@ -18,7 +18,7 @@ pub numbers-next : (most : ℕ) (front : List ℕ) (word : List ℕ) (others : L
     with_front front (numbers most (word ∷ others)) ≡ with_front (front ++ value ∷ []) (numbers most others)
 numbers-next most front word others value e = rw e (front-next front value (numbers most others))
 
--- a word is no number in range
+-- a word is not a number in range
 pub numbers-fails : (most : ℕ) (front : List ℕ) (word : List ℕ) (others : List (List ℕ)) (fault : LineFault) → number most word ≡ Err fault →
     with_front front (numbers most (word ∷ others)) ≡ Err fault
 numbers-fails most front word others fault e = rw e refl

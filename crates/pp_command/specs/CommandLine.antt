@@ -1,4 +1,4 @@
--- What a line asks for, or why it is refused: the command lines, one by one.
+-- The request of a line, or why it is rejected: the command lines, one by one.
 use Rattle.std.specs.Prelude.{ℕ, ◌-◌, ◌^◌, nat_lt, nat_le, ◌==◌, ◌&&◌, ◌||◌, Bool, false, if◌then◌else◌, List, [], ◌∷◌, length, Option, Some, None, Result, Ok, Err, codes}
 use Rattle.std.specs.List.{list_all}
 use Rattle.std.specs.Str.{str_eq_ignore_ascii_case}
@@ -15,7 +15,7 @@ use Rattle.pp_command.specs.declared.fault.LineFault.TheVariants.{NotACommand, W
 use Rattle.pp_command.specs.declared.request.Request.{Request}
 use Rattle.pp_command.specs.declared.request.Request.TheVariants.{Act, Step, Back, BackToChange, Forward, DumpCells, DumpProcessor, DumpChannels, DumpCentral, DumpFrame, DumpReader, DumpPrinter, DumpWatches}
 
--- a keyword, and what the words after it ask for
+-- a keyword, and the request made by the words after it
 abbrev pub Row : Type 0 → Type 0
 Row A = List ℕ × (Words → Result A LineFault)
 
@@ -23,12 +23,12 @@ infix 70 ◌⇒◌
 abbrev pub ◌⇒◌ : {A : Type 0} → List ℕ → (Words → Result A LineFault) → Row A
 keyword ⇒ reading = (keyword, reading)
 
--- the row whose keyword this word is, in letters of either case
+-- the row whose keyword is this word, in letters of either case
 abbrev pub row_of : {A : Type 0} → List (Row A) → List ℕ → Words → Result A LineFault
 row_of [] word given = Err NotACommand
 row_of (row ∷ rows) word given = if str_eq_ignore_ascii_case word row.0 then row.1 given else row_of rows word given
 
--- the row of the first word, for the words after it
+-- the row of the first word, applied to the words after it
 abbrev pub choose : {A : Type 0} → List (Row A) → Words → Result A LineFault
 choose rows [] = Err WordCount
 choose rows (kind ∷ given) = row_of rows kind given
@@ -64,7 +64,7 @@ state word =
     else (if str_eq_ignore_ascii_case word (codes "F") then Ok Full
     else Err NotACommand))
 
--- a channel and its state, or its register too
+-- a channel with its state, and with its register if that is given
 unfoldable pub channel_in : ChannelState → List ℕ → Words → Result Request LineFault
 channel_in s c [] = number 0o13 c >>= λ channel. Ok (Act (SetChannel channel s None))
 channel_in s c (v ∷ []) = pair 0o13 0o7777 c v >>= λ n. Ok (Act (SetChannel n.0 s (Some n.1)))
@@ -75,7 +75,7 @@ unfoldable pub set_channel : Words → Result Request LineFault
 set_channel (c ∷ s ∷ more) = state s >>= λ found. channel_in found c more
 set_channel _ = Err WordCount
 
--- what follows SET
+-- the words after SET
 unfoldable pub set : Words → Result Request LineFault
 set = choose (
     codes "M" ⇒ set_cells
@@ -150,7 +150,7 @@ forward given = count given >>= λ actions. Ok (Forward actions)
 unfoldable pub deadstart : Words → Result Request LineFault
 deadstart = none (Act Deadstart)
 
--- the request, where the first address is not over the last
+-- the request, if the first address is not above the last
 abbrev pub ordered : ℕ → ℕ → Request → Result Request LineFault
 ordered first last request = if nat_le first last then Ok request else Err OutOfRange
 
@@ -166,7 +166,7 @@ dump_processor given = one 0o11 given >>= λ n. Ok (DumpProcessor n)
 unfoldable pub dump_central : Words → Result Request LineFault
 dump_central given = two 0o377777 0o377777 given >>= λ n. ordered n.0 n.1 (DumpCentral n.0 n.1)
 
--- what follows DUMP
+-- the words after DUMP
 unfoldable pub dump : Words → Result Request LineFault
 dump = choose (
     codes "M" ⇒ dump_cells
@@ -192,23 +192,23 @@ named = row_of (
     ∷ codes "DUMP" ⇒ dump
     ∷ [])
 
--- what a line of words asks for; nothing where it is ignored
+-- the request of a line of words, or nothing if the line is ignored
 abbrev pub sentence : Words → Result (Option Request) LineFault
 sentence [] = Ok None
 sentence (first ∷ given) =
     if is_ignored (first ∷ given) then Ok None
     else (named first given >>= λ request. Ok (Some request))
 
--- a tab, or a character that is printed
+-- a tab or a printable ASCII character
 abbrev pub is_printable : ℕ → Bool
 is_printable byte = byte == 9 || (nat_le 32 byte && nat_le byte 126)
 
--- what the text of a line asks for: its length and its bytes are looked at first
+-- the request of the text of a line; its length and its bytes are checked first
 unfoldable pub command_of_text : List ℕ → Result (Option Request) LineFault
 command_of_text text =
     if nat_lt 255 (length text) then Err TooLong
     else (if list_all is_printable text then sentence (words text) else Err NotAscii)
 
--- what a line asks for
+-- the request of a line
 abbrev pub command : List ℕ → Result (Option Request) LineFault
 command line = command_of_text (without_return line)

@@ -8,19 +8,19 @@ use Rattle.pp_command.specs.declared.fault.LineFault.TheVariants.{WordCount, Not
 abbrev pub Words : Type 0
 Words = List (List ℕ)
 
--- what follows, where nothing was refused so far
+-- the next step, if there was no fault so far
 infixl 10 ◌>>=◌
 abbrev pub ◌>>=◌ : {A B : Type 0} → Result A LineFault → (A → Result B LineFault) → Result B LineFault
 (Ok x) >>= f = f x
 (Err fault) >>= f = Err fault
 
--- the number that a word writes, from 0 to a greatest one
+-- the number in a word, from 0 to a maximum
 abbrev pub number : ℕ → List ℕ → Result ℕ LineFault
 number most word =
     if is_octal word then (if nat_le (octal_value word) most then Ok (octal_value word) else Err OutOfRange)
     else Err NotANumber
 
--- all words are numbers, before any of them is read
+-- all words must be octal before any of them is read
 abbrev pub if_octal : {A : Type 0} → Words → Result A LineFault → Result A LineFault
 if_octal given read = if list_all is_octal given then read else Err NotANumber
 
@@ -34,7 +34,7 @@ unfoldable pub one : ℕ → Words → Result ℕ LineFault
 one most (word ∷ []) = number most word
 one most _ = Err WordCount
 
--- the numbers that two words write, each with its greatest
+-- the numbers in two words, each with its own maximum
 unfoldable pub pair : ℕ → ℕ → List ℕ → List ℕ → Result (ℕ × ℕ) LineFault
 pair first second x y = if_octal (x ∷ y ∷ []) (number first x >>= λ a. number second y >>= λ b. Ok (a, b))
 
@@ -43,22 +43,22 @@ unfoldable pub two : ℕ → ℕ → Words → Result (ℕ × ℕ) LineFault
 two first second (x ∷ y ∷ []) = pair first second x y
 two first second _ = Err WordCount
 
--- three numbers, each with its greatest
+-- three numbers, each with its own maximum
 unfoldable pub three : ℕ → ℕ → ℕ → Words → Result (ℕ × ℕ × ℕ) LineFault
 three first second third (x ∷ y ∷ z ∷ []) =
     if_octal (x ∷ y ∷ z ∷ []) (number first x >>= λ a. number second y >>= λ b. number third z >>= λ c. Ok (a, b, c))
 three first second third _ = Err WordCount
 
--- the numbers of all words, each with the same greatest
+-- the numbers in all words, with one maximum
 abbrev pub numbers : ℕ → Words → Result (List ℕ) LineFault
 numbers most [] = Ok []
 numbers most (word ∷ others) = number most word >>= λ value. numbers most others >>= λ values. Ok (value ∷ values)
 
--- a count from 1 on
+-- a count of at least 1
 abbrev pub from_one : ℕ → Result ℕ LineFault
 from_one count = if count == 0 then Err OutOfRange else Ok count
 
--- a count of 1 to 1000000, or one where there is no word
+-- a count of 1 to 1000000, or 1 if there is no word
 unfoldable pub count : Words → Result ℕ LineFault
 count [] = Ok 1
 count (word ∷ others) = one 0o1000000 (word ∷ others) >>= from_one

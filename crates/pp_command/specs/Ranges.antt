@@ -8,7 +8,7 @@ use Rattle.pp_rig.specs.declared.watched.Watched.TheVariants as watched
 use Rattle.pp_command.specs.declared.request.Request.{Request}
 use Rattle.pp_command.specs.declared.request.Request.TheVariants.{Act, Step, Back, Forward, DumpCells, DumpProcessor, DumpCentral}
 
--- a place that a machine may have
+-- a place that some machine has
 abbrev pub IsPlaceInRange : Watched → Type 0
 IsPlaceInRange (watched.Cell n a) = (n ≤ 0o11) × (a ≤ 0o7777)
 IsPlaceInRange (watched.RegA n) = n ≤ 0o11
@@ -30,7 +30,7 @@ IsActionInRange (action.Watch w) = IsPlaceInRange w
 IsActionInRange (action.Unwatch w) = IsPlaceInRange w
 IsActionInRange action.Deadstart = Unit {0}
 
--- a request whose numbers are all in their ranges
+-- a request whose numbers are all in range
 abbrev pub IsInRange : Request → Type 0
 IsInRange (Act a) = IsActionInRange a
 IsInRange (Step turns) = (1 ≤ turns) × (turns ≤ 0o1000000)

@@ -5,8 +5,8 @@ ghost use Rattle.pp_command.specs.Ranges.{IsInRange};
 use crate::request::Request;
 use std::marker::Model;
 
-/// A command of the console: a request whose numbers are in their ranges, with central addresses
-/// below 400000 (octal). Only `parse` makes one.
+/// A command of the console: a request whose numbers are in range, with central addresses below
+/// 400000 (octal). Only `parse` creates one.
 #[derive(Drop)]
 pub struct Command {
     request: Request,
@@ -31,7 +31,7 @@ impl Command {
         Command { request }
     }
 
-    /// What is asked for.
+    /// Returns the request of the command.
     pub fn request(&self) -> &Request
         ensures value { result.now ≡ self.now }
         ensures in_range { IsInRange result.now }

@@ -11,7 +11,10 @@ use crate::numbers::{one, three, two};
 use crate::request::Request;
 use pp_lines::next_word;
 
-/// The request, where the text has no word.
+/// Returns the request if the text has no words.
+///
+/// # Errors
+/// `WordCount` if the text has a word.
 #[tactic(auto, unfolding(crate::specs::Numbers::none))]
 pub fn alone(request: Request, text: &[u8]) -> Result<Request, LineFault>
     requires { IsInRange request }
@@ -24,7 +27,7 @@ pub fn alone(request: Request, text: &[u8]) -> Result<Request, LineFault>
     }
 }
 
-/// `DUMP M n a b`
+/// Parses `DUMP M n a b`.
 #[tactic(auto, unfolding(crate::specs::CommandLine::dump_cells))]
 fn dump_cells(text: &[u8]) -> Result<Request, LineFault>
     ensures value { result ≡ spec.dump_cells (words text.now) }
@@ -41,7 +44,7 @@ fn dump_cells(text: &[u8]) -> Result<Request, LineFault>
     })
 }
 
-/// `DUMP PP n`
+/// Parses `DUMP PP n`.
 #[tactic(auto, unfolding(crate::specs::CommandLine::dump_processor))]
 fn dump_processor(text: &[u8]) -> Result<Request, LineFault>
     ensures value { result ≡ spec.dump_processor (words text.now) }
@@ -51,7 +54,7 @@ fn dump_processor(text: &[u8]) -> Result<Request, LineFault>
     Ok(Request::DumpProcessor(pp))
 }
 
-/// `DUMP C a b`
+/// Parses `DUMP C a b`.
 #[tactic(auto, unfolding(crate::specs::CommandLine::dump_central))]
 fn dump_central(text: &[u8]) -> Result<Request, LineFault>
     ensures value { result ≡ spec.dump_central (words text.now) }
@@ -67,7 +70,10 @@ fn dump_central(text: &[u8]) -> Result<Request, LineFault>
     })
 }
 
-/// What follows DUMP.
+/// Parses the words after DUMP.
+///
+/// # Errors
+/// The first `LineFault` that applies.
 #[tactic(auto, unfolding(crate::specs::CommandLine::dump))]
 pub fn dump(text: &[u8]) -> Result<Request, LineFault>
     ensures value { result ≡ spec.dump (words text.now) }

@@ -1,19 +1,19 @@
-//! Why a line is no command.
+//! Why a line is not a command.
 
-/// Why a line is no command: the first cause that applies, where `TooLong` and `NotAscii` are looked
-/// for first and the others in their order here.
+/// Why a line is not a command: the first cause that applies. `TooLong` and `NotAscii` are checked
+/// first, and then the others in the order given here.
 #[derive(Clone, Copy, Debug, PartialEq, Eq, Drop)]
 pub enum LineFault {
-    /// 01: the first word is no command, or a kind or state letter is none of those allowed.
+    /// 01: the first word is not a command, or a kind or state letter is not one of those allowed.
     NotACommand,
-    /// 02: there are too few words or too many.
+    /// 02: there are too few or too many words.
     WordCount,
     /// 03: a word that must be a number is not octal.
     NotANumber,
-    /// 04: a number is outside its range, or the first address is over the last.
+    /// 04: a number is out of range, or the first address is above the last.
     OutOfRange,
-    /// 05: the line has over 255 bytes.
+    /// 05: the line has more than 255 bytes.
     TooLong,
-    /// 06: a byte is neither a tab nor a printed ASCII character.
+    /// 06: a byte is not a tab or a printable ASCII character.
     NotAscii,
 }

@@ -1,4 +1,4 @@
-//! Laws of the definitions, each the contract of a function that does nothing.
+//! Theorems about the definitions, each the contract of a function that does nothing.
 
 ghost use Rattle.std.specs.Prelude.{◌≡◌, ◌≤◌, true};
 ghost use Rattle.pp_command.specs.Asking.{CanBeAsked, IsWithin};
@@ -7,10 +7,10 @@ ghost use Rattle.pp_machine.specs.Machine.{Machine};
 ghost use Rattle.pp_rig.specs.Admitting.{is_in_range};
 ghost use Rattle.pp_rig.specs.declared.action.Action.{Action};
 
-/// The ranges of a line and those of a rig's machine are the same, but for central memory: a line may name any of
-/// 400000 words, and a machine has as many as its size says. So what is in a line's ranges, a machine admits if it
-/// has the central word that is named. And what a machine admits, a line may ask for, if it is no turn and no more
-/// than eight cells.
+/// A line and a rig's machine have the same ranges, except for central memory. A line may name any of 400000 (octal)
+/// words, and a machine has as many as its size says. So a machine admits every action in a line's ranges, if it has
+/// the central word that the action names. A line can ask for every action that a machine admits, except a turn and
+/// the setting of more than eight cells. A machine admits no action on a central word that it does not have.
 pub fn ranges_agree()
     ensures admitted { (m : Machine) (action : Action) → IsActionInRange action →
         IsWithin m.setup.central_words action → is_in_range m action ≡ true }

@@ -1,4 +1,4 @@
-//! From the bytes of a line to a command.
+//! Parses the bytes of a line to a command.
 ghost use Rattle.std.specs.Prelude.{◌≡◌, IfOk};
 ghost use Rattle.std.specs.List.{list_all};
 ghost use Rattle.std.specs.Str.{str_eq_ignore_ascii_case};
@@ -17,10 +17,10 @@ use crate::settings::set;
 use pp_lines::{next_word, without_return};
 use pp_rig::Action;
 
-/// The most bytes of a line, without a carriage return at its end.
+/// The largest number of bytes in a line, without a carriage return at its end.
 const LONGEST: usize = 255;
 
-/// `WATCH place`
+/// Parses `WATCH place`.
 #[tactic(auto, unfolding(crate::specs::CommandLine::watch))]
 fn watch(text: &[u8]) -> Result<Request, LineFault>
     ensures value { result ≡ spec.watch (words text.now) }
@@ -30,7 +30,7 @@ fn watch(text: &[u8]) -> Result<Request, LineFault>
     Ok(Request::Act(Action::Watch(watched)))
 }
 
-/// `UNWATCH place`
+/// Parses `UNWATCH place`.
 #[tactic(auto, unfolding(crate::specs::CommandLine::unwatch))]
 fn unwatch(text: &[u8]) -> Result<Request, LineFault>
     ensures value { result ≡ spec.unwatch (words text.now) }
@@ -40,7 +40,7 @@ fn unwatch(text: &[u8]) -> Result<Request, LineFault>
     Ok(Request::Act(Action::Unwatch(watched)))
 }
 
-/// `STEP [count]`
+/// Parses `STEP [count]`.
 #[tactic(auto, unfolding(crate::specs::CommandLine::step))]
 fn step(text: &[u8]) -> Result<Request, LineFault>
     ensures value { result ≡ spec.step (words text.now) }
@@ -50,7 +50,7 @@ fn step(text: &[u8]) -> Result<Request, LineFault>
     Ok(Request::Step(turns))
 }
 
-/// Whether the only word of the text is W.
+/// Returns whether the only word of the text is W.
 fn is_change(text: &[u8]) -> bool
     ensures { result ≡ spec.is_change (words text.now) }
 {
@@ -63,7 +63,7 @@ fn is_change(text: &[u8]) -> bool
     is_word(word, b"W")
 }
 
-/// `BACK W`, or `BACK [count]`
+/// Parses `BACK W` or `BACK [count]`.
 #[tactic(auto, unfolding(crate::specs::CommandLine::back))]
 fn back(text: &[u8]) -> Result<Request, LineFault>
     ensures value { result ≡ spec.back (words text.now) }
@@ -76,7 +76,7 @@ fn back(text: &[u8]) -> Result<Request, LineFault>
     Ok(Request::Back(actions))
 }
 
-/// `FORWARD [count]`
+/// Parses `FORWARD [count]`.
 #[tactic(auto, unfolding(crate::specs::CommandLine::forward))]
 fn forward(text: &[u8]) -> Result<Request, LineFault>
     ensures value { result ≡ spec.forward (words text.now) }
@@ -86,7 +86,7 @@ fn forward(text: &[u8]) -> Result<Request, LineFault>
     Ok(Request::Forward(actions))
 }
 
-/// `DEADSTART`
+/// Parses `DEADSTART`.
 #[tactic(auto, unfolding(crate::specs::CommandLine::deadstart))]
 fn deadstart(text: &[u8]) -> Result<Request, LineFault>
     ensures value { result ≡ spec.deadstart (words text.now) }
@@ -95,7 +95,7 @@ fn deadstart(text: &[u8]) -> Result<Request, LineFault>
     alone(Request::Act(Action::Deadstart), text)
 }
 
-/// The command that a first word names, with the words after it.
+/// Parses the command that a first word names, with the words after it.
 #[tactic(auto, unfolding(crate::specs::CommandLine::named))]
 fn named(name: &[u8], text: &[u8]) -> Result<Request, LineFault>
     ensures value { result ≡ spec.named name.now (words text.now) }
@@ -122,14 +122,14 @@ fn named(name: &[u8], text: &[u8]) -> Result<Request, LineFault>
     }
 }
 
-/// Whether the byte is a tab, or a printed ASCII character.
+/// Returns whether the byte is a tab or a printable ASCII character.
 fn is_printable(byte: u8) -> bool
     ensures { result ≡ spec.is_printable byte }
 {
     byte == b'\t' || byte >= b' ' && byte <= b'~'
 }
 
-/// Whether all bytes are tabs, or printed ASCII characters.
+/// Returns whether every byte is a tab or a printable ASCII character.
 fn are_printable(text: &[u8]) -> bool
     ensures { result ≡ list_all spec.is_printable text.now }
 {
@@ -140,8 +140,8 @@ fn are_printable(text: &[u8]) -> bool
     all
 }
 
-/// What a line asks for: the line without its line feed, of which one carriage return at the end is
-/// dropped. `None` is a line that is ignored: it has no word, or begins with `*`.
+/// Parses a line without its line feed. One carriage return at the end is dropped. Returns `None` for
+/// a line that is ignored: it has no words, or its first word begins with `*`.
 ///
 /// Words are separated by blanks and tabs, and letters of either case are equal. Numbers are octal.
 /// The language is this project's own.

@@ -7,7 +7,10 @@ use crate::fault::LineFault;
 use pp_arith::{OctalFault, is_octal, read_octal};
 use pp_lines::next_word;
 
-/// The number that a word writes, from 0 to `most`.
+/// Reads the number in a word, 0 to `most`.
+///
+/// # Errors
+/// `NotANumber` if the word is not octal, and `OutOfRange` if its value is above `most`.
 pub fn number(word: &[u8], most: u64) -> Result<u64, LineFault>
     ensures value { result ≡ spec.number most word.now }
     ensures within { IfOk result (λ value. value ≤ most) }
@@ -19,7 +22,10 @@ pub fn number(word: &[u8], most: u64) -> Result<u64, LineFault>
     }
 }
 
-/// The text is one number, from 0 to `most`.
+/// Reads one number, 0 to `most`.
+///
+/// # Errors
+/// `WordCount` if the text does not have exactly one word. Otherwise as `number`.
 #[tactic(auto, unfolding(crate::specs::Numbers::one))]
 pub fn one(text: &[u8], most: u64) -> Result<u64, LineFault>
     ensures value { result ≡ spec.one most (words text.now) }
@@ -34,7 +40,7 @@ pub fn one(text: &[u8], most: u64) -> Result<u64, LineFault>
     number(word, most)
 }
 
-/// Why words are not the numbers that are asked for, by whether all of them are octal.
+/// Returns why words are not the numbers required, given whether all of them are octal.
 fn fault_of(octal: bool) -> LineFault
     ensures { result ≡ (if octal then LineFault.OutOfRange else LineFault.NotANumber) }
 {
@@ -45,7 +51,10 @@ fn fault_of(octal: bool) -> LineFault
     }
 }
 
-/// The numbers that two words write, from 0 to `first` and to `second`.
+/// Reads the numbers in two words, 0 to `first` and 0 to `second`.
+///
+/// # Errors
+/// `NotANumber` if either word is not octal. Otherwise `OutOfRange` if either value is above its maximum.
 #[tactic(auto, unfolding(crate::specs::Numbers::pair))]
 pub fn pair(x: &[u8], y: &[u8], first: u64, second: u64) -> Result<(u64, u64), LineFault>
     ensures value { result ≡ spec.pair first second x.now y.now }
@@ -57,7 +66,10 @@ pub fn pair(x: &[u8], y: &[u8], first: u64, second: u64) -> Result<(u64, u64), L
     Ok((a, b))
 }
 
-/// The text is two numbers, from 0 to `first` and to `second`.
+/// Reads two numbers, 0 to `first` and 0 to `second`.
+///
+/// # Errors
+/// `WordCount` if the text does not have exactly two words. Otherwise as `pair`.
 #[tactic(auto, unfolding(crate::specs::Numbers::two))]
 pub fn two(text: &[u8], first: u64, second: u64) -> Result<(u64, u64), LineFault>
     ensures value { result ≡ spec.two first second (words text.now) }
@@ -75,7 +87,11 @@ pub fn two(text: &[u8], first: u64, second: u64) -> Result<(u64, u64), LineFault
     pair(x, y, first, second)
 }
 
-/// The text is three numbers, from 0 to `first`, to `second` and to `third`.
+/// Reads three numbers, 0 to `first`, 0 to `second` and 0 to `third`.
+///
+/// # Errors
+/// `WordCount` if the text does not have exactly three words. Otherwise `NotANumber` if any word is not
+/// octal. Otherwise `OutOfRange` if any value is above its maximum.
 #[tactic(auto, unfolding(crate::specs::Numbers::three))]
 pub fn three(text: &[u8], first: u64, second: u64, third: u64) -> Result<(u64, u64, u64), LineFault>
     ensures value { result ≡ spec.three first second third (words text.now) }
@@ -99,7 +115,11 @@ pub fn three(text: &[u8], first: u64, second: u64, third: u64) -> Result<(u64, u
     Ok((a, b, c))
 }
 
-/// A count of 1 to 1000000 (octal), or one where the text has no word.
+/// Reads a count of 1 to 1000000 (octal). Returns 1 if the text has no words.
+///
+/// # Errors
+/// `WordCount` if the text has more than one word. Otherwise `NotANumber` if the word is not octal, and
+/// `OutOfRange` if the count is 0 or above the maximum.
 #[tactic(auto, unfolding(crate::specs::Numbers::count))]
 pub fn count(text: &[u8]) -> Result<u32, LineFault>
     ensures value { result ≡ spec.count (words text.now) }

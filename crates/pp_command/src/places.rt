@@ -10,7 +10,7 @@ use crate::numbers::{one, two};
 use pp_lines::next_word;
 use pp_rig::Watched;
 
-/// `M n a`
+/// Parses `M n a`.
 #[tactic(auto, unfolding(crate::specs::CommandLine::cell_place))]
 fn cell_place(text: &[u8]) -> Result<Watched, LineFault>
     ensures value { result ≡ spec.cell_place (words text.now) }
@@ -23,7 +23,7 @@ fn cell_place(text: &[u8]) -> Result<Watched, LineFault>
     })
 }
 
-/// `A n`
+/// Parses `A n`.
 #[tactic(auto, unfolding(crate::specs::CommandLine::a_place))]
 fn a_place(text: &[u8]) -> Result<Watched, LineFault>
     ensures value { result ≡ spec.a_place (words text.now) }
@@ -33,7 +33,7 @@ fn a_place(text: &[u8]) -> Result<Watched, LineFault>
     Ok(Watched::RegA { pp })
 }
 
-/// `P n`
+/// Parses `P n`.
 #[tactic(auto, unfolding(crate::specs::CommandLine::p_place))]
 fn p_place(text: &[u8]) -> Result<Watched, LineFault>
     ensures value { result ≡ spec.p_place (words text.now) }
@@ -43,7 +43,7 @@ fn p_place(text: &[u8]) -> Result<Watched, LineFault>
     Ok(Watched::RegP { pp })
 }
 
-/// `Q n`
+/// Parses `Q n`.
 #[tactic(auto, unfolding(crate::specs::CommandLine::q_place))]
 fn q_place(text: &[u8]) -> Result<Watched, LineFault>
     ensures value { result ≡ spec.q_place (words text.now) }
@@ -53,7 +53,7 @@ fn q_place(text: &[u8]) -> Result<Watched, LineFault>
     Ok(Watched::RegQ { pp })
 }
 
-/// `C a`
+/// Parses `C a`.
 #[tactic(auto, unfolding(crate::specs::CommandLine::central_place))]
 fn central_place(text: &[u8]) -> Result<Watched, LineFault>
     ensures value { result ≡ spec.central_place (words text.now) }
@@ -63,7 +63,7 @@ fn central_place(text: &[u8]) -> Result<Watched, LineFault>
     Ok(Watched::Central { a })
 }
 
-/// `H c`
+/// Parses `H c`.
 #[tactic(auto, unfolding(crate::specs::CommandLine::register_place))]
 fn register_place(text: &[u8]) -> Result<Watched, LineFault>
     ensures value { result ≡ spec.register_place (words text.now) }
@@ -73,7 +73,10 @@ fn register_place(text: &[u8]) -> Result<Watched, LineFault>
     Ok(Watched::Register { c })
 }
 
-/// A place, by its kind.
+/// Parses a place, by its kind.
+///
+/// # Errors
+/// The first `LineFault` that applies.
 #[tactic(auto, unfolding(crate::specs::CommandLine::place))]
 pub fn place(text: &[u8]) -> Result<Watched, LineFault>
     ensures value { result ≡ spec.place (words text.now) }

@@ -18,7 +18,7 @@ use pp_lines::next_word;
 use pp_machine::ChannelState;
 use pp_rig::{Action, Values};
 
-/// How many words the text has.
+/// Returns the number of words in the text.
 fn count_words(text: &[u8]) -> usize
     ensures { result ≡ length (words text.now) }
 {
@@ -31,7 +31,7 @@ fn count_words(text: &[u8]) -> usize
     count
 }
 
-/// Whether all words of the text are octal.
+/// Returns whether all words of the text are octal.
 fn are_octal(text: &[u8]) -> bool
     ensures { result ≡ list_all is_octal (words text.now) }
 {
@@ -45,7 +45,7 @@ fn are_octal(text: &[u8]) -> bool
     true
 }
 
-/// The numbers of all words of the text, at most eight, each to 7777 octal.
+/// Reads the numbers in all words of the text, at most eight, each 0 to 7777 octal.
 fn cell_values(text: &[u8]) -> Result<Values, LineFault>
     requires { length (words text.now) ≤ 8 }
     ensures value { result ≡ numbers 0o7777 (words text.now) }
@@ -61,7 +61,7 @@ fn cell_values(text: &[u8]) -> Result<Values, LineFault>
     Ok(Values::new(values))
 }
 
-/// `SET M n a v ..`
+/// Parses `SET M n a v ..`.
 #[tactic(auto, unfolding(crate::specs::CommandLine::set_cells))]
 fn set_cells(text: &[u8]) -> Result<Request, LineFault>
     ensures value { result ≡ spec.set_cells (words text.now) }
@@ -87,7 +87,7 @@ fn set_cells(text: &[u8]) -> Result<Request, LineFault>
     }))
 }
 
-/// `SET A n v`
+/// Parses `SET A n v`.
 #[tactic(auto, unfolding(crate::specs::CommandLine::set_a))]
 fn set_a(text: &[u8]) -> Result<Request, LineFault>
     ensures value { result ≡ spec.set_a (words text.now) }
@@ -100,7 +100,7 @@ fn set_a(text: &[u8]) -> Result<Request, LineFault>
     }))
 }
 
-/// `SET P n v`
+/// Parses `SET P n v`.
 #[tactic(auto, unfolding(crate::specs::CommandLine::set_p))]
 fn set_p(text: &[u8]) -> Result<Request, LineFault>
     ensures value { result ≡ spec.set_p (words text.now) }
@@ -113,7 +113,7 @@ fn set_p(text: &[u8]) -> Result<Request, LineFault>
     }))
 }
 
-/// `SET Q n v`
+/// Parses `SET Q n v`.
 #[tactic(auto, unfolding(crate::specs::CommandLine::set_q))]
 fn set_q(text: &[u8]) -> Result<Request, LineFault>
     ensures value { result ≡ spec.set_q (words text.now) }
@@ -126,7 +126,7 @@ fn set_q(text: &[u8]) -> Result<Request, LineFault>
     }))
 }
 
-/// `SET C a v`
+/// Parses `SET C a v`.
 #[tactic(auto, unfolding(crate::specs::CommandLine::set_word))]
 fn set_word(text: &[u8]) -> Result<Request, LineFault>
     ensures value { result ≡ spec.set_word (words text.now) }
@@ -136,7 +136,7 @@ fn set_word(text: &[u8]) -> Result<Request, LineFault>
     Ok(Request::Act(Action::SetWord { a: a as u32, v }))
 }
 
-/// The state that a letter names.
+/// Returns the state that a letter names.
 #[tactic(auto, unfolding(crate::specs::CommandLine::state))]
 fn state(word: &[u8]) -> Result<ChannelState, LineFault>
     ensures value { result ≡ spec.state word.now }
@@ -153,7 +153,7 @@ fn state(word: &[u8]) -> Result<ChannelState, LineFault>
     }
 }
 
-/// A channel and its state, or its register too.
+/// Parses a channel with its state, and with its register if that is given.
 #[tactic(auto, unfolding(crate::specs::CommandLine::channel_in))]
 fn channel_in(state: ChannelState, c: &[u8], text: &[u8]) -> Result<Request, LineFault>
     requires { state_number state < 3 }
@@ -178,7 +178,7 @@ fn channel_in(state: ChannelState, c: &[u8], text: &[u8]) -> Result<Request, Lin
     }))
 }
 
-/// `SET H c s [v]`
+/// Parses `SET H c s [v]`.
 #[tactic(auto, unfolding(crate::specs::CommandLine::set_channel))]
 fn set_channel(text: &[u8]) -> Result<Request, LineFault>
     ensures value { result ≡ spec.set_channel (words text.now) }
@@ -194,7 +194,10 @@ fn set_channel(text: &[u8]) -> Result<Request, LineFault>
     channel_in(state, c, rest)
 }
 
-/// What follows SET.
+/// Parses the words after SET.
+///
+/// # Errors
+/// The first `LineFault` that applies.
 #[tactic(auto, unfolding(crate::specs::CommandLine::set))]
 pub fn set(text: &[u8]) -> Result<Request, LineFault>
     ensures value { result ≡ spec.set (words text.now) }

@@ -1,12 +1,12 @@
-//! Lines, and why they are refused.
+//! Lines, and why they are rejected.
 use super::*;
 
-/// Why a line is refused, if it is.
+/// Returns why a line is rejected, if it is.
 fn fault_of(line: &[u8]) -> Option<LineFault> {
     parse(line).err()
 }
 
-/// Whether a line is ignored.
+/// Returns whether a line is ignored.
 fn is_ignored(line: &[u8]) -> bool {
     match parse(line) {
         Ok(None) => true,
@@ -14,7 +14,7 @@ fn is_ignored(line: &[u8]) -> bool {
     }
 }
 
-/// Whether a line is a command.
+/// Returns whether a line is a command.
 fn is_command(line: &[u8]) -> bool {
     match parse(line) {
         Ok(Some(_)) => true,
