@@ -1,4 +1,4 @@
--- Where the reading of a script begins.
+-- The start of a script.
 use Rattle.std.proofs.Common.{◌≡◌, ℕ, List, [], take, arith}
 use Rattle.std.specs.Prelude.{Option}
 use Rattle.std.proofs.lemmas.Grind.{common_steps}

@@ -12,14 +12,14 @@ each-more line first (suc count) =
     ∙ sym (append_assoc (line first) (each line (first + 1) count) (line (first + 1 + count)))
     ∙ ap (λ n. (line first ++ each line (first + 1) count) ++ line n) at
 
--- a line more, after others
+-- one more line, after others
 pub each-next : (before : List ℕ) (line : ℕ → List ℕ) (first count : ℕ) → (before ++ each line first count) ++ line (first + count) ≡ before ++ each line first (count + 1)
 each-next before line first count =
     let size : suc count ≡ count + 1 = omega arith in
     append_assoc before (each line first count) (line (first + count))
     ∙ ap (λ lines. before ++ lines) (sym (each-more line first count) ∙ ap (λ n. each line first n) size)
 
--- a line more, from zero on
+-- one more line, in a range that starts at zero
 pub each-push : (line : ℕ → List ℕ) (count : ℕ) → each line 0 count ++ line count ≡ each line 0 (count + 1)
 each-push line count =
     let at : 0 + count ≡ count = omega arith in

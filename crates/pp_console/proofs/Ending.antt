@@ -1,4 +1,4 @@
--- What a script led to, at its end or at a fault.
+-- The result of a script, at its end or at a fault.
 use Rattle.std.proofs.Common.{◌≡◌, ◌∙◌, ℕ, ◌+◌, ◌<◌, ◌⊎◌, List, [], ◌∷◌, ◌++◌, length, refl, ap, arith, inl, length-append, append_assoc}
 use Rattle.std.specs.Prelude.{Option, Result, Ok, Err, MatchResult}
 use Rattle.std.specs.Io.KnownBytes.{IsAtEnd}
@@ -15,7 +15,7 @@ use Rattle.pp_console.specs.Serving.{Origin, Performed, Serves, Stops, reads_aft
 use Rattle.pp_console.specs.ServingSteps.{Stands, Interrupts, IsNoReadFault}
 use Rattle.pp_console.proofs.Standing.{Stands-within}
 
--- a fault among some bytes is one among these and more
+-- a fault among some bytes is a fault among these bytes and more
 pub Interrupts-more : (fault : IoFault) (session : State) (text : Option (List ℕ)) (origin : Origin) (bytes more : List ℕ) →
     Interrupts fault session text origin bytes → Interrupts fault session text origin (bytes ++ more)
 Interrupts-more ReadFailed session text origin bytes more p = p
@@ -25,7 +25,7 @@ Interrupts-more WriteFailed session text origin bytes more p =
     let further = finished_within-more LINE_LIMIT BYTE_LIMIT bytes more in
     (p.0, p.1, p.2 ++ further.0, further.1 ∙ ap (λ front. front ++ further.0) p.3 ∙ append_assoc p.0 (p.1 ∷ p.2) further.0, p.4)
 
--- the whole script, where the last line ends with a line feed
+-- the whole script, if the last line ends with a line feed
 pub Serves-whole : (summary : Summary) (progress : Progress) (session : State) (text : Option (List ℕ)) (origin : Origin) (bytes : List ℕ) →
     Stands progress session text origin bytes → length progress.line ≡ 0 → summary.lines ≡ progress.lines → summary.refused ≡ progress.refused →
     Serves summary session text origin bytes
@@ -38,7 +38,7 @@ Serves-whole summary progress session text origin bytes stands empty told_lines 
       within = Stands-within progress session text origin bytes stands;
     }
 
--- the whole script, where the last line does not
+-- the whole script, if the last line does not end with a line feed
 pub Serves-last : (summary : Summary) (progress : Progress) (session session' : State) (text text' : Option (List ℕ)) (origin : Origin) (bytes : List ℕ) →
     Stands progress session text origin bytes → 0 < length progress.line → summary.lines ≡ progress.lines + 1 →
     summary.refused ≡ (run origin.start (finished bytes ++ unfinished bytes ∷ [])).refused →
@@ -53,7 +53,7 @@ Serves-last summary progress session session' text text' origin bytes stands beg
       within = Stands-within progress session text origin bytes stands;
     }
 
--- what a limit leaves, whatever the limits are
+-- the result of a script that passes a limit, for any limits
 Stops-limit : (line_limit byte_limit : ℕ) (session : State) (text : Option (List ℕ)) (origin : Origin) (bytes kept more : List ℕ) →
     bytes ≡ kept ++ more → 0 < length more → IsWithin line_limit byte_limit kept → (length kept ≡ byte_limit) ⊎ (length (finished kept) ≡ line_limit) →
     Performed session text origin (finished kept) →
@@ -61,7 +61,7 @@ Stops-limit : (line_limit byte_limit : ℕ) (session : State) (text : Option (Li
 Stops-limit line_limit byte_limit session text origin bytes kept more e h within full performed =
     rw e (rw (finished_within-kept line_limit byte_limit kept more within full) performed, passed line_limit byte_limit kept more h full)
 
--- a fault among the bytes that were taken
+-- a fault among the bytes that were read
 pub Stops-interrupted : (fault : IoFault) (session : State) (text : Option (List ℕ)) (origin : Origin) (bytes : List ℕ) (left : Option (List ℕ)) →
     Interrupts fault session text origin bytes → Stops fault session text origin bytes left
 Stops-interrupted ReadFailed session text origin bytes left p = absurd p
@@ -70,13 +70,13 @@ Stops-interrupted LineLimit session text origin bytes left p =
 Stops-interrupted WriteFailed session text origin bytes left p =
     (p.0, p.1, p.2, inl p.3, p.4)
 
--- the count of a source that did not fail
+-- the failure count of a source that did not fail
 pub reads_after-kept : (fault : IoFault) (count : ℕ) → IsNoReadFault fault → reads_after fault count ≡ count
 reads_after-kept ReadFailed count p = absurd p
 reads_after-kept LineLimit count p = refl
 reads_after-kept WriteFailed count p = refl
 
--- what is told of the end holds at the end
+-- a result that holds at any end of input holds at this one
 pub told-at : {T E : Type 0} (result : Result T E) (left : Option (List ℕ)) (P : T → Type 0) (Q : E → Option (List ℕ) → Type 0) → IsAtEnd left →
     MatchResult result P (λ fault. (left : Option (List ℕ)) → IsAtEnd left → Q fault left) → MatchResult result P (λ fault. Q fault left)
 told-at (Ok value) left P Q end known = known

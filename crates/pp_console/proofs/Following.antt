@@ -1,4 +1,4 @@
--- One line more of a script.
+-- One more line of a script.
 use Rattle.std.proofs.Common.{◌≡◌, ◌∙◌, ℕ, ◌+◌, List, [], ◌∷◌, ◌++◌, take, refl, sym, ap, arith, append_assoc, Bool}
 use Rattle.std.specs.Prelude.{Option}
 use Rattle.std.specs.Io.KnownBytes.{Appends}
@@ -13,12 +13,12 @@ use Rattle.pp_console.specs.Serving.{Origin, Performed, Breaks}
 use Rattle.pp_console.proofs.LongLines.{command-kept}
 use Rattle.pp_lines.proofs.Writing.{Appends-again}
 
--- one line more is one step more
+-- one more line is one more step
 pub run-line : (start : Value) (done : List (List ℕ)) (line : List ℕ) → run start (done ++ line ∷ []) ≡ follow (run start done) line
 unfolding run
 run-line start done line = fold-append follow (begin start) done (line ∷ [])
 
--- what is kept of a line is answered as the line is
+-- the kept prefix of a line has the same answer as the line
 pub answer_line-kept : (value : Value) (line : List ℕ) → answer_line value (take KEPT line) ≡ answer_line value line
 unfolding answer_line
 answer_line-kept value line = ap (answer_parsed value) (command-kept KEPT line (omega arith))
@@ -40,7 +40,7 @@ module _ (old new : State) (second third : Option (List ℕ)) (origin : Origin) 
     writes = rw (run-line origin.start done line) (Appends-again _ _ _ _ _ before.writes (writes _ before.leaves));
   }
 
-  -- the line was performed, and its answer was not written to the end
+  -- the line was performed, but its answer was not written to the end
   pub Breaks-line : Moves old new line →
       ((value : Value) → IsAt rules old value → AppendsFront second third (answer_line value line).text) →
       Breaks new third origin done line
@@ -56,7 +56,7 @@ module _ (old new : State) (second third : Option (List ℕ)) (origin : Origin) 
         );
   }
 
-  -- a refused line is counted
+  -- a rejected line is counted
   pub refused-line : (counted : ℕ) (refused : Bool) → counted ≡ (run origin.start done).refused →
       ((value : Value) → IsAt rules old value → refused ≡ (answer_line value line).refused) →
       counted + refusals refused ≡ (run origin.start (done ++ line ∷ [])).refused

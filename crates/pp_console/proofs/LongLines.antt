@@ -1,4 +1,4 @@
--- Of a line that is too long, its front tells as much as the whole.
+-- For a line that is too long, a kept prefix is as good as the whole line.
 use Rattle.std.proofs.Common.{◌≡◌, ℕ, ◌<◌, true, List, length, take, refl, arith}
 use Rattle.std.specs.Prelude.{nat_lt, Err}
 use Rattle.std.proofs.lemmas.Bool.Decides.{nat_tests}
@@ -12,6 +12,6 @@ too_long text h =
     let over : nat_lt 255 (length text) ≡ true = grind (arith, nat_tests) in
     rw over refl
 
--- a front that is too long tells what the line tells
+-- a prefix of more than 256 bytes parses as the line does
 pub command-kept : (most : ℕ) (line : List ℕ) → 256 < most → command (take most line) ≡ command line
 command-kept most line long = told-kept command_of_text (Err TooLong) 255 most line too_long long

@@ -11,7 +11,7 @@ use Rattle.pp_console.specs.DisplayCode.{character}
 use Rattle.pp_console.specs.Paper.{marked, lines_of_paper, paper_text}
 use Rattle.pp_console.specs.PaperCuts.{is_line_end, rest_text}
 
--- how many symbols come before the first line end
+-- the number of symbols before the first line end
 abbrev pub before_end : List ℕ → ℕ
 before_end = position_or_len is_line_end
 
@@ -21,7 +21,7 @@ len-stop symbol symbols e = rw e refl
 len-more : (symbol : ℕ) (symbols : List ℕ) → is_line_end symbol ≡ false → before_end (symbol ∷ symbols) ≡ suc (before_end symbols)
 len-more symbol symbols e = rw (e, one-add) refl
 
--- the first line that is ended, and the others
+-- the first line with a line end, and the others
 finished-first : (symbols : List ℕ) → before_end symbols < length symbols →
     finished (map character symbols) ≡ map character (take (before_end symbols) symbols) ∷ finished (map character (drop (suc (before_end symbols)) symbols))
 finished-first [] less = absurd (omega arith)
@@ -36,7 +36,7 @@ finished-first (symbol ∷ symbols) less = by_test (is_line_end symbol) refl (fi
         let size = len-more symbol symbols e in
         rw (size, e, more (omega arith)) refl
 
--- what stands after the last line end stands after the first one
+-- the symbols after the last line end are the same without the first line
 unfinished-first : (symbols : List ℕ) → before_end symbols < length symbols →
     unfinished (map character symbols) ≡ unfinished (map character (drop (suc (before_end symbols)) symbols))
 unfinished-first [] less = absurd (omega arith)
@@ -52,7 +52,7 @@ unfinished-first (symbol ∷ symbols) less = by_test (is_line_end symbol) refl (
         let within : before_end symbols < length symbols = omega arith in
         rw (size, e, finished-first symbols within) (more within)
 
--- without a line end no line is ended
+-- without a line end no line is finished
 finished-none : (symbols : List ℕ) → length symbols ≤ before_end symbols → finished (map character symbols) ≡ []
 finished-none [] none = refl
 finished-none (symbol ∷ symbols) none = by_test (is_line_end symbol) refl (finished-none symbols) none
@@ -76,7 +76,7 @@ unfinished-none (symbol ∷ symbols) none = by_test (is_line_end symbol) refl (u
         let within : length symbols ≤ before_end symbols = omega arith in
         rw (e, finished-none symbols within) (ap (λ rest. character symbol ∷ rest) (more within))
 
--- the paper's first line, and the others
+-- the first line of the paper, and the others
 pub paper-first : (symbols : List ℕ) → before_end symbols < length symbols →
     paper_text symbols ≡ marked (codes "|") (map character (take (before_end symbols) symbols)) ++ paper_text (drop (suc (before_end symbols)) symbols)
 unfolding paper_text lines_of_paper
@@ -90,7 +90,7 @@ pub paper-rest : (symbols : List ℕ) → length symbols ≤ before_end symbols 
 unfolding paper_text lines_of_paper
 paper-rest symbols none = rw (finished-none symbols none, unfinished-none symbols none) refl
 
--- where the first line end stands
+-- the position of the first line end
 end-some : (symbols : List ℕ) (end : ℕ) → position is_line_end symbols ≡ Some end → (before_end symbols ≡ end) × (end < length symbols)
 end-some symbols end e =
     let first = position-Some is_line_end symbols end 0 e in
@@ -120,7 +120,7 @@ paper-cut symbols end line rest e front back =
 pub paper-uncut : (symbols : List ℕ) → position is_line_end symbols ≡ None → paper_text symbols ≡ rest_text symbols
 paper-uncut symbols e = paper-rest symbols (end-none symbols e)
 
--- nothing stands after the last line end
+-- no symbols after the last line end
 pub rest-nothing : (symbols : List ℕ) → length symbols ≡ 0 → rest_text symbols ≡ []
 rest-nothing [] none = refl
 rest-nothing (symbol ∷ symbols) none = absurd (omega arith)

@@ -1,4 +1,4 @@
--- The answers to commands, by what the session tells.
+-- The answers to commands, by the results of the session's calls.
 use Rattle.std.proofs.Common.{◌≡◌, ℕ, ◌<◌, ◌≤◌, length, List, [], ◌∷◌, refl, arith, Bool, true, false, ap, sym, ◌∙◌}
 use Rattle.std.specs.Prelude.{Option, Some, None, Result, IfOk, nat_lt, not, map}
 use Rattle.std.proofs.lemmas.Bool.Decides.{nat_tests}
@@ -21,7 +21,7 @@ use Rattle.pp_console.specs.Performing.{Performs}
 use Rattle.pp_console.specs.Answers.{State, Value, Answer, present, told, refusal, moved, act_answer, back_answer, forward_answer, central_answer, change_answer}
 
 module _ {E : Type 0} (old new : State) (before after : Option (List ℕ)) (result : Result Bool E) (answer_of : Value → Answer) (written : List ℕ) (writes : Writes before after result written) where
-  -- the answer of a command that was performed
+  -- the answer to a command that was performed
   pub performs-told : IfOk result (λ performed. performed ≡ true) → ((v : Value) → IsAt rules old v → (next : Value) × (answer_of v ≡ told next written) × IsAt rules new next) →
       Performs old new before after result answer_of
   performs-told performed answered = record {
@@ -31,7 +31,7 @@ module _ {E : Type 0} (old new : State) (before after : Option (List ℕ)) (resu
     unchanged = IfOk-weaker result _ _ (λ x yes no. cc) performed;
   }
 
-  -- the answer of a command that was refused
+  -- the answer to a command that was rejected
   pub performs-refused : IfOk result (λ performed. performed ≡ false) → new ≡ old → ((v : Value) → IsAt rules old v → answer_of v ≡ refusal v written) →
       Performs old new before after result answer_of
   performs-refused performed unchanged answered = record {
@@ -41,14 +41,14 @@ module _ {E : Type 0} (old new : State) (before after : Option (List ℕ)) (resu
     unchanged = IfOk-weaker result _ _ (λ x same no. unchanged) performed;
   }
 
--- an action that is admitted
+-- an action that the machine admits
 pub act-admitted : (action : Action) (v : Value) (machine : Machine) → machine ≡ present v → first_fault machine action ≡ None → act_answer action v ≡ told (after_act v action) ok_text
 unfolding act_answer
 act-admitted action v machine same none =
     let here = rw same at none in
     rw here refl
 
--- an action that is not
+-- an action that the machine does not admit
 pub act-refused : (action : Action) (v : Value) (machine : Machine) (fault : ActionFault) → machine ≡ present v → first_fault machine action ≡ Some fault → act_answer action v ≡ refusal v (action_fault_text fault)
 unfolding act_answer
 act-refused action v machine fault same some =
@@ -73,13 +73,13 @@ unfolding change_answer
 change-unwatched v [] same none = rw (← same) refl
 change-unwatched v (place ∷ places) same none = absurd (omega arith)
 
--- a change is kept
+-- the undo history has a change
 pub change-found : (v : Value) (places : List Place) (actions : ℕ) → places ≡ map watched_place (watches_of (present v)) → 0 < length places → change rules v places ≡ Some actions → change_answer v ≡ moved back_name actions (after_back v actions)
 unfolding change_answer
 change-found v [] actions same some found = absurd (omega arith)
 change-found v (place ∷ places) actions same some found = rw (← same, found) refl
 
--- no change is kept
+-- the undo history has no change
 pub change-none : (v : Value) (places : List Place) → places ≡ map watched_place (watches_of (present v)) → 0 < length places → change rules v places ≡ None → change_answer v ≡ refusal v no_change_text
 unfolding change_answer
 change-none v [] same some found = absurd (omega arith)
@@ -94,7 +94,7 @@ central-within first last v sized shown same also within =
     let has : nat_lt last (present v).setup.central_words ≡ true = grind (arith, nat_tests) in
     rw (has, also) refl
 
--- the machine has not
+-- the machine does not have the last of the words
 pub central-beyond : (first last : ℕ) (v : Value) (sized : Machine) → sized ≡ present v → sized.setup.central_words ≤ last → central_answer first last v ≡ refusal v range_text
 unfolding central_answer
 central-beyond first last v sized same beyond =

@@ -1,4 +1,4 @@
--- Bytes that are taken in pieces, up to the limits.
+-- Bytes that are read in pieces, up to the limits.
 use Rattle.std.proofs.Common.{◌≡◌, ◌∙◌, ℕ, ◌+◌, ◌-◌, ◌<◌, ◌≤◌, List, [], ◌∷◌, ◌++◌, length, take, drop, refl, sym, ap, arith, inl, inr, append_assoc, length-append, length-take, length-drop}
 use Rattle.std.specs.Prelude.{Option}
 use Rattle.std.proofs.lemmas.List.{take-append-drop}
@@ -15,11 +15,11 @@ use Rattle.pp_console.specs.ServingSteps.{Stands, Interrupts}
 use Rattle.pp_console.proofs.Standing.{Stands-within}
 use Rattle.pp_console.proofs.Ending.{Interrupts-more}
 
--- a piece of which some bytes were taken
+-- a piece of which some bytes were processed
 pub fed-all : (bytes done rest piece : List ℕ) → piece ≡ done ++ rest → (bytes ++ done) ++ rest ≡ bytes ++ piece
 fed-all bytes done rest piece whole = append_assoc bytes done rest ∙ ap (λ all. bytes ++ all) (sym whole)
 
--- and of which a line was taken after these
+-- a piece of which these bytes and then a line were processed
 pub fed-line : (done line later rest piece : List ℕ) → piece ≡ done ++ rest → rest ≡ line ++ 10 ∷ later → piece ≡ (done ++ (line ++ 10 ∷ [])) ++ later
 fed-line done line later rest piece whole cut =
     whole ∙ ap (λ all. done ++ all) (cut ∙ sym (append_assoc line (10 ∷ []) later)) ∙ sym (append_assoc done (line ++ 10 ∷ []) later)
@@ -27,19 +27,19 @@ fed-line done line later rest piece whole cut =
 pub fed-end : (bytes done line : List ℕ) → ((bytes ++ done) ++ line) ++ 10 ∷ [] ≡ bytes ++ (done ++ (line ++ 10 ∷ []))
 fed-end bytes done line = append_assoc (bytes ++ done) line (10 ∷ []) ∙ append_assoc bytes done (line ++ 10 ∷ [])
 
--- a fault among the bytes of a piece up to one of them is one among all its bytes
+-- a fault within the first bytes of a piece is a fault within the piece
 pub Interrupts-piece : (fault : IoFault) (session : State) (text : Option (List ℕ)) (origin : Origin) (bytes taken later piece : List ℕ) → piece ≡ taken ++ later →
     Interrupts fault session text origin (bytes ++ taken) → Interrupts fault session text origin (bytes ++ piece)
 Interrupts-piece fault session text origin bytes taken later piece whole p =
     rw (fed-all bytes taken later piece whole) at (Interrupts-more fault session text origin _ later p)
 
--- no line may begin
+-- no more lines may begin
 pub Interrupts-lines : (progress : Progress) (session : State) (written : Option (List ℕ)) (origin : Origin) (bytes text rest : List ℕ) →
     Stands progress session written origin bytes → 0 < length text + length rest → progress.lines ≡ LINE_LIMIT → Interrupts LineLimit session written origin ((bytes ++ text) ++ rest)
 Interrupts-lines progress session written origin bytes text rest stands some full =
     (bytes, text ++ rest, append_assoc bytes text rest, simp length-append some, Stands-within _ _ _ _ _ stands, inr (sym stands.counts_lines ∙ full), stands.performed)
 
--- as many bytes of a text as the limit leaves room for
+-- the bytes of a text up to the limit
 over-bytes : (line_limit byte_limit : ℕ) (bytes text rest : List ℕ) → finished text ≡ [] → length bytes ≤ byte_limit →
     byte_limit - length bytes ≤ length text → byte_limit - length bytes < length text + length rest → length (finished bytes) < line_limit →
     (kept more : List ℕ) × ((bytes ++ text) ++ rest ≡ kept ++ more) × (0 < length more) × IsWithin line_limit byte_limit kept × (length kept ≡ byte_limit) × (finished kept ≡ finished bytes)
@@ -61,7 +61,7 @@ over-bytes line_limit byte_limit bytes text rest none few reached over lines =
       same,
     )
 
--- no room is left for so many bytes
+-- the limit leaves no room for all of these bytes
 pub Interrupts-bytes : (progress : Progress) (session : State) (written : Option (List ℕ)) (origin : Origin) (bytes text rest : List ℕ) → finished text ≡ [] →
     Stands progress session written origin bytes → BYTE_LIMIT - progress.bytes ≤ length text → BYTE_LIMIT - progress.bytes < length text + length rest → progress.lines < LINE_LIMIT →
     Interrupts LineLimit session written origin ((bytes ++ text) ++ rest)
@@ -69,7 +69,7 @@ Interrupts-bytes progress session written origin bytes text rest none stands rea
     let cut = over-bytes LINE_LIMIT BYTE_LIMIT bytes text rest none (rw (← stands.counts_bytes) progress.bytes_within) (rw (← stands.counts_bytes) reached) (rw (← stands.counts_bytes) over) (rw (← stands.counts_lines) few_lines) in
     (cut.0, cut.1, cut.2, cut.3, cut.4, inl cut.5, rw cut.6 stands.performed)
 
--- a line of which nothing was kept is the text that ends it
+-- if no byte of a line was kept, the text that ends it is the whole line
 begun-nothing : (most : ℕ) (rest : List ℕ) → 0 < most → length (take most rest) ≡ 0 → rest ≡ []
 begun-nothing most [] some e = refl
 begun-nothing most (byte ∷ rest) some e = absurd (omega (arith, rw length-take at e))

@@ -1,4 +1,4 @@
--- How far a script was read, after some bytes more.
+-- The progress of a script after more bytes.
 use Rattle.std.proofs.Common.{◌≡◌, ◌∙◌, ℕ, ◌+◌, ◌-◌, ◌<◌, List, [], ◌∷◌, ◌++◌, length, ap, arith, length-append}
 use Rattle.std.specs.Prelude.{Option}
 use Rattle.pp_lines.specs.Lines.{finished, unfinished, finished_within, IsWithin, IsFrontOf}
@@ -21,7 +21,7 @@ fed-within line_limit byte_limit bytes few_bytes few_lines =
     rw (finished-feed bytes) (length-append (finished bytes) (unfinished bytes ∷ [])) in
     finished_within-whole line_limit byte_limit (bytes ++ 10 ∷ []) (omega (arith, size)) (omega (arith, count)) ∙ finished-feed bytes
 
--- what was read is within the limits
+-- the bytes read so far are within the limits
 pub Stands-within : (progress : Progress) (session : State) (text : Option (List ℕ)) (origin : Origin) (bytes : List ℕ) → Stands progress session text origin bytes → IsWithin LINE_LIMIT BYTE_LIMIT bytes
 Stands-within progress session text origin bytes stands = record {
   few_lines =
@@ -59,7 +59,7 @@ Stands-text old new session written origin bytes text h stands kept more_bytes s
   performed = rw (finished-text bytes text h) stands.performed;
 }
 
--- bytes without a line feed, and then one
+-- bytes without a line feed, and then a line feed
 pub Stands-line : (old new : Progress) (session session' : State) (written written' : Option (List ℕ)) (origin : Origin) (bytes text : List ℕ) → finished text ≡ [] →
     Stands old session written origin bytes →
     IsFrontOf KEPT new.line ((bytes ++ text) ++ 10 ∷ []) → new.bytes ≡ old.bytes + (length text + 1) → new.lines ≡ old.lines + 1 →

@@ -21,19 +21,19 @@ use Rattle.pp_console.specs.Moves.{moved_text, back_name, forward_name, stopped_
 use Rattle.pp_console.specs.Watches.{watches_text}
 use Rattle.pp_console.specs.Dumps.{cells_text, processor_text, channels_text, central_text, frame_text, reader_text, printer_text}
 
--- what a session stands for
+-- the value of a session
 abbrev pub Value : Type 0
 Value = SessionValue Machine Action
 
--- what contracts see of a session
+-- the session as contracts see it
 abbrev pub State : Type 0
 State = Contents Machine Action RigRecord
 
--- the machine after the actions that stand
+-- the machine of a session's value
 abbrev pub present : Value → Machine
 present v = replay rules v.start v.standing
 
--- what one line leads to
+-- the result of one line
 pub record Answer : Type 0 where
   pub text : List ℕ
   pub value : Value
@@ -43,11 +43,11 @@ pub record Answer : Type 0 where
 abbrev pub told : Value → List ℕ → Answer
 told v text = record { text = text; value = v; refused = false }
 
--- a text, and the value as it was
+-- a text, and the unchanged value
 abbrev pub refusal : Value → List ℕ → Answer
 refusal v text = record { text = text; value = v; refused = true }
 
--- an action, where it is admitted
+-- an action, if the machine admits it
 abbrev pub act_or : Option ActionFault → Action → Value → Answer
 act_or None action v = told (after_act v action) ok_text
 act_or (Some fault) action v = refusal v (action_fault_text fault)
@@ -64,29 +64,29 @@ stopped_answer done v = told (after_turns done.turns v) (stopped_text done (pres
 unfoldable pub step_answer : ℕ → Value → Answer
 step_answer most v = stopped_answer (stopped most (present v)) v
 
--- the session moved by so many actions, to a value
+-- the session moved by this many actions, to a value
 abbrev pub moved : List ℕ → ℕ → Value → Answer
 moved name actions v = told v (moved_text name actions (present v).slot)
 
--- BACK: actions taken back, where as many are kept
+-- BACK: undoes actions, if the undo history has as many
 unfoldable pub back_answer : ℕ → Value → Answer
 back_answer actions v = if nat_lt v.kept actions then refusal v too_few_text else moved back_name actions (after_back v actions)
 
--- FORWARD: actions performed again, where as many are ahead
+-- FORWARD: redoes actions, if the redo list has as many
 unfoldable pub forward_answer : ℕ → Value → Answer
 forward_answer actions v = if nat_lt (length v.ahead) actions then refusal v too_few_ahead_text else moved forward_name actions (after_forward v actions)
 
--- the actions taken back to before a change, if there is one
+-- undoes actions back to before a change, if there is one
 abbrev pub back_or : Option ℕ → Value → Answer
 back_or None v = refusal v no_change_text
 back_or (Some actions) v = moved back_name actions (after_back v actions)
 
--- the latest change of one of these places taken back, if there are any
+-- undoes the latest change of one of these places, if there are any places
 abbrev pub changed_answer : List Place → Value → Answer
 changed_answer [] v = refusal v nothing_watched_text
 changed_answer (place ∷ places) v = back_or (change rules v (place ∷ places)) v
 
--- BACK W: on the places that are watched now
+-- BACK W: for the places that are watched now
 unfoldable pub change_answer : Value → Answer
 change_answer v = changed_answer (map watched_place (watches_of (present v))) v
 
@@ -102,7 +102,7 @@ processor_answer n v = told v (processor_text (present v) n)
 unfoldable pub channels_answer : Value → Answer
 channels_answer v = told v (channels_text (present v))
 
--- DUMP C: the words, where the machine has the last one
+-- DUMP C: the words, if the machine has the last one
 unfoldable pub central_answer : ℕ → ℕ → Value → Answer
 central_answer first last v =
     if nat_lt last (present v).setup.central_words then told v (central_text (present v) first last)

@@ -5,6 +5,6 @@ use Rattle.std.specs.Prelude.{ℕ, List, nat_lt, if◌then◌else◌, codes, sli
 unfoldable pub display_code : List ℕ
 display_code = codes ":ABCDEFGHIJKLMNOPQRSTUVWXYZ0123456789+-*/()$= ,.#[]%\"_!&'?<>@\\^;"
 
--- a symbol's character; the line end, 100, is a line feed
+-- the character of a symbol; the line end, 100, is a line feed
 unfoldable pub character : ℕ → ℕ
 character symbol = if nat_lt symbol 0o100 then slice_index display_code symbol else 10

@@ -1,4 +1,4 @@
--- What a machine shows.
+-- The texts of dumps.
 use Rattle.std.specs.Prelude.{ℕ, ◌+◌, ◌-◌, ◌*◌, ◌/◌, ◌==◌, min, if◌then◌else◌, List, [], ◌∷◌, ◌++◌, length, codes}
 use Rattle.std.specs.List.{flat_map, range_with_len}
 use Rattle.pp_machine.specs.Machine.{Machine, number}
@@ -14,7 +14,7 @@ each line first count = flat_map line (range_with_len first count)
 unfoldable pub cell_text : Machine → ℕ → ℕ → List ℕ
 cell_text m n a = field (codes " ") 4 (number m (Cell n a))
 
--- a row: its address, and the cells from there on, eight but for the last row
+-- a row: its address and eight cells; the last row may have fewer
 unfoldable pub cell_row : Machine → ℕ → ℕ → ℕ → List ℕ
 cell_row m n last from = field [] 4 from ++ each (cell_text m n) from (min (last + 1 - from) 8) ++ 10 ∷ []
 

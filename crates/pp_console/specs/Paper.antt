@@ -9,7 +9,7 @@ use Rattle.pp_console.specs.DisplayCode.{character}
 abbrev pub marked : List ℕ → List ℕ → List ℕ
 marked mark line = mark ++ line ++ 10 ∷ []
 
--- the lines that a line end ends, each after a bar, and what stands after the last line end, if anything does, after a slash
+-- each line that has a line end, after a bar, and the symbols after the last line end, if any, after a slash
 unfoldable pub lines_of_paper : List ℕ → List ℕ
 lines_of_paper characters = flat_map (marked (codes "|")) (finished characters) ++ flat_map (marked (codes "/")) (last_line (unfinished characters))
 

@@ -1,4 +1,4 @@
--- Words of the inner contracts of the paper: where it is cut into lines, and what is left after the last cut.
+-- Definitions for the inner contracts of the paper: how it is cut into lines, and the rest after the last cut.
 use Rattle.std.specs.Prelude.{ℕ, ◌==◌, Bool, List, map, codes}
 use Rattle.std.specs.List.{flat_map}
 use Rattle.pp_lines.specs.Lines.{last_line}

@@ -1,4 +1,4 @@
--- The answers to commands that are performed without any other, and to those that are refused.
+-- The answer to a command that shows nothing else, and the answers to those that are rejected.
 use Rattle.std.specs.Prelude.{ℕ, List, codes}
 use Rattle.pp_command.specs.declared.fault.LineFault.{LineFault}
 use Rattle.pp_command.specs.declared.fault.LineFault.TheVariants.{NotACommand, WordCount, NotANumber, OutOfRange, TooLong, NotAscii}
@@ -9,7 +9,7 @@ use Rattle.pp_console.specs.Texts.{line_text}
 unfoldable pub ok_text : List ℕ
 ok_text = line_text (codes "OK")
 
--- why a line is no command
+-- why a line is not a command
 unfoldable pub fault_text : LineFault → List ℕ
 fault_text NotACommand = line_text (codes "ERR 01 NOT A COMMAND")
 fault_text WordCount = line_text (codes "ERR 02 WORDS")
@@ -18,7 +18,7 @@ fault_text OutOfRange = line_text (codes "ERR 04 RANGE")
 fault_text TooLong = line_text (codes "ERR 05 LINE TOO LONG")
 fault_text NotAscii = line_text (codes "ERR 06 NOT ASCII")
 
--- why an action is not admitted
+-- why the machine does not admit an action
 unfoldable pub action_fault_text : ActionFault → List ℕ
 action_fault_text Range = line_text (codes "ERR 04 RANGE")
 action_fault_text WatchesFull = line_text (codes "ERR 11 WATCHES FULL")

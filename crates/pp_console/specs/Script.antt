@@ -1,4 +1,4 @@
--- What a script of console lines does to a session value, and the text that answers it.
+-- The effect of a script of console lines on the value of a session, and the text of its answers.
 use Rattle.std.specs.Prelude.{ℕ, ◌+◌, Option, Some, None, Result, Ok, Err, if◌then◌else◌, Bool, List, [], ◌++◌, fold}
 use Rattle.pp_lines.specs.Lines.{lines}
 use Rattle.pp_command.specs.CommandLine.{command}
@@ -7,7 +7,7 @@ use Rattle.pp_command.specs.declared.request.Request.{Request}
 use Rattle.pp_console.specs.Answers.{Value, Answer, told, refusal, answer}
 use Rattle.pp_console.specs.Refusals.{fault_text}
 
--- the answer to what a line asks for
+-- the answer to the request of a line
 abbrev pub answer_parsed : Value → Result (Option Request) LineFault → Answer
 answer_parsed v (Ok None) = told v []
 answer_parsed v (Ok (Some request)) = answer request v
@@ -17,7 +17,7 @@ answer_parsed v (Err fault) = refusal v (fault_text fault)
 unfoldable pub answer_line : Value → List ℕ → Answer
 answer_line v line = answer_parsed v (command line)
 
--- what the lines so far have led to
+-- the result of the lines so far
 pub record Outcome : Type 0 where
   pub text : List ℕ
   pub value : Value
@@ -26,11 +26,11 @@ pub record Outcome : Type 0 where
 abbrev pub begin : Value → Outcome
 begin v = record { text = []; value = v; refused = 0 }
 
--- one for a refused line
+-- 1 for a rejected line, 0 for any other
 abbrev pub refusals : Bool → ℕ
 refusals refused = if refused then 1 else 0
 
--- the outcome with one line more
+-- the outcome after one more line
 abbrev pub follow : Outcome → List ℕ → Outcome
 follow before line =
     let next = answer_line before.value line in

@@ -1,4 +1,4 @@
--- What became of a script, as far as it was read.
+-- The result of a script, as far as it was read.
 use Rattle.std.specs.Prelude.{◌≡◌, ℕ, ◌<◌, ◌⊎◌, List, [], ◌∷◌, ◌++◌, length, Option}
 use Rattle.std.specs.Io.KnownBytes.{Appends, IsAtEnd}
 use Rattle.pp_console.specs.declared.progress.Summary.{Summary}
@@ -12,7 +12,7 @@ use Rattle.pp_console.specs.Script.{run, script}
 use Rattle.pp_history.specs.SessionValue.{IsAt}
 use Rattle.pp_rig.specs.Rules.{rules}
 
--- where a run began: a value of the session, and the text of the sink
+-- the start of a run: a value of the session, and the text of the sink
 pub record Origin : Type 0 where
   pub start : Value
   pub before : Option (List ℕ)
@@ -25,7 +25,7 @@ pub record Performed (session : State) (text : Option (List ℕ)) (origin : Orig
   pub leaves : IsAt rules session (run origin.start done).value
   pub writes : Appends origin.before text (run origin.start done).text
 
--- these lines were performed, the line after them too, and of its answer a proper front was written
+-- these lines and the one after them were performed, and a proper prefix of the last answer was written
 pub record Breaks (session : State) (text : Option (List ℕ)) (origin : Origin) (done : List (List ℕ)) (line : List ℕ) : Type 0 where
   pub leaves : IsAt rules session (run origin.start (done ++ line ∷ [])).value
   pub writes : (front rest : List ℕ) × Appends origin.before text ((run origin.start done).text ++ front)
@@ -38,13 +38,13 @@ pub record Serves (summary : Summary) (session : State) (text : Option (List ℕ
   pub counts_refused : summary.refused ≡ (script origin.start bytes).refused
   pub within : IsWithin LINE_LIMIT BYTE_LIMIT bytes
 
--- After these lines the script has this one, within the limits: a line feed ends it, or the whole script does, of which no byte is left.
+-- The script has this line after these lines, within the limits. The line ends with a line feed or at the end of input.
 abbrev pub IsAnswered : List ℕ → Option (List ℕ) → List (List ℕ) → List ℕ → List (List ℕ) → Type 0
 IsAnswered bytes left done line later =
     (finished_within LINE_LIMIT BYTE_LIMIT bytes ≡ done ++ line ∷ later)
     ⊎ ((lines bytes ≡ done ++ line ∷ []) × IsWithin LINE_LIMIT BYTE_LIMIT bytes × IsAtEnd left)
 
--- what stands after a fault, where these bytes were taken and those are left
+-- the result of a fault, given the bytes that were read and the remaining bytes
 abbrev pub Stops : IoFault → State → Option (List ℕ) → Origin → List ℕ → Option (List ℕ) → Type 0
 Stops ReadFailed session text origin bytes left = Performed session text origin (finished_within LINE_LIMIT BYTE_LIMIT bytes)
 Stops LineLimit session text origin bytes left =

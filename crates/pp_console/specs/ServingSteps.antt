@@ -1,4 +1,4 @@
--- Words of the inner contracts of serving: a script as far as it was read, and what interrupts it there.
+-- Definitions for the inner contracts of serving: a script as far as it was read, and a fault that interrupts it there.
 use Rattle.std.specs.Prelude.{◌≡◌, ℕ, ◌<◌, ◌⊎◌, List, ◌∷◌, ◌++◌, length, Option}
 use Rattle.pp_console.specs.declared.progress.Progress.{Progress}
 use Rattle.pp_console.specs.declared.progress.TheConstants.{LINE_LIMIT, BYTE_LIMIT, KEPT}
@@ -17,7 +17,7 @@ pub record Stands (progress : Progress) (session : State) (text : Option (List �
   pub counts_refused : progress.refused ≡ (run origin.start (finished bytes)).refused
   pub performed : Performed session text origin (finished bytes)
 
--- what stands after a fault among these bytes, before the end
+-- the result of a fault among these bytes, before the end of input
 abbrev pub Interrupts : IoFault → State → Option (List ℕ) → Origin → List ℕ → Type 0
 Interrupts ReadFailed session text origin bytes = ⊥
 Interrupts LineLimit session text origin bytes =

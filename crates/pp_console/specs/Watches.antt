@@ -1,4 +1,4 @@
--- Watched places, as answers name them.
+-- Watched places in the texts of answers.
 use Rattle.std.specs.Prelude.{ℕ, List, [], ◌∷◌, ◌++◌, Option, Some, None, codes}
 use Rattle.std.specs.List.{flat_map}
 use Rattle.pp_rig.specs.declared.stopping.Hit.{Hit}
@@ -6,7 +6,7 @@ use Rattle.pp_rig.specs.declared.watched.Watched.{Watched}
 use Rattle.pp_rig.specs.declared.watched.Watched.TheVariants.{Cell, RegA, RegP, RegQ, Central, Register}
 use Rattle.pp_console.specs.Texts.{line_text, field}
 
--- a place: its kind, and where it is
+-- a place: its kind and its address
 unfoldable pub place_text : Watched → List ℕ
 place_text (Cell n a) = field (codes "M ") 2 n ++ field (codes " ") 4 a
 place_text (RegA n) = field (codes "A ") 2 n
@@ -15,7 +15,7 @@ place_text (RegQ n) = field (codes "Q ") 2 n
 place_text (Central a) = field (codes "C ") 6 a
 place_text (Register c) = field (codes "H ") 2 c
 
--- the digits of a place's number
+-- the number of octal digits that a place's number has
 unfoldable pub digits_of : Watched → ℕ
 digits_of (RegA n) = 6
 digits_of (Central a) = 20
@@ -25,12 +25,12 @@ digits_of _ = 4
 unfoldable pub watch_text : Watched → List ℕ
 watch_text watched = codes "W " ++ place_text watched ++ 10 ∷ []
 
--- the watches in their order, or that there is none
+-- the watches in their order, or W NONE if there are none
 unfoldable pub watches_text : List Watched → List ℕ
 watches_text [] = line_text (codes "W NONE")
 watches_text (watched ∷ others) = flat_map watch_text (watched ∷ others)
 
--- the change that ended a run, if any did: the place, its number before and its number after
+-- the change that ended a run, if there is one: the place, the number before and the number after
 unfoldable pub hit_text : Option Hit → List ℕ
 hit_text None = []
 hit_text (Some hit) = codes "HIT " ++ place_text hit.place ++ field (codes " ") (digits_of hit.place) hit.was ++ field (codes " ") (digits_of hit.place) hit.now ++ 10 ∷ []

@@ -1,4 +1,4 @@
-//! The cells of a processor in rows of eight.
+//! The cells of a processor, in rows of eight.
 ghost use Rattle.std.specs.Prelude.{◌≡◌, ◌<◌, ◌≤◌, ◌+◌, ◌++◌, ◌*◌, ◌-◌, ◌/◌, min};
 ghost use Rattle.arrayvec.specs.ArrayVec.{array_vec_len};
 ghost use Rattle.pp_lines.specs.Device.{Counts};
@@ -12,7 +12,7 @@ use pp_lines::{Failed, Sink, put_all};
 use pp_machine::Place;
 use pp_rig::Rig;
 
-/// Adds so many cells, from an address on.
+/// Appends `count` cells, from an address on.
 fn push_cells(line: &mut ArrayVec<u8, 45>, machine: &Rig, pp: u8, from: u16, count: u16)
     requires pp { pp < 10 }
     requires within { from + count ≤ 4096 }
@@ -30,7 +30,7 @@ fn push_cells(line: &mut ArrayVec<u8, 45>, machine: &Rig, pp: u8, from: u16, cou
     }
 }
 
-/// An address, and the cells from there to the last one, at most eight.
+/// Returns a row: an address, and the cells from there to `last`, at most eight.
 #[tactic(auto, unfolding(crate::specs::Dumps::cell_row))]
 fn row_line(machine: &Rig, pp: u8, last: u16, from: u16) -> ArrayVec<u8, 45>
     requires pp { pp < 10 }
@@ -45,7 +45,7 @@ fn row_line(machine: &Rig, pp: u8, last: u16, from: u16) -> ArrayVec<u8, 45>
     line
 }
 
-/// How many rows of eight the cells from `first` to `last` take.
+/// Returns the number of rows of eight for the cells from `first` to `last`.
 fn row_count(first: u16, last: u16) -> u16
     requires { last < 4096 }
     ensures { result ≡ (last + 8 - first) / 8 }
@@ -53,7 +53,10 @@ fn row_count(first: u16, last: u16) -> u16
     (last + 8).saturating_sub(first) / 8
 }
 
-/// Writes the cells from `first` to `last`, eight a row.
+/// Writes the cells from `first` to `last`, eight in a row.
+///
+/// # Errors
+/// `Failed` if a call of the sink fails.
 pub fn put_cells<W: Sink>(
     machine: &Rig,
     pp: u8,

@@ -11,7 +11,7 @@ use pp_lines::{Failed, Sink, put_all};
 use pp_machine::Place;
 use pp_rig::Rig;
 
-/// A central word.
+/// Returns the line of a central word.
 #[tactic(auto, unfolding(crate::specs::Dumps::central_line))]
 fn word_line(machine: &Rig, a: u32) -> ArrayVec<u8, 30>
     requires { a < machine.now.setup.central_words }
@@ -25,6 +25,9 @@ fn word_line(machine: &Rig, a: u32) -> ArrayVec<u8, 30>
 }
 
 /// Writes the central words from `first` to `last`.
+///
+/// # Errors
+/// `Failed` if a call of the sink fails.
 pub fn put_central<W: Sink>(machine: &Rig, first: u32, last: u32, out: &mut W) -> Result<(), Failed>
     requires in_order { first ≤ last }
     requires within { last < machine.now.setup.central_words }

@@ -1,4 +1,4 @@
-//! What the console does with one command, and with one line.
+//! Performs one command, or one line, and writes the answer.
 ghost use Rattle.std.specs.Prelude.{◌≡◌, ◌≤◌, ◌<◌, IfErr, IfOk, true, false, length};
 ghost use Rattle.pp_history.specs.SessionValue.{IsAt};
 ghost use Rattle.pp_rig.specs.Rules.{rules};
@@ -23,7 +23,7 @@ use pp_history::Session;
 use pp_lines::{Failed, IoFault, Sink, put_all};
 use pp_rig::{Action, Rig, run};
 
-/// Writes the answer of a command that was performed.
+/// Writes the answer to a command that was performed.
 fn tell<W: Sink>(out: &mut W, text: &[u8]) -> Result<bool, Failed>
     ensures text { Writes (W.text out.old) (W.text out.new) result text.now }
     ensures performed { IfOk result (λ performed. performed ≡ true) }
@@ -33,7 +33,7 @@ fn tell<W: Sink>(out: &mut W, text: &[u8]) -> Result<bool, Failed>
     Ok(true)
 }
 
-/// Writes the answer of a command that was refused.
+/// Writes the answer to a command that was rejected.
 fn refuse<W: Sink>(out: &mut W, text: &[u8]) -> Result<bool, Failed>
     ensures text { Writes (W.text out.old) (W.text out.new) result text.now }
     ensures performed { IfOk result (λ performed. performed ≡ false) }
@@ -43,7 +43,7 @@ fn refuse<W: Sink>(out: &mut W, text: &[u8]) -> Result<bool, Failed>
     Ok(false)
 }
 
-/// Performs an action, where it is admitted.
+/// Performs an action, if the machine admits it.
 #[tactic(auto, unfolding(crate::specs::Answers::act_answer, crate::specs::Refusals::ok_text))]
 fn act<W: Sink>(session: &mut Session<Rig>, action: Action, out: &mut W) -> Result<bool, Failed>
     ensures performs { Performs session.old session.new (W.text out.old) (W.text out.new) result (act_answer action) }
@@ -58,7 +58,7 @@ fn act<W: Sink>(session: &mut Session<Rig>, action: Action, out: &mut W) -> Resu
     }
 }
 
-/// Performs turns, up to the first change of a watched number.
+/// Makes turns, up to the first change of a watched number.
 #[tactic(auto, unfolding(crate::specs::Answers::step_answer))]
 fn step<W: Sink>(session: &mut Session<Rig>, most: u32, out: &mut W) -> Result<bool, Failed>
     ensures performs { Performs session.old session.new (W.text out.old) (W.text out.new) result (step_answer most) }
@@ -70,7 +70,7 @@ fn step<W: Sink>(session: &mut Session<Rig>, most: u32, out: &mut W) -> Result<b
     tell(out, lines.as_slice())
 }
 
-/// Writes how many actions were done, and the processor whose turn comes next.
+/// Writes the number of actions done, and the processor whose turn is next.
 fn tell_moved<W: Sink>(out: &mut W, name: &[u8], actions: u32, slot: u8) -> Result<bool, Failed>
     requires { length name.now ≤ 8 }
     ensures text { Writes (W.text out.old) (W.text out.new) result (moved_text name.now actions slot) }
@@ -82,7 +82,7 @@ fn tell_moved<W: Sink>(out: &mut W, name: &[u8], actions: u32, slot: u8) -> Resu
     tell(out, line.as_slice())
 }
 
-/// Takes actions back, where as many are kept.
+/// Undoes actions, if the undo history has as many.
 #[tactic(auto, unfolding(crate::specs::Answers::back_answer, crate::specs::Moves::back_name, crate::specs::Refusals::too_few_text))]
 fn back<W: Sink>(session: &mut Session<Rig>, actions: u32, out: &mut W) -> Result<bool, Failed>
     ensures performs { Performs session.old session.new (W.text out.old) (W.text out.new) result (back_answer actions) }
@@ -94,7 +94,7 @@ fn back<W: Sink>(session: &mut Session<Rig>, actions: u32, out: &mut W) -> Resul
     }
 }
 
-/// Performs actions again, where as many are ahead.
+/// Redoes actions, if the redo list has as many.
 #[tactic(auto, unfolding(crate::specs::Answers::forward_answer, crate::specs::Moves::forward_name, crate::specs::Refusals::too_few_ahead_text))]
 fn forward<W: Sink>(session: &mut Session<Rig>, actions: u32, out: &mut W) -> Result<bool, Failed>
     ensures performs { Performs session.old session.new (W.text out.old) (W.text out.new) result (forward_answer actions) }
@@ -106,7 +106,7 @@ fn forward<W: Sink>(session: &mut Session<Rig>, actions: u32, out: &mut W) -> Re
     }
 }
 
-/// Takes back the latest change of a watched number, if there is one.
+/// Undoes the latest change of a watched number, if there is one.
 #[tactic(auto, unfolding(crate::specs::Answers::change_answer, crate::specs::Moves::back_name, crate::specs::Refusals::no_change_text, crate::specs::Refusals::nothing_watched_text))]
 #[inline(never)]
 fn back_to_change<W: Sink>(session: &mut Session<Rig>, out: &mut W) -> Result<bool, Failed>
@@ -123,10 +123,10 @@ fn back_to_change<W: Sink>(session: &mut Session<Rig>, out: &mut W) -> Result<bo
     }
 }
 
-// A function clears the room of its locals when it is entered. Those of a dump are large, so no dump
-// is inlined.
+// A function clears the space of its locals when it is entered. The locals of a dump are large, so no
+// dump is inlined.
 
-/// Shows cells of a processor.
+/// Writes cells of a processor.
 #[tactic(auto, unfolding(crate::specs::Answers::cells_answer))]
 #[inline(never)]
 fn dump_cells<W: Sink>(
@@ -145,7 +145,7 @@ fn dump_cells<W: Sink>(
     Ok(true)
 }
 
-/// Shows central words, where the machine has them.
+/// Writes central words, if the machine has them.
 #[inline(never)]
 fn dump_central<W: Sink>(
     session: &mut Session<Rig>,
@@ -165,7 +165,7 @@ fn dump_central<W: Sink>(
     Ok(true)
 }
 
-/// Shows the registers of a processor.
+/// Writes the registers of a processor.
 #[tactic(auto, unfolding(crate::specs::Answers::processor_answer))]
 #[inline(never)]
 fn dump_processor<W: Sink>(session: &mut Session<Rig>, pp: u8, out: &mut W) -> Result<bool, Failed>
@@ -176,7 +176,7 @@ fn dump_processor<W: Sink>(session: &mut Session<Rig>, pp: u8, out: &mut W) -> R
     tell(out, processor_line(session.machine(), pp).as_slice())
 }
 
-/// Shows the channels and the clock.
+/// Writes the channels and the clock.
 #[tactic(auto, unfolding(crate::specs::Answers::channels_answer))]
 #[inline(never)]
 fn dump_channels<W: Sink>(session: &mut Session<Rig>, out: &mut W) -> Result<bool, Failed>
@@ -186,7 +186,7 @@ fn dump_channels<W: Sink>(session: &mut Session<Rig>, out: &mut W) -> Result<boo
     tell(out, channel_lines(session.machine()).as_slice())
 }
 
-/// Shows the exchange package.
+/// Writes the exchange package.
 #[tactic(auto, unfolding(crate::specs::Answers::frame_answer))]
 #[inline(never)]
 fn dump_frame<W: Sink>(session: &mut Session<Rig>, out: &mut W) -> Result<bool, Failed>
@@ -196,7 +196,7 @@ fn dump_frame<W: Sink>(session: &mut Session<Rig>, out: &mut W) -> Result<bool, 
     tell(out, frame_lines(session.machine()).as_slice())
 }
 
-/// Shows the card reader.
+/// Writes the card reader.
 #[tactic(auto, unfolding(crate::specs::Answers::reader_answer))]
 #[inline(never)]
 fn dump_reader<W: Sink>(session: &mut Session<Rig>, out: &mut W) -> Result<bool, Failed>
@@ -206,7 +206,7 @@ fn dump_reader<W: Sink>(session: &mut Session<Rig>, out: &mut W) -> Result<bool,
     tell(out, reader_line(session.machine()).as_slice())
 }
 
-/// Shows the watched places.
+/// Writes the watched places.
 #[tactic(auto, unfolding(crate::specs::Answers::watches_answer))]
 #[inline(never)]
 fn dump_watches<W: Sink>(session: &mut Session<Rig>, out: &mut W) -> Result<bool, Failed>
@@ -216,7 +216,7 @@ fn dump_watches<W: Sink>(session: &mut Session<Rig>, out: &mut W) -> Result<bool
     tell(out, watch_lines(session.machine().watches()).as_slice())
 }
 
-/// Shows the line printer and its paper.
+/// Writes the line printer and its paper.
 #[tactic(auto, unfolding(crate::specs::Answers::printer_answer))]
 #[inline(never)]
 fn dump_printer<W: Sink>(session: &mut Session<Rig>, out: &mut W) -> Result<bool, Failed>
@@ -227,7 +227,7 @@ fn dump_printer<W: Sink>(session: &mut Session<Rig>, out: &mut W) -> Result<bool
     Ok(true)
 }
 
-/// Performs a request wholly, and then writes its answer. `false` is a refused one.
+/// Performs a request completely, and then writes its answer. Returns `false` if it was rejected.
 fn perform_request<W: Sink>(
     session: &mut Session<Rig>,
     command: &Command,
@@ -253,12 +253,13 @@ fn perform_request<W: Sink>(
     }
 }
 
-/// Performs a command wholly, and then writes its answer, whose texts are this project's choice.
-/// `false` is a refused command: its answer is its ERR line, and it changed nothing.
+/// Performs a command completely, and then writes its answer. The texts of answers are this project's
+/// choice. Returns `false` if the command was rejected: its answer is its ERR line, and it changed
+/// nothing.
 ///
 /// # Errors
-/// `WriteFailed`, where a call of the sink failed. The command stands, and what was written is a
-/// proper front of its answer.
+/// `WriteFailed` if a call of the sink fails. The command is performed all the same, and a proper
+/// prefix of its answer was written.
 pub fn perform<W: Sink>(
     session: &mut Session<Rig>,
     command: &Command,
@@ -274,8 +275,12 @@ pub fn perform<W: Sink>(
     }
 }
 
-/// Performs a line, and then writes its answer. Answers whether the line was refused, and a refused
-/// line changed nothing.
+/// Performs a line, and then writes its answer. Returns whether the line was rejected. A rejected line
+/// changes nothing.
+///
+/// # Errors
+/// `Failed` if a call of the sink fails. The line is performed all the same, and a proper prefix of
+/// its answer was written.
 #[tactic(auto, unfolding(crate::specs::Script::answer_line))]
 pub fn perform_line<W: Sink>(
     session: &mut Session<Rig>,

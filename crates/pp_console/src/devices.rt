@@ -9,7 +9,7 @@ use pp_lines::push_text;
 use pp_machine::Place;
 use pp_rig::Rig;
 
-/// The mode of a device.
+/// Returns the name of a device's mode.
 #[tactic(auto, unfolding(crate::specs::Dumps::mode_text))]
 fn mode_text(active: &'static [u8], mode: u64) -> &'static [u8]
     requires { length active.now ≤ 15 }
@@ -24,7 +24,7 @@ fn mode_text(active: &'static [u8], mode: u64) -> &'static [u8]
     }
 }
 
-/// The card reader.
+/// Returns the line of the card reader.
 #[tactic(auto, unfolding(crate::specs::Dumps::reader_text))]
 pub fn reader_line(machine: &Rig) -> ArrayVec<u8, 64>
     ensures { result.items ≡ reader_text machine.now }
@@ -41,7 +41,7 @@ pub fn reader_line(machine: &Rig) -> ArrayVec<u8, 64>
     line
 }
 
-/// The line printer.
+/// Returns the line of the line printer.
 #[tactic(auto, unfolding(crate::specs::Dumps::printer_line))]
 pub fn printer_line(machine: &Rig) -> ArrayVec<u8, 64>
     ensures { result.items ≡ printer_line machine.now }

@@ -1,4 +1,4 @@
-//! The console: commands and whole scripts performed in a session, and their answers.
+//! The console: performs commands and whole scripts in a session, and writes their answers.
 #![tactic(auto)]
 
 mod cells;

@@ -1,4 +1,4 @@
-//! The lines of commands that move the session.
+//! The answers to commands that move the session.
 ghost use Rattle.std.specs.Prelude.{◌≡◌, ◌≤◌, ◌+◌, ◌++◌, length};
 ghost use Rattle.arrayvec.specs.ArrayVec.{array_vec_len};
 ghost use Rattle.pp_console.specs.Moves.{moved_text, stopped_text};
@@ -10,7 +10,7 @@ use pp_arith::octal;
 use pp_lines::push_text;
 use pp_rig::Stopped;
 
-/// Adds how many actions were done, and the processor whose turn comes next.
+/// Appends the number of actions done, and the processor whose turn is next.
 #[tactic(auto, unfolding(crate::specs::Moves::moved_text))]
 pub fn push_moved<const N: usize>(line: &mut ArrayVec<u8, N>, name: &[u8], actions: u32, slot: u8)
     requires name { length name.now ≤ 8 }
@@ -24,8 +24,8 @@ pub fn push_moved<const N: usize>(line: &mut ArrayVec<u8, N>, name: &[u8], actio
     line.push(b'\n');
 }
 
-/// Adds the turns of a run, the processor whose turn comes next, and the change that ended the run,
-/// if any did.
+/// Appends the turns of a run, the processor whose turn is next, and the change that ended the run, if
+/// there is one.
 #[tactic(auto, unfolding(crate::specs::Moves::stopped_text, crate::specs::Moves::turns_name))]
 pub fn push_stopped(lines: &mut ArrayVec<u8, 120>, done: Stopped, slot: u8)
     requires { array_vec_len lines.old ≤ 20 }

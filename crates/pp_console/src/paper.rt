@@ -16,10 +16,10 @@ use pp_rig::Rig;
 static DISPLAY_CODE: [u8; 64] =
     *b":ABCDEFGHIJKLMNOPQRSTUVWXYZ0123456789+-*/()$= ,.#[]%\"_!&'?<>@\\^;";
 
-/// The most symbols that are put at once: those of a printed line.
+/// The largest number of symbols written at once: those of a printed line.
 const PIECE: usize = 136;
 
-/// The character of a symbol, which is a line feed for a line end.
+/// Returns the character of a symbol. A line end is a line feed.
 #[tactic(auto, unfolding(crate::specs::DisplayCode::character, crate::specs::DisplayCode::display_code))]
 fn character(symbol: u8) -> u8
     ensures { result ≡ character symbol }
@@ -31,7 +31,7 @@ fn character(symbol: u8) -> u8
     }
 }
 
-/// The characters of a piece.
+/// Returns the characters of a piece.
 fn characters(symbols: &[u8]) -> ArrayVec<u8, PIECE>
     requires { length symbols.now ≤ PIECE }
     ensures { result.items ≡ map character symbols.now }
@@ -68,7 +68,7 @@ fn put_line<W: Sink>(mark: &[u8], symbols: &[u8], out: &mut W) -> Result<(), Fai
     put_all(out, b"\n")
 }
 
-/// Where the first line end stands.
+/// Returns the position of the first line end.
 fn line_end(symbols: &[u8]) -> Option<usize>
     ensures value { result ≡ position is_line_end symbols.now }
     ensures within { IfSome result (λ end. end < length symbols.now) }
@@ -78,7 +78,7 @@ fn line_end(symbols: &[u8]) -> Option<usize>
         .position(|symbol| character(*symbol) == b'\n')
 }
 
-/// The first line of the paper without its line end, and what follows it.
+/// Returns the first line of the paper without its line end, and the symbols after it.
 fn next_line(symbols: &[u8]) -> Option<(&[u8], &[u8])>
     ensures cut { MatchOption result (paper_text symbols.now ≡ rest_text symbols.now)
         (λ cut. paper_text symbols.now
@@ -89,7 +89,7 @@ fn next_line(symbols: &[u8]) -> Option<(&[u8], &[u8])>
     Some((line, &rest[1..]))
 }
 
-/// Writes what stands after the last line end, if anything does.
+/// Writes the symbols after the last line end, if there are any.
 fn put_rest<W: Sink>(symbols: &[u8], out: &mut W) -> Result<(), Failed>
     ensures text { Writes (W.text out.old) (W.text out.new) result (rest_text symbols.now) }
     ensures counted { Counts (W.failure_count out.old) (W.failure_count out.new) result }
@@ -100,7 +100,7 @@ fn put_rest<W: Sink>(symbols: &[u8], out: &mut W) -> Result<(), Failed>
     put_line(b"/", symbols, out)
 }
 
-/// Writes the paper: its lines after a bar, and what stands after the last line end after a slash.
+/// Writes the paper: each line after a bar, and the symbols after the last line end after a slash.
 fn put_paper<W: Sink>(symbols: &[u8], out: &mut W) -> Result<(), Failed>
     ensures text { Writes (W.text out.old) (W.text out.new) result (paper_text symbols.now) }
     ensures counted { Counts (W.failure_count out.old) (W.failure_count out.new) result }
@@ -114,6 +114,9 @@ fn put_paper<W: Sink>(symbols: &[u8], out: &mut W) -> Result<(), Failed>
 }
 
 /// Writes the line printer and its paper.
+///
+/// # Errors
+/// `Failed` if a call of the sink fails.
 #[tactic(auto, unfolding(crate::specs::Dumps::printer_text))]
 pub fn put_printer<W: Sink>(machine: &Rig, out: &mut W) -> Result<(), Failed>
     ensures text { Writes (W.text out.old) (W.text out.new) result (printer_text machine.now) }

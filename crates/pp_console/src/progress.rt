@@ -1,25 +1,25 @@
-//! How far a script was read.
+//! The progress of a script.
 ghost use Rattle.std.specs.Prelude.{◌≡◌, ◌<◌, ◌≤◌, ◌==◌, if◌then◌else◌, [], length};
 ghost use Rattle.pp_console.specs.declared.progress.TheConstants.{LINE_LIMIT, BYTE_LIMIT};
 
 use pp_lines::LineCutter;
 
-/// The most lines of a script (this project's choice).
+/// The largest number of lines in a script (this project's choice).
 pub const LINE_LIMIT: u32 = 1_000_000;
 
-/// The most bytes of a script (this project's choice).
+/// The largest number of bytes in a script (this project's choice).
 pub const BYTE_LIMIT: u32 = 268_435_456;
 
-/// As many bytes of a line as show that it is too long: 255, a carriage return, and one more.
+/// The number of bytes of a line that show that it is too long: 255, a carriage return, and one more.
 pub const KEPT: usize = 257;
 
-/// How far a script was read.
+/// The progress of a script: how far it was read.
 #[derive(Drop)]
 pub struct Progress {
     /// The line that no line feed has ended yet.
     pub line: LineCutter<KEPT>,
     pub bytes: u32,
-    /// The lines that were ended.
+    /// The lines that have ended.
     pub lines: u32,
     pub refused: u32,
     ghost bytes_within: { bytes ≤ BYTE_LIMIT },
@@ -29,7 +29,7 @@ pub struct Progress {
 }
 
 impl Progress {
-    /// Before the first byte.
+    /// Returns the progress before the first byte.
     pub fn new() -> Self
         ensures line { result.line ≡ [] }
         ensures bytes { result.bytes ≡ 0 }
@@ -44,7 +44,7 @@ impl Progress {
         }
     }
 
-    /// What is told of the lines that were ended.
+    /// Returns the summary of the lines that have ended.
     pub fn summary(&self) -> Summary
         ensures lines { result.lines ≡ self.now.lines }
         ensures refused { result.refused ≡ self.now.refused }
@@ -56,7 +56,7 @@ impl Progress {
     }
 }
 
-/// How many lines were read, ignored ones too, and how many of them were refused.
+/// The number of lines read, including ignored ones, and how many were rejected.
 #[derive(Clone, Copy, Debug, PartialEq, Eq, Drop)]
 pub struct Summary {
     pub lines: u32,
@@ -64,8 +64,8 @@ pub struct Summary {
 }
 
 impl Summary {
-    /// The exit status of a run that ended well (this project's choice): 0 where no line was
-    /// refused, else 1.
+    /// Returns the exit status of a run that ended without a fault (this project's choice): 0 if no line
+    /// was rejected, otherwise 1.
     pub fn status(&self) -> u8
         ensures { result ≡ (if self.now.refused == 0 then 0 else 1) }
     {

@@ -1,11 +1,11 @@
-//! Why a line or an action is refused.
+//! Why a line or an action is rejected.
 ghost use Rattle.std.specs.Prelude.{◌≡◌};
 ghost use Rattle.pp_console.specs.Refusals.{fault_text, action_fault_text};
 
 use pp_command::LineFault;
 use pp_rig::ActionFault;
 
-/// Why a line is no command.
+/// Returns the answer to a line that is not a command.
 #[tactic(auto, unfolding(crate::specs::Refusals::fault_text))]
 pub fn fault_text(fault: LineFault) -> &'static [u8]
     ensures { result.now ≡ fault_text fault }
@@ -20,7 +20,7 @@ pub fn fault_text(fault: LineFault) -> &'static [u8]
     }
 }
 
-/// Why an action is not admitted.
+/// Returns the answer to an action that the machine does not admit.
 #[tactic(auto, unfolding(crate::specs::Refusals::action_fault_text))]
 pub fn action_fault_text(fault: ActionFault) -> &'static [u8]
     ensures { result.now ≡ action_fault_text fault }

@@ -10,7 +10,7 @@ use pp_lines::push_text;
 use pp_machine::Place;
 use pp_rig::Rig;
 
-/// The registers and the phase of a processor, and the slot.
+/// Returns the line of a processor: its registers and phase, and the slot.
 #[tactic(auto, unfolding(crate::specs::Dumps::processor_text))]
 pub fn processor_line(machine: &Rig, pp: u8) -> ArrayVec<u8, 48>
     requires { pp < 10 }
@@ -32,7 +32,7 @@ pub fn processor_line(machine: &Rig, pp: u8) -> ArrayVec<u8, 48>
     line
 }
 
-/// The letter of a channel's state.
+/// Returns the letter of a channel's state.
 #[tactic(auto, unfolding(crate::specs::Dumps::state_text))]
 fn state_text(state: u64) -> &'static [u8]
     ensures value { result.now ≡ state_text state }
@@ -46,7 +46,7 @@ fn state_text(state: u64) -> &'static [u8]
     }
 }
 
-/// Adds a channel.
+/// Appends the line of a channel.
 #[tactic(auto, unfolding(crate::specs::Dumps::channel_line))]
 fn push_channel(lines: &mut ArrayVec<u8, 160>, machine: &Rig, c: u8)
     requires channel { c < 12 }
@@ -60,7 +60,7 @@ fn push_channel(lines: &mut ArrayVec<u8, 160>, machine: &Rig, c: u8)
     lines.push(b'\n');
 }
 
-/// The twelve channels and the clock.
+/// Returns the lines of the twelve channels and the clock.
 #[tactic(auto, unfolding(crate::specs::Dumps::channels_text))]
 pub fn channel_lines(machine: &Rig) -> ArrayVec<u8, 160>
     ensures { result.items ≡ channels_text machine.now }
@@ -74,7 +74,7 @@ pub fn channel_lines(machine: &Rig) -> ArrayVec<u8, 160>
     lines
 }
 
-/// Adds a word of the exchange package.
+/// Appends the line of a word of the exchange package.
 #[tactic(auto, unfolding(crate::specs::Dumps::frame_line))]
 fn push_frame_word(lines: &mut ArrayVec<u8, 432>, machine: &Rig, i: u8)
     requires index { i < 16 }
@@ -87,7 +87,7 @@ fn push_frame_word(lines: &mut ArrayVec<u8, 432>, machine: &Rig, i: u8)
     lines.push(b'\n');
 }
 
-/// The sixteen words of the exchange package.
+/// Returns the lines of the sixteen words of the exchange package.
 #[tactic(auto, unfolding(crate::specs::Dumps::frame_text))]
 pub fn frame_lines(machine: &Rig) -> ArrayVec<u8, 432>
     ensures { result.items ≡ frame_text machine.now }

@@ -1,4 +1,4 @@
-//! A whole script, from bytes to bytes.
+//! Performs a whole script, from source to sink.
 ghost use Rattle.std.specs.Prelude.{◌≡◌, ◌+◌, ◌<◌, ◌∷◌, ◌++◌, [], Option, Some, ℕ, List, IfOk, IfErr, OnOk, MatchResult, length};
 ghost use Rattle.std.specs.Io.KnownBytes.{Consumes, IsAtEnd};
 ghost use Rattle.pp_lines.specs.Device.{Counts};
@@ -20,11 +20,11 @@ use pp_history::Session;
 use pp_lines::{Failed, IoFault, LineCutter, Sink, Source, next_line};
 use pp_rig::Rig;
 
-/// The most bytes that are taken at once.
+/// The largest number of bytes read at once.
 const PIECE: usize = 4096;
 
-/// Performs the line of which this front is kept, and which ends with this text. Where nothing is
-/// kept, the text is the line, and is not copied.
+/// Performs a line whose kept prefix is `front` and which ends with this text. If nothing was kept, the
+/// text is the whole line, and is not copied.
 fn perform_kept<W: Sink>(
     front: &mut LineCutter<KEPT>,
     text: &[u8],
@@ -79,7 +79,7 @@ fn end_line<W: Sink>(
     Ok(())
 }
 
-/// Takes bytes of a line.
+/// Processes bytes of a line.
 fn feed_text(progress: &mut Progress, text: &[u8]) -> Result<(), IoFault>
     requires { finished text.now ≡ [] }
     ensures stands { (session : State) (written : Option (List ℕ)) (origin : Origin) (bytes : List ℕ) →
@@ -102,7 +102,7 @@ fn feed_text(progress: &mut Progress, text: &[u8]) -> Result<(), IoFault>
     Ok(())
 }
 
-/// Takes bytes of a line, and the line feed after them.
+/// Processes bytes of a line, and the line feed after them.
 fn feed_line<W: Sink>(
     progress: &mut Progress,
     text: &[u8],
@@ -131,7 +131,7 @@ fn feed_line<W: Sink>(
     }
 }
 
-/// Takes a piece more of the script.
+/// Processes one more piece of the script.
 fn feed<W: Sink>(
     progress: &mut Progress,
     piece: &[u8],
@@ -156,7 +156,7 @@ fn feed<W: Sink>(
     feed_text(progress, rest)
 }
 
-/// Performs the last line, where no line feed ends it, and counts the lines.
+/// Performs the last line, if no line feed ended it, and returns the summary.
 fn finish<W: Sink>(
     progress: &mut Progress,
     session: &mut Session<Rig>,
@@ -208,22 +208,22 @@ fn read_all<R: Source, W: Sink>(
     }
 }
 
-/// Performs every line of the source in turn, and writes each answer before the next bytes are
-/// taken. A line that was begun and not finished is performed at the end of the source, and after no
-/// fault.
+/// Performs every line of the source in turn, and writes each answer before it reads more bytes. An
+/// unfinished line is performed at the end of input, but not after a fault.
 ///
 /// A script has at most 1,000,000 lines and 268,435,456 bytes (this project's choice).
 ///
 /// # Errors
-/// `ReadFailed` and `WriteFailed`, where a call of the source or of the sink failed, and `LineLimit`,
-/// where a byte was taken that begins a further line or is one too many. The session is then as after
-/// the commands performed so far; of these one whose answer could not be written stands.
+/// `ReadFailed` if a call of the source fails, and `WriteFailed` if a call of the sink fails.
+/// `LineLimit` if a byte was read that begins one line too many or is one byte too many. The session
+/// is then as after the commands performed so far. A command whose answer could not be written is one
+/// of these.
 pub fn serve<R: Source, W: Sink>(
     session: &mut Session<Rig>,
     source: &mut R,
     out: &mut W,
 ) -> Result<Summary, IoFault>
-    // At every source: the bytes that were read are the script, and after a fault they determine what was performed.
+    // For every source: the bytes read are the script, and after a fault they determine what was performed.
     ensures script { (taken : List ℕ) × Consumes (R.rest source.old) (R.rest source.new) taken
         × (R.given source.new ≡ R.given source.old ++ taken)
         × ((start : Value) → IsAt rules session.old start → MatchResult result
@@ -234,7 +234,7 @@ pub fn serve<R: Source, W: Sink>(
     // The limits that the clauses name.
     ensures limits { (LINE_LIMIT ≡ 1000000) × (BYTE_LIMIT ≡ 268435456) }
 
-    // Each count of failures rose by the fault that is told, and by no other.
+    // The fault that is returned, and no other, raised its count of failures by one.
     ensures reads { MatchResult result (λ _. R.failure_count source.new ≡ R.failure_count source.old)
         (λ fault. R.failure_count source.new ≡ reads_after fault (R.failure_count source.old)) }
     ensures writes { MatchResult result (λ _. W.failure_count out.new ≡ W.failure_count out.old)

@@ -18,7 +18,7 @@ use std::alloc::Global;
 use std::process::Abort;
 use std::test::Fail;
 
-/// What a machine has beside its memories.
+/// What a machine has besides its memories.
 #[derive(Clone, Copy, PartialEq, Eq, Drop)]
 pub(crate) enum With {
     Nothing,
@@ -26,7 +26,7 @@ pub(crate) enum With {
     Card,
     /// A dead start panel.
     Panel,
-    /// Central memory of the least size alone.
+    /// Only central memory, of the smallest size.
     LittleMemory,
 }
 
@@ -45,7 +45,7 @@ fn punch(card: &mut [u16; 80], column: usize, word: u16)
     card[column] = word;
 }
 
-/// The card `1 2 3`.
+/// Returns the card `1 2 3`.
 fn card() -> [u16; 80]
     ensures { IsCard result }
 {
@@ -56,7 +56,7 @@ fn card() -> [u16; 80]
     card
 }
 
-/// A deck of one card.
+/// Returns a deck of one card.
 fn one_card(alloc: Global) -> Result<Vec<[u16; 80]>, Fail>
     ensures { IfOk result (λ deck. All IsCard deck.items) }
 {
@@ -85,8 +85,8 @@ fn panel_of(with: With) -> Option<[u16; 12]>
     None
 }
 
-/// A session of a new machine, reader on channel 12 and printer on channel 13, that keeps so many
-/// actions.
+/// Returns a session of a new machine with the reader on channel 12 and the printer on channel 13. Its
+/// undo history holds `capacity` actions.
 pub(crate) fn session_of(alloc: Global, with: With, capacity: u32) -> Result<Session<Rig>, Fail>
     requires { (1 ≤ capacity) × (capacity ≤ 10000) }
 {
@@ -105,8 +105,8 @@ pub(crate) fn session_of(alloc: Global, with: With, capacity: u32) -> Result<Ses
     Ok(Session::new(alloc, machine, capacity).map_err(|_| "no session")?)
 }
 
-/// Runs a script in a new session, in pieces of the given length, and compares what is written and
-/// told.
+/// Runs a script in a session, in pieces of the given length, and compares the text written and the
+/// summary with those expected.
 fn answers_in_pieces(
     rt: &impl Abort,
     mut session: Session<Rig>,
@@ -123,8 +123,8 @@ fn answers_in_pieces(
     assert_eq!(rt; told, Ok(summary));
 }
 
-/// Runs a script in a new session that keeps so many actions, byte by byte and at once, and compares
-/// what is written and told.
+/// Runs a script in a new session with the given capacity, byte by byte and at once, and compares the
+/// text written and the summary with those expected.
 fn answers(
     rt: &impl Abort,
     alloc: Global,

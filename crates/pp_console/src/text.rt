@@ -7,7 +7,7 @@ use arrayvec::ArrayVec;
 use pp_arith::push_octal;
 use pp_lines::push_text;
 
-/// Adds a name, and the last octal digits of a value.
+/// Appends a name, and the last `digits` octal digits of a value.
 #[tactic(auto, unfolding(crate::specs::Texts::field))]
 pub fn push_field<const N: usize>(line: &mut ArrayVec<u8, N>, name: &[u8], digits: u8, value: u64)
     requires few { digits ≤ 22 }

@@ -8,7 +8,7 @@ use arrayvec::ArrayVec;
 use pp_lines::push_text;
 use pp_rig::{Hit, Watched};
 
-/// Adds a place: its kind, and where it is.
+/// Appends a place: its kind and its address.
 #[tactic(auto, unfolding(crate::specs::Watches::place_text))]
 fn push_place(line: &mut ArrayVec<u8, 120>, place: Watched)
     requires { array_vec_len line.old ≤ 110 }
@@ -28,7 +28,7 @@ fn push_place(line: &mut ArrayVec<u8, 120>, place: Watched)
     }
 }
 
-/// The digits of a place's number.
+/// Returns the number of octal digits that a place's number has.
 #[tactic(auto, unfolding(crate::specs::Watches::digits_of))]
 fn digits_of(place: Watched) -> u8
     ensures value { result ≡ digits_of place }
@@ -41,7 +41,7 @@ fn digits_of(place: Watched) -> u8
     }
 }
 
-/// Adds a watch.
+/// Appends the line of a watch.
 #[tactic(auto, unfolding(crate::specs::Watches::watch_text))]
 fn push_watch(lines: &mut ArrayVec<u8, 120>, watched: Watched)
     requires { array_vec_len lines.old ≤ 100 }
@@ -53,7 +53,7 @@ fn push_watch(lines: &mut ArrayVec<u8, 120>, watched: Watched)
     lines.push(b'\n');
 }
 
-/// The watches in their order, at most eight, or that there is none.
+/// Returns the lines of the watches in their order, at most eight, or `W NONE` if there are none.
 #[tactic(auto, unfolding(crate::specs::Watches::watches_text))]
 pub fn watch_lines(watches: &[Watched]) -> ArrayVec<u8, 120>
     requires { length watches.now ≤ 8 }
@@ -70,7 +70,7 @@ pub fn watch_lines(watches: &[Watched]) -> ArrayVec<u8, 120>
     lines
 }
 
-/// Adds the change that ended a run, if any did.
+/// Appends the change that ended a run, if there is one.
 #[tactic(auto, unfolding(crate::specs::Watches::hit_text))]
 pub fn push_hit(lines: &mut ArrayVec<u8, 120>, hit: Option<Hit>)
     requires { array_vec_len lines.old ≤ 60 }

@@ -7,7 +7,7 @@ use crate::tests::{With, session_of};
 use pp_lines::Tray;
 use std::test::Fail;
 
-/// Returns the progress of a script of which this many bytes were read, all of them in blank lines.
+/// Returns the progress of a script after this many bytes, all in blank lines.
 fn progress_at(bytes: u32) -> Progress
     requires { bytes ≤ BYTE_LIMIT }
 {

@@ -35,7 +35,7 @@ PP 00 P 0105 A 000060 Q 0000 PHASE 0000 SLOT 01\n\
     )
 }
 
-/// A line of 136 colons is printed, and its end is taken back.
+/// A line of 136 colons is printed, and its line end is undone.
 #[test]
 fn prints_a_line(rt: HostRuntime) -> Result<(), Fail> {
     answers(
@@ -64,7 +64,7 @@ LP H 13 SYMBOLS 000210 COLUMN 210 MODE PRINTING\n\
     )
 }
 
-/// Each symbol of display code.
+/// Each symbol of display code is printed.
 #[test]
 fn prints_every_symbol(rt: HostRuntime) -> Result<(), Fail> {
     answers(
@@ -111,7 +111,7 @@ fn dead_start_without_a_panel(rt: HostRuntime) -> Result<(), Fail> {
     )
 }
 
-/// A channel that is empty, and the others.
+/// One channel is empty, and the others are inactive.
 #[test]
 fn shows_channels(rt: HostRuntime) -> Result<(), Fail> {
     answers(
@@ -140,7 +140,7 @@ H 14 F 0000\n",
     )
 }
 
-/// A channel in each state, one with a function code.
+/// Channels in each state, one with a function code.
 #[test]
 fn shows_every_state(rt: HostRuntime) -> Result<(), Fail> {
     answers(
@@ -198,7 +198,7 @@ LP H 13 SYMBOLS 000000 COLUMN 000 MODE IDLE\n",
     )
 }
 
-/// Both devices after a call for their status.
+/// Both devices after a request for their status.
 #[test]
 fn shows_status_modes(rt: HostRuntime) -> Result<(), Fail> {
     answers(
@@ -229,7 +229,7 @@ CR H 12 CARD 0000 OF 0000 COLUMN 000 MODE SENT\n",
     )
 }
 
-/// The panel's program, and the way back from it.
+/// The program of the panel runs, and is undone.
 #[test]
 fn dead_start(rt: HostRuntime) -> Result<(), Fail> {
     answers(

@@ -12,10 +12,10 @@ use std::alloc::Global;
 use std::process::Abort;
 use std::test::Fail;
 
-/// A line with what ends it, its answer, and how many actions are kept after it.
+/// A line with its line end, its answer, and the length of the undo history after it.
 type Exchange = (&'static [u8], &'static [u8], u32);
 
-/// A load, and its way back.
+/// A load, which is undone.
 const LOAD: [Exchange; 6] = [
     (b"SET M 0 100 1405 3420\n", b"OK\n", 1),
     (b"SET P 0 100\n", b"OK\n", 2),
@@ -33,7 +33,7 @@ const LOAD: [Exchange; 6] = [
     ),
 ];
 
-/// A run that stops at a change, which is taken back.
+/// A run that stops at a change, which is undone.
 const CHANGE: [Exchange; 8] = [
     (b"SET M 0 100 1405 2400 3450\n", b"OK\n", 1),
     (b"SET P 0 100\n", b"OK\n", 2),
@@ -49,7 +49,7 @@ const CHANGE: [Exchange; 8] = [
     (b"DUMP M 0 50 50\n", b"0050 0000\n", 23),
 ];
 
-/// Lines that are refused, a note, and a last line without a line feed.
+/// Lines that are rejected, a note, and a last line without a line feed.
 const REFUSED: [Exchange; 8] = [
     (
         b"XXXXXXXXXXXXXXXXXXXXXXXXXXXXXXXXXXXXXXXXXXXXXXXXXXXXXXXXXXXXXXXX\
@@ -76,7 +76,8 @@ fn joined_lines(alloc: Global, exchanges: &[Exchange]) -> Result<Vec<u8>, Fail> 
     Ok(script)
 }
 
-/// The answers to the lines that a line feed ends within the first bytes, and the actions kept then.
+/// Returns the answers to the lines that end within the first bytes, and the length of the undo history
+/// then.
 fn finished_within(
     alloc: Global,
     exchanges: &[Exchange],
@@ -96,7 +97,7 @@ fn finished_within(
     Ok((text, kept))
 }
 
-/// The source fails at each of its calls in turn, with pieces of the given length.
+/// Makes the source fail at each of its calls in turn, with pieces of the given length.
 fn fails_at_each_take(
     rt: &impl Abort,
     alloc: Global,
@@ -129,7 +130,7 @@ fn fails_at_each_take(
     Ok(())
 }
 
-/// The sink fails at each of its calls in turn, of at most so many bytes.
+/// Makes the sink fail at each of its calls in turn. Each call takes at most `piece` bytes.
 fn fails_at_each_put(
     rt: &impl Abort,
     alloc: Global,
@@ -190,7 +191,7 @@ fn a_of(session: &Session<Rig>) -> u64 {
     session.machine().value(&Place::RegA { pp: 0 })
 }
 
-/// A line that was begun is performed at the end of the source, and not after its failure.
+/// An unfinished line is performed at the end of the source, but not after a failure.
 #[test]
 fn unfinished_line_waits_for_the_end(rt: HostRuntime) -> Result<(), Fail> {
     let mut session = session_of(rt.alloc(), With::LittleMemory, 100)?;
@@ -223,7 +224,7 @@ fn unfinished_line_waits_for_the_end(rt: HostRuntime) -> Result<(), Fail> {
     Ok(())
 }
 
-/// A command stands whose answer could not be written.
+/// A command is performed even if its answer can't be written.
 #[test]
 fn command_stands_without_its_answer(rt: HostRuntime) -> Result<(), Fail> {
     let mut session = session_of(rt.alloc(), With::LittleMemory, 100)?;
@@ -248,7 +249,7 @@ fn command_stands_without_its_answer(rt: HostRuntime) -> Result<(), Fail> {
     Ok(())
 }
 
-/// A script has at most a million lines, and any byte begins one more.
+/// A script has at most a million lines, and any further byte begins one more.
 #[test]
 fn lines_are_limited(rt: HostRuntime) -> Result<(), Fail> {
     let mut session = session_of(rt.alloc(), With::LittleMemory, 1)?;
@@ -287,7 +288,7 @@ fn lines_are_limited(rt: HostRuntime) -> Result<(), Fail> {
     Ok(())
 }
 
-/// Lines go in order: an answer that can't be written comes before a limit that the same piece passes.
+/// Lines are performed in order: an answer that can't be written is reported before a limit in the same piece.
 #[test]
 fn answers_come_before_limits(rt: HostRuntime) -> Result<(), Fail> {
     let mut session = session_of(rt.alloc(), With::LittleMemory, 1)?;
@@ -306,7 +307,7 @@ fn answers_come_before_limits(rt: HostRuntime) -> Result<(), Fail> {
     Ok(())
 }
 
-/// The status of a run that ended well tells whether a line was refused.
+/// The status of a run that ended without a fault shows whether a line was rejected.
 #[test]
 fn status_tells_of_refused_lines(rt: HostRuntime) {
     assert_eq!(rt;

@@ -2,7 +2,7 @@
 use super::{With, answers};
 use std::test::Fail;
 
-/// At capacity the oldest action goes.
+/// A full undo history drops its oldest action.
 #[test]
 fn keeps_the_newest_actions(rt: HostRuntime) -> Result<(), Fail> {
     answers(
@@ -31,7 +31,7 @@ PP 00 P 0000 A 000001 Q 0000 PHASE 0000 SLOT 00\n",
     )
 }
 
-/// A run stops at a change, and the change is taken back.
+/// A run stops at a change, and the change is undone.
 #[test]
 fn stops_at_a_change_and_goes_back_to_it(rt: HostRuntime) -> Result<(), Fail> {
     answers(
@@ -61,7 +61,7 @@ ERR 10 NO CHANGE KEPT\n\
     )
 }
 
-/// A store of the number that stood there is no change; the WATCH itself goes back too, and forward again.
+/// Storing the same number again is not a change. The WATCH itself is undone and redone too.
 #[test]
 fn store_of_the_same_number_is_no_change(rt: HostRuntime) -> Result<(), Fail> {
     answers(
@@ -115,7 +115,7 @@ ERR 04 RANGE\n",
     )
 }
 
-/// A ninth place is refused, and one of the eight too.
+/// A ninth place is rejected, and so is one that is watched already.
 #[test]
 fn eight_watches_are_all(rt: HostRuntime) -> Result<(), Fail> {
     answers(
@@ -157,7 +157,7 @@ W H 00\n",
     )
 }
 
-/// A history of one action.
+/// An undo history of one action.
 #[test]
 fn keeps_one_action(rt: HostRuntime) -> Result<(), Fail> {
     answers(
@@ -182,7 +182,7 @@ PP 00 P 0000 A 000001 Q 0000 PHASE 0000 SLOT 00\n",
     )
 }
 
-/// A history of ten thousand actions.
+/// An undo history of ten thousand actions.
 #[test]
 fn keeps_ten_thousand_actions(rt: HostRuntime) -> Result<(), Fail> {
     answers(
@@ -201,7 +201,7 @@ BACK 23420 SLOT 01\n",
     )
 }
 
-/// A change whose action is no longer kept.
+/// A change that is no longer in the undo history.
 #[test]
 fn change_that_is_no_longer_kept(rt: HostRuntime) -> Result<(), Fail> {
     answers(
@@ -226,7 +226,7 @@ BACK 2 SLOT 00\n",
     )
 }
 
-/// The same change, still kept.
+/// The same change, still in the undo history.
 #[test]
 fn change_that_is_still_kept(rt: HostRuntime) -> Result<(), Fail> {
     answers(
@@ -271,7 +271,7 @@ ERR 10 NO CHANGE KEPT\n",
     )
 }
 
-/// Changes of A and of a central word are told in their widths.
+/// Changes of A and of a central word are written in their own widths.
 #[test]
 fn watches_a_and_central_memory(rt: HostRuntime) -> Result<(), Fail> {
     answers(
@@ -302,7 +302,7 @@ HIT C 000005 00000000000000000000 00010002000300040005\n",
     )
 }
 
-/// Actions go forward again, until a new one takes their place.
+/// Undone actions can be redone until a new action is performed.
 #[test]
 fn goes_forward_until_a_new_action(rt: HostRuntime) -> Result<(), Fail> {
     answers(
@@ -337,7 +337,7 @@ PP 00 P 0000 A 000002 Q 0007 PHASE 0000 SLOT 00\n",
     )
 }
 
-/// Going forward stops at no watch.
+/// Redoing does not stop at a watch.
 #[test]
 fn forward_does_not_stop_at_a_watch(rt: HostRuntime) -> Result<(), Fail> {
     answers(
@@ -365,7 +365,7 @@ FORWARD 26 SLOT 02\n",
     )
 }
 
-/// Back and forward keep the same actions.
+/// The undo history is as long after BACK and FORWARD as before.
 #[test]
 fn forward_keeps_as_much_as_back_took(rt: HostRuntime) -> Result<(), Fail> {
     answers(
@@ -396,7 +396,7 @@ BACK 4 SLOT 00\n",
     )
 }
 
-/// A change that was taken back goes forward again.
+/// A change that was undone is redone.
 #[test]
 fn change_goes_forward_again(rt: HostRuntime) -> Result<(), Fail> {
     answers(
@@ -445,7 +445,7 @@ ERR 16 TOO FEW AHEAD\n",
     )
 }
 
-/// Refused lines, dumps, BACK, BACK W without a change and FORWARD leave the rest of the actions ahead.
+/// Rejected lines, dumps, BACK, BACK W without a change and FORWARD keep the rest of the redo list.
 #[test]
 fn what_leaves_the_actions_ahead(rt: HostRuntime) -> Result<(), Fail> {
     answers(
@@ -484,7 +484,7 @@ PP 00 P 0000 A 000003 Q 0000 PHASE 0000 SLOT 00\n",
     )
 }
 
-/// Counts to 1000000 octal.
+/// Counts up to 1000000 octal.
 #[test]
 fn counts_to_one_million(rt: HostRuntime) -> Result<(), Fail> {
     answers(
@@ -507,7 +507,7 @@ ERR 16 TOO FEW AHEAD\n",
     )
 }
 
-/// A watch is taken out, and comes back in its place.
+/// A watch is removed, and the undo puts it back at its old position.
 #[test]
 fn unwatch_closes_up(rt: HostRuntime) -> Result<(), Fail> {
     answers(

@@ -4,7 +4,7 @@ use crate::{IoFault, parse, perform};
 use pp_lines::Tray;
 use std::test::Fail;
 
-/// Lines that are refused, a note, and a last line without an end.
+/// Lines that are rejected, a note, and a last line without an end.
 #[test]
 fn refuses_lines(rt: HostRuntime) -> Result<(), Fail> {
     answers(
@@ -32,7 +32,7 @@ TURNS 1 SLOT 01\n",
     )
 }
 
-/// What is no number comes before what is out of range, and what is no command before the number of words.
+/// A word that is not a number is reported before a number out of range, and an unknown word before the word count.
 #[test]
 fn takes_words_before_ranges(rt: HostRuntime) -> Result<(), Fail> {
     answers(
@@ -88,7 +88,7 @@ PP 00 P 0000 A 000000 Q 0000 PHASE 0000 SLOT 00\n",
     )
 }
 
-/// Addresses past the machine's own central memory, before any other refusal.
+/// Addresses past the machine's own central memory are rejected before all else.
 #[test]
 fn addresses_past_the_size(rt: HostRuntime) -> Result<(), Fail> {
     answers(
@@ -129,7 +129,7 @@ ERR 04 RANGE\n",
     )
 }
 
-/// Cells in rows of eight from the first one on.
+/// Cells in rows of eight, starting at the first cell.
 #[test]
 fn shows_rows_of_eight(rt: HostRuntime) -> Result<(), Fail> {
     answers(
@@ -153,7 +153,7 @@ OK\n\
     )
 }
 
-/// A line without words is ignored and counted, one that is a carriage return alone too.
+/// A line without words is ignored and counted, even if it is only a carriage return.
 #[test]
 fn counts_ignored_lines(rt: HostRuntime) -> Result<(), Fail> {
     answers(&rt, rt.alloc(), With::Nothing, 1, b"\r", b"", 1, 0)?;
@@ -194,7 +194,7 @@ fn drops_one_carriage_return(rt: HostRuntime) -> Result<(), Fail> {
     )
 }
 
-/// A byte that is not ASCII is told also in a note.
+/// A byte that is not ASCII is reported even in a note.
 #[test]
 fn tells_bytes_that_are_not_ascii(rt: HostRuntime) -> Result<(), Fail> {
     answers(
@@ -263,7 +263,7 @@ fn tells_lines_that_are_too_long(rt: HostRuntime) -> Result<(), Fail> {
     )
 }
 
-/// A command that is performed by itself tells whether it was refused, and stands where its answer
+/// `perform` returns whether the command was rejected. The command is performed even if its answer
 /// can't be written.
 #[test]
 fn performs_single_commands(rt: HostRuntime) -> Result<(), Fail> {

@@ -8,7 +8,7 @@ fn nothing_in_nothing_out(rt: HostRuntime) -> Result<(), Fail> {
     answers(&rt, rt.alloc(), With::Nothing, 10000, b"", b"", 0, 0)
 }
 
-/// A load, and its way back.
+/// A load, which is undone.
 #[test]
 fn loads_stores_and_goes_back(rt: HostRuntime) -> Result<(), Fail> {
     answers(
@@ -33,7 +33,7 @@ PP 00 P 0100 A 000000 Q 0000 PHASE 0000 SLOT 00\n",
     )
 }
 
-/// Zero less one is minus one.
+/// Zero minus one is minus one.
 #[test]
 fn subtracts_one_from_zero(rt: HostRuntime) -> Result<(), Fail> {
     answers(
@@ -81,7 +81,7 @@ PP 11 P 0000 A 000000 Q 0000 PHASE 0000 SLOT 00\n",
     )
 }
 
-/// A return jump to the last cell goes on at the first.
+/// A return jump to the last cell continues at the first cell.
 #[test]
 fn return_jump_wraps(rt: HostRuntime) -> Result<(), Fail> {
     answers(
@@ -104,7 +104,7 @@ PP 00 P 0000 A 000000 Q 0000 PHASE 0000 SLOT 01\n",
     )
 }
 
-/// A central word into five cells, over the next instruction.
+/// A central word is read into five cells, over the next instruction.
 #[test]
 fn central_word_into_cells(rt: HostRuntime) -> Result<(), Fail> {
     answers(
@@ -129,7 +129,7 @@ TURNS 1 SLOT 01\n\
     )
 }
 
-/// A block of central words over the cell that holds its return address.
+/// A block of central words overwrites the cell that holds its return address.
 #[test]
 fn block_overwrites_its_return_address(rt: HostRuntime) -> Result<(), Fail> {
     answers(
@@ -191,7 +191,7 @@ PP 00 P 0102 A 000005 Q 0000 PHASE 0000 SLOT 01\n\
     )
 }
 
-/// A processor that waits takes its turn, and the turn is kept.
+/// A turn in which the processor waits is in the undo history too.
 #[test]
 fn waits_are_kept(rt: HostRuntime) -> Result<(), Fail> {
     answers(
@@ -218,7 +218,7 @@ ERR 07 TOO FEW KEPT\n",
     )
 }
 
-/// Two exchanges lose the bits in the place of B0, and going back brings them again.
+/// Two exchanges lose the bits in the field of B0, and undoing them restores the bits.
 #[test]
 fn two_exchanges_lose_b0(rt: HostRuntime) -> Result<(), Fail> {
     answers(
@@ -247,7 +247,7 @@ C 001000 00001234000005123456\n",
     )
 }
 
-/// An exchange of which thirteen words lie past central memory.
+/// Thirteen words of an exchange lie past the end of central memory.
 #[test]
 fn exchange_past_the_size(rt: HostRuntime) -> Result<(), Fail> {
     answers(
