@@ -8,7 +8,7 @@ use Rattle.pp_files.specs.Files.{Rule, ◌>>=◌, file_limit, rows_of_file, card
 use Rattle.pp_files.specs.Loading.{IsCauseOf}
 use Rattle.pp_files.specs.Reading.{Reads}
 
--- the cause of a fault of the rows is one of a fault of what is made of them
+-- the cause of a fault of the rows is also a cause of the fault of the deck or panel made from the rows
 carried : {A : Type 0} (rule : Rule) (rows : List ℕ → Result (List Row) LoadFault) (f : List Row → Result A LoadFault) (fault : LoadFault) (taken bytes : List ℕ) →
     IsCauseOf rule rows taken bytes fault → IsCauseOf rule (λ file. rows file >>= f) taken bytes fault
 carried rule rows f fault taken bytes (inl e) = inl (ap (λ read. read >>= f) e)

@@ -1,4 +1,4 @@
--- How far a file was read, and what a fault tells of it.
+-- The progress of a file, and the faults that are reported.
 use Rattle.std.proofs.Common.{◌≡◌, ◌∙◌, ℕ, ◌+◌, ◌<◌, ◌≤◌, eqb, false, List, [], ◌∷◌, ◌++◌, length, take, refl, sym, ap, arith, rules, inl, inr, length-append, append_assoc}
 use Rattle.std.specs.Prelude.{Option, Result, Ok, Err, MatchResult, ◌⊎◌}
 use Rattle.std.specs.Io.KnownBytes.{Consumes, IsAtEnd}
@@ -20,7 +20,7 @@ use Rattle.pp_files.proofs.MoreLines.{row_of_front, line-kept, lines-one, lines-
 
 -- ---- a fault at a line
 
--- a fault at the front that is kept of a line is one at the line
+-- a fault at the kept prefix of a line is a fault at the line
 pub FailsAt-kept : (rule : Rule) (k : ℕ) (rows : List Row) (front line : List ℕ) (fault : LoadFault) → front ≡ take KEPT line →
     FailsAt rule k rows front fault → FailsAt rule k rows line fault
 FailsAt-kept rule k rows front line fault e (inl fails) = inl (sym (line-kept rule k rows front line e) ∙ fails)
@@ -30,7 +30,7 @@ FailsAt-kept rule k rows front line fault e (inr refused) = inr (
   (refused.2.0, sym (row_of_front k front line e) ∙ refused.2.1),
 )
 
--- a fault at a line of a file is told of the file
+-- a fault at a line of a file is a fault of the file
 FailsIn-line : (rule : Rule) (limit : ℕ) (bytes : List ℕ) (rows : List Row) (done : List (List ℕ)) (line : List ℕ) (later : List (List ℕ)) (fault : LoadFault) →
     lines_of_file limit bytes ≡ (done ++ line ∷ []) ++ later → rows_of_lines rule done ≡ Ok rows → FailsAt rule (length done + 1) rows line fault →
     (rows_of_file rule limit bytes ≡ Err fault) ⊎ ((fault ≡ NoMemory) × RunsOut rule limit bytes)
@@ -48,7 +48,7 @@ FailsIn-line rule limit bytes rows done line later fault split read (inr refused
   ),
 )
 
--- ---- how far a file was read
+-- ---- the progress of a file
 
 pub Stands-within : (progress : Progress) (rule : Rule) (Holds : List Row → Type 0) (bytes : List ℕ) → Stands progress rule Holds bytes → length bytes ≤ file_limit
 Stands-within progress rule Holds bytes stands = rw (← stands.counts_bytes) progress.bytes_within
@@ -66,7 +66,7 @@ Stands-new progress rule Holds front no_bytes no_lines held = record {
   reads = ([], refl, held);
 }
 
--- a byte that is no line feed
+-- a byte that is not a line feed
 pub Stands-byte : (old new : Progress) (rule : Rule) (Holds : List Row → Type 0) (bytes : List ℕ) (byte : ℕ) → eqb byte 10 ≡ false → Stands old rule Holds bytes →
     IsFrontOf KEPT new.cutter (bytes ++ byte ∷ []) → new.bytes ≡ old.bytes + 1 → new.lines ≡ old.lines → Stands new rule Holds (bytes ++ byte ∷ [])
 Stands-byte old new rule Holds bytes byte h stands front more_bytes same_lines = record {
@@ -97,7 +97,7 @@ Stands-feed old new rule Holds Holds' bytes stands front more_bytes more_lines l
       );
     }
 
--- a fault at the line that a line feed ends
+-- a fault at a line that ends with a line feed
 pub Stands-fault : (old : Progress) (rule : Rule) (Holds : List Row → Type 0) (fault : LoadFault) (bytes more : List ℕ) → Stands old rule Holds bytes → old.bytes < file_limit →
     ((rows : List Row) → Holds rows → FailsAt rule (old.lines + 1) rows old.cutter fault) → FailsIn rule (bytes ++ 10 ∷ more) fault
 Stands-fault old rule Holds fault bytes more stands room line =
@@ -108,7 +108,7 @@ Stands-fault old rule Holds fault bytes more stands room line =
     FailsIn-line rule file_limit (bytes ++ 10 ∷ more) read.0 (finished bytes) (unfinished bytes) further.0 fault further.1 read.1
     (FailsAt-kept rule (length (finished bytes) + 1) read.0 old.cutter (unfinished bytes) fault stands.keeps fails)
 
--- a byte over the limit
+-- a byte above the limit
 pub Stands-long : (old : Progress) (rule : Rule) (Holds : List Row → Type 0) (bytes more : List ℕ) (byte : ℕ) → Stands old rule Holds bytes → old.bytes ≡ file_limit → FailsIn rule (bytes ++ byte ∷ more) FileTooLong
 Stands-long old rule Holds bytes more byte stands full =
     inl (file-long rule stands.reads.0 file_limit bytes more byte (sym stands.counts_bytes ∙ full) stands.reads.1)
@@ -123,7 +123,7 @@ file-whole progress rule Holds bytes stands empty =
     let all = lines-whole KEPT progress.cutter bytes (omega arith) stands.keeps empty in
     (read.0, file-short rule file_limit bytes (Stands-within progress rule Holds bytes stands) ∙ ap (rows_of_lines rule) all ∙ read.1, read.2)
 
--- the last line does not
+-- the last line does not end with a line feed
 pub file-last : {T : Type 0} (progress : Progress) (rule : Rule) (Holds Holds' : List Row → Type 0) (result : Result T LoadFault) (bytes : List ℕ) → Stands progress rule Holds bytes → 0 < length progress.cutter →
     ((rows : List Row) → Holds rows → MatchResult result (λ _. Reads Holds' (with_line rule (progress.lines + 1) rows progress.cutter)) (λ fault. FailsAt rule (progress.lines + 1) rows progress.cutter fault)) →
     MatchResult result (λ _. Reads Holds' (rows_of_file rule file_limit bytes)) (λ fault. FailsIn rule bytes fault)
@@ -146,14 +146,14 @@ file-last progress rule Holds Holds' (Err fault) bytes stands begun line =
     (lines-short file_limit bytes (Stands-within progress rule Holds bytes stands) ∙ all ∙ sym (append-nil (finished bytes ++ unfinished bytes ∷ []))) read.1
     (FailsAt-kept rule (length (finished bytes) + 1) read.0 progress.cutter (unfinished bytes) fault stands.keeps fails)
 
--- ---- what was read of the source
+-- ---- the bytes that were read
 
--- a fault of the file, or memory, is the cause
+-- a fault of the file, or memory that ran out, is the cause
 caused : (rule : Rule) (taken bytes : List ℕ) (fault : LoadFault) → FailsIn rule bytes fault → IsCauseOf rule (rows_of_file rule file_limit) taken bytes fault
 caused rule taken bytes fault (inl fails) = inl fails
 caused rule taken bytes fault (inr refused) = inr (inl refused)
 
--- so it is, whatever bytes follow
+-- a fault for any later bytes has its cause in the bytes read
 pub fails-in : (rule : Rule) (first second : Option (List ℕ)) (taken : List ℕ) (fault : LoadFault) → Consumes first second taken →
     ((later : List ℕ) → FailsIn rule (taken ++ later) fault) → IsCauseOf rule (rows_of_file rule file_limit) taken (all_bytes first taken) fault
 fails-in rule first second taken fault p fails =
@@ -164,7 +164,7 @@ fails-in rule first second taken fault p fails =
 pub breaks-off : (progress : Progress) (rule : Rule) (Holds : List Row → Type 0) (taken : List ℕ) → Stands progress rule Holds taken → BreaksOff rule file_limit taken
 breaks-off progress rule Holds taken stands = (Stands-within progress rule Holds taken stands, (stands.reads.0, stands.reads.1))
 
--- at the end of the input
+-- at the end of input
 pub ends : {T : Type 0} (result : Result T LoadFault) (P : T → Type 0) (rule : Rule) (first second : Option (List ℕ)) (taken : List ℕ) → Consumes first second taken → IsAtEnd second →
     MatchResult result P (λ fault. FailsIn rule taken fault) →
     MatchResult result P (λ fault. IsCauseOf rule (rows_of_file rule file_limit) taken (all_bytes first taken) fault)

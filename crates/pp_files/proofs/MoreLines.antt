@@ -1,4 +1,4 @@
--- The rows of a file whose lines become more.
+-- The rows of a file with more lines.
 use Rattle.std.proofs.Common.{◌≡◌, ◌∙◌, ℕ, ◌+◌, ◌-◌, ◌<◌, ◌≤◌, Bool, true, false, cond, List, [], ◌∷◌, ◌++◌, length, take, refl, sym, ap, arith, length-append, append_assoc}
 use Rattle.std.specs.Prelude.{Result, Ok, Err, nat_lt, nat_le}
 use Rattle.std.proofs.lemmas.Bool.Decides.{nat_tests}
@@ -19,7 +19,7 @@ text-long k text h =
     let over : nat_lt 1023 (length text) ≡ true = grind (arith, nat_tests) in
     rw over refl
 
--- a front that shows that a line is too long tells what the line tells
+-- a prefix of more than 1024 bytes reads as the line does
 row-kept : (k most : ℕ) (line : List ℕ) → 1024 < most → row_of_line k (take most line) ≡ row_of_line k line
 unfolding row_of_line
 row-kept k most line long = told-kept (row_of_text k) (Err (LineTooLong k)) 1023 most line (text-long k) long
@@ -27,7 +27,7 @@ row-kept k most line long = told-kept (row_of_text k) (Err (LineTooLong k)) 1023
 pub row_of_front : (k : ℕ) (front line : List ℕ) → front ≡ take KEPT line → row_of_line k front ≡ row_of_line k line
 row_of_front k front line e = rw e (row-kept k KEPT line (omega arith))
 
--- the front that is kept of a line is read as the line
+-- the kept prefix of a line reads as the line does
 pub line-kept : (rule : Rule) (k : ℕ) (rows : List Row) (front line : List ℕ) → front ≡ take KEPT line → with_line rule k rows front ≡ with_line rule k rows line
 line-kept rule k rows front line e = ap (λ read. read >>= with_row rule k rows) (row_of_front k front line e)
 
@@ -37,7 +37,7 @@ bind-ok : {A : Type 0} (read : Result A LoadFault) → (read >>= λ x. Ok x) ≡
 bind-ok (Ok x) = refl
 bind-ok (Err e) = refl
 
--- lines, and further ones
+-- lines, and further lines
 lines-both : (rule : Rule) (k : ℕ) (rows : List Row) (done more : List (List ℕ)) →
     with_lines rule k rows (done ++ more) ≡ (with_lines rule k rows done >>= λ read. with_lines rule (k + length done) read more)
 unfolding with_lines
@@ -55,7 +55,7 @@ lines-both rule k rows (line ∷ done) more = by_first (λ read. lines-both rule
         later read ∙ ap (λ n. with_lines rule (k + 1) read done >>= λ last. with_lines rule n last more) same
     by_first later (Err e) = refl
 
--- one line more
+-- one more line
 pub lines-one : (rule : Rule) (rows : List Row) (done : List (List ℕ)) (line : List ℕ) → rows_of_lines rule done ≡ Ok rows →
     rows_of_lines rule (done ++ line ∷ []) ≡ with_line rule (length done + 1) rows line
 unfolding with_lines
@@ -64,7 +64,7 @@ lines-one rule rows done line e =
     lines-both rule 0 [] done (line ∷ []) ∙ ap (λ read. read >>= λ last. with_lines rule (0 + length done) last (line ∷ [])) e
     ∙ bind-ok (with_line rule (0 + length done + 1) rows line) ∙ ap (λ n. with_line rule n rows line) same
 
--- a fault stays the first one, whatever lines follow
+-- further lines do not change the first fault
 lines-fault : (rule : Rule) (done more : List (List ℕ)) (fault : LoadFault) → rows_of_lines rule done ≡ Err fault → rows_of_lines rule (done ++ more) ≡ Err fault
 lines-fault rule done more fault e =
     lines-both rule 0 [] done more ∙ ap (λ read. read >>= λ last. with_lines rule (0 + length done) last more) e
@@ -76,7 +76,7 @@ file-lines : (rule : Rule) (limit : ℕ) (bytes : List ℕ) (read : Result (List
 unfolding rows_of_file
 file-lines rule limit bytes read e = ap (λ read. read >>= λ rows. cond (nat_le (length bytes) limit) (Ok rows) (Err FileTooLong)) e
 
--- the first fault of the lines is the file's
+-- the first fault of the lines is the fault of the file
 pub file-fault : (rule : Rule) (limit : ℕ) (bytes : List ℕ) (done more : List (List ℕ)) (fault : LoadFault) → lines_of_file limit bytes ≡ done ++ more →
     rows_of_lines rule done ≡ Err fault → rows_of_file rule limit bytes ≡ Err fault
 file-fault rule limit bytes done more fault split e =
@@ -120,13 +120,13 @@ take-past limit bytes more byte h =
     let same : limit ≡ length (bytes ++ byte ∷ []) + (limit - (length bytes + 1)) = omega (arith, size) in
     ap (take limit) (append-next bytes more byte) ∙ ap (λ n. take n (front ++ more)) same ∙ take-append-add front more (limit - (length bytes + 1))
 
--- the finished lines go on from these
+-- the finished lines begin with these
 finished-feed_more : (bytes more : List ℕ) → (extra : List (List ℕ)) × (finished ((bytes ++ 10 ∷ []) ++ more) ≡ (finished bytes ++ unfinished bytes ∷ []) ++ extra)
 finished-feed_more bytes more =
     let further = finished-more (bytes ++ 10 ∷ []) more in
     (further.0, further.1 ∙ ap (λ front. front ++ further.0) (finished-feed bytes))
 
--- the lines of a file go on from these, of which a line feed ended the last one within the limit
+-- the lines of a file begin with these, if the last of them ends with a line feed within the limit
 pub lines_of_file-feed : (limit : ℕ) (bytes more : List ℕ) → length bytes < limit →
     (extra : List (List ℕ)) × (lines_of_file limit (bytes ++ 10 ∷ more) ≡ (finished bytes ++ unfinished bytes ∷ []) ++ extra)
 lines_of_file-feed limit bytes more h = by_test (nat_le (length (bytes ++ 10 ∷ more)) limit) refl

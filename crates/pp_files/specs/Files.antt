@@ -1,4 +1,4 @@
--- What deck and panel files say.
+-- The contents of deck and panel files.
 use Rattle.std.specs.Prelude.{ℕ, ◌+◌, ◌-◌, ◌==◌, nat_le, if◌then◌else◌, List, [], ◌∷◌, ◌++◌, length, take, map, replicate, Option, Some, None, Result, Ok, Err}
 use Rattle.std.specs.List.{concat}
 use Rattle.pp_lines.specs.Lines.{lines, finished}
@@ -6,7 +6,7 @@ use Rattle.pp_files.specs.declared.fault.LoadFault.{LoadFault}
 use Rattle.pp_files.specs.declared.fault.LoadFault.TheVariants.{FileTooLong, TooManyWords, PanelCount}
 use Rattle.pp_files.specs.Rows.{Row, row_of_line}
 
--- what follows, where there is no fault so far
+-- the next step, if there was no fault so far
 infixl 10 ◌>>=◌
 abbrev pub ◌>>=◌ : {A B : Type 0} → Result A LoadFault → (A → Result B LoadFault) → Result B LoadFault
 (Ok x) >>= f = f x
@@ -14,7 +14,7 @@ abbrev pub ◌>>=◌ : {A B : Type 0} → Result A LoadFault → (A → Result B
 
 -- ---- all lines
 
--- a rule tells of the rows so far, and of the row of line k after them, whether that is too much
+-- A rule adds the row of line k to the rows so far, or fails if that is too much.
 abbrev pub Rule : Type 0
 Rule = ℕ → List Row → Row → Result (List Row) LoadFault
 
@@ -22,11 +22,11 @@ abbrev pub with_row : Rule → ℕ → List Row → Option Row → Result (List 
 with_row rule k rows None = Ok rows
 with_row rule k rows (Some row) = rule k rows row
 
--- the rows with that of line k, or its first fault
+-- the rows with the row of line k, or its first fault
 abbrev pub with_line : Rule → ℕ → List Row → List ℕ → Result (List Row) LoadFault
 with_line rule k rows line = row_of_line k line >>= with_row rule k rows
 
--- the rows with those of further lines, of which the first is line k + 1, or the first fault
+-- the rows with the rows of further lines, the first of which is line k + 1, or the first fault
 unfoldable pub with_lines : Rule → ℕ → List Row → List (List ℕ) → Result (List Row) LoadFault
 with_lines rule k rows [] = Ok rows
 with_lines rule k rows (line ∷ others) = with_line rule (k + 1) rows line >>= λ more. with_lines rule (k + 1) more others
@@ -35,11 +35,11 @@ with_lines rule k rows (line ∷ others) = with_line rule (k + 1) rows line >>= 
 abbrev pub rows_of_lines : Rule → List (List ℕ) → Result (List Row) LoadFault
 rows_of_lines rule all = with_lines rule 0 [] all
 
--- the most bytes of a file
+-- the largest number of bytes in a file
 abbrev pub file_limit : ℕ
 file_limit = 1048576
 
--- the lines that count: all of a file within the limit, and of a longer one those that a line feed ends within it
+-- the lines that count: all lines of a file within the limit, and those of a longer file that end with a line feed within it
 abbrev pub lines_of_file : ℕ → List ℕ → List (List ℕ)
 lines_of_file limit bytes = if nat_le (length bytes) limit then lines bytes else finished (take limit bytes)
 
@@ -51,11 +51,11 @@ rows_of_file rule limit bytes =
 
 -- ---- decks
 
--- at most 80 numbers a card
+-- at most 80 numbers on a card
 abbrev pub card_rule : Rule
 card_rule k rows row = if nat_le (length row) 80 then Ok (rows ++ row ∷ []) else Err (TooManyWords k)
 
--- a row with zeros for the columns that it leaves out
+-- a row with zeros for the columns that have no number
 abbrev pub card_of_row : Row → Row
 card_of_row row = row ++ replicate (80 - length row) 0
 
@@ -65,7 +65,7 @@ deck_of_file bytes = rows_of_file card_rule file_limit bytes >>= λ rows. Ok (ma
 
 -- ---- panels
 
--- at most twelve numbers together
+-- at most twelve numbers in all
 abbrev pub panel_rule : Rule
 panel_rule k rows row = if nat_le (length (concat rows ++ row)) 12 then Ok (rows ++ row ∷ []) else Err PanelCount
 

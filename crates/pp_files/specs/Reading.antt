@@ -1,4 +1,4 @@
--- Words of the inner contracts of loading: a file as far as it was read, and what a fault tells there.
+-- Definitions for the inner contracts of loading: a file as far as it was read, and the fault that is reported there.
 use Rattle.std.specs.Prelude.{◌≡◌, ℕ, ◌⊎◌, Bool, true, List, length, Result, Ok, Err}
 use Rattle.pp_lines.specs.Lines.{finished, IsFrontOf}
 use Rattle.pp_files.specs.declared.fault.LoadFault.{LoadFault}
@@ -9,7 +9,7 @@ use Rattle.pp_files.specs.Rows.{Row}
 use Rattle.pp_files.specs.Files.{Rule, with_line, rows_of_lines, file_limit, rows_of_file}
 use Rattle.pp_files.specs.Loading.{IsRow, RunsOut}
 
--- there are rows, and they are held
+-- there are rows, and the sheet holds them
 abbrev pub Reads : (List Row → Type 0) → Result (List Row) LoadFault → Type 0
 Reads Holds read = (rows : List Row) × (read ≡ Ok rows) × Holds rows
 
@@ -17,26 +17,26 @@ Reads Holds read = (rows : List Row) × (read ≡ Ok rows) × Holds rows
 abbrev pub HasRows : Result (List Row) LoadFault → Type 0
 HasRows read = (rows : List Row) × (read ≡ Ok rows)
 
--- the fault is that of the rows, or memory was refused where they have none
+-- the fault is that of the rows, or memory ran out and the rows have no fault
 abbrev pub FailsBy : Result (List Row) LoadFault → LoadFault → Type 0
 FailsBy read fault = (read ≡ Err fault) ⊎ ((fault ≡ NoMemory) × HasRows read)
 
--- the fault is that of line k, or memory was refused for its row where it has none
+-- the fault is that of line k, or memory ran out for its row and the line has no fault
 abbrev pub FailsAt : Rule → ℕ → List Row → List ℕ → LoadFault → Type 0
 FailsAt rule k rows line fault =
     (with_line rule k rows line ≡ Err fault) ⊎ ((fault ≡ NoMemory) × HasRows (with_line rule k rows line) × IsRow k line)
 
--- the fault is that of the file with these bytes, or memory was refused before any of the file
+-- the fault is that of the file with these bytes, or memory ran out before any fault of the file
 abbrev pub FailsIn : Rule → List ℕ → LoadFault → Type 0
 FailsIn rule bytes fault = (rows_of_file rule file_limit bytes ≡ Err fault) ⊎ ((fault ≡ NoMemory) × RunsOut rule file_limit bytes)
 
--- no read failed, and memory was refused only where some is wanted
+-- no read failed, and memory ran out only if the sheet needs memory
 abbrev pub MayTell : Bool → LoadFault → Type 0
 MayTell wants_memory NoMemory = wants_memory ≡ true
 MayTell wants_memory ReadFailed = ⊥
 MayTell wants_memory fault = Unit {0}
 
--- memory was refused only where some is wanted
+-- memory ran out only if the sheet needs memory
 abbrev pub MayWant : Bool → LoadFault → Type 0
 MayWant wants_memory NoMemory = wants_memory ≡ true
 MayWant wants_memory fault = Unit {0}

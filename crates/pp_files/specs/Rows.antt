@@ -1,4 +1,4 @@
--- The numbers that a line of a deck or a panel file writes.
+-- The numbers on a line of a deck or a panel file.
 use Rattle.std.specs.Prelude.{ℕ, nat_lt, nat_le, Bool, ◌&&◌, if◌then◌else◌, List, length, map, Option, Some, None, Result, Ok, Err}
 use Rattle.std.specs.List.{list_all}
 use Rattle.pp_arith.specs.Octal.{is_octal, octal_value}
@@ -24,12 +24,12 @@ row_of_words k given =
     if list_all is_octal given then (if list_all is_number given then Ok (Some (numbers given)) else Err (TooLarge k))
     else Err (NotOctal k)
 
--- the numbers of line k, whose carriage return was dropped
+-- the numbers of line k, after its carriage return was dropped
 abbrev pub row_of_text : ℕ → List ℕ → Result (Option Row) LoadFault
 row_of_text k text =
     if nat_lt 1023 (length text) then Err (LineTooLong k)
     else (if is_ignored (words text) then Ok None else row_of_words k (words text))
 
--- the numbers of line k, where it is not passed over, or its first fault
+-- the numbers of line k, if it is not ignored, or its first fault
 unfoldable pub row_of_line : ℕ → List ℕ → Result (Option Row) LoadFault
 row_of_line k line = row_of_text k (without_return line)

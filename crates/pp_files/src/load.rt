@@ -12,16 +12,16 @@ use arrayvec::ArrayVec;
 use pp_lines::Source;
 use std::alloc::Global;
 
-/// Reads the cards of a deck file to the end of the source (this project's choice of format).
+/// Reads the cards of a deck file to the end of input (the format is this project's choice).
 ///
-/// Each line of words is a card; a line without words, and one whose first byte that is not a
-/// blank or a tab is `*`, is skipped. The words are octal, 0 to 7777, for the columns from the
-/// first on; columns that are left out are 0. A file without cards is an empty deck.
+/// Each line of words is a card. A line without words is skipped, and so is a line whose first byte
+/// that is not a blank or a tab is `*`. The words are octal, 0 to 7777, for the columns from the first
+/// on. Columns without a word are 0. A file without cards is an empty deck.
 ///
 /// # Errors
-/// The file's first fault, in the order of `LoadFault`. `NoMemory` is told only at a card.
+/// The file's first fault, in the order of `LoadFault`. `NoMemory` is reported only at a card.
 pub fn load_deck<R: Source>(alloc: Global, source: &mut R) -> Result<Vec<[u16; COLUMNS]>, LoadFault>
-    // At every source: what was read is the file, or after a fault the part of it that was read.
+    // For every source: the bytes read are the file, or after a fault the part of it that was read.
     ensures file { (taken : List ℕ) × Consumes (R.rest source.old) (R.rest source.new) taken
         × (R.given source.new ≡ R.given source.old ++ taken)
         × MatchResult result
@@ -40,14 +40,14 @@ pub fn load_deck<R: Source>(alloc: Global, source: &mut R) -> Result<Vec<[u16; C
     Ok(deck.cards)
 }
 
-/// Reads the twelve words of a panel file to the end of the source (this project's choice of
-/// format): the words of all lines together, each octal, 0 to 7777. Lines are skipped as in a deck.
+/// Reads the twelve words of a panel file to the end of input (the format is this project's choice):
+/// the words of all lines together, each octal, 0 to 7777. Lines are skipped as in a deck.
 ///
 /// # Errors
-/// The file's first fault, in the order of `LoadFault`, and `PanelCount` where it ends with fewer
-/// than twelve words. It is never `NoMemory`, nor `TooManyWords`.
+/// The file's first fault, in the order of `LoadFault`, and `PanelCount` if it ends with fewer than
+/// twelve words. It is never `NoMemory` or `TooManyWords`.
 pub fn load_panel<R: Source>(source: &mut R) -> Result<[u16; PANEL_WORDS], LoadFault>
-    // At every source: what was read is the file, or after a fault the part of it that was read.
+    // For every source: the bytes read are the file, or after a fault the part of it that was read.
     ensures file { (taken : List ℕ) × Consumes (R.rest source.old) (R.rest source.new) taken
         × (R.given source.new ≡ R.given source.old ++ taken)
         × MatchResult result
@@ -67,7 +67,7 @@ pub fn load_panel<R: Source>(source: &mut R) -> Result<[u16; PANEL_WORDS], LoadF
     whole(&panel)
 }
 
-/// The words of a panel that has them all.
+/// Returns the words of a panel that has all twelve.
 fn whole(panel: &Panel) -> Result<[u16; PANEL_WORDS], LoadFault>
     ensures whole { result ≡ whole_panel panel.now.words.items }
     ensures within { IfOk result (λ words. All (λ value. value < 0o10000) words) }

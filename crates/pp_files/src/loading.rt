@@ -13,10 +13,10 @@ use crate::rows::{are_numbers, are_octal};
 use crate::sheet::Sheet;
 use pp_lines::{Failed, LINE_FEED, Source, is_ignored, without_return};
 
-/// The most bytes that are taken at once.
+/// The largest number of bytes read at once.
 const PIECE: usize = 4096;
 
-/// Reads a line, of which `number` is the number.
+/// Reads the line with this number into the sheet.
 #[tactic(auto, unfolding(crate::specs::Rows::row_of_line))]
 fn read_line<S: Sheet>(sheet: &mut S, number: u32, line: &[u8]) -> Result<(), LoadFault>
     ensures row { (rows : List Row) → S.holds sheet.old rows →
@@ -40,7 +40,7 @@ fn read_line<S: Sheet>(sheet: &mut S, number: u32, line: &[u8]) -> Result<(), Lo
     sheet.add(number, text)
 }
 
-/// Takes one byte more of the file.
+/// Processes one more byte of the file.
 fn feed_byte<S: Sheet>(progress: &mut Progress, sheet: &mut S, byte: u8) -> Result<(), LoadFault>
     ensures stands { (bytes more : List ℕ) → Stands progress.old S.rule (S.holds sheet.old) bytes →
         MatchResult result
@@ -63,7 +63,7 @@ fn feed_byte<S: Sheet>(progress: &mut Progress, sheet: &mut S, byte: u8) -> Resu
     Ok(())
 }
 
-/// Takes a piece more of the file.
+/// Processes one more piece of the file.
 fn feed<S: Sheet>(progress: &mut Progress, sheet: &mut S, piece: &[u8]) -> Result<(), LoadFault>
     ensures stands { (bytes more : List ℕ) → Stands progress.old S.rule (S.holds sheet.old) bytes →
         MatchResult result
@@ -78,7 +78,7 @@ fn feed<S: Sheet>(progress: &mut Progress, sheet: &mut S, piece: &[u8]) -> Resul
     Ok(())
 }
 
-/// Reads the last line, where no line feed ends it.
+/// Reads the last line, if no line feed ended it.
 fn finish<S: Sheet>(progress: &Progress, sheet: &mut S) -> Result<(), LoadFault>
     ensures read { (bytes : List ℕ) → Stands progress.now S.rule (S.holds sheet.old) bytes →
         MatchResult result
@@ -94,6 +94,9 @@ fn finish<S: Sheet>(progress: &Progress, sheet: &mut S) -> Result<(), LoadFault>
 }
 
 /// Reads all of the source into an empty sheet.
+///
+/// # Errors
+/// The file's first fault, in the order of `LoadFault`.
 pub fn read_sheet<R: Source, S: Sheet>(source: &mut R, sheet: &mut S) -> Result<(), LoadFault>
     requires { S.holds sheet.old [] }
     ensures file { (taken : List ℕ) × Consumes (R.rest source.old) (R.rest source.new) taken

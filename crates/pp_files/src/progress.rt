@@ -1,19 +1,20 @@
-//! How far a file was read.
+//! The progress of a file.
 ghost use Rattle.std.specs.Prelude.{◌≡◌, ◌≤◌, []};
 ghost use Rattle.pp_files.specs.declared.progress.TheConstants.{FILE_LIMIT};
 
 use pp_lines::LineCutter;
 
-/// The most bytes of a file.
+/// The largest number of bytes in a file.
 pub const FILE_LIMIT: u32 = 1_048_576;
 
-/// The most bytes of a line, one carriage return at its end not counted.
+/// The largest number of bytes in a line, not counting one carriage return at its end.
 pub const LONGEST: usize = 1023;
 
-/// As many bytes of a line as show that it is too long: the most, a carriage return, and one more.
+/// The number of bytes of a line that show that it is too long: the largest number, a carriage return,
+/// and one more.
 pub const KEPT: usize = 1025;
 
-/// How far a file was read.
+/// The progress of a file: how far it was read.
 #[derive(Drop)]
 pub struct Progress {
     pub cutter: LineCutter<KEPT>,
@@ -26,7 +27,7 @@ pub struct Progress {
 }
 
 impl Progress {
-    /// Before the first byte.
+    /// Returns the progress before the first byte.
     pub fn new() -> Self
         ensures front { result.cutter ≡ [] }
         ensures bytes { result.bytes ≡ 0 }

@@ -1,4 +1,4 @@
-//! From the text of a line to its numbers.
+//! Reads the numbers in the text of a line.
 ghost use Rattle.std.specs.Prelude.{◌≡◌, ◌<◌, ◌≤◌, true, length, IfSome, MatchOption, All};
 ghost use Rattle.std.specs.List.{list_all};
 ghost use Rattle.pp_arith.specs.Octal.{is_octal, octal_value};
@@ -9,10 +9,10 @@ use arrayvec::ArrayVec;
 use pp_arith::{is_octal, read_octal};
 use pp_lines::next_word;
 
-/// The greatest number of a file.
+/// The largest number in a file.
 const MOST: u64 = 0o7777;
 
-/// Whether all words of the text are octal.
+/// Returns whether all words of the text are octal.
 pub fn are_octal(text: &[u8]) -> bool
     ensures { result ≡ list_all is_octal (words text.now) }
 {
@@ -26,14 +26,14 @@ pub fn are_octal(text: &[u8]) -> bool
     true
 }
 
-/// Whether the word is octal and at most the greatest number.
+/// Returns whether the word is octal and at most the largest number.
 fn is_number(word: &[u8]) -> bool
     ensures { result ≡ is_number word.now }
 {
     read_octal(word, MOST).is_ok()
 }
 
-/// Whether all words of the text are octal and at most the greatest number.
+/// Returns whether all words of the text are octal and at most the largest number.
 pub fn are_numbers(text: &[u8]) -> bool
     ensures { result ≡ list_all is_number (words text.now) }
 {
@@ -47,7 +47,7 @@ pub fn are_numbers(text: &[u8]) -> bool
     true
 }
 
-/// The number that a word writes.
+/// Returns the value of a word.
 fn number(word: &[u8]) -> u16
     requires { is_number word.now ≡ true }
     ensures value { result ≡ octal_value word.now }
@@ -59,7 +59,7 @@ fn number(word: &[u8]) -> u16
     }
 }
 
-/// The numbers of the text, where they are at most `ROOM`.
+/// Returns the numbers in the text, or `None` if there are more than `ROOM`.
 pub fn numbers<const ROOM: usize>(text: &[u8]) -> Option<ArrayVec<u16, ROOM>>
     requires { list_all is_number (words text.now) ≡ true }
     ensures few { MatchOption result (ROOM < length (words text.now))

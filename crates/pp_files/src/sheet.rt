@@ -1,4 +1,4 @@
-//! What a file is read into.
+//! The sheets that a file is read into.
 ghost use Rattle.std.specs.Prelude.{◌≡◌, ◌<◌, ◌≤◌, ◌++◌, length, drop, Bool, List, true, false, map, All, IfErr, MatchResult};
 ghost use Rattle.std.specs.List.{list_all, concat};
 ghost use Rattle.pp_lines.specs.Words.{words};
@@ -10,24 +10,27 @@ use crate::fault::LoadFault;
 use crate::rows::numbers;
 use arrayvec::ArrayVec;
 
-/// The columns of a card.
+/// The number of columns on a card.
 pub const COLUMNS: usize = 80;
 
-/// The words of a panel.
+/// The number of words in a panel.
 pub const PANEL_WORDS: usize = 12;
 
-/// What a file is read into, row by row.
+/// The destination of a file, which takes it row by row.
 pub trait Sheet {
-    // What becomes of the rows so far when a line brings its own.
+    // Adds the row of a line to the rows so far, or fails.
     ghost rule: { Rule };
 
-    // The sheet was filled from these rows.
+    // The sheet holds these rows.
     ghost holds: { Self → List Row → Type 0 };
 
     // Whether a row may need memory.
     ghost wants_memory: { Bool };
 
-    /// Adds the row of a line of numbers, of which `line` is the number.
+    /// Adds the row of a line of numbers. `line` is the number of the line.
+    ///
+    /// # Errors
+    /// The fault of the rule, or `NoMemory` if memory runs out.
     fn add(&mut self, line: u32, text: &[u8]) -> Result<(), LoadFault>
         requires { list_all is_number (words text.now) ≡ true }
         ensures row { (rows : List Row) → holds self.old rows →
@@ -62,7 +65,7 @@ impl Sheet for Deck {
     }
 }
 
-/// Writes a row over the front of a card.
+/// Copies a row to the first columns of a card.
 fn write_front(card: &mut [u16], row: &[u16])
     requires { length row.now ≤ length card.old }
     ensures { card.new ≡ row.now ++ drop (length row.now) card.old }
@@ -70,7 +73,7 @@ fn write_front(card: &mut [u16], row: &[u16])
     card[..row.len()].copy_from_slice(row);
 }
 
-/// A row with zeros for the columns that it leaves out.
+/// Returns the card of a row, with zeros for the columns that have no number.
 fn card(row: &ArrayVec<u16, COLUMNS>) -> [u16; COLUMNS]
     ensures row { result ≡ card_of_row row.now.items }
     ensures within { All (λ value. value < 0o10000) row.now.items

@@ -2,17 +2,17 @@ use crate::{LoadFault, load_deck, load_panel};
 use pp_lines::{Endless, Feed, Log, Source};
 use std::test::Fail;
 
-/// The fault of a deck file, if it has one.
+/// Returns the fault of a deck file, if it has one.
 fn deck_fault(rt: HostRuntime, bytes: &[u8]) -> Option<LoadFault> {
     load_deck(rt.alloc(), &mut Feed::new(bytes, 4096)).err()
 }
 
-/// The fault of a panel file, if it has one.
+/// Returns the fault of a panel file, if it has one.
 fn panel_fault(bytes: &[u8]) -> Option<LoadFault> {
     load_panel(&mut Feed::new(bytes, 4096)).err()
 }
 
-/// A text so many times, and then another.
+/// Returns a text repeated `times` times, followed by `end`.
 fn repeated(rt: HostRuntime, text: &str, times: usize, end: &str) -> Result<String, Fail> {
     let mut all = String::new(rt.alloc());
     for _ in 0..times {
