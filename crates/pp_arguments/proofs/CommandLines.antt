@@ -1,4 +1,4 @@
--- What the parse of the command line tells of the words.
+-- The words of the command line, and the result of parsing them.
 use Rattle.std.proofs.Common.{◌≡◌, ◌∙◌, ℕ, List, true, refl, ap, subst}
 use Rattle.std.specs.Prelude.{Result}
 use Rattle.clap.specs.Walk.{first_of}
@@ -17,7 +17,7 @@ is_simple-pp6600 : is_simple pp6600 ≡ true
 unfolding pp6600 clap_on_literals
 is_simple-pp6600 = refl
 
--- what the matches of this command give a name
+-- the value that the matches of this command have for a name
 pub given-of_matches : (app : App) (words : List (List ℕ)) (matches : ArgMatches) → app ≡ pp6600 → HasMatchesOf app words matches →
     (name : List ℕ) → first_value (found_of matches) name ≡ given words name
 unfolding given
@@ -25,7 +25,7 @@ given-of_matches app words matches is_app has name =
     first_value-rows (found_of matches) name
     ∙ ap (first_of name) ((has (ap is_simple is_app ∙ is_simple-pp6600)).0 ∙ ap (λ (a : App). matches_of a words) is_app)
 
--- what this command takes
+-- the words that this command accepts
 pub takes-of_words : (app : App) (words : List (List ℕ)) → app ≡ pp6600 → are_taken words ≡ true → takes app words ≡ true
 unfolding are_taken
 takes-of_words app words is_app taken = ap (λ (a : App). takes a words) is_app ∙ taken

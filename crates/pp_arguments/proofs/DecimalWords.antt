@@ -23,7 +23,7 @@ at_most a b e = grind (arith, nat_tests)
 below : (a b : ℕ) → nat_lt a b ≡ true → a < b
 below a b e = grind (arith, nat_tests)
 
--- digits that do not parse are none, or their number is over each that fits
+-- if digits do not parse, there are none, or their value is above every maximum that fits
 pub decimal_read-unparsed : {E : Type 0} (word : List ℕ) (most : ℕ) (fault : E) → list_all is_ascii_digit word ≡ true → most < 2 ^ 32 →
     ParsesUnsigned 32 10 word (Err fault) → None ≡ decimal_read word most
 decimal_read-unparsed word most fault digits fits unparsed =

@@ -19,7 +19,7 @@ Text = List ℕ
 abbrev pub option_rule : Text → Rule
 option_rule name = record (new_rule name) { long = Some name; action = Some Set }
 
--- the word that is no option's
+-- the word that belongs to no option
 abbrev pub script_rule : Rule
 script_rule = record (new_rule (codes "script")) { action = Some Set }
 
@@ -30,19 +30,19 @@ pp6600 = with_rule (with_rule (with_rule (with_rule (with_rule (with_rule (with_
     (option_rule (codes "reader"))) (option_rule (codes "printer"))) (option_rule (codes "panel")))
     script_rule
 
--- the value that the words give to the option of this name, or to the script
+-- the value that the words have for the option of this name, or for the script
 unfoldable pub given : List Text → Text → Option Text
 given words name = first_of name (matches_of pp6600 words)
 
--- the command line takes the words
+-- the command line accepts the words
 unfoldable pub are_taken : List Text → Bool
 are_taken words = takes pp6600 words
 
--- the errors that the command line may give at the words; there is none where it takes them
+-- the errors that the command line may report for the words; there are none if it accepts them
 unfoldable pub faults_of : List Text → Kinds
 faults_of words = fault_of pp6600 words
 
--- an error of one of these kinds, or want of memory, is told so
+-- the faults that report an error of one of these kinds, or that memory ran out
 abbrev pub IsToldOf : Kinds → ArgFault → Type 0
 IsToldOf kinds NoMemory = Unit {0}
 IsToldOf kinds Help = IsAmong DisplayHelp kinds

@@ -11,13 +11,13 @@ use Rattle.pp_arguments.specs.declared.options.ArgFault.{ArgFault}
 use Rattle.pp_arguments.specs.declared.options.ArgFault.TheVariants.{BadArguments, BadChannel, Help, NoMemory}
 use Rattle.pp_arguments.specs.declared.options.Options.{Options}
 
--- ---- what a word says
+-- ---- one word
 
 -- 1 to 10,000 actions
 abbrev pub history_read : Text → Option ℕ
 history_read word = option_and_then (λ count. if nat_le 1 count then Some count else None) (decimal_read word 10000)
 
--- a size by its thousands of words
+-- a size of central memory by its thousands of words
 abbrev pub size_of : ℕ → Option CentralSize
 size_of thousands = if thousands == 32 then Some K32 else (if thousands == 64 then Some K64 else (if thousands == 128 then Some K128 else None))
 
@@ -28,9 +28,9 @@ central_read word = option_and_then size_of (decimal_read word 128)
 abbrev pub channel_read : Text → Option ℕ
 channel_read word = result_ok (octal_read word 0o13)
 
--- ---- what all words ask for
+-- ---- all words
 
--- the usual value where no word is given, else what the word says
+-- the usual value if there is no word, otherwise the value of the word
 abbrev pub asked_or : {A : Type 0} → A → (Text → Option A) → Option Text → Option A
 asked_or usual read None = Some usual
 asked_or usual read (Some word) = read word
@@ -62,9 +62,9 @@ pub record AreInRange (options : Options) : Type 0 where
   pub reader : options.reader ≤ 0o13
   pub printer : options.printer ≤ 0o13
 
--- ---- refusals
+-- ---- faults
 
--- the command line takes the words, and their number of actions and size of central memory are in range
+-- the command line accepts the words, and their number of actions and size of central memory are in range
 abbrev pub are_admitted : List Text → Bool
 are_admitted words = are_taken words && (is_some (history_of words) && is_some (central_of words))
 
@@ -73,16 +73,16 @@ IsMemoryOrChannel NoMemory = Unit {0}
 IsMemoryOrChannel BadChannel = Unit {0}
 IsMemoryOrChannel _ = ⊥
 
--- the command line gives no error, and a number of actions or a size is out of range
+-- the command line has no error, and a number of actions or a size is out of range
 abbrev pub HasBadNumber : List Text → Type 0
 HasBadNumber words = (faults_of words ≡ []) × ((history_of words ≡ None) ⊎ (central_of words ≡ None))
 
--- all else is in range, and a device's channel is not
+-- a device's channel is out of range, and all else is in range
 abbrev pub HasBadChannel : List Text → Type 0
 HasBadChannel words = (faults_of words ≡ []) × (is_some (history_of words) ≡ true) × (is_some (central_of words) ≡ true)
     × ((reader_of words ≡ None) ⊎ (printer_of words ≡ None))
 
--- what stands where a fault is told
+-- the cause of a fault
 abbrev pub IsCauseOf : List Text → ArgFault → Type 0
 IsCauseOf words NoMemory = Unit {0}
 IsCauseOf words Help = IsToldOf (faults_of words) Help

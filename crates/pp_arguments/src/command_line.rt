@@ -10,7 +10,7 @@ use clap::error::ErrorKind;
 use clap::{Arg, ArgAction, ArgMatches, Command};
 use std::alloc::{AllocError, Global};
 
-/// An option with one value.
+/// Returns an option with one value.
 fn option<'a>(alloc: Global, name: &'a str) -> Arg<'a>
     ensures rule { rule_of result ≡ option_rule name.entry.now }
     ensures local { result.global ≡ false }
@@ -18,7 +18,7 @@ fn option<'a>(alloc: Global, name: &'a str) -> Arg<'a>
     Arg::new(alloc, name).long(name).action(ArgAction::Set)
 }
 
-/// The word that is no option's.
+/// Returns the word that belongs to no option.
 fn script<'a>(alloc: Global) -> Arg<'a>
     ensures rule { rule_of result ≡ script_rule }
     ensures local { result.global ≡ false }
@@ -50,7 +50,11 @@ fn fault_of(kind: ErrorKind) -> ArgFault
     }
 }
 
-/// What the words, the first of which is the program's name, give to each option.
+/// Returns the value of each option in the words. The first word is the program's name.
+///
+/// # Errors
+/// `NoMemory` if memory runs out. `Help` or `BadArguments` if the words are not those of this command
+/// line, as `clap` reads it.
 pub fn read_words<'a>(alloc: Global, words: &'a [String]) -> Result<ArgMatches<'a>, ArgFault>
     ensures matches { IfOk result (λ matches. (name : List ℕ) →
         first_value (found_of matches) name ≡ given (map string_bytes words.entry.now) name) }

@@ -1,4 +1,4 @@
-//! Numbers that are read in decimal.
+//! Reads decimal numbers.
 ghost use Rattle.pp_arguments.specs.Decimal.{decimal_read};
 ghost use Rattle.std.specs.Char.{is_ascii_digit};
 ghost use Rattle.std.specs.List.{list_all};
@@ -10,8 +10,8 @@ fn are_digits(word: &str) -> bool
     word.as_bytes().iter().all(|byte| byte.is_ascii_digit())
 }
 
-/// The number that the decimal word writes, from 0 to `most`, with any number of zeros in front and no
-/// sign; None for any other word (this project's choice).
+/// Returns the value of a decimal word, 0 to `most`, or `None` for any other word. Any number of leading
+/// zeros is allowed, and no sign (this project's choice).
 pub fn read_decimal(word: &str, most: u32) -> Option<u32>
     ensures { result ≡ decimal_read word.now most }
 {

@@ -1,4 +1,4 @@
-//! From the words of the command line to the options of the program.
+//! Reads the words of the command line to the options of the program.
 #![tactic(auto)]
 
 mod command_line;

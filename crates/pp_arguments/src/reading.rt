@@ -1,4 +1,4 @@
-//! From the words of the command line to the options.
+//! Reads the words of the command line to the options.
 ghost use Rattle.pp_arguments.specs.CommandLine.{faults_of};
 ghost use Rattle.pp_arguments.specs.Options.{AreAskedBy, AreInRange, IsCauseOf, IsMemoryOrChannel, are_admitted, asked_or, central_read, channel_read, history_read, size_of};
 ghost use Rattle.std.specs.Prelude.{◌≡◌, ◌≤◌, [], map, option_map, true, IfErr, IfOk, IfSome, OnOk};
@@ -11,13 +11,13 @@ use pp_arith::read_octal;
 use pp_machine::CentralSize;
 use std::alloc::Global;
 
-/// The most actions that a session keeps.
+/// The largest number of actions in an undo history.
 const MOST_KEPT: u32 = 10_000;
 
-/// The greatest channel that a device can be on.
+/// The highest channel that a device can be on.
 const LAST_CHANNEL: u64 = 0o13;
 
-/// The channels of the card reader and the line printer, where the words name none.
+/// The channels of the card reader and the line printer, if the words name none.
 const READER_CHANNEL: u8 = 0o12;
 
 const PRINTER_CHANNEL: u8 = 0o13;
@@ -113,15 +113,15 @@ fn read_options(alloc: Global, words: &[String]) -> Result<Options, ArgFault>
     })
 }
 
-/// The options that the words ask for, the first of which is the program's name:
+/// Returns the options that the words ask for. The first word is the program's name:
 /// `pp6600 [--history N] [--central K] [--deck F] [--reader C] [--printer C] [--panel F] [SCRIPT]`
-/// (this project's choice). N and K are decimal and C octal digits, with any number of zeros in front;
+/// (this project's choice). N and K are decimal, C is octal, and any number of leading zeros is allowed.
 /// N is 1 to 10,000, K is 32, 64 or 128, and C is 0 to 13 octal.
 ///
 /// # Errors
-/// `NoMemory` where memory runs out. `Help` or `BadArguments` where the words are not those of this
-/// command line, as `clap` reads it; then `BadArguments` where N or K is out of its range; then
-/// `BadChannel` where a channel is.
+/// `NoMemory` if memory runs out. `Help` or `BadArguments` if the words are not those of this command
+/// line, as `clap` reads it. Otherwise `BadArguments` if N or K is out of range, and otherwise
+/// `BadChannel` if a channel is.
 pub fn read_arguments(alloc: Global, words: Vec<String>) -> Result<Options, ArgFault>
     ensures asked { IfOk result (AreAskedBy (map string_bytes words.items)) }
     ensures ranges { IfOk result AreInRange }

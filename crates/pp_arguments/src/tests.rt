@@ -1,11 +1,11 @@
-//! Words of the command line, and what they ask for.
+//! Words of the command line, and the options that they ask for.
 
 use super::*;
 use pp_machine::CentralSize;
 use std::alloc::{AllocError, Global};
 use std::test::Fail;
 
-/// Reads the words of the line, which has none with a blank in it.
+/// Reads the words of a line. No word contains a blank.
 fn read(alloc: Global, line: &str) -> Result<Result<Options, ArgFault>, AllocError> {
     let mut words = Vec::new(alloc);
     for word in line.split_whitespace() {
