@@ -40,6 +40,6 @@ text_of ReadFailed = codes "pp6600: READ FAILED"
 text_of WriteFailed = codes "pp6600: WRITE FAILED"
 text_of LineLimit = codes "pp6600: LINE LIMIT"
 
--- its line
+-- the line of a trouble
 abbrev pub line_of : Trouble → List ℕ
 line_of trouble = text_of trouble ++ 10 ∷ []

@@ -1,4 +1,4 @@
--- What ends the program early, and its status.
+-- What ends the program early, and its exit status.
 use Rattle.std.specs.Prelude.{ℕ}
 use Rattle.pp_arguments.specs.declared.options.ArgFault.{ArgFault}
 use Rattle.pp_arguments.specs.declared.options.ArgFault.TheVariants as arguments
@@ -28,7 +28,7 @@ of_serving serving.ReadFailed = ReadFailed
 of_serving serving.WriteFailed = WriteFailed
 of_serving serving.LineLimit = LineLimit
 
--- want of memory and a failed read are told without the file
+-- memory that ran out and a failed read are reported without the file
 abbrev pub of_load : FileKind → LoadFault → Trouble
 of_load file loading.NoMemory = NoMemory
 of_load file loading.ReadFailed = ReadFailed

@@ -1,4 +1,4 @@
-//! What ends the program early: its text and its status.
+//! What ends the program early: its text and its exit status.
 #![tactic(auto)]
 
 mod message;

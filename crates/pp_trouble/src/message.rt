@@ -11,7 +11,7 @@ use itoa::Buffer;
 use pp_files::LoadFault;
 use pp_lines::{Failed, Sink, push_text, put_all};
 
-/// The bytes that a line has room for.
+/// The largest number of bytes in a line.
 const ROOM: usize = 128;
 
 fn file_name(file: FileKind) -> &'static [u8]
@@ -25,7 +25,7 @@ fn file_name(file: FileKind) -> &'static [u8]
     }
 }
 
-/// Adds what is told of line k of a file.
+/// Appends the fault of line k of a file.
 fn push_line_fault(row: &mut ArrayVec<u8, ROOM>, k: u32, what: &[u8])
     requires { array_vec_len row.old + (45 + length what.now) ≤ ROOM }
     ensures items { row.new.items ≡ row.old.items ++ line_fault k what.now }
@@ -36,7 +36,7 @@ fn push_line_fault(row: &mut ArrayVec<u8, ROOM>, k: u32, what: &[u8])
     push_text(row, what);
 }
 
-/// Adds the text of a fault.
+/// Appends the text of a fault.
 fn push_fault(row: &mut ArrayVec<u8, ROOM>, fault: LoadFault)
     requires { array_vec_len row.old + 60 ≤ ROOM }
     ensures items { row.new.items ≡ row.old.items ++ load_text fault }
@@ -54,7 +54,7 @@ fn push_fault(row: &mut ArrayVec<u8, ROOM>, fault: LoadFault)
     }
 }
 
-/// Adds the text of a trouble.
+/// Appends the text of a trouble.
 fn push_trouble(row: &mut ArrayVec<u8, ROOM>, trouble: &Trouble)
     requires { array_vec_len row.old ≡ 0 }
     ensures items { row.new.items ≡ row.old.items ++ text_of trouble.now }
@@ -87,7 +87,10 @@ fn push_trouble(row: &mut ArrayVec<u8, ROOM>, trouble: &Trouble)
 }
 
 impl Trouble {
-    /// Puts the line of the trouble.
+    /// Writes the line of the trouble.
+    ///
+    /// # Errors
+    /// `Failed` if a call of the sink fails. A proper prefix of the line was then written.
     pub fn put<W: Sink>(&self, out: &mut W) -> Result<(), Failed>
         ensures text { Writes (W.text out.old) (W.text out.new) result (line_of self.now) }
         ensures counted { Counts (W.failure_count out.old) (W.failure_count out.new) result }

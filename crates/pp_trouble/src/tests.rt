@@ -1,4 +1,4 @@
-//! The line and the status of each trouble.
+//! The line and the exit status of each trouble.
 
 use super::*;
 use pp_arguments::ArgFault;
@@ -7,7 +7,7 @@ use pp_lines::{IoFault, Tray};
 use pp_rig::SetupFault;
 use std::test::Fail;
 
-/// Whether the trouble prints this line, in pieces of five bytes.
+/// Returns whether the trouble prints this line, in pieces of five bytes.
 fn prints(trouble: &Trouble, line: &str) -> bool {
     let mut tray = Tray::new(5);
     if trouble.put(&mut tray).is_err() {

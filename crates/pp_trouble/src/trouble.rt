@@ -29,16 +29,16 @@ pub enum Trouble {
     /// The words of the command line ask for help.
     #[error("usage: pp6600 [--history N] [--central K] [--deck F] [--reader C] [--printer C] [--panel F] [SCRIPT]")]
     Help,
-    /// The words are not those of this command line, or a number of it is out of its range.
+    /// The words are not those of this command line, or one of its numbers is out of range.
     #[error("pp6600: BAD ARGUMENTS")]
     BadArguments,
-    /// A device's channel is not octal, or over 13 octal.
+    /// A device's channel is not octal, or is above 13 octal.
     #[error("pp6600: BAD CHANNEL")]
     BadChannel,
-    /// Reader and printer are on one channel.
+    /// Reader and printer are on the same channel.
     #[error("pp6600: SAME CHANNEL")]
     SameChannel,
-    /// The deck has over 2000 decimal cards.
+    /// The deck has more than 2000 (decimal) cards.
     #[error("pp6600: DECK TOO LONG")]
     DeckTooLong,
     /// Memory ran out.
@@ -56,7 +56,7 @@ pub enum Trouble {
     /// Standard output can't be written.
     #[error("pp6600: WRITE FAILED")]
     WriteFailed,
-    /// The script has more lines or bytes than the console takes.
+    /// The script has more lines or bytes than the console accepts.
     #[error("pp6600: LINE LIMIT")]
     LineLimit,
 }
@@ -99,7 +99,7 @@ impl From<IoFault> for Trouble {
 }
 
 impl Trouble {
-    /// What a deck or a panel that can't be loaded leads to.
+    /// Returns the trouble of a deck or a panel that can't be loaded.
     pub fn load(file: FileKind, fault: LoadFault) -> Trouble
         requires { file ≢ FileKind.Script }
         ensures { result ≡ of_load file fault }
@@ -111,8 +111,8 @@ impl Trouble {
         }
     }
 
-    /// The status that the program ends with: 0 for help, 3 where input or output failed or has no end,
-    /// else 2.
+    /// Returns the exit status of the program: 0 for help, 3 if input or output failed or the script has too
+    /// many lines or bytes, otherwise 2.
     pub fn status(&self) -> u8
         ensures { result ≡ status_of self.now }
     {
