@@ -1,10 +1,10 @@
--- Rows of the devices: from some numbers, one step leads to others.
+-- Rows of the devices: one step leads from some numbers to others.
 use Rattle.std.specs.Prelude.{ℕ, List, ◌≡◌, ◌++◌, ◌-◌, length, replicate}
 use Rattle.pp_machine.specs.Printed.{PrinterPlace, PrinterView, over_printer, olds_printer, printer_writes}
 use Rattle.pp_machine.specs.Read.{ReaderPlace, ReaderView, over_reader, olds_reader, reader_writes}
 use Rattle.pp_machine.specs.Writes.{Writes}
 
--- a card of 80 (decimal) columns with these numbers first
+-- a card of 80 (decimal) columns that begins with these numbers
 abbrev pub card : List ℕ → List ℕ
 card columns = columns ++ replicate (80 - length columns) 0
 
@@ -12,17 +12,17 @@ card columns = columns ++ replicate (80 - length columns) 0
 abbrev pub blank_reader : List (List ℕ) → ReaderView
 blank_reader deck = record { reader = record { deck = deck; card = 0; column = 0; mode = 0 }; state = 0; word = 0 }
 
--- From these numbers, and 0 at all other places, one step of the reader leads to those.
+-- One step of the reader leads from the first numbers, with 0 at all other places, to the second.
 abbrev pub ReaderLeads : List (List ℕ) → Writes ReaderPlace → Writes ReaderPlace → Type 0
 ReaderLeads deck before later =
     let s = over_reader (blank_reader deck) before in
     olds_reader (over_reader s (reader_writes s)) later ≡ later
 
--- an idle printer on an inactive channel; the rows look at its first eight symbols alone
+-- an idle printer on an inactive channel; the rows look only at its first eight symbols
 abbrev pub blank_printer : PrinterView
 blank_printer = record { printer = record { symbols = replicate 8 0; length = 0; column = 0; mode = 0 }; state = 0; word = 0 }
 
--- From these numbers, and 0 at all other places, one step of the printer leads to those.
+-- One step of the printer leads from the first numbers, with 0 at all other places, to the second.
 abbrev pub PrinterLeads : Writes PrinterPlace → Writes PrinterPlace → Type 0
 PrinterLeads before later =
     let s = over_printer blank_printer before in

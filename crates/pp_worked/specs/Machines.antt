@@ -1,4 +1,4 @@
--- Rows of the whole machine: from some numbers, so many turns lead to others.
+-- Rows of the whole machine: a number of turns leads from some numbers to others.
 use Rattle.std.specs.Prelude.{ℕ, zero, suc, ◌≡◌, List, Option, replicate}
 use Rattle.pp_machine.specs.CentralSizes.{words_of}
 use Rattle.pp_machine.specs.Machine.{Machine, over, olds}
@@ -23,14 +23,14 @@ blank deck panel = record {
   setup = record { central_words = 0o100000; panel = panel; reader_channel = 0o12; printer_channel = 0o13 };
 }
 
--- the same with the deck, the panel, the central memory and the channels of a setup
+-- the same machine with the deck, the panel, the central memory and the channels of a setup
 abbrev pub blank_of : Setup → Machine
 blank_of s = record (blank s.deck.items s.panel) {
   central = replicate (words_of s.central) 0;
   setup = record { central_words = words_of s.central; panel = s.panel; reader_channel = s.reader; printer_channel = s.printer };
 }
 
--- after so many turns
+-- the machine after this many turns
 abbrev pub after : ℕ → Machine → Machine
 after zero m = m
 after (suc turns) m = after turns (turn m)
@@ -39,6 +39,6 @@ after (suc turns) m = after turns (turn m)
 abbrev pub Shows : Machine → Writes Place → Type 0
 Shows m numbers = olds m numbers ≡ numbers
 
--- The machine with these numbers comes, after so many turns, to those.
+-- This many turns lead from the machine with the first numbers to a machine with the second.
 abbrev pub Leads : Machine → Writes Place → ℕ → Writes Place → Type 0
 Leads m before turns later = Shows (after turns (over m before)) later

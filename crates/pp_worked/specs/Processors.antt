@@ -1,4 +1,4 @@
--- Rows of one processor: from some numbers, so many steps lead to others.
+-- Rows of one processor: a number of steps leads from some numbers to others.
 use Rattle.std.specs.Prelude.{ℕ, zero, suc, ◌≡◌, replicate}
 use Rattle.pp_machine.specs.Writes.{Writes}
 use Rattle.pp_step.specs.Step.{pp_writes}
@@ -19,11 +19,11 @@ blank = record {
   frame = replicate 0o20 0;
 }
 
--- after so many steps
+-- the state after this many steps
 abbrev pub after : ℕ → PpView → PpView
 after zero m = m
 after (suc n) m = after n (over m (pp_writes m))
 
--- From these numbers, and 0 at all other places, so many steps lead to a state with those numbers.
+-- This many steps lead from the first numbers, with 0 at all other places, to a state with the second.
 abbrev pub Leads : Writes PpPlace → ℕ → Writes PpPlace → Type 0
 Leads before steps later = olds (after steps (over blank before)) later ≡ later

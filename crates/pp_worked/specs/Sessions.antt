@@ -12,7 +12,7 @@ use Rattle.pp_rig.specs.declared.watched.Watched.{Watched}
 use Rattle.pp_rig.specs.declared.watched.Watched.TheVariants.{Cell}
 use Rattle.pp_worked.specs.Machines.{blank}
 
--- after these actions, the first one first, with room for so many records
+-- the session after these actions, the first one first, with room for this many records
 abbrev pub session : ℕ → List Action → SessionValue Machine Action
 session room actions = fold after_act (fresh (blank [] None) room) actions
 
@@ -20,11 +20,11 @@ session room actions = fold after_act (fresh (blank [] None) room) actions
 abbrev pub machine : SessionValue Machine Action → Machine
 machine v = replay rules v.start v.standing
 
--- how many actions BACK W takes back, where these places are watched
+-- the number of actions that BACK W undoes, if these places are watched
 abbrev pub back_w : SessionValue Machine Action → List Place → Option ℕ
 back_w v places = change rules v places
 
--- 1405 2400 3450 at 0100 of processor 00, which store 5 in cell 0050, and that cell watched
+-- 1405 2400 3450 at 0100 of processor 00, which store 5 in cell 0050, and a watch on that cell
 abbrev pub storing : Machine
 storing = machine (session 0o100 (SetCells 0 0o100 (0o1405 ∷ 0o2400 ∷ 0o3450 ∷ []) ∷ SetP 0 0o100 ∷ Watch (Cell 0 0o50) ∷ []))
 

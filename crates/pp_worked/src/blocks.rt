@@ -4,8 +4,8 @@ ghost use Rattle.std.specs.Prelude.{[], ◌∷◌};
 ghost use Rattle.pp_step.specs.View.{A, Cell, Channel, Mode, P, Phase, Q, Word};
 ghost use Rattle.pp_worked.specs.Processors.{Leads};
 
-/// While a block moves, cell 0000 keeps the address of its second word. A block that runs over cell 0000 goes on at what
-/// it put there, and one more.
+/// While a block moves, cell 0000 holds the address of `m`. A block that overwrites cell 0000 continues at the
+/// number that it wrote there, plus one.
 #[tactic(auto, unfolding(pp_step::specs::Step::pp_writes))]
 pub fn return_address_in_cell_0000()
     ensures issue { Leads
@@ -24,7 +24,7 @@ pub fn return_address_in_cell_0000()
         ((P, 1) ∷ (A, 5) ∷ (Phase, 0) ∷ (Cell 0, 0) ∷ []) }
 {}
 
-/// 61 and 63 move as many words as cell d says; central address 777777 is followed by 0.
+/// 61 and 63 move as many words as cell d says. Central address 777777 is followed by 0.
 #[tactic(auto, unfolding(pp_step::specs::Step::pp_writes))]
 pub fn central_blocks()
     ensures to_cells { Leads
@@ -42,8 +42,8 @@ pub fn central_blocks()
         ((P, 0o102) ∷ (A, 0o1001) ∷ (Q, 0) ∷ (Phase, 0) ∷ (Word 0o1000, 0o00010002000300040005) ∷ []) }
 {}
 
-/// 71 and 73 move as many words as A says. 71 ends on an inactive channel with a cell of 0000 and its count unchanged,
-/// and waits for an empty one.
+/// 71 and 73 move as many words as A says. On an inactive channel 71 ends: it writes a cell of 0000, and its count
+/// stays. On an empty channel it waits.
 #[tactic(auto, unfolding(pp_step::specs::Step::pp_writes))]
 pub fn channel_blocks()
     ensures input { Leads

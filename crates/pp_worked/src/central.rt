@@ -27,8 +27,9 @@ pub fn central_words()
         ((P, 0o101) ∷ (A, 0o2000) ∷ (Word 0o1777, 0) ∷ (Word 0, 0) ∷ []) }
 {}
 
-/// An exchange swaps the frame with sixteen central words. What stands in the place of B0, the lower 18 (decimal) bits of
-/// the first word, is lost: the frame has it zero, and so gives it back. Words past the size are zero, and are not written.
+/// An exchange swaps the frame with sixteen central words. It loses the field of B0, the lower 18 (decimal) bits of
+/// the first word: in the frame the field is zero, and so it is written back as zero. Words past the size read as zero
+/// and are not written.
 #[tactic(auto, unfolding(pp_step::specs::Step::pp_writes, pp_step::specs::Exchange::loaded))]
 pub fn exchanges()
     ensures loads { Leads

@@ -4,7 +4,7 @@ ghost use Rattle.std.specs.Prelude.{[], ◌∷◌};
 ghost use Rattle.pp_step.specs.View.{A, Channel, Cell, Mode, P};
 ghost use Rattle.pp_worked.specs.Processors.{Leads};
 
-/// 70 takes a full channel's data and 72 fills an empty one; both wait otherwise, and nothing changes then.
+/// 70 takes the data of a full channel, and 72 fills an empty one. Otherwise both wait, and nothing changes.
 #[tactic(auto, unfolding(pp_step::specs::Step::pp_writes))]
 pub fn words_in_channels()
     ensures ian { Leads
@@ -25,8 +25,8 @@ pub fn words_in_channels()
         ((P, 0o100) ∷ (Mode 3, 2) ∷ (Channel 3, 0o1234) ∷ []) }
 {}
 
-/// 74 activates an inactive channel and waits on an active one, 75 the other way round; neither touches the register.
-/// 76 and 77 send a function code, from A and from the second word.
+/// 74 activates an inactive channel and waits on an active one. 75 deactivates an active channel and waits on an
+/// inactive one. Neither changes the register. 76 and 77 send a function code, from A and from `m`.
 #[tactic(auto, unfolding(pp_step::specs::Step::pp_writes))]
 pub fn activity()
     ensures acn { Leads
@@ -52,7 +52,7 @@ pub fn activity()
         ((P, 0o102) ∷ (Mode 3, 3) ∷ (Channel 3, 1) ∷ []) }
 {}
 
-/// 15 to 77 name no channel: it tests inactive and not full, and every other instruction waits.
+/// 15 to 77 name no channel: a test finds it inactive and not full, and every other instruction waits.
 #[tactic(auto, unfolding(pp_step::specs::Step::pp_writes))]
 pub fn no_channel()
     ensures ajm { Leads ((P, 0o100) ∷ (Cell 0o100, 0o6415) ∷ (Cell 0o101, 0o200) ∷ []) 1 ((P, 0o102) ∷ []) }
@@ -63,7 +63,7 @@ pub fn no_channel()
     ensures dcn { Leads ((P, 0o100) ∷ (Cell 0o100, 0o7515) ∷ []) 1 ((P, 0o100) ∷ []) }
 {}
 
-/// Channel 14, the clock, is always active and full. 75 only passes.
+/// Channel 14, the clock, is always active and full. 75 passes and changes nothing.
 #[tactic(auto, unfolding(pp_step::specs::Step::pp_writes))]
 pub fn clock_channel()
     ensures ajm { Leads ((P, 0o100) ∷ (Cell 0o100, 0o6414) ∷ (Cell 0o101, 0o200) ∷ []) 1 ((P, 0o200) ∷ []) }

@@ -1,4 +1,4 @@
-//! The card reader and the printer, each by single steps.
+//! The card reader and the printer, in single steps.
 
 ghost use Rattle.std.specs.Prelude.{[], ◌∷◌};
 ghost use Rattle.pp_machine.specs.Printed.{AtLength, AtSymbol};
@@ -7,8 +7,8 @@ ghost use Rattle.pp_machine.specs.Printed.{AtState as PrinterState, AtWord as Pr
 ghost use Rattle.pp_machine.specs.Read.{AtCard, AtColumn, AtMode, AtState, AtWord};
 ghost use Rattle.pp_worked.specs.Devices.{PrinterLeads, ReaderLeads, card};
 
-/// Function 0001 makes the reader read, from the first column of a card: one that was begun is left behind.
-/// Function 0004 is none of its own and stays in the channel.
+/// Function 0001 starts the reader at the first column of a card. The rest of a card that was begun is skipped.
+/// The reader has no function 0004, so that code stays in the channel.
 pub fn reader_functions()
     ensures starts { ReaderLeads (card (1 ∷ 2 ∷ 3 ∷ []) ∷ []) ((AtState, 3) ∷ (AtWord, 1) ∷ [])
         ((AtState, 0) ∷ (AtCard, 0) ∷ (AtColumn, 0) ∷ (AtMode, 1) ∷ []) }
@@ -19,8 +19,8 @@ pub fn reader_functions()
         ((AtState, 3) ∷ (AtWord, 4) ∷ (AtMode, 0) ∷ []) }
 {}
 
-/// A reading reader puts a column into an empty channel, waits while it is full, and makes it inactive behind the
-/// last of 120 columns.
+/// While it reads, the reader puts a column into an empty channel and waits while the channel is full. After the last
+/// of 120 columns it makes the channel inactive.
 pub fn columns()
     ensures first { ReaderLeads (card (1 ∷ 2 ∷ 3 ∷ []) ∷ []) ((AtState, 1) ∷ (AtMode, 1) ∷ [])
         ((AtState, 2) ∷ (AtWord, 1) ∷ (AtColumn, 1) ∷ (AtMode, 1) ∷ []) }
@@ -36,7 +36,7 @@ pub fn columns()
         ((AtState, 0) ∷ (AtColumn, 0) ∷ (AtCard, 1) ∷ (AtMode, 0) ∷ []) }
 {}
 
-/// Function 0002 asks for the status: 0000 where a card is left, else 0001. Behind it the channel becomes inactive.
+/// Function 0002 asks for the status: 0000 if a card is left, otherwise 0001. Then the channel becomes inactive.
 pub fn reader_status()
     ensures asked { ReaderLeads [] ((AtState, 3) ∷ (AtWord, 2) ∷ []) ((AtState, 0) ∷ (AtMode, 2) ∷ []) }
     ensures card_left { ReaderLeads (card [] ∷ []) ((AtState, 1) ∷ (AtWord, 0o1234) ∷ (AtMode, 2) ∷ [])
@@ -46,7 +46,7 @@ pub fn reader_status()
     ensures ended { ReaderLeads [] ((AtState, 1) ∷ (AtMode, 3) ∷ []) ((AtState, 0) ∷ (AtMode, 0) ∷ []) }
 {}
 
-/// Function 0001 makes the printer print, 0002 asks for its status, and 0003 ends a line, in whatever mode.
+/// Function 0001 makes the printer print, 0002 asks for its status, and 0003 ends a line in any mode.
 pub fn printer_functions()
     ensures prints { PrinterLeads ((PrinterState, 3) ∷ (PrinterWord, 1) ∷ [])
         ((PrinterState, 0) ∷ (PrinterMode, 1) ∷ (AtLength, 0) ∷ []) }
@@ -58,8 +58,8 @@ pub fn printer_functions()
         ((PrinterState, 3) ∷ (PrinterWord, 3) ∷ (AtLength, 0o200000) ∷ []) }
 {}
 
-/// A word has two symbols, the upper six bits first. Those past column 210 are dropped. Where fewer than two symbols
-/// fit on the paper, the word stays in the channel and a status is 0001.
+/// A word has two symbols, the upper six bits first. Symbols past column 210 are dropped. If fewer than two symbols
+/// fit on the paper, the word stays in the channel and the status is 0001.
 pub fn printed_words()
     ensures two_symbols { PrinterLeads ((PrinterState, 2) ∷ (PrinterWord, 0o0102) ∷ (PrinterMode, 1) ∷ [])
         ((PrinterState, 1) ∷ (AtSymbol 0, 0o01) ∷ (AtSymbol 1, 0o02) ∷ (AtLength, 2) ∷ (PaperColumn, 2) ∷ []) }

@@ -4,7 +4,7 @@ ghost use Rattle.std.specs.Prelude.{[], ◌∷◌};
 ghost use Rattle.pp_step.specs.View.{A, Cell, P};
 ghost use Rattle.pp_worked.specs.Processors.{Leads};
 
-/// A gets d, its complement, or the 18-bit number of d and the second word; 12 and 13 keep and clear the bits of d.
+/// A gets d, its complement, or the 18-bit number of d and `m`. 12 and 13 keep and clear the bits of d.
 #[tactic(auto, unfolding(pp_step::specs::Step::pp_writes, pp_arith::specs::Arith::turn_left18))]
 pub fn constants()
     ensures ldn { Leads ((P, 0o100) ∷ (Cell 0o100, 0o1405) ∷ []) 1 ((P, 0o101) ∷ (A, 5) ∷ []) }
@@ -25,7 +25,7 @@ pub fn constants()
         ((P, 0o101) ∷ (A, 0o377777) ∷ []) }
 {}
 
-/// Sums in A: a carry comes round, and a result of zero is plus zero; but minus zero less plus zero stays minus zero.
+/// Sums in A have an end-around carry, and a result of zero is plus zero. Minus zero less plus zero is minus zero.
 #[tactic(auto, unfolding(pp_step::specs::Step::pp_writes))]
 pub fn sums_in_a()
     ensures adn_to_zero { Leads ((P, 0o100) ∷ (A, 0o777776) ∷ (Cell 0o100, 0o1601) ∷ []) 1 ((P, 0o101) ∷ (A, 0) ∷ []) }
@@ -41,7 +41,7 @@ pub fn sums_in_a()
         ((P, 0o101) ∷ (A, 0o777777) ∷ []) }
 {}
 
-/// A store takes the lower twelve bits of A. A replaced cell leaves 18 bits in A.
+/// A store takes the lower twelve bits of A. Replacing a cell leaves the 18-bit result in A.
 #[tactic(auto, unfolding(pp_step::specs::Step::pp_writes))]
 pub fn stores()
     ensures load_and_store { Leads
@@ -67,7 +67,7 @@ pub fn stores()
         ((P, 0o101) ∷ (A, 0o777776) ∷ (Cell 0o20, 0o7776) ∷ []) }
 {}
 
-/// An operand is cell d, the cell that cell d names, or the cell at m, indexed by cell d if d is not 00. An index of
+/// An operand is cell d, the cell that cell d names, or the cell at `m`, indexed by cell d if d is not 00. An index of
 /// 7777 is minus zero.
 #[tactic(auto, unfolding(pp_step::specs::Step::pp_writes))]
 pub fn operands()
@@ -95,7 +95,7 @@ pub fn operands()
         ((P, 0o102) ∷ (A, 0o1234) ∷ []) }
 {}
 
-/// Jumps count from their own address. A of 777777 is not zero for a zero jump, and is minus.
+/// Jumps count from their own address. A zero jump does not take 777777 in A as zero, and 777777 is negative.
 #[tactic(auto, unfolding(pp_step::specs::Step::pp_writes))]
 pub fn jumps()
     ensures ujn { Leads ((P, 0o100) ∷ (Cell 0o100, 0o305) ∷ []) 1 ((P, 0o105) ∷ []) }
@@ -111,8 +111,8 @@ pub fn jumps()
         ((P, 0o305) ∷ []) }
 {}
 
-/// A return jump puts the address behind itself into the target, and goes on behind that. It has read its second word
-/// before it overwrites it.
+/// A return jump writes the address of the next instruction to its target, and continues after the target. It reads
+/// `m` before it overwrites it.
 #[tactic(auto, unfolding(pp_step::specs::Step::pp_writes))]
 pub fn return_jumps()
     ensures to_last_cell { Leads

@@ -1,8 +1,8 @@
-//! Worked rows of the machine: what its definitions say on numbers that can be followed by hand.
+//! Worked rows of the machine: the results of its definitions on numbers that can be followed by hand.
 //!
-//! Each function does nothing; its contract is a law that the prover computes from the definitions of the crates
-//! below, `crates/*/specs`, alone. So a reader can hold these rows against the manual without reading code.
-//! A row names the numbers before and after; each number that it does not name before is 0. Numbers are octal.
+//! Each function does nothing. Its contract is a theorem that the prover computes only from the definitions of the
+//! crates below, `crates/*/specs`. So a reader can compare these rows with the manual without reading code.
+//! A row names numbers before and after. Each number that it does not name before is 0. Numbers are octal.
 #![tactic(auto)]
 
 mod blocks;

@@ -1,4 +1,4 @@
-//! What is taken back.
+//! Undo and redo.
 
 ghost use Rattle.std.specs.Prelude.{◌≡◌, [], ◌∷◌, None, Some};
 ghost use Rattle.pp_history.specs.SessionValue.{after_back, after_forward};
@@ -9,7 +9,7 @@ ghost use Rattle.pp_rig.specs.declared.action.Action.TheVariants.{SetA, SetCells
 ghost use Rattle.pp_rig.specs.declared.watched.Watched.TheVariants.{Cell as WatchedCell};
 ghost use Rattle.pp_worked.specs.Sessions.{back_w, machine, seen_to_change, session, storing};
 
-/// BACK takes back the newest actions, as far as their records are kept, and FORWARD performs them again.
+/// BACK undoes the newest actions in the undo history, and FORWARD redoes them.
 pub fn taken_back()
     ensures back { number (machine (after_back (session 4 (SetA 0 1 ∷ SetA 0 2 ∷ SetA 0 3 ∷ SetA 0 4 ∷ SetA 0 5 ∷ [])) 4))
         (RegA 0) ≡ 1 }
@@ -20,8 +20,8 @@ pub fn taken_back()
         (machine (after_forward (after_back (session 4 (SetA 0 1 ∷ SetA 0 2 ∷ SetQ 0 7 ∷ [])) 3) 3)) (RegQ 0) ≡ 7 }
 {}
 
-/// BACK W goes back to the latest change of a watched number: the store of a number that stands there already is none,
-/// and a change whose record is no longer kept is none either.
+/// BACK W goes back to the latest change of a watched number. Storing the same number again is not a change, and a
+/// change whose record is no longer in the undo history does not count.
 #[tactic(auto, unfolding(pp_step::specs::Step::pp_writes, pp_rig::specs::Turn::turn))]
 pub fn latest_change()
     ensures store { back_w
@@ -40,8 +40,8 @@ pub fn latest_change()
     ensures kept { back_w (session 3 (SetA 0 1 ∷ SetQ 0 1 ∷ SetQ 0 2 ∷ [])) (RegA 0 ∷ []) ≡ Some 3 }
 {}
 
-/// A run of turns ends with the first that changes a watched number: 1405 2400 3450 stores its five in the third turn
-/// of processor 00, turn 25 of all.
+/// A run of turns ends with the first one that changes a watched number. The program 1405 2400 3450 stores its five in
+/// the third turn of processor 00, which is turn 25 in all.
 #[tactic(auto, unfolding(pp_step::specs::Step::pp_writes, pp_rig::specs::Turn::turn, pp_rig::specs::Stopping::stopped))]
 pub fn first_change()
     ensures turns { (stopped 0o30 storing).turns ≡ 0o25 }

@@ -42,7 +42,7 @@ pub fn turns_of_the_barrel()
         ((RegP 0, 0o200) ∷ (RegP 1, 2) ∷ (RegP 9, 2) ∷ (Slot, 0) ∷ []) }
 {}
 
-/// The clock grows by 1 in the turn of slot 11 alone, behind the step of its processor, and 7777 is followed by 0000.
+/// The clock increases by 1 only in the turn of slot 11, after the step of its processor. 7777 is followed by 0000.
 #[tactic(auto, unfolding(pp_step::specs::Step::pp_writes, pp_rig::specs::Turn::turn))]
 pub fn clock_ticks()
     ensures round_the_end { Leads (blank [] None) ((Slot, 0o11) ∷ (Clock, 0o7777) ∷ []) 1 ((Slot, 0) ∷ (Clock, 0) ∷ []) }
@@ -59,8 +59,8 @@ pub fn clock_ticks()
         (Slot, 1) ∷ []) }
 {}
 
-/// 7712 0001 7412 7012: the reader is started, its channel activated, and a column read. The reader steps behind the
-/// processor in the same turn, and so the next column stands in the channel at once.
+/// 7712 0001 7412 7012 starts the reader, activates its channel and reads a column. The reader steps after the
+/// processor in the same turn, and so the next column is in the channel at once.
 #[tactic(auto, unfolding(pp_step::specs::Step::pp_writes, pp_rig::specs::Turn::turn))]
 pub fn card_through_a_program()
     ensures column { Leads (blank (card (0o1234 ∷ 0o4321 ∷ []) ∷ []) None)
@@ -70,7 +70,7 @@ pub fn card_through_a_program()
         (ReaderMode, 1) ∷ []) }
 {}
 
-/// 7713 0001 7413 7213 7513 7713 0003: a line of two symbols is printed and ended.
+/// 7713 0001 7413 7213 7513 7713 0003 prints a line of two symbols and ends it.
 #[tactic(auto, unfolding(pp_step::specs::Step::pp_writes, pp_rig::specs::Turn::turn))]
 pub fn line_through_a_program()
     ensures line { Leads (blank [] None)
@@ -81,8 +81,8 @@ pub fn line_through_a_program()
         (PaperLength, 3) ∷ (PaperColumn, 0) ∷ (PrinterMode, 1) ∷ []) }
 {}
 
-/// A dead start writes 114 places, whatever the panel. Processor 00 begins at the panel, each other one waits to read
-/// 10000 words from its own channel, and the clock goes on from its number.
+/// A dead start writes 114 places, for any panel. Processor 00 begins at the panel, and each other one waits to read
+/// 10000 words from its own channel. The clock continues from its number.
 #[tactic(auto, unfolding(pp_step::specs::Step::pp_writes, pp_rig::specs::Turn::turn, pp_rig::specs::Deadstart::deadstart_pairs, pp_rig::specs::Deadstart::all_waiting, pp_rig::specs::Deadstart::all_states))]
 pub fn dead_start()
     ensures places { (a b c d e f g h i j k l : ℕ) →
