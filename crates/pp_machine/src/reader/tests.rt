@@ -21,7 +21,7 @@ fn card() -> [u16; 80]
     card
 }
 
-/// Returns a deck of `cards` such cards.
+/// Returns a deck with this many copies of the card.
 fn deck_of(alloc: Global, cards: u16) -> Result<Vec<[u16; 80]>, AllocError>
     ensures { IfOk result (λ deck. All IsCard deck.items) }
 {
