@@ -1,7 +1,7 @@
 -- The lines of a list of bytes, finished and unfinished.
 use Rattle.std.specs.Prelude.{◌≡◌, ℕ, ◌-◌, ◌≤◌, ◌==◌, if◌then◌else◌, List, [], ◌∷◌, length, take, slice_index}
 
--- the lines with a byte added before the first one, or as the only line if there is none
+-- the lines with a byte added to the start of the first line, or as a line of its own if there is no line
 abbrev pub begin_first : ℕ → List (List ℕ) → List (List ℕ)
 begin_first byte [] = (byte ∷ []) ∷ []
 begin_first byte (line ∷ lines) = (byte ∷ line) ∷ lines
@@ -11,7 +11,7 @@ abbrev pub lines : List ℕ → List (List ℕ)
 lines [] = []
 lines (byte ∷ bytes) = if byte == 10 then [] ∷ lines bytes else begin_first byte (lines bytes)
 
--- the lines with a byte added before the first one, if there is one
+-- the lines with a byte added to the start of the first line, if there is one
 abbrev pub extend_first : ℕ → List (List ℕ) → List (List ℕ)
 extend_first byte [] = []
 extend_first byte (line ∷ lines) = (byte ∷ line) ∷ lines

@@ -8,8 +8,8 @@ use std::marker::Model;
 /// The byte that ends a line.
 pub const LINE_FEED: u8 = b'\n';
 
-/// A prefix of the current line: its first `KEPT` bytes since the last line feed. Further bytes are
-/// dropped, so a line of any length needs no more memory.
+/// The first `KEPT` bytes of the current line, which no line feed has ended yet. Further bytes are
+/// dropped, so a long line needs no more memory.
 #[derive(Drop)]
 pub struct LineCutter<const KEPT: usize> {
     front: ArrayVec<u8, KEPT>,
