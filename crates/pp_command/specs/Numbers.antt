@@ -20,7 +20,7 @@ number most word =
     if is_octal word then (if nat_le (octal_value word) most then Ok (octal_value word) else Err OutOfRange)
     else Err NotANumber
 
--- all words must be octal before any of them is read
+-- the result if all words are octal, otherwise `NotANumber`
 abbrev pub if_octal : {A : Type 0} → Words → Result A LineFault → Result A LineFault
 if_octal given read = if list_all is_octal given then read else Err NotANumber
 

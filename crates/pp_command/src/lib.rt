@@ -1,5 +1,5 @@
-//! The console's command language: parses the bytes of a line to a command, or to the reason why it is
-//! not one. The language is this project's own.
+//! The console's command language: parses the bytes of a line into a command, or returns the reason
+//! why it is not one. The language is this project's own.
 #![tactic(auto)]
 
 mod command;

@@ -1,4 +1,4 @@
-//! Parses the bytes of a line to a command.
+//! Parses the bytes of a line into a command.
 ghost use Rattle.std.specs.Prelude.{◌≡◌, IfOk};
 ghost use Rattle.std.specs.List.{list_all};
 ghost use Rattle.std.specs.Str.{str_eq_ignore_ascii_case};

@@ -40,7 +40,7 @@ pub fn one(text: &[u8], most: u64) -> Result<u64, LineFault>
     number(word, most)
 }
 
-/// Returns why words are not the numbers required, given whether all of them are octal.
+/// Returns the fault of words that are not numbers in range. `octal` is whether every word is octal.
 fn fault_of(octal: bool) -> LineFault
     ensures { result ≡ (if octal then LineFault.OutOfRange else LineFault.NotANumber) }
 {
