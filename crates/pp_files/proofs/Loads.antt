@@ -153,7 +153,7 @@ caused : (rule : Rule) (taken bytes : List ℕ) (fault : LoadFault) → FailsIn 
 caused rule taken bytes fault (inl fails) = inl fails
 caused rule taken bytes fault (inr refused) = inr (inl refused)
 
--- a fault for any later bytes has its cause in the bytes read
+-- a fault that occurs for all later bytes is the cause
 pub fails-in : (rule : Rule) (first second : Option (List ℕ)) (taken : List ℕ) (fault : LoadFault) → Consumes first second taken →
     ((later : List ℕ) → FailsIn rule (taken ++ later) fault) → IsCauseOf rule (rows_of_file rule file_limit) taken (all_bytes first taken) fault
 fails-in rule first second taken fault p fails =

@@ -126,7 +126,7 @@ finished-feed_more bytes more =
     let further = finished-more (bytes ++ 10 ∷ []) more in
     (further.0, further.1 ∙ ap (λ front. front ++ further.0) (finished-feed bytes))
 
--- the lines of a file begin with these, if the last of them ends with a line feed within the limit
+-- the lines of a file begin with these lines, if the last one ends with a line feed within the limit
 pub lines_of_file-feed : (limit : ℕ) (bytes more : List ℕ) → length bytes < limit →
     (extra : List (List ℕ)) × (lines_of_file limit (bytes ++ 10 ∷ more) ≡ (finished bytes ++ unfinished bytes ∷ []) ++ extra)
 lines_of_file-feed limit bytes more h = by_test (nat_le (length (bytes ++ 10 ∷ more)) limit) refl

@@ -25,8 +25,8 @@ RunsOut rule limit bytes =
 abbrev pub BreaksOff : Rule → ℕ → List ℕ → Type 0
 BreaksOff rule limit taken = (length taken ≤ limit) × HasNoFault rule (finished taken)
 
--- Why a file was not loaded, given the bytes that were read and all bytes of the file: the file has this fault, or memory ran out or a
--- read failed before any fault of the file.
+-- Why a file was not loaded, given the bytes that were read and all bytes of the file: the file has this fault, or
+-- memory ran out or a read failed before any fault of the file.
 abbrev pub IsCauseOf : {A : Type 0} → Rule → (List ℕ → Result A LoadFault) → List ℕ → List ℕ → LoadFault → Type 0
 IsCauseOf rule file taken bytes fault =
     (file bytes ≡ Err fault) ⊎ (((fault ≡ NoMemory) × RunsOut rule file_limit bytes) ⊎ ((fault ≡ ReadFailed) × BreaksOff rule file_limit taken))

@@ -3,10 +3,10 @@ use thiserror::Error;
 
 /// Why a deck or a panel file was not loaded. A line is reported by its decimal number, counted from 1.
 ///
-/// The first line with a fault is reported. A line that ends with a line feed within the first
-/// 1,048,576 bytes comes before `FileTooLong`. A line that ended before the source failed comes before
-/// `ReadFailed`. Within a line the order is `LineTooLong`, `NotOctal`, `TooLarge`, `TooManyWords` or
-/// `PanelCount`, `NoMemory`.
+/// The first line with a fault is reported. A fault in a line that ends with a line feed within the
+/// first 1,048,576 bytes comes before `FileTooLong`. A fault in a line that a line feed ended before
+/// the source failed comes before `ReadFailed`. Within a line the order is `LineTooLong`, `NotOctal`,
+/// `TooLarge`, `TooManyWords` or `PanelCount`, `NoMemory`.
 #[derive(Clone, Copy, Debug, PartialEq, Eq, Drop, Error)]
 pub enum LoadFault {
     /// Memory ran out for a card.

@@ -1,4 +1,4 @@
-//! Deck and panel files: reads the bytes of a source to cards and panel words.
+//! Deck and panel files: parses the bytes of a source into cards and panel words.
 #![tactic(auto)]
 
 mod fault;

@@ -10,8 +10,8 @@ pub const FILE_LIMIT: u32 = 1_048_576;
 /// The largest number of bytes in a line, not counting one carriage return at its end.
 pub const LONGEST: usize = 1023;
 
-/// The number of bytes of a line that show that it is too long: the largest number, a carriage return,
-/// and one more.
+/// The number of bytes of a line that are kept. They are enough to show that it is too long: the
+/// largest number, a carriage return, and one more.
 pub const KEPT: usize = 1025;
 
 /// The progress of a file: how far it was read.
