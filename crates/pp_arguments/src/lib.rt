@@ -1,4 +1,4 @@
-//! Reads the words of the command line to the options of the program.
+//! Parses the words of the command line into the options of the program.
 #![tactic(auto)]
 
 mod command_line;

@@ -1,4 +1,4 @@
-//! Reads the words of the command line to the options.
+//! Parses the words of the command line into the options.
 ghost use Rattle.pp_arguments.specs.CommandLine.{faults_of};
 ghost use Rattle.pp_arguments.specs.Options.{AreAskedBy, AreInRange, IsCauseOf, IsMemoryOrChannel, are_admitted, asked_or, central_read, channel_read, history_read, size_of};
 ghost use Rattle.std.specs.Prelude.{◌≡◌, ◌≤◌, [], map, option_map, true, IfErr, IfOk, IfSome, OnOk};
