@@ -1,4 +1,4 @@
--- The answer to a command that shows nothing else, and the answers to those that are rejected.
+-- The answer OK, and the answers to commands that are rejected.
 use Rattle.std.specs.Prelude.{ℕ, List, codes}
 use Rattle.pp_command.specs.declared.fault.LineFault.{LineFault}
 use Rattle.pp_command.specs.declared.fault.LineFault.TheVariants.{NotACommand, WordCount, NotANumber, OutOfRange, TooLong, NotAscii}

@@ -196,7 +196,7 @@ fn dump_frame<W: Sink>(session: &mut Session<Rig>, out: &mut W) -> Result<bool, 
     tell(out, frame_lines(session.machine()).as_slice())
 }
 
-/// Writes the card reader.
+/// Writes the state of the card reader.
 #[tactic(auto, unfolding(crate::specs::Answers::reader_answer))]
 #[inline(never)]
 fn dump_reader<W: Sink>(session: &mut Session<Rig>, out: &mut W) -> Result<bool, Failed>
@@ -216,7 +216,7 @@ fn dump_watches<W: Sink>(session: &mut Session<Rig>, out: &mut W) -> Result<bool
     tell(out, watch_lines(session.machine().watches()).as_slice())
 }
 
-/// Writes the line printer and its paper.
+/// Writes the state of the line printer, and its paper.
 #[tactic(auto, unfolding(crate::specs::Answers::printer_answer))]
 #[inline(never)]
 fn dump_printer<W: Sink>(session: &mut Session<Rig>, out: &mut W) -> Result<bool, Failed>

@@ -113,7 +113,7 @@ fn put_paper<W: Sink>(symbols: &[u8], out: &mut W) -> Result<(), Failed>
     put_rest(rest, out)
 }
 
-/// Writes the line printer and its paper.
+/// Writes the state of the line printer, and its paper.
 ///
 /// # Errors
 /// `Failed` if a call of the sink fails.

@@ -10,7 +10,8 @@ pub const LINE_LIMIT: u32 = 1_000_000;
 /// The largest number of bytes in a script (this project's choice).
 pub const BYTE_LIMIT: u32 = 268_435_456;
 
-/// The number of bytes of a line that show that it is too long: 255, a carriage return, and one more.
+/// The number of bytes of a line that are kept. They are enough to show that it is too long: 255, a
+/// carriage return, and one more.
 pub const KEPT: usize = 257;
 
 /// The progress of a script: how far it was read.

@@ -215,9 +215,9 @@ fn read_all<R: Source, W: Sink>(
 ///
 /// # Errors
 /// `ReadFailed` if a call of the source fails, and `WriteFailed` if a call of the sink fails.
-/// `LineLimit` if a byte was read that begins one line too many or is one byte too many. The session
-/// is then as after the commands performed so far. A command whose answer could not be written is one
-/// of these.
+/// `LineLimit` if a byte was read that begins a line past the limit, or that is itself past the limit
+/// of bytes. The session is then as the commands performed so far left it. These include a command
+/// whose answer could not be written.
 pub fn serve<R: Source, W: Sink>(
     session: &mut Session<Rig>,
     source: &mut R,
