@@ -7,8 +7,8 @@ use Rattle.pp_arguments.specs.CommandLine.{Text}
 use Rattle.pp_trouble.specs.declared.trouble.FileKind.{FileKind}
 use Rattle.pp_trouble.specs.declared.trouble.FileKind.TheVariants.{Deck, Panel, Script}
 
--- A file of this kind was opened by this path, or could not be opened; or the file that was opened last was closed, after these bytes were
--- read from it.
+-- A file of this kind was opened by this path, or it could not be opened. Or the file that was opened last was closed, after these bytes
+-- were read from it.
 pub data Event : Type 0 where
   Opened : FileKind → Text → Event
   Missing : FileKind → Text → Event
@@ -24,7 +24,7 @@ abbrev pub asked_for : FileKind → Text → Option (List ℕ) → List Event
 asked_for kind path None = Missing kind path ∷ []
 asked_for kind path (Some bytes) = Opened kind path ∷ Closed bytes ∷ []
 
--- what the log has of a file
+-- the events of a file in the log
 abbrev pub events_of : Reading → List Event
 events_of reading = asked_for reading.kind reading.path reading.bytes
 

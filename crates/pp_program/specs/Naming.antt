@@ -1,4 +1,4 @@
--- Words of the inner contracts of a run: a file that an option may name.
+-- Definitions for the inner contracts of a run: a file that an option may name.
 use Rattle.std.specs.Prelude.{ℕ, List, [], ◌∷◌, ◌++◌, Option, Some, None, ⊤}
 use Rattle.pp_arguments.specs.CommandLine.{Text}
 use Rattle.pp_trouble.specs.declared.trouble.FileKind.{FileKind}
@@ -15,7 +15,7 @@ abbrev pub IsNamed : (Text → Option (Option (List ℕ))) → Option Text → O
 IsNamed files None taken content = ⊤
 IsNamed files (Some path) taken content = IsContent (files path) taken content
 
--- what the log has of these readings
+-- the events of these readings in the log
 abbrev pub events : List Reading → List Event
 events [] = []
 events (reading ∷ later) = events_of reading ++ events later

@@ -6,7 +6,7 @@ ghost use Rattle.std.specs.Prelude.{◌≡◌};
 use pp_lines::Log;
 use pp_trouble::FileKind;
 
-/// What a host logs of a file that the program asked for. The paths and bytes are for contracts alone.
+/// What a host logs about a file that the program asked for. Only contracts see the paths and bytes.
 #[derive(Drop)]
 pub enum FileEvent {
     /// The file was opened.
@@ -33,7 +33,7 @@ impl FileEvent {
     }
 }
 
-/// Makes the log of a path.
+/// Returns the log of a path.
 fn path_log(path: &str) -> Log
     ensures { result.bytes ≡ path.now }
 {

@@ -9,7 +9,7 @@ use crate::file_event::FileEvent;
 use std::marker::Model;
 use std::mem::size_of;
 
-/// What happened to the files of a program so far, in order. Contracts see it; at run time the log takes no bytes.
+/// What happened to the files of a program so far, in order. Only contracts see it. At run time the log has size zero.
 #[derive(Drop)]
 pub struct FileLog {
     pub ghost events: { List Event } by { coded_list coded_event },
@@ -22,14 +22,14 @@ impl Model for FileLog {
 }
 
 impl FileLog {
-    /// Makes an empty log.
+    /// Returns an empty log.
     pub fn new() -> FileLog
         ensures { result.events ≡ [] }
     {
         FileLog {}
     }
 
-    /// Makes the log with one more event.
+    /// Returns the log with one more event.
     pub fn with(_before: &FileLog, _event: &FileEvent) -> FileLog
         ensures { result.events ≡ _before.now.events ++ event_of _event.now ∷ [] }
     {
