@@ -1,4 +1,4 @@
-//! The program: its words, files and standard streams, handed to `pp_program::run`.
+//! The program: passes its words, files and standard streams to `pp_program::run`.
 #![tactic(auto)]
 
 ghost use Rattle.pp_program.specs.Hosts.{words_known};
@@ -15,7 +15,7 @@ use std::{env, io, mem};
 #[derive(Drop)]
 struct System<'a> {
     rt: &'a HostRuntime,
-    /// The words of the command line, until the program asked for them.
+    /// The words of the command line, until the program asks for them.
     words: Result<Vec<String>, WordsFault>,
     log: FileLog,
     failures: u64,
@@ -53,7 +53,10 @@ impl Host for System<'_> {
     }
 }
 
-/// Returns the words that the system gave the program.
+/// Returns the words of the command line.
+///
+/// # Errors
+/// `NotText` if a word is not text, and `NoMemory` if memory runs out.
 fn words(rt: &HostRuntime) -> Result<Vec<String>, WordsFault> {
     match env::args(rt) {
         Ok(words) => words.collect(rt.alloc()).map_err(|_| WordsFault::NoMemory),
