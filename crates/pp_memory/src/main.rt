@@ -1,6 +1,6 @@
-//! A program for `tests/memory` alone: it makes each thing that takes memory, tells what each maker answers,
-//! and then runs scripts, which take none. A refused maker ends it, but for a session: that one is made of
-//! the machine that was handed back.
+//! A program only for `tests/memory`. It calls each constructor that takes memory, prints each result, and then runs
+//! scripts, which take no memory. If a constructor fails the program ends, except for a session: that is made again
+//! from the machine that the failed call returned.
 #![tactic(auto)]
 
 mod makers;
@@ -9,13 +9,13 @@ mod scripts;
 use std::io::Read;
 use std::process::ExitCode;
 
-/// One request for memory, and whether it was granted.
+/// Requests memory once, and returns whether the request was granted.
 fn request(rt: &HostRuntime) -> bool {
     vec![in rt.alloc(); 0u8; 1].is_ok()
 }
 
-/// Makes a request for each byte of standard input. They shift which one of the requests after them has
-/// the number that the toolchain refuses.
+/// Makes a request for each byte of standard input. They shift which of the later requests has the number that the
+/// toolchain refuses.
 fn spend(rt: &HostRuntime) {
     let mut input = rt.stdin();
     let mut byte = [0; 1];

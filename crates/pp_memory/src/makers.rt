@@ -1,4 +1,4 @@
-//! Each maker is asked, and what it answers is told.
+//! Calls each constructor, and prints its result.
 ghost use Rattle.std.specs.Prelude.{◌≡◌, ◌<◌, All, IfSome, Ok};
 
 use pp_arguments::read_arguments;
@@ -10,10 +10,10 @@ use pp_rig::{Rig, Setup};
 use std::alloc::{AllocError, Global};
 use std::fmt::Debug;
 
-/// The most actions that a session keeps.
+/// The largest number of actions in an undo history.
 const KEPT: u32 = 10_000;
 
-/// Tells what a maker answered.
+/// Prints the result of a constructor.
 pub fn told<T, E: Debug + Drop>(rt: &HostRuntime, maker: &str, answer: Result<T, E>) -> Option<T>
     ensures { IfSome result (λ made. answer ≡ Ok made) }
 {
@@ -29,7 +29,7 @@ pub fn told<T, E: Debug + Drop>(rt: &HostRuntime, maker: &str, answer: Result<T,
     }
 }
 
-/// The parts of a machine that take memory.
+/// Makes the parts of a machine that take memory.
 pub fn parts(rt: &HostRuntime) -> Option<()> {
     let _memory = told(rt, "Memory12::new", Memory12::new(rt.alloc()))?;
     let _central = told(
@@ -41,7 +41,7 @@ pub fn parts(rt: &HostRuntime) -> Option<()> {
     Some(())
 }
 
-/// Every option, three of them with the name of a file.
+/// Returns a command line with every option. Three options have the name of a file.
 fn words(alloc: Global) -> Result<Vec<String>, AllocError> {
     let line =
         "pp6600 --history=7 --central=64 --deck=cards --reader=0 --printer=1 --panel=dead lines";
@@ -52,7 +52,7 @@ fn words(alloc: Global) -> Result<Vec<String>, AllocError> {
     Ok(words)
 }
 
-/// The deck of the lines of a file.
+/// Returns the deck of the lines of a file.
 fn deck(rt: &HostRuntime, lines: &[u8]) -> Option<Vec<[u16; 80]>>
     ensures { IfSome result (λ deck. All (All (λ word. word < 0o10000)) deck.items) }
 {
@@ -60,7 +60,7 @@ fn deck(rt: &HostRuntime, lines: &[u8]) -> Option<Vec<[u16; 80]>>
     told(rt, "load_deck", load_deck(rt.alloc(), &mut file))
 }
 
-/// A deck that grows more than once, and the options of the words of a command line.
+/// Loads a deck that grows more than once, and reads the options of the words of a command line.
 pub fn files_and_arguments(rt: &HostRuntime) -> Option<()> {
     let _nine_cards = deck(rt, b"1\n2\n3\n4\n5\n6\n7\n10\n11\n")?;
     let words = told(rt, "words", words(rt.alloc()))?;
@@ -68,8 +68,8 @@ pub fn files_and_arguments(rt: &HostRuntime) -> Option<()> {
     Some(())
 }
 
-/// A session of a new machine with a card in its reader. Where it is refused it is asked for again, of the
-/// machine that was handed back.
+/// Returns a session of a new machine with a card in its reader. If the constructor fails, it is called again with
+/// the machine that it returned.
 pub fn session(rt: &HostRuntime) -> Option<Session<Rig>> {
     let setup = Setup {
         central: CentralSize::K128,

@@ -1,4 +1,4 @@
-//! Scripts that run once all is made, into a sink of fixed room.
+//! Runs scripts into a sink of fixed size, after everything else is made.
 
 use crate::makers::{session, told};
 use pp_console::serve;
@@ -70,7 +70,7 @@ BACK
 DUMP W
 ";
 
-/// A session for each script.
+/// Returns a session for each script.
 fn sessions(rt: &HostRuntime) -> Option<Vec<Session<Rig>>> {
     let mut sessions = told(
         rt,
