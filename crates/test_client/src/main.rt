@@ -1,4 +1,4 @@
-//! A client of the crates, as a user writes one from their pages. It is compiled, proved and run by the checks alone.
+//! A client of the crates, written as a user writes one from their pages. Only the checks compile, prove and run it.
 #![tactic(auto)]
 
 use arrayvec::ArrayVec;
@@ -8,7 +8,7 @@ use pp_rig::{Action, CentralSize, Place, Rig, Setup, Values, Watched, run};
 use std::alloc::Global;
 use std::process::ExitCode;
 
-/// Makes a session of a machine with one card in its reader.
+/// Returns a session of a machine with one card in its reader.
 fn session(alloc: Global) -> Option<Session<Rig>> {
     let deck = load_deck(alloc, &mut Counted::new(b"1 2 3\n".as_slice())).ok()?;
     let setup = Setup {
@@ -22,7 +22,7 @@ fn session(alloc: Global) -> Option<Session<Rig>> {
     Session::new(alloc, rig, 100).ok()
 }
 
-/// Performs an action that the machine admits, and returns whether it did.
+/// Performs an action if the machine admits it, and returns whether it did.
 fn act(session: &mut Session<Rig>, action: Action) -> bool {
     if !session.machine().admits(&action) {
         return false;
@@ -45,7 +45,7 @@ fn load(session: &mut Session<Rig>) -> bool {
     act(session, cells) && act(session, Action::SetP { pp: 0, v: 0o100 })
 }
 
-/// Runs up to the store, and goes back to just before it and forward again.
+/// Runs up to the store, goes back to just before it, and goes forward again.
 fn work(rt: &HostRuntime) -> Option<()> {
     let mut session = session(rt.alloc())?;
     let loaded = load(&mut session)
