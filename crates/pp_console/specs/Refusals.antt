@@ -1,4 +1,4 @@
--- The answer OK, and the answers to commands that are rejected.
+-- The answers to rejected commands, and the answer `OK`.
 use Rattle.std.specs.Prelude.{ℕ, List, codes}
 use Rattle.pp_command.specs.declared.fault.LineFault.{LineFault}
 use Rattle.pp_command.specs.declared.fault.LineFault.TheVariants.{NotACommand, WordCount, NotANumber, OutOfRange, TooLong, NotAscii}
