@@ -317,6 +317,16 @@ fn forget<E: Drop>(items: &mut HeapCircularBuffer<E>, n: usize)
     }
 }
 
+/// Puts an item in front. If the ring is full, the last item is dropped where it is: `push_front` would copy it out.
+#[inline(always)]
+fn push<E: Drop>(items: &mut HeapCircularBuffer<E>, item: E)
+    requires { 1 ≤ items.old.capacity }
+    ensures { items.new ≡ buffer (take items.old.capacity (item ∷ items.old.items)) items.old.capacity }
+{
+    items.truncate_back(items.capacity() - 1);
+    let _pushed = items.try_push_front(item);
+}
+
 /// Performs an action, and leaves its undo record in front of the long ones.
 #[inline(never)]
 fn act_at_length<T: Reversible>(
@@ -330,7 +340,7 @@ fn act_at_length<T: Reversible>(
     ensures left { (back : T.Record) × (T.fits back machine.new) × (T.before back machine.new ≡ machine.old)
         × (longs.new ≡ buffer (take longs.old.capacity (Some back ∷ longs.old.items)) longs.old.capacity) }
 {
-    let _oldest = longs.push_front(T::spare_record());
+    push(longs, T::spare_record());
     if let Some(long) = longs.get_mut(0) {
         machine.act_into(action, long);
     }
@@ -376,7 +386,7 @@ fn perform<T: Reversible>(
         × IsLeft T.whole short back longs.old longs.new
         × T.fits back machine.new × (T.before back machine.new ≡ machine.old) }
 {
-    let _oldest = entries.push_front((action, T::spare()));
+    push(entries, (action, T::spare()));
     if let Some(newest) = entries.get_mut(0) {
         act(machine, &newest.0, &mut newest.1, longs);
     }
