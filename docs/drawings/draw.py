@@ -1,9 +1,10 @@
 #!/usr/bin/env python3
-"""Draws the pictures of the pages: barrel.svg, layers.svg, session.svg and turn.svg, beside this file.
+"""Draws the pictures of the pages: barrel.svg, layers.svg, session.svg, speed.svg and turn.svg, beside this file.
 
 Without a word it writes them. With `--check` it writes nothing, and fails if a picture is not what it draws.
 The layers are those of crates.txt. The numbers of session.svg and turn.svg are those of the program in
 tests/cases/drawing-of-a-session and tests/cases/drawing-of-a-turn, those of barrel.svg in channels-after-dead-start.
+Those of speed.svg are from the table of docs/SPEED.md.
 """
 
 import os
@@ -12,6 +13,7 @@ from html import escape
 
 HERE = os.path.dirname(os.path.abspath(__file__))
 CRATES = os.path.join(HERE, "..", "..", "crates.txt")
+SPEED = os.path.join(HERE, "..", "SPEED.md")
 FONT = "Helvetica, Arial, 'Liberation Sans', 'DejaVu Sans', sans-serif"
 WIDTH = 900
 
@@ -454,7 +456,7 @@ def numbers_box(x, y, numbers, fill, edge):
 
 
 def part(number):
-    """Returns a part of the turn: its write list, exchanged with the old values. Arrows lead on, and back."""
+    """Returns a part of the turn: its write list, and the old values of its places. Arrows lead on, and back."""
     name, when, new, old = PARTS[number]
     y, half = PART_TOP + number * PART_ROW, PART_HEIGHT / 2
     new_x, old_x = NEW_X + PART_WIDTH / 2, OLD_X + PART_WIDTH / 2
@@ -491,17 +493,76 @@ def turn():
             state(14, "machine before", "slot 11, P 0104, A 000101, channel 12: 0102, full, column 002, clock 0003"),
             reading(),
             way_back(),
-            text(514, PART_TOP - 13, "4. exchange", 12, True),
+            text(514, PART_TOP - 13, "4. write both", 12, True),
             [part(number) for number in range(len(PARTS))],
             state(end, "machine after", "slot 00, P 0105, A 000102, channel 12: 0103, full, column 003, clock 0004"),
         ],
     )
 
 
+# ---- where a turn's time goes
+
+
+BAR_X, BAR_WIDTH, BAR_TOP, BAR_ROW = 110, 700, 78, 44
+SHOWN = ["count", "loop4", "clear", "waits", "crm", "mixed", "exn"]
+COSTS = [
+    ("the turn, as in C", GREEN, GREEN_EDGE),
+    ("its undo record, as in C", AMBER, AMBER_EDGE),
+    ("what the simulator adds", BLUE, BLUE_EDGE),
+    ("a new entry of the history", GREY, GREY_EDGE),
+]
+
+
+def read_speed():
+    """Returns the rows of the table of SPEED.md: for each program the rate, or the ratio in parentheses if there is one."""
+    with open(SPEED, encoding="utf-8") as file:
+        made = file.read().split("\nMade on ")[1]
+    rows = [[cell.strip() for cell in row.split("|")[1:-1]] for row in made.splitlines() if row.startswith("|")]
+    cells = {row[0].strip("`"): [cell.split("(")[-1].rstrip(")") for cell in row[1:]] for row in rows}
+    return {name: dict(zip(cells[""], row)) for name, row in cells.items()}
+
+
+def costs_of(table, program):
+    """Returns the nanoseconds of each part of a turn: of the kernel, of its record, of FORWARD, of STEP."""
+    kernel = 1000 / float(table["C kernel"][program])
+    ends = [kernel] + [kernel / float(table[row][program]) for row in ("C kernel with records", "FORWARD", "STEP")]
+    return [later - earlier for earlier, later in zip([0] + ends, ends)]
+
+
+def bar(number, program, costs, scale):
+    """Returns the bar of a program: the parts of its turn, side by side."""
+    y, x, drawn = BAR_TOP + number * BAR_ROW, BAR_X, []
+    for cost, (_, fill, edge) in zip(costs, COSTS):
+        width = max(cost, 0) * scale
+        drawn += [box(x, y, width, 28, fill, edge, round_by=2)]
+        drawn += [text(x + width / 2, y + 14, f"{cost:.1f}", 12)] if width > 26 else []
+        x += width
+    return [text(BAR_X - 10, y + 14, program, 14, True, anchor="end"), drawn, text(x + 10, y + 14, f"{sum(costs):.1f}", 13, True, anchor="start")]
+
+
+def speed():
+    table = read_speed()
+    costs = [costs_of(table, program) for program in SHOWN]
+    scale = BAR_WIDTH / max(sum(one) for one in costs)
+    key = [
+        [box(110 + i * 190, 20, 18, 18, fill, edge, round_by=2), text(134 + i * 190, 29, name, 12, anchor="start")]
+        for i, (name, fill, edge) in enumerate(COSTS)
+    ]
+    bars = [bar(i, program, cost, scale) for i, (program, cost) in enumerate(zip(SHOWN, costs))]
+    title = "Where the time of a turn goes, in nanoseconds, for each program of the benchmark"
+    return picture(BAR_TOP + len(SHOWN) * BAR_ROW + 16, title, [key, text(BAR_X, 58, "nanoseconds a turn, by STEP", 12, fill=SOFT, anchor="start"), bars])
+
+
 # ---- the files
 
 
-PICTURES = {"barrel.svg": barrel, "layers.svg": layers, "session.svg": session, "turn.svg": turn}
+PICTURES = {
+    "barrel.svg": barrel,
+    "layers.svg": layers,
+    "session.svg": session,
+    "speed.svg": speed,
+    "turn.svg": turn,
+}
 
 
 def is_drawn(name, drawn):

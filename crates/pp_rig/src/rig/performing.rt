@@ -1,15 +1,33 @@
 //! An action of any kind.
-ghost use Rattle.std.specs.Prelude.{◌≡◌, ◌≤◌, length};
-ghost use Rattle.pp_rig.specs.Action.{FitsRecord, most_places, next, overwritten, record_pairs};
+ghost use Rattle.std.specs.Prelude.{◌≡◌, ◌≤◌, None, IsSomeAnd, length};
+ghost use Rattle.pp_machine.specs.Writes.{places};
+ghost use Rattle.pp_rig.specs.Action.{FitsRecord, before, most_places, next, overwritten, record_pairs, writes};
+ghost use Rattle.pp_rig.specs.Admitting.{first_fault};
 ghost use Rattle.pp_rig.specs.Performing.{IsPerformable};
 
 use super::settings::push_cells;
 use super::{Rig, RigRecord, TurnRecord};
 use crate::action::Action;
 use arrayvec::ArrayVec;
+use pp_history::Reversible;
 use pp_machine::{Kept, Place};
 
 impl Rig {
+    /// Performs an action that the rig admits, and writes its undo record over `back`. It is a function of its own, so that
+    /// an exchange has no room to clear for another record.
+    #[inline(never)]
+    pub(super) fn act_anew(&mut self, action: &Action, back: &mut Option<RigRecord>)
+        requires { first_fault self.old action.now ≡ None }
+        ensures next { self.new ≡ next self.old action.now }
+        ensures fits { IsSomeAnd back.new (λ left. FitsRecord left self.new) }
+        ensures before { IsSomeAnd back.new (λ left. before left self.new ≡ self.old) }
+        ensures named { IsSomeAnd back.new (λ left. places (record_pairs left) ≡ places (writes self.old action.now)) }
+        ensures stood { IsSomeAnd back.new (λ left. record_pairs left ≡ overwritten self.old action.now) }
+        ensures few { IsSomeAnd back.new (λ left. length (record_pairs left) ≤ most_places action.now) }
+    {
+        *back = Some(self.act(action));
+    }
+
     /// Performs an action whose numbers are in their ranges and that nothing rules out, and returns its undo record.
     pub(super) fn perform(&mut self, action: &Action) -> RigRecord
         requires { IsPerformable self.old action.now }

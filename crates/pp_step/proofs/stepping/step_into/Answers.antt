@@ -24,10 +24,10 @@ returns-else-perform-clause-issue c = λ idle busy.
 
 pub returns-then-perform-clause-back : goal.returns-then-perform-clause-back
 returns-then-perform-clause-back c =
-    leads_back _ _ _ _ (c.perform.ensures.step c.if-perform.true) (c.perform.ensures.record c.if-perform.true)
+    rw c.keep.ensures (leads_back _ _ _ _ (c.perform.ensures.step c.if-perform.true) (c.perform.ensures.record c.if-perform.true))
 
 pub returns-then-perform-clause-few : goal.returns-then-perform-clause-few
-returns-then-perform-clause-few c = few_places _ (Step c.perform.new.back) (c.perform.ensures.fits c.if-perform.true)
+returns-then-perform-clause-few c = rw c.keep.ensures (few_places _ (Step c.perform.new.back) (c.perform.ensures.fits c.if-perform.true))
 
 pub returns-then-perform-clause-issue : goal.returns-then-perform-clause-issue
 returns-then-perform-clause-issue c = λ idle busy.
