@@ -225,6 +225,13 @@ module _ {A S R : Type 0} (whole : S → R) where
       let first : slice_get (recorded (joined whole (drop n entries) longs)) 0 ≡ Some (entry.0, at.back) = ap (λ (records : List (A × R)). slice_get records 0) at.records in
       at.is ∙ ap (λ (e : A × R). Some e.1) (same_some first is)
 
+  -- and the first record stands for its short one
+  pub newest-short : (n : ℕ) (entries : List (Entry A S)) (entry : Entry A S) (longs : List (Option R)) (short : S) → HaveRecords (joined whole (drop n entries) longs) → slice_get entries n ≡ Some entry → entry.1 ≡ Some short → (newest : A × R) × (slice_get (recorded (joined whole (drop n entries) longs)) 0 ≡ Some newest) × (newest.1 ≡ whole short)
+  newest-short n entries entry longs short have found is =
+      let at = newest-at n entries entry longs have found in
+      let same : Some (whole short) ≡ Some at.back = sym (ap (λ s. record_of whole s longs) is) ∙ at.is in
+      ((entry.0, at.back), ap (λ (records : List (A × R)). slice_get records 0) at.records, (let back : at.back ≡ whole short = cc in back))
+
   -- there are records if and only if there are entries
   pub no-records : (n : ℕ) (entries : List (Entry A S)) (entry : Entry A S) (longs : List (Option R)) → HaveRecords (joined whole (drop n entries) longs) → slice_get entries n ≡ Some entry → length (recorded (joined whole (drop n entries) longs)) ≡ 0 → ⊥
   no-records n entries entry longs have found empty =

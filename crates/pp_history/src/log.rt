@@ -113,6 +113,20 @@ impl<T: Reversible> Log<T> {
         perform_again(machine, &mut self.entries, &mut self.longs, self.ahead);
     }
 
+    /// Returns the newest undo record, if there is one and it is short.
+    #[inline(always)]
+    pub(crate) fn newest_short(&self) -> Option<&T::Short>
+        ensures { IfSome result (λ short. (newest : T.Action × T.Record) × (slice_get self.now.records 0 ≡ Some newest) × (newest.1 ≡ T.whole short.now)) }
+    {
+        let Some(newest) = self.entries.get(self.ahead) else {
+            return None;
+        };
+        match &newest.1 {
+            Some(short) => Some(short),
+            None => None,
+        }
+    }
+
     /// Returns the old number that the newest undo record names for the place.
     #[inline(always)]
     pub(crate) fn newest_old_value(&self, place: &T::Place) -> Option<u64>
