@@ -1,7 +1,13 @@
 -- Runs, one turn after another.
 use Rattle.std.proofs.lemmas.Bool.Decides.{nat_tests}
-use Rattle.std.proofs.Common.{drop, get_or, length, min, ◌≡◌, ◌==◌, true, false, ◌∷◌, ℕ, suc, ◌+◌, ◌-◌, ◌<◌, ◌≤◌, refl, ap, sym, ◌∙◌, arith, List}
-use Rattle.std.specs.Prelude.{Option, Some, None}
+use Rattle.std.proofs.Common.{drop, get_or, length, min, ◌≡◌, ◌==◌, true, false, ◌∷◌, ℕ, suc, ◌+◌, ◌-◌, ◌<◌, ◌≤◌, refl, ap, subst, sym, ◌∙◌, arith, List}
+use Rattle.std.specs.Prelude.{Bool, ◌&&◌, Option, Some, None, [], MatchOption}
+use Rattle.pp_machine.specs.Lookup.{lookup}
+use Rattle.pp_rig.specs.Action.{FitsRecord, before, record_tells}
+use Rattle.pp_rig.specs.Short.{whole, whole_turn}
+use Rattle.pp_rig.specs.Storage.{are_storage, is_storage}
+use Rattle.pp_rig.specs.Turn.{turn_pairs}
+use Rattle.pp_rig.specs.declared.rig.ShortTurn.{ShortTurn}
 use Rattle.pp_history.specs.SessionValue.{SessionValue, after_act}
 use Rattle.pp_machine.specs.Machine.{Machine, number}
 use Rattle.pp_rig.specs.Stopping.{first_change, hit_of, stopped, after_turns}
@@ -16,6 +22,10 @@ use Rattle.pp_machine.specs.declared.place.Place.{Place}
 use Rattle.std.proofs.lemmas.List.{at_drop_more}
 use Rattle.pp_rig.specs.declared.stopping.Hit.{Hit}
 use Rattle.pp_rig.specs.declared.stopping.Stopped.{Stopped}
+
+and-true : (a b : Bool) → (a && b) ≡ true → (a ≡ true) × (b ≡ true)
+and-true true b e = (refl, e)
+and-true false b e = cc
 
 -- so many turns before the rest of a run
 abbrev pub turns_before : ℕ → Stopped → Stopped
@@ -65,6 +75,10 @@ pub after_turns-none : (v : SessionValue Machine Action) → after_turns 0 v ≡
 unfolding after_turns
 after_turns-none v = refl
 
+-- a turn changes no watched place for another
+pub turned-watches : (old new : Machine) → new ≡ turn old → watches_of new ≡ watches_of old
+turned-watches old new turned = ap watches_of turned ∙ ap watched_in (turn-watches old)
+
 -- the change between the machines before and after a turn is the one that the turn made
 pub hit-found : (old new before : Machine) {found : Option Hit} → new ≡ turn old → old ≡ before → found ≡ first_change before new (watches_of new) → hit_of old ≡ found
 hit-found old new before {found} turned same seen =
@@ -95,3 +109,17 @@ module _ (old new machine : Machine) (watches seen : List Watched) (i : ℕ) (pl
 
 pub one_kept : (capacity kept : ℕ) → 1 ≤ capacity → 1 ≤ min capacity (kept + 1)
 one_kept capacity kept room = omega (arith, room)
+
+-- a short undo record names the number before
+pub short-told : (m : Machine) (turn : ShortTurn) (place : Place) → FitsRecord (whole turn) m → (named : Option ℕ) → named ≡ lookup (turn_pairs (whole_turn turn)) place → MatchOption named (number (before (whole turn) m) place ≡ number m place) (λ was. number (before (whole turn) m) place ≡ was)
+short-told m turn place fits named e =
+    subst (λ o. MatchOption o (number (before (whole turn) m) place ≡ number m place) (λ was. number (before (whole turn) m) place ≡ was)) (sym e) (record_tells (whole turn) m place fits)
+
+-- a turn that named no storage changed none
+pub storage-same : (m : Machine) (turn : ShortTurn) (watches : List Watched) → FitsRecord (whole turn) m → are_storage watches ≡ true → ((place : Place) → is_storage place ≡ true → lookup (turn_pairs (whole_turn turn)) place ≡ None) → first_change (before (whole turn) m) m watches ≡ None
+storage-same m turn [] fits e none = refl
+storage-same m turn (w ∷ ws) fits e none =
+    let both = and-true (is_storage (watched_place w)) (are_storage ws) e in
+    let same : number (before (whole turn) m) (watched_place w) ≡ number m (watched_place w) = short-told m turn (watched_place w) fits None (sym (none (watched_place w) both.0)) in
+    let equal : (number m (watched_place w) == number (before (whole turn) m) (watched_place w)) ≡ true = grind (arith, nat_tests, same) in
+    rw equal (storage-same m turn ws fits both.1 none)

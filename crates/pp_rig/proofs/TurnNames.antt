@@ -11,7 +11,14 @@ use Rattle.pp_machine.specs.declared.place.Place.{Place}
 use Rattle.pp_machine.specs.declared.place.Place.TheVariants.{Cell, RegA, RegP, RegQ, Phase, ChannelMode, ChannelWord, Clock, Central, FrameWord, Card, CardColumn, ReaderMode, PaperLength, PaperColumn, PrinterMode, PaperSymbol, Slot, WatchEntry}
 use Rattle.pp_rig.specs.Turn.{clock_part, printer_part, printer_record, reader_part, reader_record, rest_pairs, turn_pairs}
 use Rattle.pp_rig.specs.declared.rig.TurnRecord.{TurnRecord}
-use Rattle.pp_step.specs.Seen.{lookup_seen, seen_by}
+use Rattle.pp_rig.specs.Short.{whole_turn}
+use Rattle.pp_rig.specs.Storage.{is_storage}
+use Rattle.pp_rig.specs.declared.rig.ShortTurn.{ShortTurn}
+use Rattle.pp_rig.specs.declared.rig.TurnRest.{TurnRest}
+use Rattle.pp_step.specs.Pairs.{pairs, target_pairs, writes_p, written}
+use Rattle.pp_step.specs.declared.record.StepRecord.{StepRecord}
+use Rattle.pp_step.specs.declared.record.PpRecord.TheVariants.{Step}
+use Rattle.pp_step.specs.Seen.{lookup as find_seen, lookup_seen, same_place as same_seen, seen_by}
 use Rattle.pp_step.specs.SeenLaws.{lookup-seen}
 use Rattle.pp_step.specs.Step.{pp_pairs}
 use Rattle.pp_step.specs.View.{PpPlace, pp_place}
@@ -162,3 +169,41 @@ lookup_told r PrinterMode = devices_alone r PrinterMode refl refl refl
 lookup_told r (PaperSymbol k) = devices_alone r (PaperSymbol k) refl refl refl
 lookup_told r Slot = neither r Slot refl refl ∙ rw (no_clock (r.rest.slot == 9) r.rest.clock Slot refl) refl
 lookup_told r (WatchEntry i) = neither r (WatchEntry i) refl refl ∙ rw (no_clock (r.rest.slot == 9) r.rest.clock (WatchEntry i) refl) refl
+
+-- ---- a turn that wrote registers, the clock and the slot alone
+
+not_written : (b : Bool) (x : PpPlace) (v : ℕ) (rest : Writes PpPlace) (p : PpPlace) → same_seen x p ≡ false → find_seen (written b x v rest) p ≡ find_seen rest p
+not_written true x v rest p e = rw e refl
+not_written false x v rest p e = refl
+
+-- a step's record without a target names registers alone
+no_target : (r : StepRecord) (p : PpPlace) → target_pairs r ≡ [] → same_seen view.P p ≡ false → same_seen view.A p ≡ false → same_seen view.Q p ≡ false → same_seen view.Phase p ≡ false → find_seen (pairs r) p ≡ None
+no_target r p none e1 e2 e3 e4 =
+    not_written (writes_p r.target) view.P r.p _ p e1 ∙ (not_written r.writes_a view.A r.a _ p e2 ∙ (not_written r.writes_q view.Q r.q _ p e3 ∙ (not_written r.writes_phase view.Phase r.phase _ p e4 ∙ ap (λ ws. find_seen ws p) none)))
+
+not_seen : (b : Bool) (ws : Writes PpPlace) (x : PpPlace) → find_seen ws x ≡ None → lookup_seen ws (if b then Some x else None) ≡ None
+not_seen true ws x e = e
+not_seen false ws x e = refl
+
+not_by_step : (slot : ℕ) (r : StepRecord) (p : Place) → lookup_seen (pairs r) (seen_by slot p) ≡ None → lookup (renamed (pp_place slot) (pp_pairs (Step r))) p ≡ None
+unfolding pp_pairs
+not_by_step slot r p none = lookup-seen slot (pairs r) p ∙ none
+
+idle : (r : TurnRest) (p : Place) → r.are_devices_called ≡ false → first_of_two (lookup (reader_part r) p) (lookup (printer_part r) p) ≡ None
+idle r p e = rw e refl
+
+none_if : (b : Bool) (o : Option ℕ) → o ≡ None → (if b then o else None) ≡ None
+none_if true o e = e
+none_if false o e = refl
+
+-- so the turn's record names no cell, no central word and no register of a channel
+pub no_storage : (r : ShortTurn) → target_pairs r.pp ≡ [] → r.rest.are_devices_called ≡ false → (p : Place) → is_storage p ≡ true → lookup (turn_pairs (whole_turn r)) p ≡ None
+no_storage r none e (Cell n a) storage =
+    lookup_told (whole_turn r) (Cell n a)
+    ∙ none_if (r.rest.slot == n) _ (not_by_step r.rest.slot r.pp (Cell n a) (not_seen (r.rest.slot == n) (pairs r.pp) (view.Cell a) (no_target r.pp (view.Cell a) none refl refl refl refl)))
+no_storage r none e (ChannelWord c) storage =
+    lookup_told (whole_turn r) (ChannelWord c)
+    ∙ rw (not_by_step r.rest.slot r.pp (ChannelWord c) (no_target r.pp (view.Channel c) none refl refl refl refl)) (idle r.rest (ChannelWord c) e)
+no_storage r none e (Central a) storage =
+    lookup_told (whole_turn r) (Central a) ∙ not_by_step r.rest.slot r.pp (Central a) (no_target r.pp (view.Word a) none refl refl refl refl)
+no_storage r none e p storage = cc

@@ -1,13 +1,16 @@
 //! Runs of turns that stop at the first change of a watched number.
-ghost use Rattle.std.specs.Prelude.{◌≡◌};
+ghost use Rattle.std.specs.Prelude.{◌≡◌, true};
 ghost use Rattle.pp_history.specs.SessionValue.{SessionValue, IsAt, after_act, replay};
 ghost use Rattle.pp_machine.specs.Machine.{Machine};
+ghost use Rattle.pp_rig.specs.Action.{FitsRecord, before};
 ghost use Rattle.pp_rig.specs.Rules.{rules};
+ghost use Rattle.pp_rig.specs.Short.{whole};
+ghost use Rattle.pp_rig.specs.Storage.{are_storage};
 ghost use Rattle.pp_rig.specs.Stopping.{first_change, stopped, after_turns};
 ghost use Rattle.pp_rig.specs.Watches.{watches_of};
 
 use crate::action::Action;
-use crate::rig::Rig;
+use crate::rig::{Rig, ShortTurn};
 use crate::watched::Watched;
 use pp_history::{Reversible, Session};
 
@@ -32,8 +35,8 @@ pub struct Stopped {
 }
 
 /// Returns the first watched place, in watch order, whose number the newest action, a turn, changed.
-#[inline(always)]
-fn first_change(session: &Session<Rig>) -> Option<Hit>
+#[inline(never)]
+fn first_change_at_length(session: &Session<Rig>) -> Option<Hit>
     ensures { (v : SessionValue Machine Action) → IsAt rules session.now (after_act v Action.Turn) →
         result ≡ first_change (replay rules v.start v.standing) session.now.machine (watches_of session.now.machine) }
 {
@@ -55,6 +58,55 @@ fn first_change(session: &Session<Rig>) -> Option<Hit>
     None
 }
 
+/// Returns the first watched place, in watch order, whose number a turn with this undo record changed.
+#[inline(always)]
+fn change_of(machine: &Rig, turn: &ShortTurn) -> Option<Hit>
+    requires { FitsRecord (whole turn.now) machine.now }
+    ensures { result ≡ first_change (before (whole turn.now) machine.now) machine.now (watches_of machine.now) }
+{
+    let watches = machine.watches();
+    for i in 0..watches.len() {
+        let watched = watches[i].place();
+        if let Some(old) = turn.was(&watched) {
+            let now = machine.value(&watched);
+            if now != old {
+                return Some(Hit {
+                    place: watches[i],
+                    was: old,
+                    now,
+                });
+            }
+        }
+    }
+    None
+}
+
+/// Returns the same. If storage alone is watched, most turns need no look at the watched places.
+#[inline(always)]
+fn first_change(session: &Session<Rig>, is_storage_alone: bool) -> Option<Hit>
+    requires { is_storage_alone ≡ true → are_storage (watches_of session.now.machine) ≡ true }
+    ensures { (v : SessionValue Machine Action) → IsAt rules session.now (after_act v Action.Turn) →
+        result ≡ first_change (replay rules v.start v.standing) session.now.machine (watches_of session.now.machine) }
+{
+    match session.newest_short() {
+        Some(turn) => {
+            if is_storage_alone && turn.wrote_registers_alone() {
+                None
+            } else {
+                change_of(session.machine(), turn)
+            }
+        }
+        None => first_change_at_length(session),
+    }
+}
+
+/// Returns whether each watched place is a cell, a central word or the register of a channel.
+fn are_storage(machine: &Rig) -> bool
+    ensures { result ≡ are_storage (watches_of machine.now) }
+{
+    machine.watches().iter().all(|watched| watched.is_storage())
+}
+
 /// Performs turns until there were n, or until one changed the number of a watched place.
 ///
 /// Where a turn changed several, the hit is the first of them in watch order. A turn in which a processor waits
@@ -68,9 +120,10 @@ pub fn run(session: &mut Session<Rig>, n: u32) -> Stopped
         IsAt rules session.new (after_turns result.turns v) }
 {
     session.has_session_value();
+    let is_storage_alone = are_storage(session.machine());
     for turns in 0..n {
         session.act(Action::Turn);
-        if let Some(hit) = first_change(session) {
+        if let Some(hit) = first_change(session, is_storage_alone) {
             return Stopped {
                 turns: turns + 1,
                 hit: Some(hit),

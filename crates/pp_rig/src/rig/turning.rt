@@ -8,13 +8,15 @@ ghost use Rattle.pp_machine.specs.Writes.{first_of_two, renamed};
 ghost use Rattle.pp_rig.specs.IsMachine.{IsMachine};
 ghost use Rattle.pp_rig.specs.Lift.{printer_of, reader_of};
 ghost use Rattle.pp_rig.specs.Short.{IsTurned, whole, whole_turn};
+ghost use Rattle.pp_rig.specs.Storage.{is_storage};
 ghost use Rattle.pp_rig.specs.Turn.{AreDevicesStepped, FitsRest, FitsTurn, IsSlotStep, KeepsSlot, clock_list, clock_part, printer_list, printer_part, reader_list, reader_part, rest_of_turn, rest_olds, rest_pairs, slot_list, turn_pairs};
+ghost use Rattle.pp_step.specs.Pairs.{pairs_as};
 ghost use Rattle.pp_step.specs.Step.{FitsPp, pp_pairs};
 ghost use Rattle.pp_step.specs.View.{pp_place};
 
 use super::{Rig, RigRecord, ShortTurn, TurnRecord, TurnRest};
 use pp_machine::{CentralSize, ChannelState, Kept, Place, PrinterRecord, ReaderRecord, first_kept};
-use pp_step::{ExchangeRecord, PpRecord, StepRecord};
+use pp_step::{ExchangeRecord, PpRecord, StepRecord, Target};
 
 impl TurnRest {
     /// Returns a record to write over.
@@ -122,7 +124,7 @@ impl ShortTurn {
     /// place of its kind.
     #[inline(always)]
     #[tactic(auto, using(crate::proofs::TurnNames::lookup_told))]
-    pub(super) fn was(&self, place: &Place) -> Option<u64>
+    pub(crate) fn was(&self, place: &Place) -> Option<u64>
         ensures { result ≡ lookup (turn_pairs (whole_turn self.now)) place.now }
     {
         match *place {
@@ -157,6 +159,27 @@ impl ShortTurn {
             | Place::PaperSymbol { .. } => self.rest.device_was(place),
             Place::WatchEntry { .. } => None,
         }
+    }
+
+    /// Returns whether the turn wrote the registers of its processor, the clock and the slot alone.
+    #[inline(always)]
+    #[tactic(auto, using(crate::proofs::TurnNames::no_storage))]
+    pub(crate) fn wrote_registers_alone(&self) -> bool
+        ensures { result ≡ true → (place : Place) → is_storage place ≡ true → lookup (turn_pairs (whole_turn self.now)) place ≡ None }
+    {
+        !self.rest.are_devices_called && is_nothing(self.pp.target)
+    }
+}
+
+/// Returns whether a step with this target wrote registers alone.
+#[inline(always)]
+fn is_nothing(target: Target) -> bool
+    ensures { result ≡ true → (writes : StepRecord) → pairs_as target writes ≡ [] }
+{
+    match target {
+        Target::Wait => true,
+        Target::Nothing => true,
+        _ => false,
     }
 }
 

@@ -1,15 +1,26 @@
-use Rattle.std.proofs.Common.{◌∙◌, sym}
+use Rattle.std.proofs.Common.{◌≡◌, ◌∙◌, ap, refl, sym}
 use Rattle.pp_history.specs.SessionLaws.{machine_at}
+use Rattle.pp_machine.specs.Machine.{Machine}
 use Rattle.pp_rig.specs.Rules.{rules}
+use Rattle.pp_rig.specs.Storage.{are_storage}
+use Rattle.pp_rig.specs.Watches.{watches_of}
 use Rattle.pp_rig.specs.Stopping.{after_turns}
-use Rattle.pp_rig.proofs.Runs.{stopped-start, stopped-on, stopped-hit, stopped-end, after_turns-none, after_turns-more, hit-found}
+use Rattle.pp_rig.proofs.Runs.{stopped-start, stopped-on, stopped-hit, stopped-end, after_turns-none, after_turns-more, hit-found, turned-watches}
 use Rattle.pp_rig.proofs.stopping.run.Goals as goal
 
 pub loop-turns-init : goal.loop-turns-init
 loop-turns-init c = record {
   at = λ v at. rw after_turns-none at;
   stopped = stopped-start c.args.n c.args.session.now.machine;
+  watches = refl;
 }
+
+-- no turn changes what is watched
+pub first_change-requires : goal.first_change-requires
+first_change-requires c = λ e.
+    let same : watches_of c.act.new.self.machine ≡ watches_of c.args.session.now.machine =
+    turned-watches c.loop-turns.session.machine c.act.new.self.machine c.act.ensures.machine ∙ c.loop-turns.invariant.watches in
+    ap are_storage same ∙ (ap (λ (m : Machine). are_storage (watches_of m)) (sym c.machine.ensures.value) ∙ (sym c.are_storage-is_storage_alone.ensures ∙ e))
 
 pub returns-in-Some-clause-stopped : goal.returns-in-Some-clause-stopped
 returns-in-Some-clause-stopped c =
@@ -33,6 +44,7 @@ loop-turns-preserved c =
     record {
       at = λ v at. rw (← after_turns-more c.loop-turns.turns v) (c.act.ensures.at _ (c.loop-turns.invariant.at v at));
       stopped = rw c.act.ensures.machine (c.loop-turns.invariant.stopped ∙ stopped-on c.args.n c.loop-turns.turns old.machine c.loop-turns-test.true none);
+      watches = turned-watches old.machine c.act.new.self.machine c.act.ensures.machine ∙ c.loop-turns.invariant.watches;
     }
 
 pub returns-clause-stopped : goal.returns-clause-stopped

@@ -4,6 +4,7 @@ use Rattle.pp_machine.specs.Machine.{Machine}
 use Rattle.pp_rig.specs.declared.action.Action.{Action}
 use Rattle.pp_rig.specs.Rules.{rules}
 use Rattle.pp_rig.specs.Stopping.{after_turns, stopped}
+use Rattle.pp_rig.specs.Watches.{watches_of}
 use Rattle.pp_rig.proofs.Runs.{turns_before}
 use Rattle.pp_rig.proofs.stopping.run.Given as goal
 
@@ -11,4 +12,5 @@ abbrev pub invariant-loop-turns : goal.invariant-loop-turns
 invariant-loop-turns l = record {
   at : (v : SessionValue Machine Action) → IsAt rules l.fn.session v → IsAt rules l.session (after_turns l.turns v);
   stopped : stopped l.n l.fn.session.machine ≡ turns_before l.turns (stopped (l.n - l.turns) l.session.machine);
+  watches : watches_of l.session.machine ≡ watches_of l.fn.session.machine;
 }

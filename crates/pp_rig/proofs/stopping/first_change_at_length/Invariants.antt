@@ -6,7 +6,7 @@ use Rattle.pp_rig.specs.Stopping.{first_change}
 use Rattle.pp_rig.specs.Watches.{watches_of}
 use Rattle.pp_rig.specs.declared.action.Action.{Action}
 use Rattle.pp_rig.specs.declared.action.Action.TheVariants.{Turn}
-use Rattle.pp_rig.proofs.stopping.first_change.Given as goal
+use Rattle.pp_rig.proofs.stopping.first_change_at_length.Given as goal
 
 abbrev pub invariant-loop-i : goal.invariant-loop-i
 invariant-loop-i l = (v : SessionValue Machine Action) → IsAt rules l.session (after_act v Turn) →
