@@ -139,3 +139,80 @@ fn a_wait_is_a_turn(rt: HostRuntime) -> Result<(), Fail> {
     assert_eq!(rt; session.kept(), 4);
     Ok(())
 }
+
+/// The hit of two turns of processor 0, with these places watched, where it loads 5 into A and then performs `second`.
+/// Channel 3 is active and empty, and the central word 5 is 0o77.
+fn hit_after_a_load(
+    rt: &impl Abort,
+    alloc: Global,
+    second: u16,
+    places: &[Watched],
+) -> Result<Stopped, &'static str> {
+    let mut session = make(alloc)?;
+    let active = Action::SetChannel {
+        c: 3,
+        state: ChannelState::Empty,
+        word: None,
+    };
+    act(rt, &mut session, active);
+    act(rt, &mut session, Action::SetWord { a: 0o5, v: 0o77 });
+    set_cells(rt, &mut session, 0o100, &[0o1405, second]);
+    act(rt, &mut session, Action::SetP { pp: 0, v: 0o100 });
+    for place in places {
+        act(rt, &mut session, Action::Watch(*place));
+    }
+    Ok(run(&mut session, 0o13))
+}
+
+#[test]
+fn an_exchange_may_change_a_watched_word(rt: HostRuntime) -> Result<(), Fail> {
+    let word = Watched::Central { a: 0o5 };
+    let hit = Hit {
+        place: word,
+        was: 0o77,
+        now: 0,
+    };
+    let places = [CELL_50, word];
+    let stopped = hit_after_a_load(&rt, rt.alloc(), 0o2600, &places)?;
+    assert_eq!(rt; stopped.turns, 0o13);
+    assert_eq!(rt; stopped.hit, Some(hit));
+    Ok(())
+}
+
+#[test]
+fn an_output_changes_the_register_of_a_channel(rt: HostRuntime) -> Result<(), Fail> {
+    let register = Watched::Register { c: 3 };
+    let hit = Hit {
+        place: register,
+        was: 0,
+        now: 5,
+    };
+    let places = [CELL_50, register];
+    let stopped = hit_after_a_load(&rt, rt.alloc(), 0o7203, &places)?;
+    assert_eq!(rt; stopped.turns, 0o13);
+    assert_eq!(rt; stopped.hit, Some(hit));
+    Ok(())
+}
+
+#[test]
+fn a_register_is_watched_beside_a_cell(rt: HostRuntime) -> Result<(), Fail> {
+    let a = Watched::RegA { pp: 0 };
+    let hit = Hit {
+        place: a,
+        was: 0,
+        now: 5,
+    };
+    let stopped = hit_after_a_load(&rt, rt.alloc(), 0o3450, &[CELL_50, a])?;
+    assert_eq!(rt; stopped.turns, 1);
+    assert_eq!(rt; stopped.hit, Some(hit));
+    Ok(())
+}
+
+#[test]
+fn turns_that_write_registers_alone_change_no_watched_cell(rt: HostRuntime) -> Result<(), Fail> {
+    let places = [CELL_50, Watched::Central { a: 0o5 }];
+    let stopped = hit_after_a_load(&rt, rt.alloc(), 0o1601, &places)?;
+    assert_eq!(rt; stopped.turns, 0o13);
+    assert_eq!(rt; stopped.hit, None);
+    Ok(())
+}
