@@ -34,7 +34,8 @@ pub struct Stopped {
     pub hit: Option<Hit>,
 }
 
-/// Returns the first watched place, in watch order, whose number the newest action, a turn, changed.
+/// Returns the first watched place, in watch order, whose number the newest action, a turn with a long undo record,
+/// changed.
 #[inline(never)]
 fn first_change_at_length(session: &Session<Rig>) -> Option<Hit>
     ensures { (v : SessionValue Machine Action) → IsAt rules session.now (after_act v Action.Turn) →
@@ -58,7 +59,7 @@ fn first_change_at_length(session: &Session<Rig>) -> Option<Hit>
     None
 }
 
-/// Returns the first watched place, in watch order, whose number a turn with this undo record changed.
+/// Returns the first watched place, in watch order, whose number a turn with this short undo record changed.
 #[inline(always)]
 fn change_of(machine: &Rig, turn: &ShortTurn) -> Option<Hit>
     requires { FitsRecord (whole turn.now) machine.now }
@@ -81,19 +82,24 @@ fn change_of(machine: &Rig, turn: &ShortTurn) -> Option<Hit>
     None
 }
 
-/// Returns the same. If storage alone is watched, most turns need no look at the watched places.
+/// Returns the first watched place, in watch order, whose number the newest action, a turn, changed. If storage alone is
+/// watched, most turns need no look at the watched places.
 #[inline(always)]
 fn first_change(session: &Session<Rig>, is_storage_alone: bool) -> Option<Hit>
     requires { is_storage_alone ≡ true → are_storage (watches_of session.now.machine) ≡ true }
     ensures { (v : SessionValue Machine Action) → IsAt rules session.now (after_act v Action.Turn) →
         result ≡ first_change (replay rules v.start v.standing) session.now.machine (watches_of session.now.machine) }
 {
+    let machine = session.machine();
+    if machine.watches().is_empty() {
+        return None;
+    }
     match session.newest_short() {
         Some(turn) => {
             if is_storage_alone && turn.wrote_registers_alone() {
                 None
             } else {
-                change_of(session.machine(), turn)
+                change_of(machine, turn)
             }
         }
         None => first_change_at_length(session),

@@ -22,5 +22,5 @@ returns-else-is_storage_alone c = λ v at.
     let m = c.args.session.now.machine in
     let leads : before (whole c.in-Some.turn.now) m ≡ replay rules v.start v.standing = c.in-Some.ensures.leads_back (after_act v Turn) at in
     c.change_of.ensures
-    ∙ (ap (λ (now : Machine). first_change (before (whole c.in-Some.turn.now) now) now (watches_of now)) c.machine.ensures.value
+    ∙ (ap (λ (now : Machine). first_change (before (whole c.in-Some.turn.now) now) now (watches_of now)) c.machine-machine.ensures.value
     ∙ ap (λ old. first_change old m (watches_of m)) leads)
