@@ -89,9 +89,32 @@ impl TurnRecord {
         }
     }
 
-    /// Returns the old number of a place that the record names, else `None`.
-    #[tactic(auto, using(crate::proofs::TurnNames::lookup_parts))]
+    /// Returns the old number of a place that the record names, else `None`. A place of another processor is not looked up.
+    #[tactic(auto, using(crate::proofs::TurnNames::lookup_told, crate::proofs::TurnNames::lookup_parts))]
     pub(super) fn was(&self, place: &Place) -> Option<u64>
+        ensures { result ≡ lookup (turn_pairs self.now) place.now }
+    {
+        match *place {
+            Place::Cell { pp, .. }
+            | Place::RegA { pp }
+            | Place::RegP { pp }
+            | Place::RegQ { pp }
+            | Place::Phase { pp } => {
+                if self.rest.slot == pp {
+                    self.pp.was(self.rest.slot, place)
+                } else {
+                    None
+                }
+            }
+            Place::Central { .. } | Place::FrameWord { .. } => self.pp.was(self.rest.slot, place),
+            _ => self.shared_was(place),
+        }
+    }
+
+    /// Returns the same, for any place.
+    #[inline(never)]
+    #[tactic(auto, using(crate::proofs::TurnNames::lookup_parts))]
+    fn shared_was(&self, place: &Place) -> Option<u64>
         ensures { result ≡ lookup (turn_pairs self.now) place.now }
     {
         let pp = self.pp.was(self.rest.slot, place);
