@@ -518,7 +518,7 @@ def read_speed():
     with open(SPEED, encoding="utf-8") as file:
         made = file.read().split("\nMade on ")[1]
     rows = [[cell.strip() for cell in row.split("|")[1:-1]] for row in made.splitlines() if row.startswith("|")]
-    cells = {row[0].strip("`"): [cell.split("(")[-1].rstrip(")") for cell in row[1:]] for row in rows}
+    cells = {row[0].replace("`", ""): [cell.split("(")[-1].rstrip(")") for cell in row[1:]] for row in rows}
     return {name: dict(zip(cells[""], row)) for name, row in cells.items()}
 
 
