@@ -1,5 +1,5 @@
 -- Words of the contracts of inner functions alone: no definition of a step, and no contract of a public call, needs them.
-use Rattle.std.specs.Prelude.{ℕ, List, [], ◌∷◌, ◌+◌, ◌≡◌, slice_index, slice_set}
+use Rattle.std.specs.Prelude.{ℕ, Bool, nat_lt, ◌-◌, ◌%◌, List, [], ◌∷◌, ◌+◌, ◌≡◌, slice_index, slice_set}
 use Rattle.pp_machine.specs.declared.pp.Pp.{Pp}
 use Rattle.pp_step.specs.Pairs.{Fits}
 use Rattle.pp_step.specs.Words.{cell_after, central_after}
@@ -22,6 +22,10 @@ five_over address parts cells =
     (cell_after address 2) (slice_index parts 2))
     (cell_after address 1) (slice_index parts 1))
     (cell_after address 0) (slice_index parts 0)
+
+-- a central address is one of the sixteen from a on
+abbrev pub is_near : ℕ → ℕ → Bool
+is_near a at = nat_lt ((at + 0o1000000 - a % 0o1000000) % 0o1000000) 16
 
 -- central memory with the numbers of a list put in from i words behind a on
 abbrev pub stored_over : ℕ → ℕ → List ℕ → List ℕ → List ℕ
