@@ -1,4 +1,4 @@
--- Two rings hold one list of undo records, and keep holding it.
+-- Two rings hold one list of undo records, and continue to hold it.
 use Rattle.std.proofs.Common.{reverse, add-one, Option, Some, None, slice_get, ◌≡◌, ℕ, zero, suc, ◌+◌, ◌-◌, ◌<◌, ◌≤◌, List, [], ◌∷◌, ◌++◌, length, map, take, drop, set, refl, sym, ◌∙◌, ap, arith, length-take}
 use Rattle.std.proofs.lemmas.List.{length-map, reverse-append, length-reverse, take-set, drop-set, length-set, length-drop, take-map}
 use Rattle.std.proofs.lemmas.Grind.{common_steps}
@@ -47,7 +47,7 @@ module _ {A R : Type 0} where
   pub have-records : (entries : List (A × Option R)) (records : List (A × R)) → entries ≡ entries_of records → HaveRecords entries
   have-records entries records made = made ∙ ap entries_of (sym (records-of entries records made))
 
-  -- as many entries as records
+  -- there are as many entries as records
   recorded-length : (entries : List (A × Option R)) → HaveRecords entries → length (recorded entries) ≡ length entries
   recorded-length entries have =
       sym (length-map (recorded entries) (λ (entry : A × R). (entry.0, Some entry.1))) ∙ ap length (sym have)
@@ -81,21 +81,21 @@ module _ {A R : Type 0} where
   newest-of action (Some back) older have = record { back = back; named_is = refl; have = cc }
 
 module _ {A S : Type 0} where
-  -- the actions of the first n entries, the last of them first
+  -- the actions of the first n entries, in reverse order
   abbrev pub ahead_of : ℕ → List (Entry A S) → List A
   ahead_of n items = map (λ entry. entry.0) (reverse (take n items))
 
-  -- one entry more is ahead of the others
+  -- one more entry is ahead of the others
   ahead_more : (n : ℕ) (items : List (Entry A S)) (entry : Entry A S) → slice_get items n ≡ Some entry → ahead_of (suc n) items ≡ entry.0 ∷ ahead_of n items
   ahead_more n items entry found =
       ap (λ taken. map (λ e. e.0) (reverse taken)) (take-one n items entry found) ∙ ap (map (λ e. e.0)) (reverse-append (take n items) (entry ∷ []))
 
-  -- which is the first of them
+  -- it is the first action ahead
   pub first_ahead : (ahead n : ℕ) → ahead ≡ n + 1 → (items : List (Entry A S)) (entry : Entry A S) → slice_get items n ≡ Some entry → slice_get (ahead_of ahead items) 0 ≡ Some entry.0
   first_ahead ahead n more items entry found =
       rw (more, add-one) (ap (λ (actions : List A). slice_get actions 0) (ahead_more n items entry found))
 
-  -- so many are ahead
+  -- n actions are ahead
   pub ahead_length : (n : ℕ) (items : List (Entry A S)) → n ≤ length items → length (ahead_of n items) ≡ n
   ahead_length n items within =
       length-map (reverse (take n items)) (λ entry. entry.0) ∙ length-reverse (take n items) ∙ grind (arith, common_steps, length-take)
@@ -110,7 +110,7 @@ module _ {S R : Type 0} (whole : S → R) where
   first_in zero back longs room = absurd (omega arith)
   first_in (suc n) back longs room = refl
 
-  -- an undo record that was left is that of its entry
+  -- the undo record that an action leaves is that of its entry
   left_record : (short : Option S) (back : R) (old new : Buffer (Option R)) → 1 ≤ old.capacity → IsLeft whole short back old new → record_of whole short new.items ≡ Some back
   left_record (Some short) back old new room left = ap Some (sym left.0)
   left_record None back old new room left =
@@ -142,19 +142,19 @@ module _ {A S R : Type 0} (whole : S → R) where
   joined_length [] longs = refl
   joined_length (newest ∷ older) longs = ap suc (joined_length older (longs_behind newest.1 longs))
 
-  -- as many kept entries as records
+  -- there are as many kept entries as records
   pub recorded_length : (n : ℕ) (entries : List (Entry A S)) (longs : List (Option R)) → HaveRecords (joined whole (drop n entries) longs) → length (recorded (joined whole (drop n entries) longs)) ≡ length entries - n
   recorded_length n entries longs have =
       recorded-length (joined whole (drop n entries) longs) have ∙ joined_length (drop n entries) longs ∙ length-drop n entries
 
-  -- the oldest entries go with their undo records
+  -- the oldest entries are discarded with their undo records
   joined_take : (n : ℕ) (entries : List (Entry A S)) (longs : List (Option R)) → joined whole (take n entries) longs ≡ take n (joined whole entries longs)
   joined_take zero entries longs = refl
   joined_take (suc n) [] longs = refl
   joined_take (suc n) (newest ∷ older) longs =
       ap (λ records. (newest.0, record_of whole newest.1 longs) ∷ records) (joined_take n older (longs_behind newest.1 longs))
 
-  -- as many long undo records are enough as there are entries
+  -- it is enough to have as many long undo records as entries
   behind_enough : (short : Option S) (m : ℕ) (older : List (Entry A S)) (longs : List (Option R)) → ((k : ℕ) (ls : List (Option R)) → length older ≤ k → joined whole older (take k ls) ≡ joined whole older ls) → length older ≤ m → joined whole older (longs_behind short (take (suc m) longs)) ≡ joined whole older (longs_behind short longs)
   behind_enough None m older [] ih few = refl
   behind_enough None m older (long ∷ longs) ih few = ih m longs few
@@ -171,13 +171,13 @@ module _ {A S R : Type 0} (whole : S → R) where
   behind_in zero back older longs room = absurd (omega arith)
   behind_in (suc n) back older longs room = joined_enough n older longs (omega arith)
 
-  -- and the older ones have theirs still
+  -- the older entries keep their undo records
   left_behind : (short : Option S) (back : R) (old new : Buffer (Option R)) (older : List (Entry A S)) → length older + 1 ≤ old.capacity → IsLeft whole short back old new → joined whole older (longs_behind short new.items) ≡ joined whole older old.items
   left_behind (Some short) back old new older room left = ap (λ (b : Buffer (Option R)). joined whole older b.items) left.1
   left_behind None back old new older room left =
       ap (λ (b : Buffer (Option R)). joined whole older (drop 1 b.items)) left ∙ behind_in old.capacity back older old.items room
 
-  -- one entry more, whose undo record was left
+  -- one more entry, with the undo record that its action leaves
   joined_left : (action : A) (short : Option S) (back : R) (old new : Buffer (Option R)) (older : List (Entry A S)) → length older + 1 ≤ old.capacity → IsLeft whole short back old new → HaveRecords (joined whole older old.items) → joined whole ((action, short) ∷ older) new.items ≡ entries_of ((action, back) ∷ recorded (joined whole older old.items))
   joined_left action short back old new older room left have =
       ap (λ r. (action, r) ∷ joined whole older (longs_behind short new.items)) (left_record whole short back old new (omega (arith, room)) left)
@@ -187,7 +187,7 @@ module _ {A S R : Type 0} (whole : S → R) where
   entries_take n entries longs have =
       joined_take n entries longs ∙ ap (take n) have ∙ take-map (λ (entry : A × R). (entry.0, Some entry.1)) n (recorded (joined whole entries longs))
 
-  -- one entry more, where the oldest goes
+  -- one more entry, if the oldest is discarded
   joined_performed : (capacity : ℕ) (action : A) (short : Option S) (back : R) (old new : Buffer (Option R)) (older : List (Entry A S)) → 1 ≤ capacity → old.capacity ≡ capacity → IsLeft whole short back old new → HaveRecords (joined whole older old.items) → joined whole (take capacity ((action, short) ∷ older)) new.items ≡ entries_of (take capacity ((action, back) ∷ recorded (joined whole older old.items)))
   joined_performed zero action short back old new older some room left have = absurd (omega arith)
   joined_performed (suc n) action short back old new older some room left have =
@@ -195,11 +195,11 @@ module _ {A S R : Type 0} (whole : S → R) where
       joined_left action short back old new (take n older) (grind (arith, common_steps, length-take, room)) left (have-records _ _ kept)
       ∙ ap (λ records. entries_of ((action, back) ∷ records)) (records-of _ _ kept)
 
-  -- the newest entry, and those behind it
+  -- the newest entry, and the entries behind it
   pub joined_behind : (n : ℕ) (entries : List (Entry A S)) (entry : Entry A S) (longs : List (Option R)) → slice_get entries n ≡ Some entry → joined whole (drop n entries) longs ≡ (entry.0, record_of whole entry.1 longs) ∷ joined whole (drop (suc n) entries) (longs_behind entry.1 longs)
   joined_behind n entries entry longs found = ap (λ (es : List (Entry A S)). joined whole es longs) (drop-at n entries entry found)
 
-  -- the newest entry has its undo record, and those behind it have theirs
+  -- the newest entry has its undo record, and the entries behind it have theirs
   pub record NewestAt (n : ℕ) (entries : List (Entry A S)) (entry : Entry A S) (longs : List (Option R)) : Type 0 where
     pub back : R
     pub is : record_of whole entry.1 longs ≡ Some back
@@ -218,14 +218,14 @@ module _ {A S R : Type 0} (whole : S → R) where
         have = newest.have;
       }
 
-  -- it is the first record
+  -- the undo record of the newest entry is the first record
   pub newest-record : (n : ℕ) (entries : List (Entry A S)) (entry : Entry A S) (longs : List (Option R)) (newest : A × R) → HaveRecords (joined whole (drop n entries) longs) → slice_get entries n ≡ Some entry → slice_get (recorded (joined whole (drop n entries) longs)) 0 ≡ Some newest → record_of whole entry.1 longs ≡ Some newest.1
   newest-record n entries entry longs newest have found is =
       let at = newest-at n entries entry longs have found in
       let first : slice_get (recorded (joined whole (drop n entries) longs)) 0 ≡ Some (entry.0, at.back) = ap (λ (records : List (A × R)). slice_get records 0) at.records in
       at.is ∙ ap (λ (e : A × R). Some e.1) (same_some first is)
 
-  -- and the first record stands for its short one
+  -- the first record is the whole of the short one
   pub newest-short : (n : ℕ) (entries : List (Entry A S)) (entry : Entry A S) (longs : List (Option R)) (short : S) → HaveRecords (joined whole (drop n entries) longs) → slice_get entries n ≡ Some entry → entry.1 ≡ Some short → (newest : A × R) × (slice_get (recorded (joined whole (drop n entries) longs)) 0 ≡ Some newest) × (newest.1 ≡ whole short)
   newest-short n entries entry longs short have found is =
       let at = newest-at n entries entry longs have found in
@@ -248,7 +248,7 @@ module _ {A S R : Type 0} (whole : S → R) where
   abbrev value_of : List (A × R) → List A → ℕ → LogValue A R
   value_of records ahead capacity = record { records = records; ahead = ahead; capacity = capacity }
 
-  -- a log with one action more
+  -- a log with one more action
   module _ (entries entries' : Buffer (Entry A S)) (old new : Buffer (Option R)) (ahead : ℕ) (action : A) (short : Option S) (back : R)
       (log : IsLog whole entries old ahead)
       (kept : entries' ≡ buffer (take entries.capacity ((action, short) ∷ drop ahead entries.items)) entries.capacity)
@@ -273,7 +273,7 @@ module _ {A S R : Type 0} (whole : S → R) where
       kept = have-records _ _ performed_entries;
     }
 
-  -- a log whose newest action was taken back
+  -- a log whose newest action was undone
   module _ (entries : Buffer (Entry A S)) (old new : Buffer (Option R)) (ahead : ℕ) (entry : Entry A S)
       (log : IsLog whole entries old ahead)
       (found : slice_get entries.items ahead ≡ Some entry)
@@ -334,17 +334,17 @@ module _ {A S R : Type 0} (whole : S → R) where
     }
 
 module _ {A S R : Type 0} (whole : S → R) where
-  -- an entry behind k others, where those from there on are the last of all
+  -- an entry behind k others, if the entries from there on are the last of all
   joined_at : (n k : ℕ) (entries : List (Entry A S)) (longs : List (Option R)) (all : List (A × Option R)) (entry : Entry A S) → slice_get entries n ≡ Some entry → joined whole (drop n entries) longs ≡ drop k all → slice_get all k ≡ Some (entry.0, record_of whole entry.1 longs)
   joined_at n k entries longs all entry found behind =
       sym (slice_get-drop k all 0 k (omega arith)) ∙ ap (λ (rs : List (A × Option R)). slice_get rs 0) (sym behind ∙ joined_behind whole n entries entry longs found)
 
-  -- it has its undo record
+  -- the entry has its undo record
   pub record_at : (n k : ℕ) (entries : List (Entry A S)) (longs : List (Option R)) (all : List (A × Option R)) (entry : Entry A S) → slice_get entries n ≡ Some entry → joined whole (drop n entries) longs ≡ drop k all → HaveRecords all → RecordAt all k (record_of whole entry.1 longs)
   record_at n k entries longs all entry found behind have =
       record-at all k (entry.0, record_of whole entry.1 longs) have (joined_at n k entries longs all entry found behind)
 
-  -- and one entry on
+  -- one entry further
   pub goes_behind : (n n' k long long' : ℕ) → n' ≡ suc n → (entries : List (Entry A S)) (longs : List (Option R)) (all : List (A × Option R)) (entry : Entry A S) → slice_get entries n ≡ Some entry → joined whole (drop n entries) (drop long longs) ≡ drop k all → drop long' longs ≡ longs_behind entry.1 (drop long longs) → joined whole (drop n' entries) (drop long' longs) ≡ drop (k + 1) all
   goes_behind n n' k long long' next entries longs all entry found behind gone =
       rw (next, add-one)

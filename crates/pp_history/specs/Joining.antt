@@ -1,4 +1,5 @@
--- How two rings hold one list of undo records: the short ones are beside their actions, the long ones apart.
+-- How two rings hold one list of undo records: the short ones are beside their actions, the long ones in a ring of
+-- their own.
 use Rattle.std.specs.Prelude.{◌≡◌, ℕ, ◌≤◌, List, [], ◌∷◌, Option, Some, None, length, map, take, drop, reverse}
 use Rattle.circular_buffer.specs.Buffer.{Buffer, buffer}
 use Rattle.pp_history.specs.LogValue.{LogValue}
@@ -7,7 +8,7 @@ use Rattle.pp_history.specs.LogValue.{LogValue}
 abbrev pub Entry : Type 0 → Type 0 → Type 0
 Entry A S = A × Option S
 
--- the undo record of the newest entry: without a short one it is the newest long one
+-- the undo record of the newest entry: its short one, or else the newest long one
 abbrev pub record_of : {S R : Type 0} → (S → R) → Option S → List (Option R) → Option R
 record_of whole (Some short) longs = Some (whole short)
 record_of whole None [] = None
@@ -24,17 +25,17 @@ joined whole [] longs = []
 joined whole (newest ∷ older) longs = (newest.0, record_of whole newest.1 longs) ∷ joined whole older (longs_behind newest.1 longs)
 
 module _ {A R : Type 0} where
-  -- an entry in front of others, if it has its undo record
+  -- an entry in front of others, if it has an undo record
   abbrev pub with_record : A → Option R → List (A × R) → List (A × R)
   with_record action None older = older
   with_record action (Some back) older = (action, back) ∷ older
 
-  -- the entries that have their undo records
+  -- the entries that have undo records
   abbrev pub recorded : List (A × Option R) → List (A × R)
   recorded [] = []
   recorded (newest ∷ older) = with_record newest.0 newest.1 (recorded older)
 
-  -- entries that have these undo records
+  -- entries with these undo records
   abbrev pub entries_of : List (A × R) → List (A × Option R)
   entries_of records = map (λ entry. (entry.0, Some entry.1)) records
 
@@ -43,7 +44,7 @@ module _ {A R : Type 0} where
   HaveRecords entries = entries ≡ entries_of (recorded entries)
 
 module _ {A S R : Type 0} (whole : S → R) where
-  -- the first so many entries were taken back, and the next to perform is the last of them
+  -- the first n entries were undone, and the last one is the next to perform again
   abbrev pub log_value : Buffer (Entry A S) → Buffer (Option R) → ℕ → LogValue A R
   log_value entries longs ahead = record {
     records = recorded (joined whole (drop ahead entries.items) longs.items);
@@ -60,7 +61,7 @@ module _ {A S R : Type 0} (whole : S → R) where
     pub within : ahead ≤ length entries.items
     pub kept : HaveRecords (joined whole (drop ahead entries.items) longs.items)
 
--- an undo record was left: a short one, or a long one in front of the others
+-- what an action leaves: a short undo record, or a long one in front of the others
 abbrev pub IsLeft : {S R : Type 0} → (S → R) → Option S → R → Buffer (Option R) → Buffer (Option R) → Type 0
 IsLeft whole (Some short) back old new = (back ≡ whole short) × (new ≡ old)
 IsLeft whole None back old new = new ≡ buffer (take old.capacity (Some back ∷ old.items)) old.capacity

@@ -1,4 +1,4 @@
-//! The newest actions with their undo records: one list, which two rings hold.
+//! The newest actions with their undo records: one list, held in two rings.
 
 ghost use Rattle.std.specs.Prelude.{◌≡◌, ◌∷◌, [], take, drop, slice_get, slice_set, Some, None, Option, ℕ, List, ◌+◌, ◌-◌, ◌<◌, ◌≤◌, length, IfOk, IsSomeAnd, MatchOption, IfSome, ◌*◌};
 ghost use Rattle.circular_buffer.specs.Buffer.{buffer};
@@ -13,16 +13,17 @@ use circular_buffer::HeapCircularBuffer;
 use std::alloc::{AllocError, Global};
 use std::marker::Model;
 
-/// The newest actions, at most `capacity`. Some were taken back; the others have undo records. An entry is a few bytes,
-/// with its short undo record. The long undo records are apart, and memory is touched only for those that are made.
+/// The newest actions, at most `capacity`. Some were undone; the others have undo records. An entry is a few bytes,
+/// with its short undo record. The long undo records have a ring of their own, in which memory is touched only for
+/// records that are made.
 #[derive(Drop)]
 pub(crate) struct Log<T: Reversible> {
-    /// In front the actions that were taken back, the next to perform last of them; then the kept ones, the newest
-    /// first. The undo record of a kept action without a short one is the newest long one that no newer action has.
+    /// First the undone actions, the next to perform again last; then the kept actions, the newest first. The undo
+    /// record of a kept action without a short one is the newest long one that no newer action has.
     entries: HeapCircularBuffer<(T::Action, Option<T::Short>)>,
-    /// The long undo records of kept actions, the newest first, and behind them those of discarded actions.
+    /// The long undo records of kept actions, the newest first, and then those of discarded actions.
     longs: HeapCircularBuffer<Option<T::Record>>,
-    /// How many of the entries were taken back.
+    /// How many of the entries were undone.
     ahead: usize,
 }
 
@@ -38,7 +39,7 @@ impl<T: Reversible> Model for Log<T> {
 }
 
 impl<T: Reversible> Log<T> {
-    /// Returns an empty log.
+    /// Returns an empty log. Fails if there is no memory left.
     pub(crate) fn new(alloc: Global, capacity: u32) -> Result<Log<T>, AllocError>
         requires { (1 ≤ capacity) × (capacity ≤ 10000) }
         ensures { IfOk result (λ log. log ≡ record { records = []; ahead = []; capacity = capacity }) }
@@ -52,7 +53,7 @@ impl<T: Reversible> Log<T> {
         })
     }
 
-    /// Returns the most actions that it holds.
+    /// Returns the most actions that the log holds.
     pub(crate) fn capacity(&self) -> u32
         ensures { result ≡ self.now.capacity }
     {
@@ -66,7 +67,7 @@ impl<T: Reversible> Log<T> {
         (self.entries.len() - self.ahead) as u32
     }
 
-    /// Returns the number of actions that were taken back.
+    /// Returns the number of actions that were undone.
     pub(crate) fn ahead(&self) -> u32
         ensures { result ≡ length self.now.ahead }
     {
@@ -74,7 +75,7 @@ impl<T: Reversible> Log<T> {
     }
 
     /// Performs an action that the machine admits, and keeps it in front of the others. If the log is full, the oldest
-    /// is discarded. So are the actions ahead.
+    /// action is discarded. The actions ahead are discarded too.
     #[inline(always)]
     pub(crate) fn perform(&mut self, machine: &mut T, action: T::Action)
         requires { T.admitted machine.old action }
@@ -87,7 +88,7 @@ impl<T: Reversible> Log<T> {
         perform(machine, &mut self.entries, &mut self.longs, action);
     }
 
-    /// Takes the newest action back.
+    /// Undoes the newest action.
     #[inline(always)]
     pub(crate) fn take_back(&mut self, machine: &mut T)
         requires some { 0 < length self.old.records }
@@ -100,7 +101,7 @@ impl<T: Reversible> Log<T> {
         self.ahead += 1;
     }
 
-    /// Performs the first of the actions ahead again.
+    /// Performs the first action ahead again.
     #[inline(always)]
     pub(crate) fn perform_again(&mut self, machine: &mut T)
         requires some { 0 < length self.old.ahead }
@@ -127,7 +128,8 @@ impl<T: Reversible> Log<T> {
         }
     }
 
-    /// Returns the old number that the newest undo record names for the place.
+    /// Returns the old number of the place, or `None` if the newest undo record does not have that place or there is
+    /// none.
     #[inline(always)]
     pub(crate) fn newest_old_value(&self, place: &T::Place) -> Option<u64>
         ensures value { (newest : T.Action × T.Record) → slice_get self.now.records 0 ≡ Some newest → result ≡ T.old_number newest.1 place.now }
@@ -142,7 +144,7 @@ impl<T: Reversible> Log<T> {
         }
     }
 
-    /// Returns the position, counted from 1, of the first undo record that names another number for one of the places
+    /// Returns the position, counted from 1, of the first undo record that has another number for one of the places
     /// than the machine has.
     pub(crate) fn find_change(
         &self,
@@ -168,8 +170,8 @@ impl<T: Reversible> Log<T> {
     }
 }
 
-/// Returns whether the machine has another number at the place than the old one that an undo record names. This is one
-/// look at that record.
+/// Returns whether the old number in an undo record differs from the machine's number at the place. This is one look at
+/// that record.
 #[inline(always)]
 fn is_other<T: Reversible>(
     machine: &T,
@@ -188,7 +190,7 @@ fn is_other<T: Reversible>(
     }
 }
 
-/// Returns whether a short undo record gives one of the places another number than it has now.
+/// Returns whether one of the places has another number in a short undo record than in the machine.
 #[inline(always)]
 fn short_changes<T: Reversible>(
     machine: &T,
@@ -210,7 +212,8 @@ fn short_changes<T: Reversible>(
     false
 }
 
-/// Returns whether the long undo record behind `long` others gives one of the places another number than it has now.
+/// Returns whether one of the places has another number in the long undo record behind `long` others than in the
+/// machine.
 #[inline(never)]
 fn long_changes<T: Reversible>(
     machine: &T,
@@ -238,8 +241,8 @@ fn long_changes<T: Reversible>(
     false
 }
 
-/// Returns whether the undo record of an entry gives one of the places another number than it has now, and how many long
-/// undo records are before those of the entries behind it. Before its own there are `long`.
+/// Returns whether one of the places has another number in the undo record of an entry than in the machine, and how
+/// many long undo records come before those of the entries behind it. `long` long undo records come before its own.
 #[inline(always)]
 fn changes_at<T: Reversible>(
     machine: &T,
@@ -274,8 +277,8 @@ fn changes_at<T: Reversible>(
     }
 }
 
-/// Returns the position, counted from 1, of the first of the entries from `ahead` on whose undo record gives one of the
-/// places another number than it has now.
+/// Returns the position, counted from 1, of the first entry from `ahead` on in whose undo record one of the places has
+/// another number than in the machine.
 fn find_change<T: Reversible>(
     machine: &T,
     entries: &HeapCircularBuffer<(T::Action, Option<T::Short>)>,
@@ -307,7 +310,8 @@ fn find_change<T: Reversible>(
     None
 }
 
-/// Returns the old number that the newest long undo record names for the place.
+/// Returns the old number of the place in the newest long undo record, or `None` if the record does not have that
+/// place.
 #[inline(never)]
 fn newest_long_was<T: Reversible>(
     longs: &HeapCircularBuffer<Option<T::Record>>,
@@ -331,7 +335,7 @@ fn forget<E: Drop>(items: &mut HeapCircularBuffer<E>, n: usize)
     }
 }
 
-/// Puts an item in front. If the ring is full, the last item is dropped where it is: `push_front` would copy it out.
+/// Puts an item in front. If the ring is full, the last item is dropped in place; `push_front` would copy it out.
 #[inline(always)]
 fn push<E: Drop>(items: &mut HeapCircularBuffer<E>, item: E)
     requires { 1 ≤ items.old.capacity }
@@ -341,7 +345,7 @@ fn push<E: Drop>(items: &mut HeapCircularBuffer<E>, item: E)
     let _pushed = items.try_push_front(item);
 }
 
-/// Performs an action, and leaves its undo record in front of the long ones.
+/// Performs an action, and puts its undo record in front of the long ones.
 #[inline(never)]
 fn act_at_length<T: Reversible>(
     machine: &mut T,
@@ -360,7 +364,8 @@ fn act_at_length<T: Reversible>(
     }
 }
 
-/// Performs an action, and leaves its undo record over the short one that is given, or else in front of the long ones.
+/// Performs an action. Writes its undo record over the short one in `back` if that is enough, and else puts it in front
+/// of the long ones.
 #[inline(always)]
 fn act<T: Reversible>(
     machine: &mut T,
@@ -383,7 +388,8 @@ fn act<T: Reversible>(
     act_at_length(machine, action, longs);
 }
 
-/// Performs an action that the machine admits, and keeps it in front of the others. Of a full ring the oldest goes.
+/// Performs an action that the machine admits, and keeps it in front of the others. If the ring is full, the oldest
+/// action is discarded.
 #[inline(always)]
 fn perform<T: Reversible>(
     machine: &mut T,
@@ -406,7 +412,7 @@ fn perform<T: Reversible>(
     }
 }
 
-/// Performs the action of an entry again, which the machine admits.
+/// Performs the action of an entry again. The machine must admit it.
 #[inline(always)]
 fn perform_again<T: Reversible>(
     machine: &mut T,
@@ -428,7 +434,7 @@ fn perform_again<T: Reversible>(
     }
 }
 
-/// Takes the action of an entry back by its undo record: its short one, or else the newest long one, which is discarded.
+/// Undoes the action of an entry by its undo record: its short one, or else the newest long one, which is discarded.
 #[inline(always)]
 fn take_back<T: Reversible>(
     machine: &mut T,
@@ -451,7 +457,7 @@ fn take_back<T: Reversible>(
     }
 }
 
-/// Takes an action back by the newest long undo record, which is discarded.
+/// Undoes an action by the newest long undo record, which is discarded.
 #[inline(never)]
 fn take_back_at_length<T: Reversible>(
     machine: &mut T,

@@ -1,4 +1,4 @@
-//! Sessions of two machines: one with the required methods alone, and one that writes short and long undo records in
+//! Sessions of two machines: one has only the required methods, and one overwrites its short and long undo records in
 //! place.
 
 mod dials;

@@ -1,4 +1,4 @@
-//! Sessions of three dials: a machine with one kind of undo record, and no method but those that every machine has.
+//! Sessions of three dials: a machine with one kind of undo record, and with only the required methods.
 
 ghost use Rattle.std.specs.Prelude.{◌≤◌};
 
@@ -30,7 +30,7 @@ struct Set {
     to: u64,
 }
 
-/// The number that a dial had.
+/// The old number of a dial.
 #[derive(Clone, Copy, Drop)]
 struct Had {
     dial: usize,

@@ -1,5 +1,5 @@
-//! Sessions of a gauge: a machine with short and long undo records, which it writes in place, and undoes by a record
-//! where it is.
+//! Sessions of a gauge: a machine with short and long undo records. It overwrites a record in place, and undoes by a
+//! record without moving it.
 
 ghost use Rattle.std.specs.Prelude.{◌≤◌};
 
