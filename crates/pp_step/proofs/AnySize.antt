@@ -1,4 +1,4 @@
--- Records that fit whatever the size of central memory is.
+-- Records that fit central memory of any size.
 use Rattle.std.proofs.Common.{ℕ}
 use Rattle.pp_step.specs.Inner.{FitsAnySize}
 use Rattle.pp_step.specs.Pairs.{Fits}

@@ -29,7 +29,7 @@ self (Word i) = eq-eqb i i refl
 self (FrameWord i) = eq-eqb i i refl
 self _ = refl
 
--- five cells in a row are five cells
+-- five cells in a row are distinct
 cells_apart : (address i j : ℕ) → i < 5 → j < i → (cell_after address i == cell_after address j) ≡ false
 cells_apart address i j few less = ne_eqb (cell_after address i) (cell_after address j) (λ same. omega (arith, same))
 
@@ -62,7 +62,7 @@ skip : (b : Bool) (here w at : ℕ) (ws : Writes PpPlace) → (here == at) ≡ f
 skip true here w at ws e h = rw e h
 skip false here w at ws e h = h
 
--- two of sixteen central words are not one
+-- sixteen central words in a row are distinct
 words_apart : (a i j : ℕ) → i < 16 → j < i → (central_after a i == central_after a j) ≡ false
 words_apart a i j few less = ne_eqb (central_after a i) (central_after a j) (λ same. omega (arith, same))
 

@@ -1,4 +1,4 @@
--- What an instruction leaves in the phase.
+-- The phase after an instruction.
 use Rattle.std.proofs.Common.{◌≡◌, ℕ, ◌+◌, ◌*◌, ◌/◌, ◌≤◌, Bool, true, false, List, [], ◌∷◌, ◌++◌, ◌⊎◌, if◌then◌else◌, nat_lt, length, slice_index, inl, inr, refl, ap, ◌∙◌, arith}
 use Rattle.pp_machine.specs.Writes.{Writes}
 use Rattle.pp_machine.specs.declared.channel.ChannelState.{ChannelState}
@@ -16,7 +16,7 @@ use Rattle.pp_step.specs.Words.{central_after, lower12, joined_cells}
 use Rattle.pp_step.specs.declared.code.Code.{Code}
 use Rattle.pp_step.specs.declared.code.Code.TheVariants.{Exn, Crm, Cwd, Cwm, Ian, Iam, Oan, Oam, Acn, Dcn, Fan, Fnc}
 
--- a list leaves the phase
+-- a write list does not change the phase
 abbrev Leaves : PpView → Writes PpPlace → Type 0
 Leaves m ws = (over m ws).phase ≡ m.phase
 
@@ -46,7 +46,7 @@ leaves-frame : (i : ℕ) (ws : List ℕ) (vs : Writes PpPlace) (m : PpView) → 
 leaves-frame i [] vs m h = h
 leaves-frame i (w ∷ ws) vs m h = leaves-frame (i + 1) ws vs m h
 
--- the phase stays, or becomes the instruction's own word
+-- the phase is unchanged, or becomes the instruction's own word
 phase_after : (c : Code) (i : InstructionNumbers) (m : PpView) → Leaves m (effect c i m) ⊎ ((over m (effect c i m)).phase ≡ number_of c * 0o100 + i.d)
 phase_after Crm i m = inr refl
 phase_after Cwm i m = inr refl
@@ -65,7 +65,7 @@ phase_after Fan i m = inl (leaves-output (is_in Inactive i.d m.modes) i Function
 phase_after Fnc i m = inl (leaves-output (is_in Inactive i.d m.modes) i Function i.second m)
 phase_after c i m = inl refl
 
--- an instruction that leaves a phase where there was none leaves the word that stood at P
+-- if an instruction changes the phase from 0, the new phase is the old word at P
 pub issued : (m : PpView) → m.phase ≡ 0 → slice_index m.cells m.p ≤ 0o7777 → ((over m (instruction_writes m)).phase ≡ 0 → ⊥) → (over m (instruction_writes m)).phase ≡ slice_index m.cells m.p
 issued m idle fits busy =
     let w = slice_index m.cells m.p in
@@ -75,7 +75,7 @@ issued m idle fits busy =
       | inr own ↦ own ∙ (let k = number_of-code_of (w / 0o100) (omega arith) in omega (arith, k))
     ]
 
--- the same of the state after a step
+-- the same for the state after a step
 pub issued_after : (m n : PpView) → n ≡ over m (pp_writes m) → m.phase ≡ 0 → slice_index m.cells m.p ≤ 0o7777 → (n.phase ≡ 0 → ⊥) → n.phase ≡ slice_index m.cells m.p
 unfolding pp_writes
 issued_after m n after idle fits busy =

@@ -26,7 +26,7 @@ use Rattle.pp_step.specs.declared.code.Code.TheVariants as code
 
 -- ---- addresses of cells
 
--- a cell has twelve bits, and past the memory the number is 0
+-- a cell has twelve bits, and an address past the memory reads as 0
 cell_in : (cells : List ℕ) (k : ℕ) → All (λ cell. cell ≤ 0o7777) cells → slice_index cells k < 4096
 cell_in cells k small =
     ⊎_elim (λ within. omega (arith, small k 0 within)) (λ past. omega (arith, get_or_past cells k 0 past)) (cases_lt k (length cells))

@@ -1,4 +1,4 @@
--- What an exchange leaves at each place.
+-- The number at each place after an exchange.
 use Rattle.std.proofs.Common.{◌≡◌, ◌≢◌, ℕ, zero, suc, List, [], ◌∷◌, ◌+◌, ◌<◌, ◌≤◌, length, slice_index, sym, ◌∙◌, ap, subst, refl, arith, add-zero, zero-add}
 use Rattle.std.proofs.lemmas.List.{get_or-set_same, get_or-set_other}
 use Rattle.std.proofs.lemmas.List.FromFn.{get_or-map-range_with_len}
@@ -17,7 +17,7 @@ loaded-at : (a : ℕ) (words : List ℕ) (i : ℕ) → i < 16 → slice_index (l
 unfolding loaded
 loaded-at a words i below = get_or-map-range_with_len (loaded_word a words) 0 16 i i 0 below (zero-add i)
 
--- two of sixteen central addresses are not one
+-- sixteen central addresses in a row are distinct
 addresses_apart : (a k j : ℕ) → k + suc j < 16 → central_after a (k + suc j) ≢ central_after a k
 addresses_apart a k j few = λ same. omega (arith, same)
 

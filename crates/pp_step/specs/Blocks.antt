@@ -1,6 +1,6 @@
 -- Block transfers: 61 and 63 between central memory and cells, 71 and 73 between a channel and cells.
--- That a transfer uses cell 0000 for P, and that 71 and 73 count down in A, is the manual's. The phase, the count
--- in Q of 61 and 63, and what a step does in each case are this project's choice.
+-- The manual says that a transfer uses cell 0000 for P, and that 71 and 73 count down in A. The phase, the count in Q
+-- of 61 and 63, and what a step does in each case are this project's choice.
 use Rattle.std.specs.Prelude.{ℕ, List, [], ◌∷◌, ◌-◌, ◌==◌, ◌||◌, if◌then◌else◌, nat_lt, not, length, slice_index, slice_set}
 use Rattle.pp_arith.specs.Words60.{split60}
 use Rattle.pp_machine.specs.ChannelNumbers.{state_number}
@@ -20,24 +20,24 @@ use Rattle.pp_step.specs.declared.code.Code.TheVariants.{Crm, Cwm, Iam, Oam}
 abbrev pub issue : InstructionNumbers → ℕ → ℕ → Writes PpPlace
 issue i word p = (P, i.second) ∷ (Phase, word) ∷ (Cell 0, cell_after p 1) ∷ []
 
--- 61 and 63 count in Q, which gets what cell d held before
+-- 61 and 63 count in Q, which gets the old content of cell d
 abbrev pub issue_counted : InstructionNumbers → ℕ → ℕ → List ℕ → Writes PpPlace
 issue_counted i word p cells =
     (P, i.second) ∷ (Q, slice_index cells i.d) ∷ (Phase, word) ∷ (Cell 0, cell_after p 1) ∷ []
 
--- ---- each later step, by the code and d of the phase: the first case that applies, and else a wait
+-- ---- each later step, by the code and d of the phase: the first case that applies, else a wait
 
--- the transfer ends, at the address behind the one in cell 0000
+-- the transfer ends, at the address after the one in cell 0000
 abbrev pub finish : List ℕ → Writes PpPlace
 finish cells = (P, cell_after (slice_index cells 0) 1) ∷ (Phase, 0) ∷ []
 
--- 61: the count is 0; else a central word goes to five cells
+-- 61: if the count is 0, the transfer ends; else a central word goes to five cells
 abbrev pub central_input : ℕ → ℕ → ℕ → List ℕ → List ℕ → Writes PpPlace
 central_input a p q cells words =
     if q == 0 then finish cells else
     ((P, cell_after p 5) ∷ (A, central_after a 1) ∷ (Q, q - 1) ∷ five_cells p (split60 (slice_index words a)))
 
--- 63: the count is 0; else five cells go to a central word, if the address is not past the size
+-- 63: if the count is 0, the transfer ends; else five cells go to a central word, if the address is not past the size
 abbrev pub central_output : ℕ → ℕ → ℕ → List ℕ → List ℕ → Writes PpPlace
 central_output a p q cells words =
     if q == 0 then finish cells else
@@ -45,8 +45,9 @@ central_output a p q cells words =
     then (P, cell_after p 5) ∷ (A, central_after a 1) ∷ (Q, q - 1) ∷ (Word a, joined_cells p cells) ∷ []
     else (P, cell_after p 5) ∷ (A, central_after a 1) ∷ (Q, q - 1) ∷ [])
 
--- 71: the count is 0; or channel 14 gives the clock; or the channel is inactive, cell P becomes 0 and then the
--- transfer ends, its count unchanged; or the channel is full with data, which goes to cell P and leaves it empty
+-- 71: if the count is 0, the transfer ends; channel 14 supplies the clock; if the channel is inactive, cell P becomes 0
+-- and then the transfer ends with its count unchanged; if the channel is full with data, the data goes to cell P and
+-- leaves the channel empty
 abbrev pub channel_input : ℕ → ℕ → ℕ → List ℕ → List ℕ → List ℕ → ℕ → Writes PpPlace
 channel_input d a p cells modes registers clock =
     if a == 0 then finish cells else
@@ -60,8 +61,8 @@ channel_input d a p cells modes registers clock =
     then (P, cell_after p 1) ∷ (A, a - 1) ∷ (Cell p, slice_index registers d) ∷ (Mode d, state_number Empty) ∷ []
     else [])))
 
--- 73: the count is 0 or the channel is inactive; or the channel is empty, and cell P fills it. So the clock, which
--- is always full, takes no word.
+-- 73: if the count is 0 or the channel is inactive, the transfer ends; if the channel is empty, cell P fills it. So the
+-- clock, which is always full, takes no word.
 abbrev pub channel_output : ℕ → ℕ → ℕ → List ℕ → List ℕ → Writes PpPlace
 channel_output d a p cells modes =
     if a == 0 || not (is_active d modes) then finish cells else

@@ -11,7 +11,7 @@ abbrev pub frame_pairs : ℕ → List ℕ → Writes PpPlace
 frame_pairs i [] = []
 frame_pairs i (w ∷ ws) = (FrameWord i, w) ∷ frame_pairs (i + 1) ws
 
--- numbers for the central words that stand i words and more behind a; one past the size is not written
+-- numbers for the central words from i words behind a on; a word past the size is not written
 abbrev pub word_pairs : ℕ → ℕ → ℕ → List ℕ → Writes PpPlace
 word_pairs size a i [] = []
 word_pairs size a i (w ∷ ws) =
@@ -19,17 +19,17 @@ word_pairs size a i (w ∷ ws) =
     then (Word (central_after a i), w) ∷ word_pairs size a (i + 1) ws
     else word_pairs size a (i + 1) ws
 
--- what frame word i gets: the central word i words behind a, which is zero past the size, and in word 0
--- without what stands in the place of B0
+-- the new frame word i: the central word i words behind a, which is zero past the size; word 0 loses the bits in the
+-- place of B0
 abbrev pub loaded_word : ℕ → List ℕ → ℕ → ℕ
 loaded_word a words i = frame_word i (slice_index words (central_after a i))
 
--- what the frame gets
+-- the new frame
 unfoldable pub loaded : ℕ → List ℕ → List ℕ
 loaded a words = map (loaded_word a words) (range_with_len 0 16)
 
--- The exchange at central address a: the frame gets sixteen central words, and they get the frame as it was.
--- The manual has the package; addresses modulo 1000000 and those past the size are this project's choice.
+-- The exchange at central address a: the frame gets sixteen central words, and they get the old frame. The package is
+-- the manual's. Addresses modulo 1000000 and addresses past the size are this project's choice.
 abbrev pub exchange : ℕ → ℕ → List ℕ → List ℕ → Writes PpPlace
 exchange next a words frame =
     (P, next) ∷ (frame_pairs 0 (loaded a words) ++ word_pairs (length words) a 0 frame)

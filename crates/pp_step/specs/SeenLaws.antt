@@ -1,4 +1,4 @@
--- The pairs of a processor's step, named as places of the machine.
+-- The pairs of a processor's step, at places of the machine.
 use Rattle.std.proofs.Common.{ℕ, ◌≡◌, [], ◌∷◌, Bool, true, false, ◌==◌, ◌&&◌, Option, Some, None, if◌then◌else◌, cond, refl, ap, sym, ◌∙◌}
 use Rattle.pp_machine.specs.Lookup.{lookup as machine_lookup, same_place as same_machine_place}
 use Rattle.pp_machine.specs.Writes.{Writes, renamed}
@@ -23,7 +23,7 @@ cell-met : (c : Bool) (a b : ℕ) → (c && a == b) ≡ same_seen (Cell a) (if c
 cell-met true a b = refl
 cell-met false a b = refl
 
--- a place of the processor is a place of the machine where the machine's is what the processor sees there
+-- a place of the processor is a place of the machine exactly if the processor sees the latter as the former
 same-seen : (n : ℕ) (x : PpPlace) (p : Place) → same_machine_place (pp_place n x) p ≡ same_seen x (seen_by n p)
 same-seen n (Cell a) (place.Cell k b) = cell-met (n == k) a b
 same-seen n A (place.RegA k) = met (n == k) A refl
@@ -45,7 +45,7 @@ seen-more : (o : Option PpPlace) (x : PpPlace) (v : ℕ) (ws : Writes PpPlace) �
 seen-more None x v ws = refl
 seen-more (Some y) x v ws = refl
 
--- the number that a processor's list has for a place of the machine
+-- the number in a processor's list for a place of the machine
 pub lookup-seen : (n : ℕ) (ws : Writes PpPlace) (p : Place) → machine_lookup (renamed (pp_place n) ws) p ≡ lookup_seen ws (seen_by n p)
 lookup-seen n [] p = seen-none (seen_by n p)
 lookup-seen n (w ∷ ws) p =
