@@ -67,7 +67,7 @@ channel_in_range c s word h =
     let u = both (nat_lt s 3) (is_word_or_none word) t.1 in
     (less c 12 t.0, less s 3 u.0, small_word word u.1)
 
--- a watch that nothing stands against
+-- a watch that nothing rules out
 free : (full watched : Bool) → (if full then Some WatchesFull else (if watched then Some AlreadyWatched else None)) ≡ None → (full ≡ false) × (watched ≡ false)
 free false false h = (refl, refl)
 free false true h = absurd (cc)

@@ -1,4 +1,4 @@
--- What a dead start writes fits, and is so long.
+-- What a dead start writes fits the machine, and has a known length.
 use Rattle.std.specs.Prelude.{ℕ, ◌≡◌, ◌+◌, ◌/◌, ◌<◌, ◌≤◌, ◌^◌, ◌==◌, ◌||◌, IsTrue, true, false, All, List, [], ◌∷◌, ◌++◌, length, replicate, refl}
 use Rattle.std.proofs.Common.{arith, zero, suc, lit<, lit≤, ap, sym, ◌∙◌}
 use Rattle.pp_machine.specs.Kept.{kept_pairs}
@@ -87,7 +87,7 @@ pub length-deadstart : (panel : List ℕ) → length panel ≡ 12 → length (de
 length-deadstart panel e =
     sym (length-places (deadstart_pairs panel)) ∙ (ap length (places-deadstart panel (replicate 12 0) e) ∙ (length-places (deadstart_pairs (replicate 12 0)) ∙ length-blank))
 
--- the numbers that stood at the places of a dead start, at those places
+-- the old numbers of a dead start, at its places, are its old values
 pub numbered-stood : (m : Machine) (panel : List ℕ) → length panel ≡ 12 → numbered deadstart_places (numbers (olds m (deadstart_pairs panel))) ≡ olds m (deadstart_pairs panel)
 numbered-stood m panel e =
     numbered-numbers deadstart_places (olds m (deadstart_pairs panel)) (sym (places-olds number m (deadstart_pairs panel) ∙ places-deadstart panel (replicate 12 0) e))

@@ -1,4 +1,4 @@
--- Single writes to the machine: how they behave, and so how any list is taken back by the old numbers.
+-- Single writes to the machine: how they behave, and how the old values undo any list of writes.
 use Rattle.std.specs.Prelude.{ℕ, ◌≡◌, ◌≢◌, ◌⊎◌, List, [], ◌∷◌, get_or, set, refl}
 use Rattle.std.proofs.Common.{ap, zero, suc, inl, inr, ◌∙◌}
 use Rattle.std.proofs.lemmas.Bool.{cases_eq}
@@ -39,7 +39,7 @@ changed-apart f g (x ∷ ps) zero (suc k) h = refl
 changed-apart f g (x ∷ ps) (suc n) zero h = refl
 changed-apart f g (x ∷ ps) (suc n) (suc k) h = ap (λ t. x ∷ t) (changed-apart f g ps n k (λ e. h (ap suc e)))
 
--- changes that do not meet, in either order
+-- changes that do not affect each other, in either order
 changed-swap : (f g : ProcessorNumbers → ProcessorNumbers) → ((x : ProcessorNumbers) → g (f x) ≡ f (g x)) → (ps : List ProcessorNumbers) (n k : ℕ) → changed (changed ps n f) k g ≡ changed (changed ps k g) n f
 changed-swap f g e [] n k = refl
 changed-swap f g e (x ∷ ps) zero zero = ap (λ y. y ∷ ps) (e x)
@@ -47,7 +47,7 @@ changed-swap f g e (x ∷ ps) zero (suc k) = refl
 changed-swap f g e (x ∷ ps) (suc n) zero = refl
 changed-swap f g e (x ∷ ps) (suc n) (suc k) = ap (λ t. x ∷ t) (changed-swap f g e ps n k)
 
--- a change after which the one before it does not count
+-- a change that overwrites the change before it
 changed-again : (f g : ProcessorNumbers → ProcessorNumbers) → ((x : ProcessorNumbers) → g (f x) ≡ g x) → (ps : List ProcessorNumbers) (n : ℕ) → changed (changed ps n f) n g ≡ changed ps n g
 changed-again f g e [] n = refl
 changed-again f g e (x ∷ ps) zero = ap (λ y. y ∷ ps) (e x)
@@ -224,6 +224,6 @@ own s (PaperSymbol i) = ap (with_papersymbol s) (set-get_or s.printer.symbols i 
 own s (WatchEntry i) = ap (with_watchentry s) (set-get_or s.watches i 0)
 own s x = refl
 
--- a list of writes is taken back by the numbers that stood at its places
+-- the old values undo a list of writes
 pub taken_back : (m : Machine) (w : Writes Place) → over (over m w) (olds m w) ≡ m
 taken_back = taken-back Machine Place number put (record { apart = apart; again = again; own = own })

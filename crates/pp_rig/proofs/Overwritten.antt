@@ -1,4 +1,4 @@
--- What an action overwrites leads back, and stands at the places that it writes.
+-- The old values of an action lead back, and are at the places that it writes.
 use Rattle.std.specs.Prelude.{ℕ, Bool, true, false, ◌≡◌, ◌==◌, ◌≤◌, [], ◌∷◌, if◌then◌else◌, length}
 use Rattle.std.proofs.Common.{arith}
 use Rattle.std.proofs.lemmas.List.{length-append}
@@ -24,7 +24,7 @@ turn-taken_back : (m : Machine) → over (turn m) (turn_olds m) ≡ m
 unfolding turn turn_olds
 turn-taken_back m = simp (over-append, taken_back)
 
--- the old numbers lead back to the machine before the action
+-- the old values lead back to the machine before the action
 pub action-taken_back : (m : Machine) (action : Action) → over (next m action) (overwritten m action) ≡ m
 action-taken_back m Turn = turn-taken_back m
 action-taken_back m action = taken_back m (writes m action)
@@ -33,12 +33,12 @@ places-turn : (m : Machine) → places (turn_olds m) ≡ places (turn_list m)
 unfolding turn_olds turn_list
 places-turn m = simp (places-append, places-olds)
 
--- what is overwritten stands at the places of the write list
+-- the old values are at the places of the write list
 pub places-overwritten : (m : Machine) (action : Action) → places (overwritten m action) ≡ places (writes m action)
 places-overwritten m Turn = places-turn m
 places-overwritten m action = places-olds number m (writes m action)
 
--- ---- how many places a turn's record names
+-- ---- how many places a turn's record has
 
 few-clock : (last : Bool) (clock : ℕ) → length {A = Place × ℕ} (if last then (Clock, clock) ∷ [] else []) ≤ 1
 few-clock true clock = omega arith

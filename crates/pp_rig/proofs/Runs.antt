@@ -27,7 +27,7 @@ and-true : (a b : Bool) → (a && b) ≡ true → (a ≡ true) × (b ≡ true)
 and-true true b e = (refl, e)
 and-true false b e = cc
 
--- so many turns before the rest of a run
+-- this many turns before the rest of a run
 abbrev pub turns_before : ℕ → Stopped → Stopped
 turns_before turns rest = record { turns = turns + rest.turns; hit = rest.hit }
 
@@ -47,7 +47,7 @@ stopped-on n turns machine more none =
     let count : turns + suc (stopped (n - (turns + 1)) (turn machine)).turns ≡ turns + 1 + (stopped (n - (turns + 1)) (turn machine)).turns = omega arith in
     rw (left, none, count) refl
 
--- a turn that changed one
+-- a turn that changed a watched number
 pub stopped-hit : (n turns : ℕ) (machine : Machine) (hit : Hit) → turns < n → hit_of machine ≡ Some hit →
     turns_before turns (stopped (n - turns) machine) ≡ record { turns = turns + 1; hit = Some hit }
 unfolding stopped
@@ -63,7 +63,7 @@ stopped-end n turns machine none within =
     let count : turns + 0 ≡ n = omega arith in
     rw (left, count) refl
 
--- one turn more
+-- one more turn
 pub after_turns-more : (turns : ℕ) (v : SessionValue Machine Action) → after_act (after_turns turns v) Turn ≡ after_turns (turns + 1) v
 unfolding after_turns
 after_turns-more turns v =
@@ -75,7 +75,7 @@ pub after_turns-none : (v : SessionValue Machine Action) → after_turns 0 v ≡
 unfolding after_turns
 after_turns-none v = refl
 
--- a turn changes no watched place for another
+-- a turn does not change which places are watched
 pub turned-watches : (old new : Machine) → new ≡ turn old → watches_of new ≡ watches_of old
 turned-watches old new turned = ap watches_of turned ∙ ap watched_in (turn-watches old)
 
@@ -93,14 +93,14 @@ module _ (old new machine : Machine) (watches seen : List Watched) (i : ℕ) (pl
       before ∙ (ap (λ w. first_change old new (drop i w)) (sym same_watches)
       ∙ (at_drop_more (first_change old new) seen i (Cell 0 0) within ∙ ap (λ w. first_change old new (get_or seen i (Cell 0 0) ∷ drop (i + 1) w)) same_watches))
 
-  -- whose number is the same
+  -- the number at the place is the same
   pub first-passed : number old place ≡ number new place → first_change old new watches ≡ first_change old new (drop (i + 1) watches)
   first-passed same =
       let here : number old (watched_place (get_or seen i (Cell 0 0))) ≡ number new (watched_place (get_or seen i (Cell 0 0))) = rw (← at_place) same in
       let equal : (number new (watched_place (get_or seen i (Cell 0 0))) == number old (watched_place (get_or seen i (Cell 0 0)))) ≡ true = grind (arith, nat_tests, here) in
       to_next ∙ rw equal refl
 
-  -- whose number is another
+  -- the number at the place is another
   pub first-hit : (was now : ℕ) → number old place ≡ was → now ≡ number machine place → (now == was) ≡ false → first_change old new watches ≡ Some (record { place = get_or seen i (Cell 0 0); was = was; now = now })
   first-hit was now at_old at_new other =
       let was_here : number old (watched_place (get_or seen i (Cell 0 0))) ≡ was = rw (← at_place) at_old in
@@ -110,12 +110,12 @@ module _ (old new machine : Machine) (watches seen : List Watched) (i : ℕ) (pl
 pub one_kept : (capacity kept : ℕ) → 1 ≤ capacity → 1 ≤ min capacity (kept + 1)
 one_kept capacity kept room = omega (arith, room)
 
--- a short undo record names the number before
+-- a short undo record has the number before the turn
 pub short-told : (m : Machine) (turn : ShortTurn) (place : Place) → FitsRecord (whole turn) m → (named : Option ℕ) → named ≡ lookup (turn_pairs (whole_turn turn)) place → MatchOption named (number (before (whole turn) m) place ≡ number m place) (λ was. number (before (whole turn) m) place ≡ was)
 short-told m turn place fits named e =
     subst (λ o. MatchOption o (number (before (whole turn) m) place ≡ number m place) (λ was. number (before (whole turn) m) place ≡ was)) (sym e) (record_tells (whole turn) m place fits)
 
--- a turn that named no storage changed none
+-- a turn whose record has no storage changed none
 pub storage-same : (m : Machine) (turn : ShortTurn) (watches : List Watched) → FitsRecord (whole turn) m → are_storage watches ≡ true → ((place : Place) → is_storage place ≡ true → lookup (turn_pairs (whole_turn turn)) place ≡ None) → first_change (before (whole turn) m) m watches ≡ None
 storage-same m turn [] fits e none = refl
 storage-same m turn (w ∷ ws) fits e none =

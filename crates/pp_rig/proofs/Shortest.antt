@@ -10,7 +10,7 @@ use Rattle.pp_rig.specs.declared.action.Action.TheVariants.{Turn}
 use Rattle.pp_rig.specs.declared.stopping.Hit.{Hit}
 use Rattle.pp_rig.specs.declared.stopping.Stopped.{Stopped}
 
--- a turn first, or last
+-- a turn added first, or added last
 turned-first : (turns : ℕ) (machine : Machine) → turned turns (turn machine) ≡ turned (suc turns) machine
 turned-first zero machine = refl
 turned-first (suc turns) machine = ap turn (turned-first turns machine)
@@ -45,7 +45,7 @@ unfolding stopped
 shortest zero machine = record { within = omega arith; earlier = λ turns less. absurd (omega arith); hit = λ h same. cc; none = λ same. (refl, λ turns less. absurd (omega arith)) }
 shortest (suc most) machine = shortest-by most machine (stopped most (turn machine)) (hit_of machine) refl (shortest most (turn machine))
 
--- the turns stand, the newest first
+-- the turns are the newest actions
 pub standing-turns : (turns : ℕ) (v : SessionValue Machine Action) → (after_turns turns v).standing ≡ replicate turns Turn ++ v.standing
 unfolding after_turns
 standing-turns zero v = refl

@@ -1,4 +1,4 @@
--- The parts of a turn: what each does to the machine, and what its undo record then says.
+-- The parts of a turn: what each does to the machine, and what its undo record then has.
 use Rattle.std.proofs.Common.{ℕ, Bool, true, false, [], ◌∷◌, ◌<◌, ◌≡◌, ◌∙◌, refl, ap, subst, sym}
 use Rattle.pp_machine.specs.Machine.{Machine, Setup}
 use Rattle.pp_machine.specs.Writes.{renamed}
@@ -34,11 +34,11 @@ slot-stepped m new back ok e = record {
   kept = record { slot = refl; setup = refl };
 }
 
--- a processor that is as it was
+-- a processor that is unchanged
 pub slot-same : (m : Machine) (new : PpView) → IsMachine m → new ≡ pp_of m.slot m → with_pp m m.slot new ≡ m
 slot-same m new ok same = step-pp m m.slot (has_processor m m.slot ok ok.slot) new [] same
 
--- a step that is done, or that changes nothing
+-- a step that is performed, or that changes nothing
 pub IsMachine-short : (done : Bool) (m : Machine) (new : PpView) (back : PpRecord) → IsMachine m → (done ≡ true → IsStep (pp_of m.slot m) new back) → (done ≡ false → new ≡ pp_of m.slot m) → IsMachine (with_pp m m.slot new)
 IsMachine-short true m new back ok step same = IsMachine-stepped m new back ok (step refl)
 IsMachine-short false m new back ok step same = subst IsMachine (sym (slot-same m new ok (same refl))) ok

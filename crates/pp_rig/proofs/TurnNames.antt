@@ -1,4 +1,4 @@
--- Which parts of a turn's record may name a place.
+-- Which parts of a turn's record may have a place.
 use Rattle.std.proofs.Common.{ℕ, Bool, true, false, ◌≡◌, ◌==◌, [], ◌∷◌, Option, Some, None, if◌then◌else◌, refl, ap, ◌∙◌}
 use Rattle.pp_machine.specs.Lookup.{lookup, same_place}
 use Rattle.pp_machine.specs.Printed.{PrinterPlace, printer_pairs, printer_place}
@@ -24,18 +24,18 @@ use Rattle.pp_step.specs.Step.{pp_pairs}
 use Rattle.pp_step.specs.View.{PpPlace, pp_place}
 use Rattle.pp_step.specs.View as view
 
--- ---- what a part cannot name
+-- ---- what a part cannot have
 
--- a processor names what it sees of the machine
+-- a processor's list has only places that the processor sees
 not_by_processor : (n : ℕ) (ws : Writes PpPlace) (p : Place) → seen_by n p ≡ None → lookup (renamed (pp_place n) ws) p ≡ None
 not_by_processor n ws p unseen = lookup-seen n ws p ∙ ap (lookup_seen ws) unseen
 
--- a list with other names does not name a place
+-- a list of other places does not have a place
 not_among : {P : Type 0} (name : P → Place) (ws : Writes P) (p : Place) → ((x : P) → same_place (name x) p ≡ false) → lookup (renamed name ws) p ≡ None
 not_among name [] p other = refl
 not_among name (w ∷ ws) p other = rw (other w.0) (not_among name ws p other)
 
--- a device names its own places and its channel's
+-- the places that a device's list may have: its own places and its channel's
 abbrev of_device : Place → Bool
 of_device Card = true
 of_device CardColumn = true
@@ -65,7 +65,7 @@ no_printer_place c printed.AtState (ChannelMode k) e = cc
 no_printer_place c printed.AtWord (ChannelWord k) e = cc
 no_printer_place c x p e = refl
 
--- ---- the parts that are asked
+-- ---- the parts that are looked up
 
 abbrev by_processor : TurnRecord → Place → Option ℕ
 by_processor r p = lookup (renamed (pp_place r.rest.slot) (pp_pairs r.pp)) p
@@ -78,11 +78,11 @@ not_by_devices r p e =
     rw (not_among (reader_place r.rest.reader_channel) (reader_pairs (reader_record r.rest)) p (λ x. no_reader_place r.rest.reader_channel x p e), not_among (printer_place r.rest.printer_channel) (printer_pairs (printer_record r.rest)) p (λ x. no_printer_place r.rest.printer_channel x p e))
     refl
 
--- what a processor's own place is told of: the record is of one processor
+-- the lookup of a processor's own place: the record is of one processor
 abbrev by_own : TurnRecord → ℕ → Place → Option ℕ
 by_own r n p = if r.rest.slot == n then by_processor r p else None
 
--- what a turn's record tells of a place, by the place's kind
+-- the lookup in a turn's record, by the kind of the place
 abbrev pub told : TurnRecord → Place → Option ℕ
 told r (Cell n a) = by_own r n (Cell n a)
 told r (RegA n) = by_own r n (RegA n)
@@ -106,11 +106,11 @@ first_again : (o p q : Option ℕ) → first_of_two o (first_of_two p q) ≡ fir
 first_again None p q = refl
 first_again (Some v) p q = refl
 
--- what the turn's end overwrites: the clock and the slot
+-- the old values of the turn's end: the clock and the slot
 abbrev by_end : TurnRecord → Place → Option ℕ
 by_end r p = first_of_two (lookup (clock_part r.rest.slot r.rest.clock) p) (lookup ((Slot, r.rest.slot) ∷ []) p)
 
--- the first pair of a turn's record
+-- the first pair for a place in a turn's record
 pub lookup_parts : (r : TurnRecord) (p : Place) → lookup (turn_pairs r) p ≡ first_of_two (by_processor r p) (first_of_two (by_devices r p) (by_end r p))
 unfolding turn_pairs rest_pairs
 lookup_parts r p = simp lookup-append (ap (first_of_two (by_processor r p)) (first_again (lookup (reader_part r.rest) p) (lookup (printer_part r.rest) p) (by_end r p)))
@@ -126,7 +126,7 @@ not_at_end r p clock slot = rw (no_clock (r.rest.slot == 9) r.rest.clock p clock
 shared : (r : TurnRecord) (p : Place) → same_place Clock p ≡ false → same_place Slot p ≡ false → lookup (turn_pairs r) p ≡ first_of_two (by_processor r p) (by_devices r p)
 shared r p clock slot = lookup_parts r p ∙ rw (not_at_end r p clock slot, first_alone (by_devices r p)) refl
 
--- a place that is no device's
+-- a place that no device has
 processor_alone : (r : TurnRecord) (p : Place) → of_device p ≡ false → same_place Clock p ≡ false → same_place Slot p ≡ false → lookup (turn_pairs r) p ≡ by_processor r p
 processor_alone r p device clock slot = shared r p clock slot ∙ rw (not_by_devices r p device) (first_alone (by_processor r p))
 
@@ -140,7 +140,7 @@ own r n x p seen device clock slot =
     processor_alone r p device clock slot
     ∙ own_if (r.rest.slot == n) (pp_pairs r.pp) x (by_processor r p) (lookup-seen r.rest.slot (pp_pairs r.pp) p ∙ ap (lookup_seen (pp_pairs r.pp)) seen)
 
--- a place that is no processor's
+-- a place that no processor has
 devices_alone : (r : TurnRecord) (p : Place) → seen_by r.rest.slot p ≡ None → same_place Clock p ≡ false → same_place Slot p ≡ false → lookup (turn_pairs r) p ≡ by_devices r p
 devices_alone r p unseen clock slot = shared r p clock slot ∙ rw (not_by_processor r.rest.slot (pp_pairs r.pp) p unseen) refl
 
@@ -148,7 +148,7 @@ devices_alone r p unseen clock slot = shared r p clock slot ∙ rw (not_by_proce
 neither : (r : TurnRecord) (p : Place) → seen_by r.rest.slot p ≡ None → of_device p ≡ false → lookup (turn_pairs r) p ≡ by_end r p
 neither r p unseen device = lookup_parts r p ∙ rw (not_by_processor r.rest.slot (pp_pairs r.pp) p unseen, not_by_devices r p device) refl
 
--- the first pair of a turn's record, by the kind of the place
+-- the first pair for a place in a turn's record, by the kind of the place
 pub lookup_told : (r : TurnRecord) (p : Place) → lookup (turn_pairs r) p ≡ told r p
 lookup_told r (Cell n a) = own r n (view.Cell a) (Cell n a) refl refl refl refl
 lookup_told r (RegA n) = own r n view.A (RegA n) refl refl refl refl
@@ -170,13 +170,13 @@ lookup_told r (PaperSymbol k) = devices_alone r (PaperSymbol k) refl refl refl
 lookup_told r Slot = neither r Slot refl refl ∙ rw (no_clock (r.rest.slot == 9) r.rest.clock Slot refl) refl
 lookup_told r (WatchEntry i) = neither r (WatchEntry i) refl refl ∙ rw (no_clock (r.rest.slot == 9) r.rest.clock (WatchEntry i) refl) refl
 
--- ---- a turn that wrote registers, the clock and the slot alone
+-- ---- a turn that wrote only registers, the clock and the slot
 
 not_written : (b : Bool) (x : PpPlace) (v : ℕ) (rest : Writes PpPlace) (p : PpPlace) → same_seen x p ≡ false → find_seen (written b x v rest) p ≡ find_seen rest p
 not_written true x v rest p e = rw e refl
 not_written false x v rest p e = refl
 
--- a step's record without a target names registers alone
+-- a step's record without a target has only registers
 no_target : (r : StepRecord) (p : PpPlace) → target_pairs r ≡ [] → same_seen view.P p ≡ false → same_seen view.A p ≡ false → same_seen view.Q p ≡ false → same_seen view.Phase p ≡ false → find_seen (pairs r) p ≡ None
 no_target r p none e1 e2 e3 e4 =
     not_written (writes_p r.target) view.P r.p _ p e1 ∙ (not_written r.writes_a view.A r.a _ p e2 ∙ (not_written r.writes_q view.Q r.q _ p e3 ∙ (not_written r.writes_phase view.Phase r.phase _ p e4 ∙ ap (λ ws. find_seen ws p) none)))
@@ -196,7 +196,7 @@ none_if : (b : Bool) (o : Option ℕ) → o ≡ None → (if b then o else None)
 none_if true o e = e
 none_if false o e = refl
 
--- so the turn's record names no cell, no central word and no register of a channel
+-- so the turn's record has no cell, no central word and no register of a channel
 pub no_storage : (r : ShortTurn) → target_pairs r.pp ≡ [] → r.rest.are_devices_called ≡ false → (p : Place) → is_storage p ≡ true → lookup (turn_pairs (whole_turn r)) p ≡ None
 no_storage r none e (Cell n a) storage =
     lookup_told (whole_turn r) (Cell n a)

@@ -1,4 +1,4 @@
--- What a turn leaves as it is.
+-- What a turn leaves unchanged.
 use Rattle.std.specs.Prelude.{ℕ, ◌+◌, ◌%◌, ◌≡◌, [], ◌∷◌, Bool, true, false, if◌then◌else◌, ◌==◌, refl}
 use Rattle.std.proofs.Common.{◌∙◌}
 use Rattle.pp_machine.specs.Machine.{Machine, put, over}
@@ -15,7 +15,7 @@ use Rattle.pp_step.specs.Step.{pp_writes}
 use Rattle.pp_rig.specs.Lift.{pp_of, printer_of, reader_of}
 use Rattle.pp_rig.specs.Turn.{turn, pp_list, reader_list, printer_list}
 
--- a list of writes none of which is to a watch entry
+-- a list of writes without a watch entry
 watches-over : {P : Type 0} (name : P → Place) → ((m : Machine) (p : P) (v : ℕ) → (put m (name p) v).watches ≡ m.watches) → (m : Machine) (w : Writes P) → (over m (renamed name w)).watches ≡ m.watches
 watches-over name keeps m [] = refl
 watches-over name keeps m (pair ∷ w) = keeps (over m (renamed name w)) pair.0 pair.1 ∙ watches-over name keeps m w
@@ -36,7 +36,7 @@ keeps-clock : (m m4 : Machine) (last : Bool) (v : ℕ) → (over m4 (if last the
 keeps-clock m m4 true v = refl
 keeps-clock m m4 false v = refl
 
--- no turn changes what is watched
+-- no turn changes which places are watched
 pub turn-watches : (m : Machine) → (turn m).watches ≡ m.watches
 unfolding turn
 turn-watches m =

@@ -1,4 +1,4 @@
--- Watched places that go, and come back.
+-- Watched places that are removed and restored.
 use Rattle.std.specs.Prelude.{ℕ, ◌≡◌, ◌+◌, ◌-◌, ◌<◌, ◌≤◌, ◌==◌, ◌≢◌, All, Some, position, List, [], ◌∷◌, ◌++◌, drop, take, get_or, set, length, map, replicate, refl}
 use Rattle.std.specs.List.{remove}
 use Rattle.std.proofs.Common.{arith, zero, suc, ap, sym, subst, append_assoc, add-one, ◌∙◌}
@@ -34,7 +34,7 @@ pub HasAll-entries : (size i : ℕ) (codes : List ℕ) → i + length codes ≤ 
 HasAll-entries size i [] h = tt
 HasAll-entries size i (code ∷ codes) h = (omega arith, HasAll-entries size (i + 1) codes (omega arith))
 
--- codes in place of those after the first i
+-- codes that replace those after the first i
 with_entries-split : (front olds codes back : List ℕ) (i : ℕ) → length front ≡ i → length olds ≡ length codes → with_entries (front ++ (olds ++ back)) i codes ≡ front ++ (codes ++ back)
 with_entries-split front [] [] back i e l = refl
 with_entries-split front [] (code ∷ codes) back i e l = absurd (omega arith)
@@ -99,11 +99,11 @@ module _ (front : List Watched) (w : Watched) (rest : List Watched) (few : lengt
   entries-removed =
       fewer ∙ sym (rw (closing, full) (with_entries-split before (watch_code w ∷ after) (after ++ 0 ∷ []) zeros (length front) (length-map front watch_code) same_count))
 
-  -- what stood in the entries that change
+  -- the old codes in the entries that change
   pub entries-stood : entries_at (watch_entries (front ++ w ∷ rest)) (length front) (moved_up (drop (length front + 1) (watch_entries (front ++ w ∷ rest)))) ≡ map watch_code (w ∷ rest)
   entries-stood = rw (closing, full) (entries_at-split before (watch_code w ∷ after) (after ++ 0 ∷ []) zeros (length front) (length-map front watch_code) same_count)
 
--- places that come back behind the first ones
+-- places that are put back behind the first ones
 pub entries-restored : (front rest places : List Watched) → length places ≡ length rest + 1 → length front + length places ≤ 8 → watch_entries (front ++ places) ≡ with_entries (watch_entries (front ++ rest)) (length front) (map watch_code places)
 entries-restored front rest places more room =
     let before = map watch_code front in
@@ -116,7 +116,7 @@ entries-restored front rest places more room =
     let same : length (after ++ 0 ∷ []) ≡ length codes = omega (arith, length_push after 0, length-map rest watch_code, length-map places watch_code) in
     then ∙ sym (rw now (with_entries-split before (after ++ 0 ∷ []) codes zeros (length front) (length-map front watch_code) same))
 
--- ---- the same, of the place at i
+-- ---- the same, for the place at i
 
 split : (ws : List Watched) (i : ℕ) → i < length ws → take i ws ++ (get_or ws i (RegA 0) ∷ drop (i + 1) ws) ≡ ws
 split ws i h = ap (λ rest. take i ws ++ rest) (sym (drop_more ws i (RegA 0) h)) ∙ take-append-drop i ws
@@ -139,7 +139,7 @@ stood-at ws i h few =
     let found = subst (λ vs. P vs i) (split ws i h) (subst (P (take i ws ++ (get_or ws i (RegA 0) ∷ drop (i + 1) ws))) count (entries-stood (take i ws) (get_or ws i (RegA 0)) (drop (i + 1) ws) room)) in
     ap (map watch_code) (drop_more ws i (RegA 0) h) ∙ sym found
 
--- places from i on, in place of those there, of which there is one less
+-- places from i on replace those there, of which there is one fewer
 pub restored-at : (ws places : List Watched) (i : ℕ) → i ≤ length ws → length ws + 1 ≡ i + length places → i + length places ≤ 8 → watch_entries (take i ws ++ places) ≡ with_entries (watch_entries ws) i (map watch_code places)
 restored-at ws places i h more room =
     let P : List Watched → ℕ → Type 0 = λ vs n. watch_entries (take i ws ++ places) ≡ with_entries (watch_entries vs) n (map watch_code places) in
@@ -160,7 +160,7 @@ back-at ws i h few =
 pub told-remove : (ws : List Watched) (i : ℕ) → All (λ w. watched_at (watch_code w) ≡ w) ws → All (λ w. watched_at (watch_code w) ≡ w) (remove ws i)
 told-remove ws i told = All-append (λ w. watched_at (watch_code w) ≡ w) (take i ws) (drop (suc i) ws) (All-take (λ w. watched_at (watch_code w) ≡ w) i ws told) (All-drop (λ w. watched_at (watch_code w) ≡ w) (suc i) ws told)
 
--- a watched place stands before the first zero
+-- the entry of a watched place is before the first zero
 pub entry-below : (ws : List Watched) (w : Watched) (i : ℕ) → position (λ code. code == watch_code w) (watch_entries ws) ≡ Some i → i < length ws
 entry-below ws w i found =
     let among : position (λ v. watch_code v == watch_code w) ws ≡ Some i = sym (position-entries (λ code. code == watch_code w) ws (zero-no_code w)) ∙ found in

@@ -46,7 +46,7 @@ first_zero-entries ws = first_zero-codes ws (8 - length ws)
 zeros-split : (n k : ℕ) → n ≡ suc k → replicate {A = ℕ} n 0 ≡ 0 ∷ replicate k 0
 zeros-split n k e = rw e
 
--- one place more, after the others
+-- one more place, after the others
 pub watch_entries-push : (ws : List Watched) (w : Watched) → length ws < 8 → watch_entries (ws ++ w ∷ []) ≡ set (watch_entries ws) (length ws) (watch_code w)
 watch_entries-push ws w h =
     let count = length-push ws w in
@@ -60,7 +60,7 @@ first_zero-at [] = refl
 first_zero-at (x ∷ xs) =
     ⊎_elim (λ t. rw t.0 t.1) (λ t. rw (t.0, add-one) (first_zero-at xs)) (eqb_tells x 0)
 
--- the last place taken away
+-- the last place is removed
 pub watch_entries-pop : (ws : List Watched) (w : Watched) → length (ws ++ w ∷ []) ≤ 8 → watch_entries ws ≡ set (watch_entries (ws ++ w ∷ [])) (length ws) 0
 watch_entries-pop ws w h =
     let count = length-push ws w in
@@ -68,7 +68,7 @@ watch_entries-pop ws w h =
     let at = rw first_zero-entries at (first_zero-at (watch_entries ws)) in
     rw watch_entries-push (sym (set-back_to_zero (watch_entries ws) (length ws) (watch_code w) at))
 
--- the same, said of the whole list
+-- the same, stated for the whole list
 pub watch_entries-shorter : (ws : List Watched) → 0 < length ws → length ws ≤ 8 → watch_entries (take (length ws - 1) ws) ≡ set (watch_entries ws) (length ws - 1) 0
 watch_entries-shorter ws some few =
     let k = length ws - 1 in
@@ -100,7 +100,7 @@ any-codes : (test : ℕ → Bool) (ws : List Watched) (k : ℕ) → test 0 ≡ f
 any-codes test [] k e = any-zeros test k e
 any-codes test (w ∷ ws) k e = ap (λ b. test (watch_code w) || b) (any-codes test ws k e)
 
--- the entries past the watched places pass no test that refuses zero
+-- the entries past the watched places pass no test that rejects zero
 pub any-entries : (test : ℕ → Bool) (ws : List Watched) → test 0 ≡ false → list_any test (watch_entries ws) ≡ list_any (λ w. test (watch_code w)) ws
 any-entries test ws e = any-codes test ws (8 - length ws) e
 
@@ -112,7 +112,7 @@ from-codes : (test : ℕ → Bool) (i : ℕ) (ws : List Watched) (k : ℕ) → t
 from-codes test i [] k e = from-zeros test i k e
 from-codes test i (w ∷ ws) k e = ap (λ o. cond (test (watch_code w)) (Some i) o) (from-codes test (i + 1) ws k e)
 
--- the same of the place of the first that passes
+-- the same for the position of the first one that passes
 pub position-entries : (test : ℕ → Bool) (ws : List Watched) → test 0 ≡ false → position test (watch_entries ws) ≡ position (λ w. test (watch_code w)) ws
 position-entries test ws e =
     position_from-zero test (watch_entries ws) ∙ (from-codes test 0 ws (8 - length ws) e ∙ sym (position_from-zero (λ w. test (watch_code w)) ws))
@@ -126,14 +126,14 @@ register-below : (size c : ℕ) → Has size (watched_place (Register c)) → c 
 register-below size c has =
     ⊎_elim (λ t. omega (arith, t.1)) (λ t. let below : c < 12 = rw t.0 at has in omega (arith, below)) (eqb_tells c 12)
 
--- no central memory has more words
+-- central memory has no more words than this
 pub words_of-few : (size : CentralSize) → words_of size ≤ 2097152
 unfolding words_of
 words_of-few K32 = omega arith
 words_of-few K64 = omega arith
 words_of-few K128 = omega arith
 
--- a machine of at most this many central words tells its places by their codes
+-- in a machine of at most this many central words, each place is determined by its code
 pub watched_at-code : (size : ℕ) (w : Watched) → size ≤ 2097152 → Has size (watched_place w) → watched_at (watch_code w) ≡ w
 watched_at-code size (Cell n a) few has =
     let rest : n * 4096 + a < 2097152 = omega (arith, has.0, has.1) in
@@ -156,7 +156,7 @@ in-codes (w ∷ ws) k told =
     let rest = in-codes ws k (All-tail (λ v. watched_at (watch_code v) ≡ v) w ws told) in
     rw (code-no_zero, first, rest) refl
 
--- the entries of places that their codes tell
+-- the entries of places that are determined by their codes
 pub watched_in-entries : (ws : List Watched) → All (λ w. watched_at (watch_code w) ≡ w) ws → watched_in (watch_entries ws) ≡ ws
 watched_in-entries ws told = in-codes ws (8 - length ws) told
 
@@ -171,7 +171,7 @@ AreWatches-entries size ws few has apart =
 other-code : (ws : List Watched) (w : Watched) (k : ℕ) (d : Watched) → list_any (λ v. watch_code v == watch_code w) ws ≡ false → k < length ws → watch_code (get_or ws k d) ≢ watch_code w
 other-code ws w k d none l = λ same. absurd (false≢true (sym none ∙ list_any_at (λ v. watch_code v == watch_code w) ws k d l (eq-eqb _ _ same)))
 
--- one place more, which was not watched
+-- one more place, which was not watched
 pub AreWatches-push : (size : ℕ) (entries : List ℕ) (w : Watched) → size ≤ 2097152 → AreWatches size entries → first_zero entries < 8 → Has size (watched_place w) → list_any (λ code. code == watch_code w) entries ≡ false → AreWatches size (set entries (first_zero entries) (watch_code w))
 AreWatches-push size entries w few ok room has new =
     let ws = watched_in entries in
@@ -194,7 +194,7 @@ apart-take n ws apart = λ i j d l h.
     let kept_j : get_or (take n ws) j d ≡ get_or ws j d = get_or-take n ws j d (omega arith) in
     rw (kept_i, kept_j) (apart i j d l (omega arith))
 
--- the last place taken away
+-- the last place is removed
 pub AreWatches-pop : (size : ℕ) (entries : List ℕ) → size ≤ 2097152 → AreWatches size entries → 0 < first_zero entries → length entries ≡ 8 → AreWatches size (set entries (first_zero entries - 1) 0)
 AreWatches-pop size entries few ok some all =
     let ws = watched_in entries in

@@ -35,7 +35,7 @@ pub length-renamed : {P : Type 0} (name : P → Place) (w : Writes P) → length
 length-renamed name [] = refl
 length-renamed name (pair ∷ w) = ap suc (length-renamed name w)
 
--- the places of a list, with the numbers of another list of the same places, are that list
+-- the places of a list, with the numbers of another list of the same places, are that other list
 pub numbered-numbers : (w olds : Writes Place) → places w ≡ places olds → numbered w (numbers olds) ≡ olds
 numbered-numbers [] [] e = refl
 numbered-numbers [] (old ∷ olds) e = absurd (cc)
@@ -45,7 +45,7 @@ numbered-numbers (pair ∷ w) (old ∷ olds) e =
     let rest : places w ≡ places olds = cc in
     rw (first, numbered-numbers w olds rest)
 
--- cells from a on, whatever their values
+-- the places of cells from a on do not depend on the values
 pub places-cell_list : (n a : ℕ) (vs us : List ℕ) → length vs ≡ length us → places (cell_list n a vs) ≡ places (cell_list n a us)
 places-cell_list n a [] [] e = refl
 places-cell_list n a [] (u ∷ us) e = absurd (omega arith)
@@ -110,7 +110,7 @@ push-numbered-done ks ns i list all so h =
     let earlier = rw (no_more ns i h, numbered-none) at so in
     sym (append-nil (kept_pairs list)) ∙ earlier
 
--- the first of the watch entries is not the place
+-- the first of the watch entries is not at the place
 pub lookup-entry : (i k : ℕ) (ws : List Watched) (d : Watched) (p : Place) (found : Option ℕ) → found ≡ lookup (entry_list (i + k) (map watch_code (drop k ws))) p → k < length ws → same_place (WatchEntry (i + k)) p ≡ false → found ≡ lookup (entry_list (i + (k + 1)) (map watch_code (drop (k + 1) ws))) p
 lookup-entry i k ws d p found so h other =
     let here : i + k + 1 ≡ i + (k + 1) = omega arith in

@@ -21,14 +21,14 @@ use Rattle.pp_rig.specs.declared.action.Action.TheVariants as action
 abbrev EachOnce : Writes Place → Type 0
 EachOnce w = AllPairs (λ one other. one ≢ other) (places w)
 
--- ---- places one after another
+-- ---- consecutive places
 
 -- numbers at the places with these names, from index i on
 abbrev listed : (ℕ → Place) → ℕ → List ℕ → Writes Place
 listed name i [] = []
 listed name i (v ∷ vs) = (name i, v) ∷ listed name (i + 1) vs
 
--- names of which so many in a row differ
+-- a family of places in which any `room` consecutive ones differ
 module _ (name : ℕ → Place) (room : ℕ) (apart : (i j : ℕ) → i < j → j < i + room → name i ≢ name j) where
   behind : (i j : ℕ) (vs : List ℕ) → i < j → j + length vs ≤ i + room → All (λ other. name i ≢ other) (places (listed name j vs))
   behind i j [] less few k d within = absurd (omega (arith, within))
@@ -42,7 +42,7 @@ module _ (name : ℕ → Place) (room : ℕ) (apart : (i j : ℕ) → i < j → 
       (behind i (i + 1) vs (omega arith) (omega arith))
       (listed-once (i + 1) vs (omega arith))
 
--- 4096 cells from any address on, round the end of the memory
+-- 4096 cells from any address on; cell 0 follows the last
 cell_list-listed : (n a : ℕ) (vs : List ℕ) → cell_list n a vs ≡ listed (λ i. Cell n (i % 4096)) a vs
 cell_list-listed n a [] = refl
 cell_list-listed n a (v ∷ vs) = ap (λ w. (Cell n (a % 4096), v) ∷ w) (cell_list-listed n (a + 1) vs)

@@ -1,4 +1,4 @@
--- Which actions a machine admits, and why it refuses the others.
+-- Which actions a machine admits, and why it rejects the others.
 use Rattle.std.specs.Prelude.{ℕ, ◌^◌, ◌&&◌, nat_lt, nat_le, Bool, true, List, length, Option, Some, None, if◌then◌else◌}
 use Rattle.std.specs.List.{list_all}
 use Rattle.pp_machine.specs.ChannelNumbers.{state_number}
@@ -11,7 +11,7 @@ use Rattle.pp_rig.specs.declared.action.Action.TheVariants.{Turn, SetCells, SetA
 use Rattle.pp_rig.specs.declared.action.ActionFault.{ActionFault}
 use Rattle.pp_rig.specs.declared.action.ActionFault.TheVariants.{Range, WatchesFull, AlreadyWatched, NotWatched, NoPanel}
 
--- whether a machine with so many central words has the place
+-- whether a machine with this many central words has the place
 abbrev pub is_watchable : ℕ → Watched → Bool
 is_watchable size (watched.Cell n a) = nat_lt n 10 && nat_lt a 4096
 is_watchable size (watched.RegA n) = nat_lt n 10
@@ -38,7 +38,7 @@ is_in_range m (Watch w) = is_watchable m.setup.central_words w
 is_in_range m (Unwatch w) = is_watchable m.setup.central_words w
 is_in_range m Deadstart = true
 
--- a machine without a panel can't be dead started
+-- a machine without a panel cannot be dead started
 abbrev pub panel_fault : Option (List ℕ) → Option ActionFault
 panel_fault None = Some NoPanel
 panel_fault (Some panel) = None

@@ -13,7 +13,7 @@ loading panel = cell_list 0 0 (0 ∷ []) ++ cell_list 0 1 panel ++ cell_list 0 0
 abbrev pub waiting : ℕ → Writes Place
 waiting n = (Cell n 0, 0) ∷ register_list n 0o10000 0 0 (0o7100 + n)
 
--- so many processors, from n on, do so
+-- this many processors, from n on, do that
 unfoldable pub all_waiting : ℕ → ℕ → Writes Place
 all_waiting n zero = []
 all_waiting n (suc count) = waiting n ++ all_waiting (n + 1) count
@@ -33,6 +33,6 @@ abbrev pub deadstart_list : Option (List ℕ) → Writes Place
 deadstart_list None = []
 deadstart_list (Some panel) = deadstart_pairs panel
 
--- the same places, whatever the panel
+-- the same places, for any panel
 abbrev pub deadstart_places : Writes Place
 deadstart_places = deadstart_pairs (replicate 12 0)

@@ -1,4 +1,4 @@
--- What an admitted action is known to be.
+-- What is known of an admitted action.
 use Rattle.std.specs.Prelude.{◌≡◌, ◌<◌, ◌≤◌, ◌^◌, IfSome, true, false, All, length, None}
 use Rattle.pp_machine.specs.ChannelNumbers.{state_number}
 use Rattle.pp_machine.specs.Machine.{Machine}
@@ -8,7 +8,7 @@ use Rattle.pp_rig.specs.Watching.{first_zero}
 use Rattle.pp_rig.specs.declared.action.Action.{Action}
 use Rattle.pp_rig.specs.declared.action.Action.TheVariants.{Turn, SetCells, SetA, SetP, SetQ, SetWord, SetChannel, Watch, Unwatch, Deadstart}
 
--- the numbers of the action are in their ranges, and nothing in the machine stands against it
+-- the numbers of the action are in their ranges, and nothing in the machine rules it out
 abbrev pub IsPerformable : Machine → Action → Type 0
 IsPerformable m Turn = Unit {0}
 IsPerformable m (SetCells n a values) = (n < 10) × (a < 4096) × (0 < length values) × All (λ v. v < 4096) values

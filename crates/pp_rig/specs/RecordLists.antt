@@ -1,5 +1,6 @@
--- Words about records: watch entries put back, and a list without its places. What an action writes is said without them; what a
--- record names and fits, the contracts of inner functions and the proofs need them.
+-- Definitions about records: watch entries put back, and a list without its places. What an action writes does not need
+-- them. The contracts of inner functions and the proofs need them for the places of a record and for the machines that
+-- it fits.
 use Rattle.std.specs.Prelude.{ℕ, ◌+◌, List, [], ◌∷◌, get_or, set}
 use Rattle.pp_machine.specs.Writes.{Writes}
 use Rattle.pp_machine.specs.declared.place.Place.{Place}
@@ -9,7 +10,7 @@ abbrev pub with_entries : List ℕ → ℕ → List ℕ → List ℕ
 with_entries entries i [] = entries
 with_entries entries i (code ∷ codes) = set (with_entries entries (i + 1) codes) i code
 
--- what stands in the entries from i on, in as many as there are codes
+-- the codes in the entries from i on, as many as there are codes in the list
 abbrev pub entries_at : List ℕ → ℕ → List ℕ → List ℕ
 entries_at entries i [] = []
 entries_at entries i (code ∷ codes) = get_or entries i 0 ∷ entries_at entries (i + 1) codes

@@ -9,7 +9,7 @@ use Rattle.pp_rig.specs.declared.rig.ShortTurn.{ShortTurn}
 use Rattle.pp_rig.specs.declared.rig.RigRecord.{RigRecord}
 use Rattle.pp_rig.specs.declared.rig.RigRecord.TheVariants as kept
 
--- the undo record that a short one stands for
+-- the whole undo record that a short one represents
 abbrev pub whole_turn : ShortTurn → TurnRecord
 whole_turn s = record { pp = Step s.pp; rest = s.rest }
 

@@ -11,7 +11,7 @@ use Rattle.pp_rig.specs.declared.action.Action.TheVariants.{Turn}
 use Rattle.pp_rig.specs.declared.stopping.Hit.{Hit}
 use Rattle.pp_rig.specs.declared.stopping.Stopped.{Stopped}
 
--- the first of the watched places whose number is another in the later machine
+-- the first watched place whose number is another in the later machine
 abbrev pub first_change : Machine → Machine → List Watched → Option Hit
 first_change old new [] = None
 first_change old new (watched ∷ others) =
@@ -22,35 +22,35 @@ first_change old new (watched ∷ others) =
 abbrev pub hit_of : Machine → Option Hit
 hit_of m = first_change m (turn m) (watches_of m)
 
--- one turn more before the rest of a run
+-- one more turn before the rest of a run
 abbrev pub one_turn_more : Stopped → Stopped
 one_turn_more rest = record { turns = suc rest.turns; hit = rest.hit }
 
--- a run ends with this hit, or goes on with the rest
+-- a run ends with this hit, or continues with the rest
 abbrev pub hit_or : Option Hit → Stopped → Stopped
 hit_or None rest = one_turn_more rest
 hit_or (Some hit) rest = record { turns = 1; hit = Some hit }
 
--- a run of at most so many turns, which ends with the first that changes a watched number
+-- a run of at most this many turns, which ends with the first that changes a watched number
 unfoldable pub stopped : ℕ → Machine → Stopped
 stopped zero m = record { turns = 0; hit = None }
 stopped (suc most) m = hit_or (hit_of m) (stopped most (turn m))
 
--- after so many turns
+-- after this many turns
 unfoldable pub after_turns : ℕ → SessionValue Machine Action → SessionValue Machine Action
 after_turns zero v = v
 after_turns (suc turns) v = after_act (after_turns turns v) Turn
 
--- the machine after so many turns
+-- the machine after this many turns
 abbrev pub turned : ℕ → Machine → Machine
 turned turns m = replay rules m (replicate turns Turn)
 
--- the shortest run, of at most so many turns, whose last turn changed a watched number, or else all the turns
+-- the shortest run, of at most this many turns, whose last turn changed a watched number, or else all the turns
 pub record IsShortest (most : ℕ) (m : Machine) (done : Stopped) : Type 0 where
   pub within : done.turns ≤ most
-  -- no turn before the last changed one
+  -- no turn before the last changed a watched number
   pub earlier : (turns : ℕ) → turns + 1 < done.turns → hit_of (turned turns m) ≡ None
   -- the last turn made the change
   pub hit : (hit : Hit) → done.hit ≡ Some hit → (turns : ℕ) × (done.turns ≡ turns + 1) × (hit_of (turned turns m) ≡ Some hit)
-  -- no turn made any
+  -- no turn changed a watched number
   pub none : done.hit ≡ None → (done.turns ≡ most) × ((turns : ℕ) → turns < most → hit_of (turned turns m) ≡ None)

@@ -1,4 +1,4 @@
--- The watchable places that most turns leave as they are: cells, central words and the registers of channels.
+-- The watchable places that most turns leave unchanged: cells, central words and the registers of channels.
 use Rattle.std.specs.Prelude.{Bool, true, false, List}
 use Rattle.std.specs.List.{list_all}
 use Rattle.pp_machine.specs.declared.place.Place.{Place}

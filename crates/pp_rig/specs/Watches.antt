@@ -44,12 +44,12 @@ watches_of m = watched_in m.watches
 abbrev pub is_watched : Machine → Watched → Bool
 is_watched m watched = list_any (λ code. code == watch_code watched) m.watches
 
--- at most eight places, each the one with its code
+-- at most eight places, each determined by its code
 pub record AreTold (places : List Watched) : Type 0 where
   pub few : length places ≤ 8
   pub told : All (λ watched. watched_at (watch_code watched) ≡ watched) places
 
--- well formed watch entries: the codes of places that a machine with so many central words has, none of them twice, and then zeros
+-- well formed watch entries: the codes of distinct places that a machine with this many central words has, then zeros
 pub record AreWatches (size : ℕ) (entries : List ℕ) : Type 0 where
   pub closed_up : watch_entries (watched_in entries) ≡ entries
   pub present : All (λ watched. Has size (watched_place watched)) (watched_in entries)

@@ -18,9 +18,9 @@ pub record IsProcessor (x : ProcessorNumbers) : Type 0 where
   pub phase : IsTrue (is_phase x.phase)
   pub cells : All (λ cell. cell ≤ 0o7777) x.cells
 
--- the lists have their sizes, each number is in its range, the paper is zero past its length, a card is left where one is being
--- read, the watch entries are those of distinct places of the machine, before zeros, the panel has twelve words, and reader and
--- printer have data channels of their own
+-- the lists have their sizes, each number is in its range, the paper is zero past its length, a card is left if one is
+-- being read, the watch entries are those of distinct places of the machine, followed by zeros, the panel has twelve
+-- words, and reader and printer have data channels of their own
 pub record IsWellFormed (m : Machine) : Type 0 where
   pub sizes : IsShaped m.setup.central_words m
   pub processors : All IsProcessor m.processors

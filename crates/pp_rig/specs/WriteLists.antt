@@ -1,10 +1,10 @@
--- Write lists over neighbouring places.
+-- Write lists of consecutive places.
 use Rattle.std.specs.Prelude.{ℕ, ◌+◌, ◌%◌, List, [], ◌∷◌}
 use Rattle.pp_machine.specs.Writes.{Writes}
 use Rattle.pp_machine.specs.declared.place.Place.{Place}
 use Rattle.pp_machine.specs.declared.place.Place.TheVariants.{Cell, RegA, RegP, RegQ, Phase, ChannelMode, WatchEntry}
 
--- values in cells from a on, round the end of the memory
+-- values in cells from a on; cell 0 follows the last
 abbrev pub cell_list : ℕ → ℕ → List ℕ → Writes Place
 cell_list n a [] = []
 cell_list n a (v ∷ vs) = (Cell n (a % 4096), v) ∷ cell_list n (a + 1) vs

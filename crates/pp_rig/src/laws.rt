@@ -13,7 +13,7 @@ ghost use Rattle.pp_rig.specs.declared.action.Action.TheVariants.{Turn};
 
 use crate::action::Action;
 
-/// A run ends with the first turn that changes a watched number, and all its turns stand.
+/// A run ends with the first turn that changes a watched number, and its turns are the newest actions of the session.
 pub fn runs_are_shortest()
     ensures shortest { (most : ℕ) (m : Machine) → IsShortest most m (stopped most m) }
     ensures standing { (turns : ℕ) (v : SessionValue Machine Action) →
@@ -21,19 +21,19 @@ pub fn runs_are_shortest()
 {}
 
 /// No action other than a turn writes a place twice, if it writes at most as many places as its kind may: 76 for a dead
-/// start, 8 for any other (decimal). Every action that a rig performs keeps within that (`Reversible::act`).
+/// start, 8 for any other (decimal). Every action that a rig performs stays within that limit (`Reversible::act`).
 ///
-/// In a turn, each part's own list names no place twice (`pp_step::writes_are_distinct`,
+/// In a turn, each part's own list has no place twice (`pp_step::writes_are_distinct`,
 /// `pp_machine::device_writes_are_distinct`), and the clock and the slot are one place each. The list of the whole turn
-/// may name a place twice, because a processor and a device can both write the state of one channel. Then the machine
-/// has the number of the later part, and in the record the first pair counts, which has the number before the turn.
+/// may have a place twice, because a processor and a device can both write the state of one channel. The machine then
+/// has the number of the later part. In the record the first pair counts, which has the number before the turn.
 pub fn actions_write_each_place_once()
     ensures { (s : Machine) (action : Action) → action ≢ Turn →
         length (writes s action) ≤ most_places action →
         AllPairs (λ one other. one ≢ other) (places (writes s action)) }
 {}
 
-/// An admitted action writes only places that the machine has, if the machine is well formed. A turn does so too.
+/// An admitted action writes only places that the machine has, if the machine is well formed. This includes a turn.
 pub fn actions_write_places_of_the_machine()
     ensures { (s : Machine) (action : Action) → IsWellFormed s → first_fault s action ≡ None →
         HasAll s.setup.central_words (writes s action) }

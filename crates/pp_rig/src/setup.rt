@@ -1,4 +1,4 @@
-//! What a machine is made of.
+//! The setup of a machine.
 use pp_machine::CentralSize;
 
 /// What is chosen before a machine is made.
@@ -19,7 +19,7 @@ pub struct Setup {
 /// Why a machine was not made.
 #[derive(Clone, Copy, Debug, PartialEq, Eq, Drop)]
 pub enum SetupFault {
-    /// There was no memory for it.
+    /// There was no memory left for it.
     NoMemory,
     /// Reader and printer are to be on one channel.
     SameChannel,

@@ -21,16 +21,16 @@ pub struct Hit {
     pub place: Watched,
     /// The number before the turn.
     pub was: u64,
-    /// The number after it.
+    /// The number after the turn.
     pub now: u64,
 }
 
-/// How many turns a run made, and the change that ended it, if one did.
+/// How many turns a run performed, and the change that ended it, if there was one.
 #[derive(Clone, Copy, Debug, PartialEq, Eq, Drop)]
 pub struct Stopped {
-    /// How many turns were performed, that of the hit among them.
+    /// How many turns were performed, including the turn of the hit.
     pub turns: u32,
-    /// The change that ended the run; none where all turns were performed.
+    /// The change that ended the run, or `None` if all turns were performed.
     pub hit: Option<Hit>,
 }
 
@@ -82,7 +82,7 @@ fn change_of(machine: &Rig, turn: &ShortTurn) -> Option<Hit>
     None
 }
 
-/// Returns the first watched place, in watch order, whose number the newest action, a turn, changed. If storage alone is
+/// Returns the first watched place, in watch order, whose number the newest action, a turn, changed. If only storage is
 /// watched, most turns need no look at the watched places.
 #[inline(always)]
 fn first_change(session: &Session<Rig>, is_storage_alone: bool) -> Option<Hit>
@@ -106,17 +106,17 @@ fn first_change(session: &Session<Rig>, is_storage_alone: bool) -> Option<Hit>
     }
 }
 
-/// Returns whether each watched place is a cell, a central word or the register of a channel.
+/// Returns whether each watched place is a cell, a central word or the register of a data channel.
 fn are_storage(machine: &Rig) -> bool
     ensures { result ≡ are_storage (watches_of machine.now) }
 {
     machine.watches().iter().all(|watched| watched.is_storage())
 }
 
-/// Performs turns until there were n, or until one changed the number of a watched place.
+/// Performs turns until n were performed, or until one changed the number of a watched place.
 ///
-/// Where a turn changed several, the hit is the first of them in watch order. A turn in which a processor waits
-/// is a turn like any other. With n = 0 nothing is performed (this project's choice).
+/// If a turn changed several watched numbers, the hit is the first in watch order. A turn in which a processor waits is
+/// a turn like any other. If n is 0, no turn is performed (this project's choice).
 #[tactic(auto, unfolding(crate::specs::Admitting::first_fault))]
 pub fn run(session: &mut Session<Rig>, n: u32) -> Stopped
     ensures stopped { result ≡ stopped n session.old.machine }

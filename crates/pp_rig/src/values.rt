@@ -1,4 +1,4 @@
-//! The words of one setting of cells.
+//! The words of one action that sets cells.
 ghost use Rattle.std.specs.Prelude.{◌≡◌, ℕ, ◌≤◌, List, length, take};
 
 use arrayvec::ArrayVec;
@@ -8,7 +8,7 @@ use std::marker::Model;
 #[derive(Drop)]
 pub struct Values {
     count: u8,
-    /// The words, and behind them any.
+    /// The words, followed by unused elements with any content.
     words: [u16; 8],
 }
 

@@ -13,14 +13,14 @@ use pp_machine::ChannelState;
 /// One past the greatest word of sixty bits.
 const WORD_END: u64 = 1 << 60;
 
-/// Whether each value has twelve bits.
+/// Returns whether each value has twelve bits.
 fn are_words(values: &[u16]) -> bool
     ensures { result ≡ list_all (λ value. nat_lt value 4096) values.now }
 {
     values.iter().all(|value| *value < 4096)
 }
 
-/// Whether a number, where there is one, has twelve bits.
+/// Returns whether a number, if there is one, has twelve bits.
 fn is_small(word: Option<u16>) -> bool
     ensures { result ≡ is_word_or_none word }
 {
@@ -30,7 +30,7 @@ fn is_small(word: Option<u16>) -> bool
     }
 }
 
-/// Whether a state may be set: `Function` comes only from a processor.
+/// Returns whether a state may be set. `Function` may not: it comes only from a processor.
 fn may_be_set(state: ChannelState) -> bool
     ensures { result ≡ nat_lt (state_number state) 3 }
 {
@@ -41,7 +41,7 @@ fn may_be_set(state: ChannelState) -> bool
 }
 
 impl Rig {
-    /// Whether each number of the action is in its range.
+    /// Returns whether each number of the action is in its range.
     fn has_range(&self, action: &Action) -> bool
         ensures { result ≡ is_in_range self.now action.now }
     {
@@ -93,7 +93,7 @@ impl Rig {
         }
     }
 
-    /// Why the action is not admitted, its numbers being in their ranges.
+    /// Checks an action whose numbers are in their ranges. Fails with the first cause for which it is not admitted.
     fn check_state(&self, action: &Action) -> Result<(), ActionFault>
         ensures { MatchResult result (λ _. state_fault self.now action.now ≡ None) (λ fault. state_fault self.now action.now ≡ Some fault) }
     {
@@ -111,12 +111,15 @@ impl Rig {
         }
     }
 
-    /// Tells whether the machine admits the action, and if not, the first cause that applies:
-    /// `Range` where a number is outside its range (there is no value to set, or a channel would be set to
-    /// `Function`), `WatchesFull` where eight places are watched already, `AlreadyWatched`, `NotWatched`,
-    /// and `NoPanel` where a machine without a dead start panel is to be dead started.
+    /// Checks whether the machine admits the action. The ranges and their order are this project's choice.
     ///
-    /// The ranges and their order are this project's choice.
+    /// # Errors
+    /// The first cause that applies:
+    /// - `Range` if a number is outside its range, there is no value to set, or a channel would be set to `Function`
+    /// - `WatchesFull` if eight places are watched already
+    /// - `AlreadyWatched` if the place to watch is watched already
+    /// - `NotWatched` if the place to remove is not watched
+    /// - `NoPanel` if a machine without a dead start panel is to be dead started
     #[tactic(auto, unfolding(crate::specs::Admitting::first_fault))]
     pub fn check(&self, action: &Action) -> Result<(), ActionFault>
         ensures { MatchResult result (λ _. first_fault self.now action.now ≡ None) (λ fault. first_fault self.now action.now ≡ Some fault) }

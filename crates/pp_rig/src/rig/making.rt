@@ -10,7 +10,7 @@ use crate::watched::WatchList;
 use pp_machine::{Central, Channels, Frame, MakeFault, Printer, Reader};
 use std::alloc::Global;
 
-/// Ten processors with every number 0.
+/// Creates ten processors whose numbers are all 0.
 fn blank_processors(alloc: Global) -> Result<Vec<Processor>, MakeFault>
     ensures { IfOk result (λ v. v.items ≡ replicate 10 blank_processor) }
 {
@@ -22,12 +22,12 @@ fn blank_processors(alloc: Global) -> Result<Vec<Processor>, MakeFault>
 }
 
 impl Rig {
-    /// The machine at its start: every number is 0, both devices are idle, and nothing is printed or watched
+    /// Makes the machine at its start: every number is 0, both devices are idle, and nothing is printed or watched
     /// (this project's choice).
     ///
-    /// It answers the first fault that applies: `SameChannel` where reader and printer are to be on one channel,
-    /// `DeckTooLong` where there are more than 2000 (decimal) cards, and `NoMemory` where memory is refused. The
-    /// setup is dropped then.
+    /// # Errors
+    /// The first fault that applies: `SameChannel` if reader and printer are to be on one channel, `DeckTooLong` if
+    /// there are more than 2000 (decimal) cards, and `NoMemory` if there is no memory left. The setup is then dropped.
     pub fn new(alloc: Global, setup: Setup) -> Result<Rig, SetupFault>
         requires reads { setup.reader ≤ 0o13 }
         requires prints { setup.printer ≤ 0o13 }

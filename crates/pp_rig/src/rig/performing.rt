@@ -1,4 +1,4 @@
-//! An action of any kind.
+//! Performing an action of any kind.
 ghost use Rattle.std.specs.Prelude.{◌≡◌, ◌≤◌, None, IsSomeAnd, length};
 ghost use Rattle.pp_machine.specs.Writes.{places};
 ghost use Rattle.pp_rig.specs.Action.{FitsRecord, before, most_places, next, overwritten, record_pairs, writes};
@@ -13,8 +13,8 @@ use pp_history::Reversible;
 use pp_machine::{Kept, Place};
 
 impl Rig {
-    /// Performs an action that the rig admits, and writes its undo record over `back`. It is a function of its own, so that
-    /// an exchange has no room to clear for another record.
+    /// Performs an action that the rig admits, and writes its undo record over `back`. This is a separate function, so
+    /// an exchange need not clear stack space for another record.
     #[inline(never)]
     pub(super) fn act_anew(&mut self, action: &Action, back: &mut Option<RigRecord>)
         requires { first_fault self.old action.now ≡ None }

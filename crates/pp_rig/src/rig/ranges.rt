@@ -5,7 +5,7 @@ ghost use Rattle.pp_rig.specs.WellFormed.{IsProcessor, IsWellFormed};
 use super::Rig;
 use crate::processor::Processor;
 
-/// Each processor is well formed.
+/// Theorem: each processor is well formed.
 fn keep_ranges(processors: &[Processor])
     ensures { All IsProcessor processors.now }
 {
@@ -15,9 +15,9 @@ fn keep_ranges(processors: &[Processor])
 }
 
 impl Rig {
-    /// Every machine is well formed, whatever was done to it: each number is in its range, the paper is zero
-    /// past its length, a card is left where one is being read, the watched places are distinct places of the
-    /// machine, the panel has twelve words, and reader and printer have data channels of their own. The call does
+    /// Theorem: every machine is well formed after any sequence of calls. Each number is in its range, the paper is
+    /// zero past its length, a card is left if one is being read, the watched places are distinct places of the
+    /// machine, the panel has twelve words, and reader and printer have data channels of their own. The function does
     /// nothing.
     pub fn keeps_ranges(&self)
         ensures { IsWellFormed self.now }

@@ -1,4 +1,4 @@
-//! What the machine tells of itself.
+//! Calls that read the machine.
 ghost use Rattle.std.specs.Prelude.{◌≡◌, ◌<◌, ◌↔◌, IsSome, IsTrue, length, take};
 ghost use Rattle.pp_machine.specs.CentralSizes.{words_of};
 ghost use Rattle.pp_machine.specs.Machine.{number};
@@ -8,7 +8,7 @@ use super::Rig;
 use pp_machine::{CentralSize, Place};
 
 impl Rig {
-    /// The processor whose turn is next, 0 to 0o11.
+    /// Returns the processor whose turn is next, 0 to 0o11.
     pub fn slot(&self) -> u8
         ensures value { result ≡ self.now.slot }
         ensures in_range { result < 10 }
@@ -16,28 +16,28 @@ impl Rig {
         self.slot
     }
 
-    /// How many words central memory has.
+    /// Returns how many words central memory has.
     pub fn central_size(&self) -> CentralSize
         ensures { words_of result ≡ self.now.setup.central_words }
     {
         self.central_size
     }
 
-    /// How many cards the reader's deck has, read ones too.
+    /// Returns how many cards the reader's deck has, including those that were read.
     pub fn cards(&self) -> u32
         ensures { result ≡ length self.now.reader.deck }
     {
         self.reader.cards()
     }
 
-    /// What the printer has printed: symbols 0 to 0o77 in display code, and 0o100 for the end of a line.
+    /// Returns what the printer has printed: symbols 0 to 0o77 in display code, and 0o100 for the end of a line.
     pub fn paper(&self) -> &[u8]
         ensures { result.now ≡ take self.now.printer.length self.now.printer.symbols }
     {
         self.printer.paper()
     }
 
-    /// The channel of the reader, 0 to 0o13.
+    /// Returns the channel of the reader, 0 to 0o13.
     pub fn reader_channel(&self) -> u8
         ensures value { result ≡ self.now.setup.reader_channel }
         ensures in_range { result < 12 }
@@ -45,7 +45,7 @@ impl Rig {
         self.reader_channel
     }
 
-    /// The channel of the printer, 0 to 0o13.
+    /// Returns the channel of the printer, 0 to 0o13.
     pub fn printer_channel(&self) -> u8
         ensures value { result ≡ self.now.setup.printer_channel }
         ensures in_range { result < 12 }
@@ -53,14 +53,14 @@ impl Rig {
         self.printer_channel
     }
 
-    /// Whether the machine has a dead start panel.
+    /// Returns whether the machine has a dead start panel.
     pub fn has_panel(&self) -> bool
         ensures { IsTrue result ↔ IsSome self.now.setup.panel }
     {
         self.panel.is_some()
     }
 
-    /// The number at a place.
+    /// Returns the number at a place.
     pub(super) fn number_at(&self, place: &Place) -> u64
         requires { Has self.now.setup.central_words place.now }
         ensures { result ≡ number self.now place.now }

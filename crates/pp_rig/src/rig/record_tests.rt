@@ -1,5 +1,5 @@
-//! Each record of the machine, taken apart by its fields and made anew of them: the three records of the parts, places,
-//! numbers, and short lists of them. The record made anew leads back to the whole machine as it was before.
+//! Each undo record of the machine, rebuilt from its fields: the records of the three parts, places, numbers, and short
+//! lists. The rebuilt record leads back to the whole machine as it was before.
 ghost use Rattle.std.specs.Prelude.{◌≡◌, ◌≤◌, length};
 ghost use Rattle.pp_machine.specs.Machine.{Machine};
 ghost use Rattle.pp_rig.specs.Action.{FitsRecord};
@@ -48,7 +48,7 @@ fn same_numbers(numbers: &[u32]) -> ArrayVec<u32, 76>
     again
 }
 
-/// The record made anew of its fields alone.
+/// Returns the record rebuilt from its fields alone.
 fn made_anew(back: RigRecord) -> RigRecord
     ensures { (m : Machine) → FitsRecord back m → FitsRecord result m }
 {
@@ -103,7 +103,7 @@ fn make(alloc: Global) -> Result<Rig, &'static str> {
     Rig::new(alloc, setup).map_err(|_| "refused")
 }
 
-/// Does the same as `act_and_back` with a short record, if the action leaves one.
+/// Does what `act_and_back` does, with a short record, if the action leaves one.
 fn act_short_and_back(
     rt: &impl Abort,
     alloc: Global,
@@ -131,7 +131,7 @@ fn act_short_and_back(
     Ok(())
 }
 
-/// Performs an action, undoes it by the record made anew, and performs it again. Checks every number of the machine each
+/// Performs an action, undoes it by the rebuilt record, and performs it again. Checks every number of the machine each
 /// time, and checks that the record has the old number of each place that changed.
 fn act_and_back(
     rt: &impl Abort,
@@ -245,8 +245,8 @@ fn an_exchange_leads_back(rt: HostRuntime) -> Result<(), Fail> {
     Ok(())
 }
 
-/// In one turn of slot 0o11 a processor stores, the reader sends a column, the printer prints two symbols, and the clock
-/// ticks.
+/// In one turn of slot 0o11 a processor stores, the reader sends a column, the printer prints two symbols, and the
+/// clock ticks.
 #[test]
 fn a_turn_of_all_parts_leads_back(rt: HostRuntime) -> Result<(), Fail> {
     let mut rig = make(rt.alloc())?;
@@ -279,8 +279,7 @@ fn a_turn_of_all_parts_leads_back(rt: HostRuntime) -> Result<(), Fail> {
     Ok(())
 }
 
-/// A short record is kept for most turns, and one that is no larger than an exchange and the devices need for each other
-/// action.
+/// Most turns keep a short record. Any other action keeps a record no larger than an exchange and the devices need.
 #[test]
 fn records_are_small(rt: HostRuntime) {
     assert!(rt; size_of::<ShortTurn>() <= 64);

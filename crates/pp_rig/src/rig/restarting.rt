@@ -24,7 +24,7 @@ fn push_all(list: &mut ArrayVec<Kept, 76>, pairs: &[Kept])
     }
 }
 
-/// The registers and the phase of a processor.
+/// Returns the settings of the registers and the phase of a processor.
 fn registers(pp: u8, a: u64, p: u64, q: u64, phase: u64) -> [Kept; 4]
     ensures { kept_pairs result ≡ register_list pp a p q phase }
 {
@@ -36,7 +36,7 @@ fn registers(pp: u8, a: u64, p: u64, q: u64, phase: u64) -> [Kept; 4]
     ]
 }
 
-/// Appends what makes a processor wait for input on the channel of its number.
+/// Appends the settings that make a processor wait for input on the channel of its number.
 fn push_waiting(list: &mut ArrayVec<Kept, 76>, pp: u8)
     requires { array_vec_len list.old + 5 ≤ 76 }
     ensures items { kept_pairs list.new.items ≡ kept_pairs list.old.items ++ waiting pp }
@@ -46,7 +46,7 @@ fn push_waiting(list: &mut ArrayVec<Kept, 76>, pp: u8)
     push_all(list, &registers(pp, 0o10000, 0, 0, 0o7100 + u64::from(pp)));
 }
 
-/// The same for all processors but the first.
+/// Appends these settings for all processors except the first.
 fn push_all_waiting(list: &mut ArrayVec<Kept, 76>)
     requires { array_vec_len list.old + 45 ≤ 76 }
     ensures items { kept_pairs list.new.items ≡ kept_pairs list.old.items ++ all_waiting 1 9 }
@@ -72,7 +72,7 @@ fn push_states(list: &mut ArrayVec<Kept, 76>, states: &[u64])
     }
 }
 
-/// All that a dead start by this panel writes.
+/// Returns all that a dead start by this panel writes.
 fn deadstart_settings(panel: &[u16; 12]) -> ArrayVec<Kept, 76>
     ensures list { kept_pairs result.items ≡ deadstart_pairs panel.now }
     ensures words { length panel.now ≡ 12 }
@@ -88,7 +88,7 @@ fn deadstart_settings(panel: &[u16; 12]) -> ArrayVec<Kept, 76>
     list
 }
 
-/// The numbers of the pairs.
+/// Returns the numbers of the pairs.
 fn numbers_of(pairs: &[Kept]) -> ArrayVec<u32, 76>
     requires few { length pairs.now ≤ 76 }
     requires small { All (λ pair. pair.number < 2 ^ 32) pairs.now }
@@ -101,7 +101,7 @@ fn numbers_of(pairs: &[Kept]) -> ArrayVec<u32, 76>
     list
 }
 
-/// The first of the pairs with other numbers.
+/// Returns as many of the first pairs as there are numbers, with these numbers.
 fn with_numbers(pairs: &[Kept], numbers: &[u32]) -> ArrayVec<Kept, 76>
     requires { length pairs.now ≤ 76 }
     ensures { kept_pairs result.items ≡ numbered (kept_pairs pairs.now) numbers.now }
@@ -116,7 +116,7 @@ fn with_numbers(pairs: &[Kept], numbers: &[u32]) -> ArrayVec<Kept, 76>
     list
 }
 
-/// The places of a dead start, with these numbers.
+/// Returns the places of a dead start with these numbers.
 pub(super) fn renumbered(numbers: &[u32]) -> ArrayVec<Kept, 76>
     ensures { kept_pairs result.items ≡ numbered deadstart_places numbers.now }
 {

@@ -1,4 +1,4 @@
-//! What a record leads back to, and what it tells.
+//! Undoing an action by its record, and the old numbers in the record.
 ghost use Rattle.std.specs.Prelude.{◌≡◌, ◌≤◌, length, map};
 ghost use Rattle.pp_machine.specs.Lookup.{lookup, same_place};
 ghost use Rattle.pp_rig.specs.Action.{FitsRecord, before, record_pairs};
@@ -14,7 +14,7 @@ use super::{Rig, RigRecord};
 use crate::watched::Watched;
 use pp_machine::{Kept, Place, first_kept};
 
-/// Whether a place is watch entry n.
+/// Returns whether a place is watch entry n.
 fn is_entry(place: &Place, n: u32) -> bool
     ensures { result ≡ same_place (Place.WatchEntry n) place.now }
 {
@@ -24,7 +24,7 @@ fn is_entry(place: &Place, n: u32) -> bool
     }
 }
 
-/// The code at a place, where the codes of the watched places stand in the entries from i on.
+/// Returns the code for a place, if it is one of the watch entries from i on, which have the codes of these places.
 fn first_entry(i: u8, watches: &[Watched], place: &Place) -> Option<u64>
     requires { length watches.now ≤ 8 }
     ensures { result ≡ lookup (entry_list i (map watch_code watches.now)) place.now }
@@ -37,8 +37,8 @@ fn first_entry(i: u8, watches: &[Watched], place: &Place) -> Option<u64>
     None
 }
 
-/// The number at a place, among those that a dead start overwrote. It stands apart, so that no other look has room to
-/// clear for the list.
+/// Returns the old number of a place, if a dead start overwrote it. This is a separate function, so other lookups need
+/// not clear stack space for the list.
 #[inline(never)]
 fn restarted_was(numbers: &[u32], place: &Place) -> Option<u64>
     ensures { result ≡ lookup (numbered deadstart_places numbers.now) place.now }
@@ -48,7 +48,7 @@ fn restarted_was(numbers: &[u32], place: &Place) -> Option<u64>
 }
 
 impl RigRecord {
-    /// Returns the old number of a place that the record names, else `None`.
+    /// Returns the old number of a place, or `None` if the record does not have that place.
     pub(super) fn named(&self, place: &Place) -> Option<u64>
         ensures { result ≡ lookup (record_pairs self.now) place.now }
     {
@@ -66,7 +66,7 @@ impl RigRecord {
 }
 
 impl Rig {
-    /// Takes an action back.
+    /// Undoes an action.
     pub(super) fn take_back(&mut self, back: &RigRecord)
         requires { FitsRecord back.now self.old }
         ensures { self.new ≡ before back.now self.old }
@@ -80,7 +80,7 @@ impl Rig {
         }
     }
 
-    /// Puts back what a dead start overwrote. It stands apart as `restarted_was` does.
+    /// Puts the old values of a dead start back. This is a separate function for the same reason as `restarted_was`.
     #[inline(never)]
     fn undo_restart(&mut self, numbers: &[u32])
         requires { AreSettings self.old.setup.central_words (numbered deadstart_places numbers.now) }

@@ -12,7 +12,7 @@ use super::{Rig, RigRecord};
 use arrayvec::ArrayVec;
 use pp_machine::{Channel, ChannelState, Kept, Place};
 
-/// Appends the settings of values in cells from a on, round the end of the memory.
+/// Appends the settings of values in cells from a on. The first cell of the memory follows the last.
 pub(super) fn push_cells<const N: usize>(
     list: &mut ArrayVec<Kept, N>,
     pp: u8,
@@ -35,7 +35,7 @@ pub(super) fn push_cells<const N: usize>(
 }
 
 impl Rig {
-    /// The number at a place that an action may set.
+    /// Returns the number at a place that an action may set.
     fn setting(&self, place: Place) -> u64
         requires { IsSettable self.now.setup.central_words place }
         ensures value { result ≡ number self.now place }
@@ -56,7 +56,7 @@ impl Rig {
         }
     }
 
-    /// Sets the number at such a place.
+    /// Sets the number at a place that an action may set.
     fn set(&mut self, place: Place, value: u64)
         requires { IsSetting self.old.setup.central_words place value }
         ensures { self.new ≡ put self.old place value }
@@ -99,7 +99,7 @@ impl Rig {
         self.channels.set(c, Channel { state, word });
     }
 
-    /// The places of the list, with the numbers that stand there.
+    /// Returns the places of the list with their present numbers.
     pub(super) fn standing<const N: usize>(&self, list: &[Kept]) -> ArrayVec<Kept, N>
         requires room { length list.now ≤ N }
         requires settings { AreSettings self.now.setup.central_words (kept_pairs list.now) }
@@ -114,7 +114,7 @@ impl Rig {
         standing
     }
 
-    /// Puts the list in, the last pair first.
+    /// Writes the numbers of the list to their places, the last pair first.
     pub(super) fn put_all(&mut self, list: &[Kept])
         requires { AreSettings self.old.setup.central_words (kept_pairs list.now) }
         ensures { self.new ≡ over self.old (kept_pairs list.now) }
@@ -125,7 +125,7 @@ impl Rig {
         }
     }
 
-    /// Puts a short list in, and keeps what it overwrites.
+    /// Writes the numbers of a short list to their places, and returns the undo record.
     pub(super) fn overwrite_all(&mut self, list: &[Kept]) -> RigRecord
         requires room { length list.now ≤ 8 }
         requires settings { AreSettings self.old.setup.central_words (kept_pairs list.now) }

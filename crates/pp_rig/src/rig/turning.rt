@@ -19,7 +19,7 @@ use pp_machine::{CentralSize, ChannelState, Kept, Place, PrinterRecord, ReaderRe
 use pp_step::{ExchangeRecord, PpRecord, StepRecord, Target};
 
 impl TurnRest {
-    /// Returns a record to write over.
+    /// Returns a record to overwrite.
     #[inline(always)]
     fn blank() -> TurnRest {
         TurnRest {
@@ -33,8 +33,8 @@ impl TurnRest {
         }
     }
 
-    /// Returns the old number of a place that a device overwrote, else `None`. It is apart, so that no other lookup saves
-    /// the registers that it needs.
+    /// Returns the old number of a place, or `None` if no device overwrote it. This is a separate function, so other
+    /// lookups need not save the registers that it needs.
     #[inline(never)]
     fn device_was(&self, place: &Place) -> Option<u64>
         ensures { result ≡ first_of_two (lookup (reader_part self.now) place.now) (lookup (printer_part self.now) place.now) }
@@ -47,7 +47,7 @@ impl TurnRest {
         first_of(reader, printer)
     }
 
-    /// Returns the clock before, if the record names it, else `None`.
+    /// Returns the clock before the turn, or `None` if the record does not have it.
     #[inline(always)]
     fn clock_was(&self) -> Option<u64>
         ensures { result ≡ lookup (clock_part self.now.slot self.now.clock) Place.Clock }
@@ -59,7 +59,7 @@ impl TurnRest {
         }
     }
 
-    /// Returns the old number of the clock or of the slot.
+    /// Returns the old number of the clock or of the slot, or `None` if the record does not have that place.
     fn end_was(&self, place: &Place) -> Option<u64>
         ensures { result ≡ first_of_two (lookup (clock_part self.now.slot self.now.clock) place.now) (lookup ((Place.Slot, self.now.slot) ∷ []) place.now) }
     {
@@ -74,7 +74,7 @@ impl TurnRest {
 }
 
 impl TurnRecord {
-    /// Returns a record to write over: that of an exchange, which is written in its place.
+    /// Returns a record to overwrite: that of an exchange, so an exchange is written in place.
     pub(super) fn blank() -> TurnRecord {
         let exchange = ExchangeRecord {
             p: 0,
@@ -89,7 +89,8 @@ impl TurnRecord {
         }
     }
 
-    /// Returns the old number of a place that the record names, else `None`. A place of another processor is not looked up.
+    /// Returns the old number of a place, or `None` if the record does not have that place. A place of another
+    /// processor is not looked up.
     #[tactic(auto, using(crate::proofs::TurnNames::lookup_told, crate::proofs::TurnNames::lookup_parts))]
     pub(super) fn was(&self, place: &Place) -> Option<u64>
         ensures { result ≡ lookup (turn_pairs self.now) place.now }
@@ -111,7 +112,7 @@ impl TurnRecord {
         }
     }
 
-    /// Returns the same, for any place.
+    /// Returns the old number of any place, or `None` if the record does not have that place.
     #[inline(never)]
     #[tactic(auto, using(crate::proofs::TurnNames::lookup_parts))]
     fn shared_was(&self, place: &Place) -> Option<u64>
@@ -124,7 +125,7 @@ impl TurnRecord {
 }
 
 impl ShortTurn {
-    /// Returns a record to write over.
+    /// Returns a record to overwrite.
     #[inline(always)]
     pub(super) fn blank() -> ShortTurn {
         ShortTurn {
@@ -133,7 +134,7 @@ impl ShortTurn {
         }
     }
 
-    /// Returns the undo record that this one stands for.
+    /// Returns the whole undo record that this one represents.
     pub(super) fn lengthen(&self) -> RigRecord
         ensures { result ≡ whole self.now }
     {
@@ -143,8 +144,8 @@ impl ShortTurn {
         })
     }
 
-    /// Returns the old number of a place that the record names, else `None`. Only the parts are asked that may name a
-    /// place of its kind.
+    /// Returns the old number of a place, or `None` if the record does not have that place. Only the parts that may
+    /// have a place of its kind are looked up.
     #[inline(always)]
     #[tactic(auto, using(crate::proofs::TurnNames::lookup_told))]
     pub(crate) fn was(&self, place: &Place) -> Option<u64>
@@ -184,7 +185,7 @@ impl ShortTurn {
         }
     }
 
-    /// Returns whether the turn wrote the registers of its processor, the clock and the slot alone.
+    /// Returns whether the turn wrote only the registers of its processor, the clock and the slot.
     #[inline(always)]
     #[tactic(auto, using(crate::proofs::TurnNames::no_storage))]
     pub(crate) fn wrote_registers_alone(&self) -> bool
@@ -194,7 +195,7 @@ impl ShortTurn {
     }
 }
 
-/// Returns whether a step with this target wrote registers alone.
+/// Returns whether a step with this target wrote only registers.
 #[inline(always)]
 fn is_nothing(target: Target) -> bool
     ensures { result ≡ true → (writes : StepRecord) → pairs_as target writes ≡ [] }
@@ -306,7 +307,8 @@ impl Rig {
         self.channels.set(self.printer_channel, channel);
     }
 
-    /// Steps the reader and the printer. It is apart, since in most turns no channel of a device is active.
+    /// Steps the reader and the printer. This is a separate function because in most turns no channel of a device is
+    /// active.
     #[inline(never)]
     fn step_called_devices(&mut self) -> (ReaderRecord, PrinterRecord)
         ensures step { let m2 = over self.old (reader_list self.old) in self.new ≡ over m2 (printer_list m2) }
@@ -359,7 +361,7 @@ impl Rig {
         self.undo_reader(back.reader);
     }
 
-    /// Counts the clock up in the turn of the last processor. Returns the clock before.
+    /// Advances the clock by one in the turn of the last processor. Returns the clock before.
     #[inline(always)]
     fn tick(&mut self) -> u16
         ensures step { self.new ≡ over self.old (clock_list self.old) }
@@ -408,7 +410,7 @@ impl Rig {
         self.slot = slot;
     }
 
-    /// Does what a turn does after the processor's step.
+    /// Performs the part of a turn after the processor's step.
     #[inline(always)]
     fn finish_turn(&mut self, back: &mut TurnRest)
         ensures step { self.new ≡ rest_of_turn self.old }
@@ -444,8 +446,8 @@ impl Rig {
         self.finish_turn(&mut back.rest);
     }
 
-    /// Performs one turn of the barrel, unless the processor would exchange, and writes its undo record over `back`. Returns
-    /// `false` if the processor would exchange: then nothing has changed.
+    /// Performs one turn of the barrel, unless the processor would perform an exchange, and writes its undo record over
+    /// `back`. Returns `false` if the processor would perform an exchange; nothing has changed then.
     #[inline(always)]
     pub(super) fn turn_short(&mut self, back: &mut ShortTurn) -> bool
         ensures turned { result ≡ true → IsTurned self.old self.new (whole_turn back.new) }

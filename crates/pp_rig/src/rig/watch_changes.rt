@@ -1,4 +1,4 @@
-//! Watched places that come and go.
+//! Watched places that are added and removed.
 ghost use Rattle.std.specs.Prelude.{◌≡◌, ◌<◌, ◌+◌, ◌≤◌, [], ◌∷◌, false, length, map};
 ghost use Rattle.pp_machine.specs.Machine.{number, olds, over};
 ghost use Rattle.pp_machine.specs.Shape.{Has};
@@ -12,7 +12,7 @@ use crate::watched::Watched;
 use pp_machine::Place;
 
 impl Rig {
-    /// Watches one place more.
+    /// Watches one more place.
     pub(super) fn watch(&mut self, watched: Watched) -> RigRecord
         requires room { first_zero self.old.watches < 8 }
         requires present { Has self.old.setup.central_words (watched_place watched) }
@@ -27,7 +27,7 @@ impl Rig {
         RigRecord::Watched(i)
     }
 
-    /// Watches a place no more.
+    /// Stops watching a place.
     pub(super) fn unwatch(&mut self, watched: Watched) -> RigRecord
         ensures step { self.new ≡ over self.old (unwatch_list self.old watched) }
         ensures stood { record_pairs result ≡ olds self.old (unwatch_list self.old watched) }
@@ -41,7 +41,7 @@ impl Rig {
         RigRecord::Unwatched { i, places }
     }
 
-    /// Watches places again, of which the first had gone.
+    /// Restores the watched places from entry i on, the first of which was removed.
     pub(super) fn rewatch(&mut self, i: u8, places: &[Watched])
         requires { FitsUnwatched i places.now self.old }
         ensures { self.new ≡ over self.old (entry_list i (map watch_code places.now)) }
@@ -49,7 +49,7 @@ impl Rig {
         self.watches.restore(i, places);
     }
 
-    /// Watches the last place no more.
+    /// Stops watching the last place.
     pub(super) fn unwatch_last(&mut self, i: u8)
         requires { first_zero self.old.watches ≡ i + 1 }
         ensures { self.new ≡ over self.old ((Place.WatchEntry i, 0) ∷ []) }

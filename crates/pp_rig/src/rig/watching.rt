@@ -9,7 +9,7 @@ use arrayvec::ArrayVec;
 use pp_machine::Place;
 
 impl Rig {
-    /// The watched places in watch order, at most eight.
+    /// Returns the watched places in watch order, at most eight.
     pub fn watches(&self) -> &[Watched]
         ensures value { result.now ≡ watches_of self.now }
         ensures present { All (λ watched. Has self.now.setup.central_words (watched_place watched)) result.now }
@@ -18,7 +18,7 @@ impl Rig {
         self.watches.places()
     }
 
-    /// The places of the machine that are watched, in watch order, in a list of their own.
+    /// Returns the places of the machine that are watched, in watch order, in a list of their own.
     pub fn watched_places(&self) -> ArrayVec<Place, 8>
         ensures value { result.items ≡ map watched_place (watches_of self.now) }
         ensures present { All (λ place. Has self.now.setup.central_words place) result.items }

@@ -1,4 +1,4 @@
-//! Which actions a machine refuses, and for which cause.
+//! Which actions a machine rejects, and for which cause.
 
 use super::*;
 

@@ -19,7 +19,8 @@ fn ten_processors_take_turns(rt: HostRuntime) -> Result<(), Fail> {
     Ok(())
 }
 
-/// A machine whose first processor calls for the status of the reader, on channel 0o10 with 0o1234 in its register.
+/// Returns a machine whose first processor calls for the status of the reader, on channel 0o10 with 0o1234 in its
+/// register.
 fn call_reader(rt: &impl Abort, alloc: Global) -> Result<Rig, &'static str> {
     let mut rig = make_rig(alloc)?;
     let mut values = ArrayVec::new();
@@ -44,7 +45,7 @@ fn call_reader(rt: &impl Abort, alloc: Global) -> Result<Rig, &'static str> {
     Ok(rig)
 }
 
-/// Where a processor and the reader write one channel in one turn, the number that stood there before the turn counts.
+/// If a processor and the reader write one channel in one turn, its number before the turn counts.
 #[test]
 fn the_oldest_number_of_a_channel_counts(rt: HostRuntime) -> Result<(), Fail> {
     let mut rig = call_reader(&rt, rt.alloc())?;

@@ -3,10 +3,10 @@ ghost use Rattle.std.specs.Prelude.{◌<◌};
 
 use super::*;
 
-/// Loads 5, and stores it in cell 0o20.
+/// A panel that loads 5 and stores it in cell 0o20.
 const PANEL: [u16; 12] = [0o1405, 0o3420, 0o300, 0, 0, 0, 0, 0, 0, 0, 0, 0];
 
-/// A machine with this panel, with the reader on channel 5 and one card.
+/// Returns a machine with this panel, with the reader on channel 5 and one card.
 fn make_with_panel(alloc: Global) -> Result<Session<Rig>, &'static str> {
     let deck = deck_of(alloc, 1, 1).map_err(|_| "memory")?;
     let setup = Setup {
@@ -20,7 +20,7 @@ fn make_with_panel(alloc: Global) -> Result<Session<Rig>, &'static str> {
     Session::new(alloc, rig, 100).map_err(|_| "memory")
 }
 
-/// A, P, Q and the phase of a processor.
+/// Returns A, P, Q and the phase of a processor.
 fn registers(session: &Session<Rig>, pp: u8) -> [u64; 4]
     requires { pp < 10 }
 {

@@ -1,9 +1,9 @@
-//! Making a machine, and what it tells of itself.
+//! Making a machine, and reading it.
 ghost use Rattle.std.specs.Prelude.{◌≤◌};
 
 use super::*;
 
-/// What comes of a setup with so many blank cards.
+/// Makes a machine with this many blank cards.
 fn make_of(alloc: Global, cards: usize, reader: u8, printer: u8) -> Result<Rig, SetupFault>
     requires reads { reader ≤ 0o13 }
     requires prints { printer ≤ 0o13 }

@@ -1,4 +1,4 @@
-//! Runs of turns, and what is watched meanwhile.
+//! Runs of turns, and the places that are watched meanwhile.
 
 use super::*;
 use pp_history::BackFault;
@@ -10,7 +10,7 @@ fn back_to_change(session: &mut Session<Rig>) -> Result<u32, BackFault> {
     session.back_to_change(places.as_slice())
 }
 
-/// Loads 5 into A, stores it in cell 0o50, and starts there: at 0o100.
+/// Puts a program at 0o100 that loads 5 into A and stores it in cell 0o50, and starts there.
 fn start_storing(rt: &impl Abort, session: &mut Session<Rig>) {
     set_cells(rt, session, 0o100, &[0o1405, 0o2400, 0o3450]);
     act(rt, session, Action::SetP { pp: 0, v: 0o100 });
@@ -77,7 +77,7 @@ fn the_clock_is_watched_as_register_14(rt: HostRuntime) -> Result<(), Fail> {
     Ok(())
 }
 
-/// The hit of the turn that loads A and advances P, with these two watched.
+/// Returns the hit of the turn that loads A and advances P, with these two places watched.
 fn hit_of_a_load(
     rt: &impl Abort,
     alloc: Global,
@@ -140,8 +140,8 @@ fn a_wait_is_a_turn(rt: HostRuntime) -> Result<(), Fail> {
     Ok(())
 }
 
-/// The hit of two turns of processor 0, with these places watched, where it loads 5 into A and then performs `second`.
-/// Channel 3 is active and empty, and the central word 5 is 0o77.
+/// Performs two turns of processor 0 with these places watched: it loads 5 into A and then performs `second`. Channel 3
+/// is active and empty, and central word 5 is 0o77.
 fn hit_after_a_load(
     rt: &impl Abort,
     alloc: Global,

@@ -1,4 +1,4 @@
-//! Each call of a session once, at a rig.
+//! Each call of a session once, with a rig as the machine.
 
 use super::*;
 use pp_history::{BackFault, Looks};

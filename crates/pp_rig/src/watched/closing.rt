@@ -1,4 +1,4 @@
-//! Watched places that go, and come back.
+//! Watched places that are removed and restored.
 ghost use Rattle.std.specs.Prelude.{◌≡◌, ◌==◌, ◌+◌, ◌<◌, ◌≤◌, ◌++◌, All, IfSome, drop, length, map, position};
 ghost use Rattle.std.specs.List.{remove};
 ghost use Rattle.arrayvec.specs.ArrayVec.{array_vec_len};
@@ -20,7 +20,7 @@ fn push_places(list: &mut ArrayVec<Watched, 8>, places: &[Watched])
     }
 }
 
-/// The places from i on.
+/// Returns the places from i on.
 fn places_from(places: &[Watched], i: u8) -> ArrayVec<Watched, 8>
     requires few { length places.now ≤ 8 }
     requires within { i ≤ length places.now }
@@ -32,7 +32,7 @@ fn places_from(places: &[Watched], i: u8) -> ArrayVec<Watched, 8>
 }
 
 impl WatchList {
-    /// The entry of the place, where it is watched.
+    /// Returns the entry of the place, or `None` if it is not watched.
     pub fn entry_of(&self, watched: Watched) -> Option<u8>
         ensures value { result ≡ position (λ code. code == watch_code watched) self.now }
         ensures below { IfSome result (λ i. i < first_zero self.now) }
@@ -44,7 +44,7 @@ impl WatchList {
         }
     }
 
-    /// Takes the place at entry i away, and answers it with those that stood behind it, which close up.
+    /// Removes the place at entry i, and returns it with the places behind it. Those places move up.
     pub fn remove(&mut self, i: u8) -> ArrayVec<Watched, 8>
         requires { i < first_zero self.old }
         ensures removed { self.new ≡ with_entries self.old i (moved_up (drop (i + 1) self.old)) }
@@ -61,7 +61,7 @@ impl WatchList {
         stood
     }
 
-    /// Puts places back from entry i on, in place of those there, of which there is one less.
+    /// Puts places back from entry i on. They replace the places there, of which there is one fewer.
     pub fn restore(&mut self, i: u8, places: &[Watched])
         requires count { first_zero self.old + 1 ≡ i + length places.now }
         requires few { i + length places.now ≤ 8 }

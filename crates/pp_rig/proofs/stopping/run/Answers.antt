@@ -15,7 +15,7 @@ loop-turns-init c = record {
   watches = refl;
 }
 
--- no turn changes what is watched
+-- no turn changes which places are watched
 pub first_change-requires : goal.first_change-requires
 first_change-requires c = λ e.
     let same : watches_of c.act.new.self.machine ≡ watches_of c.args.session.now.machine =

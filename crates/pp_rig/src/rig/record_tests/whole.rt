@@ -111,7 +111,7 @@ pub fn is_true_of(record: &RigRecord, places: &[Place], before: &[u64], after: &
     true
 }
 
-/// Returns the same of a short record.
+/// Returns whether the short record has the old number of each place that changed, and only old numbers.
 pub fn is_short_true_of(
     record: &ShortTurn,
     places: &[Place],
