@@ -1,5 +1,17 @@
 //! Sessions of two machines: one has only the required methods, and one overwrites its short and long undo records in
 //! place.
 
+ghost use Rattle.std.specs.Prelude.{◌≤◌};
+
+use super::*;
+use std::alloc::Global;
+use std::test::Fail;
+
 mod dials;
 mod gauge;
+
+fn session_of<T: Reversible>(alloc: Global, machine: T, capacity: u32) -> Result<Session<T>, Fail>
+    requires { (1 ≤ capacity) × (capacity ≤ 10000) }
+{
+    Ok(Session::new(alloc, machine, capacity).map_err(|_| "no memory")?)
+}

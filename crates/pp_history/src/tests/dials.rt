@@ -1,9 +1,7 @@
 //! Sessions of three dials: a machine with one kind of undo record, and with only the required methods.
 
-ghost use Rattle.std.specs.Prelude.{◌≤◌};
-
 use super::super::*;
-use std::alloc::Global;
+use super::session_of;
 use std::marker::Model;
 use std::test::Fail;
 
@@ -23,28 +21,21 @@ impl Model for Dials {
     ghost invariant = { λ dials. length dials.numbers ≡ 3 };
 }
 
-/// Sets a dial to a number.
+/// Sets a dial to a number. Its undo record is the action that sets the old number.
 #[derive(Clone, Copy, Drop)]
 struct Set {
     dial: usize,
     to: u64,
 }
 
-/// The old number of a dial.
-#[derive(Clone, Copy, Drop)]
-struct Had {
-    dial: usize,
-    number: u64,
-}
-
 impl Reversible for Dials {
     type Action = Set;
 
-    type Record = Had;
+    type Record = Set;
 
     type Place = usize;
 
-    type Short = Had;
+    type Short = Set;
 
     ghost use Rattle.std.proofs.Common.{arith, ◌≡◌, inl, inr, false};
     ghost use Rattle.std.proofs.lemmas.Bool.Decides.{nat_tests};
@@ -58,13 +49,13 @@ impl Reversible for Dials {
 
     ghost fits = { λ had dials. (had.dial < 3) × (had.dial < length dials) };
 
-    ghost before = { λ had dials. slice_set dials had.dial had.number };
+    ghost before = { λ had dials. slice_set dials had.dial had.to };
 
     ghost has_place = { λ dials dial. dial < 3 };
 
     ghost number = { λ dials dial. slice_index dials dial };
 
-    ghost old_number = { λ had dial. if had.dial == dial then Some had.number else None };
+    ghost old_number = { λ had dial. if had.dial == dial then Some had.to else None };
 
     ghost whole = { λ had. had };
 
@@ -73,30 +64,27 @@ impl Reversible for Dials {
     ghost tells_numbers = { λ had dials dial fits has. elim (cases_eq dial had.dial) [
       | inl same ↦
           let e : (had.dial == dial) ≡ true = Prim.grind (arith, nat_tests) in
-          rw (e, same) (get_or-set_same dials had.dial had.number 0 fits.1)
+          rw (e, same) (get_or-set_same dials had.dial had.to 0 fits.1)
       | inr other ↦
           let e : (had.dial == dial) ≡ false = Prim.grind (arith, nat_tests) in
-          rw e (get_or-set_other dials had.dial dial had.number 0 other)
+          rw e (get_or-set_other dials had.dial dial had.to 0 other)
     ] };
 
     fn admits(&self, set: &Set) -> bool {
         set.dial < 3
     }
 
-    fn act(&mut self, set: &Set) -> Had {
-        let number = self.numbers[set.dial];
+    fn act(&mut self, set: &Set) -> Set {
+        let to = self.numbers[set.dial];
         self.numbers[set.dial] = set.to;
-        Had {
-            dial: set.dial,
-            number,
-        }
+        Set { dial: set.dial, to }
     }
 
-    fn undo(&mut self, had: Had) {
-        self.numbers[had.dial] = had.number;
+    fn undo(&mut self, had: Set) {
+        self.numbers[had.dial] = had.to;
     }
 
-    fn lengthen(had: &Had) -> Had {
+    fn lengthen(had: &Set) -> Set {
         *had
     }
 
@@ -104,25 +92,22 @@ impl Reversible for Dials {
         self.numbers[*dial]
     }
 
-    fn was(had: &Had, dial: &usize) -> Option<u64> {
+    fn was(had: &Set, dial: &usize) -> Option<u64> {
         if had.dial == *dial {
-            Some(had.number)
+            Some(had.to)
         } else {
             None
         }
     }
 }
 
-fn session_of(alloc: Global, capacity: u32) -> Result<Session<Dials>, Fail>
-    requires { (1 ≤ capacity) × (capacity ≤ 10000) }
-{
-    let dials = Dials { numbers: [0; 3] };
-    Ok(Session::new(alloc, dials, capacity).map_err(|_| "no memory")?)
+fn three_dials() -> Dials {
+    Dials { numbers: [0; 3] }
 }
 
 #[test]
 fn goes_back_and_forward_by_its_actions(rt: HostRuntime) -> Result<(), Fail> {
-    let mut session = session_of(rt.alloc(), 4)?;
+    let mut session = session_of(rt.alloc(), three_dials(), 4)?;
     session.act(Set { dial: 0, to: 5 });
     session.act(Set { dial: 1, to: 6 });
     session.act(Set { dial: 0, to: 7 });
@@ -155,7 +140,7 @@ fn goes_back_and_forward_by_its_actions(rt: HostRuntime) -> Result<(), Fail> {
 
 #[test]
 fn goes_back_to_the_latest_change(rt: HostRuntime) -> Result<(), Fail> {
-    let mut session = session_of(rt.alloc(), 4)?;
+    let mut session = session_of(rt.alloc(), three_dials(), 4)?;
     session.act(Set { dial: 0, to: 5 });
     session.act(Set { dial: 1, to: 6 });
     session.act(Set { dial: 0, to: 5 });
@@ -179,7 +164,7 @@ fn goes_back_to_the_latest_change(rt: HostRuntime) -> Result<(), Fail> {
 
 #[test]
 fn keeps_the_newest_action_alone(rt: HostRuntime) -> Result<(), Fail> {
-    let mut session = session_of(rt.alloc(), 1)?;
+    let mut session = session_of(rt.alloc(), three_dials(), 1)?;
     assert_eq!(rt; session.back(1), Err(BackFault::TooFew { kept: 0 }));
     session.act(Set { dial: 0, to: 1 });
     session.act(Set { dial: 0, to: 2 });
@@ -193,7 +178,7 @@ fn keeps_the_newest_action_alone(rt: HostRuntime) -> Result<(), Fail> {
 
 #[test]
 fn performs_again_what_was_undone_in_part(rt: HostRuntime) -> Result<(), Fail> {
-    let mut session = session_of(rt.alloc(), 3)?;
+    let mut session = session_of(rt.alloc(), three_dials(), 3)?;
     session.act(Set { dial: 0, to: 1 });
     session.act(Set { dial: 1, to: 2 });
     session.act(Set { dial: 0, to: 3 });
@@ -214,7 +199,7 @@ fn performs_again_what_was_undone_in_part(rt: HostRuntime) -> Result<(), Fail> {
 
 #[test]
 fn names_the_number_before_the_newest_action(rt: HostRuntime) -> Result<(), Fail> {
-    let mut session = session_of(rt.alloc(), 2)?;
+    let mut session = session_of(rt.alloc(), three_dials(), 2)?;
     session.act(Set { dial: 1, to: 3 });
     session.act(Set { dial: 1, to: 4 });
     assert_eq!(rt; session.newest_old_value(&1), Some(3));
@@ -226,7 +211,7 @@ fn names_the_number_before_the_newest_action(rt: HostRuntime) -> Result<(), Fail
 
 #[test]
 fn admits_what_the_machine_admits(rt: HostRuntime) -> Result<(), Fail> {
-    let session = session_of(rt.alloc(), 1)?;
+    let session = session_of(rt.alloc(), three_dials(), 1)?;
     assert!(rt; session.machine().admits(&Set { dial: 2, to: 1 }));
     assert!(rt; !session.machine().admits(&Set { dial: 3, to: 1 }));
     Ok(())

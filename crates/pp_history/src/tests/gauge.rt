@@ -1,10 +1,8 @@
 //! Sessions of a gauge: a machine with short and long undo records. It overwrites a record in place, and undoes by a
 //! record without moving it.
 
-ghost use Rattle.std.specs.Prelude.{◌≤◌};
-
 use super::super::*;
-use std::alloc::Global;
+use super::session_of;
 use std::test::Fail;
 
 /// One number, which can be set.
@@ -112,16 +110,9 @@ impl Reversible for Gauge {
     }
 }
 
-fn session_of(alloc: Global, capacity: u32) -> Result<Session<Gauge>, Fail>
-    requires { (1 ≤ capacity) × (capacity ≤ 10000) }
-{
-    let gauge = Gauge { number: 0 };
-    Ok(Session::new(alloc, gauge, capacity).map_err(|_| "no memory")?)
-}
-
 #[test]
 fn goes_back_and_forward_in_place(rt: HostRuntime) -> Result<(), Fail> {
-    let mut session = session_of(rt.alloc(), 3)?;
+    let mut session = session_of(rt.alloc(), Gauge { number: 0 }, 3)?;
     session.act(5);
     session.act(6);
     session.act(6);
@@ -150,7 +141,7 @@ fn goes_back_and_forward_in_place(rt: HostRuntime) -> Result<(), Fail> {
 
 #[test]
 fn keeps_short_and_long_records_in_order(rt: HostRuntime) -> Result<(), Fail> {
-    let mut session = session_of(rt.alloc(), 3)?;
+    let mut session = session_of(rt.alloc(), Gauge { number: 0 }, 3)?;
     for to in [5, 300, 301, 6, 7, 1000, 8, 1001, 9] {
         session.act(to);
     }
@@ -175,7 +166,7 @@ fn keeps_short_and_long_records_in_order(rt: HostRuntime) -> Result<(), Fail> {
 
 #[test]
 fn searches_short_and_long_records(rt: HostRuntime) -> Result<(), Fail> {
-    let mut session = session_of(rt.alloc(), 5)?;
+    let mut session = session_of(rt.alloc(), Gauge { number: 0 }, 5)?;
     for to in [300, 400, 400, 400, 7, 7] {
         session.act(to);
     }
