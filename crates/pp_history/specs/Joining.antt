@@ -1,8 +1,8 @@
 -- How two rings hold one list of undo records: the short ones are beside their actions, the long ones in a ring of
 -- their own.
-use Rattle.std.specs.Prelude.{◌≡◌, ℕ, ◌≤◌, List, [], ◌∷◌, Option, Some, None, length, map, take, drop, reverse}
+use Rattle.std.specs.Prelude.{◌≡◌, ℕ, ◌+◌, ◌≤◌, List, [], ◌∷◌, Option, Some, None, length, map, take, drop, reverse}
 use Rattle.circular_buffer.specs.Buffer.{Buffer, buffer}
-use Rattle.pp_history.specs.LogValue.{LogValue}
+use Rattle.pp_history.specs.LogValue.{LogValue, log_of}
 
 -- an action, and its short undo record if it has one
 abbrev pub Entry : Type 0 → Type 0 → Type 0
@@ -19,47 +19,29 @@ abbrev pub longs_behind : {S R : Type 0} → Option S → List (Option R) → Li
 longs_behind (Some short) longs = longs
 longs_behind None longs = drop 1 longs
 
--- the entries with their undo records
-abbrev pub joined : {A S R : Type 0} → (S → R) → List (Entry A S) → List (Option R) → List (A × Option R)
-joined whole [] longs = []
-joined whole (newest ∷ older) longs = (newest.0, record_of whole newest.1 longs) ∷ joined whole older (longs_behind newest.1 longs)
-
-module _ {A R : Type 0} where
-  -- an entry in front of others, if it has an undo record
-  abbrev pub with_record : A → Option R → List (A × R) → List (A × R)
-  with_record action None older = older
-  with_record action (Some back) older = (action, back) ∷ older
-
-  -- the entries that have undo records
-  abbrev pub recorded : List (A × Option R) → List (A × R)
-  recorded [] = []
-  recorded (newest ∷ older) = with_record newest.0 newest.1 (recorded older)
-
-  -- entries with these undo records
-  abbrev pub entries_of : List (A × R) → List (A × Option R)
-  entries_of records = map (λ entry. (entry.0, Some entry.1)) records
-
-  -- each of these entries has its undo record
-  abbrev pub HaveRecords : List (A × Option R) → Type 0
-  HaveRecords entries = entries ≡ entries_of (recorded entries)
+-- an entry with its undo record, in front of others; the list ends where an undo record is missing
+abbrev pub with_record : {A R : Type 0} → A → Option R → List (A × R) → List (A × R)
+with_record action None older = []
+with_record action (Some back) older = (action, back) ∷ older
 
 module _ {A S R : Type 0} (whole : S → R) where
+  -- the entries with their undo records
+  abbrev pub joined : List (Entry A S) → List (Option R) → List (A × R)
+  joined [] longs = []
+  joined (newest ∷ older) longs = with_record newest.0 (record_of whole newest.1 longs) (joined older (longs_behind newest.1 longs))
+
   -- the first n entries were undone, and the last one is the next to perform again
   abbrev pub log_value : Buffer (Entry A S) → Buffer (Option R) → ℕ → LogValue A R
-  log_value entries longs ahead = record {
-    records = recorded (joined whole (drop ahead entries.items) longs.items);
-    ahead = map (λ entry. entry.0) (reverse (take ahead entries.items));
-    capacity = entries.capacity;
-  }
+  log_value entries longs ahead =
+      log_of (joined (drop ahead entries.items) longs.items) (map (λ entry. entry.0) (reverse (take ahead entries.items))) entries.capacity
 
-  -- holds of the parts of every log
+  -- holds of the parts of every log: each kept entry has its undo record
   pub record IsLog (entries : Buffer (Entry A S)) (longs : Buffer (Option R)) (ahead : ℕ) : Type 0 where
     pub some_room : 1 ≤ entries.capacity
     pub bounded : entries.capacity ≤ 10000
     pub same_room : longs.capacity ≡ entries.capacity
     pub full : length entries.items ≤ entries.capacity
-    pub within : ahead ≤ length entries.items
-    pub kept : HaveRecords (joined whole (drop ahead entries.items) longs.items)
+    pub kept : ahead + length (joined (drop ahead entries.items) longs.items) ≡ length entries.items
 
 -- what an action leaves: a short undo record, or a long one in front of the others
 abbrev pub IsLeft : {S R : Type 0} → (S → R) → Option S → R → Buffer (Option R) → Buffer (Option R) → Type 0

@@ -3,9 +3,9 @@
 ghost use Rattle.std.specs.Prelude.{◌≡◌, ◌∷◌, [], take, drop, slice_get, slice_set, Some, None, Option, ℕ, List, ◌+◌, ◌-◌, ◌<◌, ◌≤◌, length, IfOk, IsSomeAnd, MatchOption, IfSome, ◌*◌};
 ghost use Rattle.circular_buffer.specs.Buffer.{buffer};
 ghost use Rattle.std.specs.List.{All};
-ghost use Rattle.pp_history.specs.Joining.{Entry, HaveRecords, IsLeft, joined, longs_behind, record_of, recorded};
+ghost use Rattle.pp_history.specs.Joining.{Entry, IsLeft, longs_behind, record_of};
 ghost use Rattle.pp_history.specs.LogValue.{LogValue};
-ghost use Rattle.pp_history.specs.Search.{changes, first_changing, names_other};
+ghost use Rattle.pp_history.specs.Search.{changes, first_changing, differs_from};
 
 use crate::looks::Looks;
 use crate::reversible::Reversible;
@@ -138,7 +138,7 @@ impl<T: Reversible> Log<T> {
         match self.entries.get(self.ahead) {
             Some(newest) => match &newest.1 {
                 Some(short) => T::was_short(short, place),
-                None => newest_long_was::<T>(&self.longs, place),
+                None => newest_long_old_value::<T>(&self.longs, place),
             },
             None => None,
         }
@@ -159,14 +159,21 @@ impl<T: Reversible> Log<T> {
         ensures looks_at_each { 1 ≤ length places.now → MatchOption result (looks.old.count + length self.now.records ≤ looks.new.count) (λ k. looks.old.count + k ≤ looks.new.count) }
         ensures kept { IfSome result (λ k. k ≤ length self.now.records) }
     {
-        find_change(
-            machine,
-            &self.entries,
-            &self.longs,
-            self.ahead,
-            places,
-            looks,
-        )
+        let mut long = 0;
+        for k in 0..self.kept() {
+            let entry = self.entries.get(self.ahead + k as usize).unwrap();
+            if let Some(short) = &entry.1 {
+                if short_changes(machine, short, places, looks) {
+                    return Some(k + 1);
+                }
+                continue;
+            }
+            if long_changes(machine, &self.longs, long, places, looks) {
+                return Some(k + 1);
+            }
+            long += 1;
+        }
+        None
     }
 }
 
@@ -180,7 +187,7 @@ fn is_other<T: Reversible>(
     looks: &mut Looks,
 ) -> bool
     requires { T.has_place machine.now place.now }
-    ensures value { result ≡ names_other old (T.number machine.now place.now) }
+    ensures value { result ≡ differs_from old (T.number machine.now place.now) }
     ensures counted { looks.new.count ≡ looks.old.count + 1 }
 {
     looks.tick();
@@ -241,79 +248,10 @@ fn long_changes<T: Reversible>(
     false
 }
 
-/// Returns whether one of the places has another number in the undo record of an entry than in the machine, and how
-/// many long undo records come before those of the entries behind it. `long` long undo records come before its own.
-#[inline(always)]
-fn changes_at<T: Reversible>(
-    machine: &T,
-    entries: &HeapCircularBuffer<(T::Action, Option<T::Short>)>,
-    longs: &HeapCircularBuffer<Option<T::Record>>,
-    at: usize,
-    long: usize,
-    places: &[T::Place],
-    looks: &mut Looks,
-) -> (bool, usize)
-    requires present { All (λ place. T.has_place machine.now place) places.now }
-    requires within { at < length entries.now.items }
-    requires small { long ≤ 10000 }
-    ensures value { (entry : Entry T.Action T.Short) (back : T.Record) → slice_get entries.now.items at ≡ Some entry →
-        record_of T.whole entry.1 (drop long longs.now.items) ≡ Some back →
-        result.0 ≡ changes T.Reversible (λ place. T.number machine.now place) places.now back }
-    ensures behind { (entry : Entry T.Action T.Short) → slice_get entries.now.items at ≡ Some entry →
-        drop result.1 longs.now.items ≡ longs_behind entry.1 (drop long longs.now.items) }
-    ensures small { result.1 ≤ long + 1 }
-    ensures counts_up { looks.old.count ≤ looks.new.count }
-    ensures cost { looks.new.count ≤ looks.old.count + length places.now }
-    ensures looks_at_each { (entry : Entry T.Action T.Short) (back : T.Record) → slice_get entries.now.items at ≡ Some entry →
-        record_of T.whole entry.1 (drop long longs.now.items) ≡ Some back →
-        1 ≤ length places.now → looks.old.count + 1 ≤ looks.new.count }
-{
-    match entries.get(at) {
-        Some(entry) => match &entry.1 {
-            Some(short) => (short_changes(machine, short, places, looks), long),
-            None => (long_changes(machine, longs, long, places, looks), long + 1),
-        },
-        None => (false, long),
-    }
-}
-
-/// Returns the position, counted from 1, of the first entry from `ahead` on in whose undo record one of the places has
-/// another number than in the machine.
-fn find_change<T: Reversible>(
-    machine: &T,
-    entries: &HeapCircularBuffer<(T::Action, Option<T::Short>)>,
-    longs: &HeapCircularBuffer<Option<T::Record>>,
-    ahead: usize,
-    places: &[T::Place],
-    looks: &mut Looks,
-) -> Option<u32>
-    requires present { All (λ place. T.has_place machine.now place) places.now }
-    requires within { ahead ≤ length entries.now.items }
-    requires full { length entries.now.items ≤ 10000 }
-    requires kept { HaveRecords (joined T.whole (drop ahead entries.now.items) longs.now.items) }
-    ensures value { result ≡ first_changing T.Reversible (λ place. T.number machine.now place) places.now (recorded (joined T.whole (drop ahead entries.now.items) longs.now.items)) }
-    ensures counts_up { looks.old.count ≤ looks.new.count }
-    ensures cost { MatchOption result (looks.new.count ≤ looks.old.count + length places.now * (length entries.now.items - ahead)) (λ k. looks.new.count ≤ looks.old.count + length places.now * k) }
-    ensures looks_at_each { 1 ≤ length places.now → MatchOption result (looks.old.count + (length entries.now.items - ahead) ≤ looks.new.count) (λ k. looks.old.count + k ≤ looks.new.count) }
-    ensures kept { IfSome result (λ k. k ≤ length entries.now.items - ahead) }
-{
-    let kept = (entries.len() - ahead) as u32;
-    let mut long = 0;
-    for k in 0..kept {
-        let at = ahead + k as usize;
-        let (found, behind) = changes_at(machine, entries, longs, at, long, places, looks);
-        if found {
-            return Some(k + 1);
-        }
-        long = behind;
-    }
-    None
-}
-
 /// Returns the old number of the place in the newest long undo record, or `None` if the record does not have that
 /// place.
 #[inline(never)]
-fn newest_long_was<T: Reversible>(
+fn newest_long_old_value<T: Reversible>(
     longs: &HeapCircularBuffer<Option<T::Record>>,
     place: &T::Place,
 ) -> Option<u64>
