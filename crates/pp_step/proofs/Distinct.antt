@@ -8,10 +8,9 @@ use Rattle.pp_arith.specs.Words60.{split60}
 use Rattle.pp_machine.specs.declared.channel.ChannelState.TheVariants.{Inactive, Empty, Full}
 use Rattle.pp_step.specs.Blocks.{block}
 use Rattle.pp_step.specs.Channels.{is_clock, is_in, is_active}
-use Rattle.pp_step.specs.Codes.{code_of}
-use Rattle.pp_step.specs.Effect.{effect}
 use Rattle.pp_step.specs.Exchange.{exchange, frame_pairs, word_pairs, loaded}
-use Rattle.pp_step.specs.Instruction.{InstructionNumbers, instruction_at}
+use Rattle.pp_step.specs.Instruction.{InstructionNumbers}
+use Rattle.pp_step.specs.InstructionTable.{effect, code_of, instruction_at}
 use Rattle.pp_step.specs.Rows.{five_cells}
 use Rattle.pp_step.specs.Seen.{same_place, lookup}
 use Rattle.pp_step.specs.Step.{pp_writes}

@@ -3,12 +3,10 @@ use Rattle.std.proofs.Common.{◌≡◌, ℕ, ◌+◌, ◌*◌, ◌/◌, ◌≤�
 use Rattle.pp_machine.specs.Writes.{Writes}
 use Rattle.pp_machine.specs.declared.channel.ChannelState.{ChannelState}
 use Rattle.pp_machine.specs.declared.channel.ChannelState.TheVariants.{Inactive, Empty, Full, Function}
-use Rattle.pp_step.proofs.Numbers.{number_of-code_of}
 use Rattle.pp_step.specs.Channels.{is_clock, is_in, is_active}
-use Rattle.pp_step.specs.Codes.{number_of}
-use Rattle.pp_step.specs.Effect.{effect}
 use Rattle.pp_step.specs.Exchange.{frame_pairs, word_pairs, loaded}
-use Rattle.pp_step.specs.Instruction.{InstructionNumbers, instruction_at}
+use Rattle.pp_step.specs.Instruction.{InstructionNumbers}
+use Rattle.pp_step.specs.InstructionTable.{effect, instruction_at}
 use Rattle.pp_step.specs.Rows.{jump, load, input, output, activity}
 use Rattle.pp_step.specs.Step.{instruction_writes, pp_writes}
 use Rattle.pp_step.specs.View.{PpView, PpPlace, P, Word, over}
@@ -47,7 +45,7 @@ leaves-frame i [] vs m h = h
 leaves-frame i (w ∷ ws) vs m h = leaves-frame (i + 1) ws vs m h
 
 -- the phase is unchanged, or becomes the instruction's own word
-phase_after : (c : Code) (i : InstructionNumbers) (m : PpView) → Leaves m (effect c i m) ⊎ ((over m (effect c i m)).phase ≡ number_of c * 0o100 + i.d)
+phase_after : (c : Code) (i : InstructionNumbers) (m : PpView) → Leaves m (effect c i m) ⊎ ((over m (effect c i m)).phase ≡ i.word)
 phase_after Crm i m = inr refl
 phase_after Cwm i m = inr refl
 phase_after Iam i m = inr refl
@@ -62,23 +60,22 @@ phase_after Acn i m = inl (leaves-activity (is_in Inactive i.d m.modes) i Empty 
 phase_after Dcn i m =
     inl (leaves-either (is_clock i.d) m (jump i.next) (activity (is_active i.d m.modes) i Inactive) refl (leaves-activity (is_active i.d m.modes) i Inactive m))
 phase_after Fan i m = inl (leaves-output (is_in Inactive i.d m.modes) i Function (lower12 m.a) m)
-phase_after Fnc i m = inl (leaves-output (is_in Inactive i.d m.modes) i Function i.second m)
+phase_after Fnc i m = inl (leaves-output (is_in Inactive i.d m.modes) i Function i.m m)
 phase_after c i m = inl refl
 
 -- if an instruction changes the phase from 0, the new phase is the old word at P
-pub issued : (m : PpView) → m.phase ≡ 0 → slice_index m.cells m.p ≤ 0o7777 → ((over m (instruction_writes m)).phase ≡ 0 → ⊥) → (over m (instruction_writes m)).phase ≡ slice_index m.cells m.p
-issued m idle fits busy =
-    let w = slice_index m.cells m.p in
+issued : (m : PpView) → m.phase ≡ 0 → ((over m (instruction_writes m)).phase ≡ 0 → ⊥) → (over m (instruction_writes m)).phase ≡ slice_index m.cells m.p
+issued m idle busy =
     let i = instruction_at m.p m.cells in
     elim (phase_after i.code i m) [
       | inl stays ↦ absurd (busy (stays ∙ idle))
-      | inr own ↦ own ∙ (let k = number_of-code_of (w / 0o100) (omega arith) in omega (arith, k))
+      | inr own ↦ own
     ]
 
 -- the same for the state after a step
-pub issued_after : (m n : PpView) → n ≡ over m (pp_writes m) → m.phase ≡ 0 → slice_index m.cells m.p ≤ 0o7777 → (n.phase ≡ 0 → ⊥) → n.phase ≡ slice_index m.cells m.p
+pub issued_after : (m n : PpView) → n ≡ over m (pp_writes m) → m.phase ≡ 0 → (n.phase ≡ 0 → ⊥) → n.phase ≡ slice_index m.cells m.p
 unfolding pp_writes
-issued_after m n after idle fits busy =
+issued_after m n after idle busy =
     let outside : pp_writes m ≡ instruction_writes m = rw idle refl in
     let phase = ap (λ v. v.phase) (after ∙ ap (over m) outside) in
-    phase ∙ issued m idle fits (λ none. busy (phase ∙ none))
+    phase ∙ issued m idle (λ none. busy (phase ∙ none))

@@ -2,7 +2,7 @@
 use Rattle.std.proofs.Common.{◌≡◌, ℕ, ◌<◌, sym, ◌∙◌, zero-add}
 use Rattle.std.proofs.lemmas.List.{get_or-map}
 use Rattle.std.proofs.lemmas.List.FromFn.{get_or-range_with_len}
-use Rattle.pp_step.specs.Codes.{codes, code_of, number_of}
+use Rattle.pp_step.specs.InstructionTable.{codes, code_of, number_of}
 use Rattle.pp_step.specs.declared.code.Code.TheVariants.{Fnc}
 
 -- no two numbers from 00 to 77 have the same code

@@ -14,10 +14,9 @@ use Rattle.pp_machine.specs.declared.channel.ChannelState.TheVariants.{Inactive,
 use Rattle.pp_step.proofs.Swapped.{length-loaded}
 use Rattle.pp_step.specs.Blocks.{block}
 use Rattle.pp_step.specs.Channels.{is_clock, is_in, is_active}
-use Rattle.pp_step.specs.Codes.{code_of}
-use Rattle.pp_step.specs.Effect.{effect}
 use Rattle.pp_step.specs.Exchange.{frame_pairs, word_pairs, loaded}
-use Rattle.pp_step.specs.Instruction.{InstructionNumbers, Mode, Direct, Indirect, Memory, Constant, address_of, instruction_at, mode_of}
+use Rattle.pp_step.specs.Instruction.{InstructionNumbers, Mode, NoAddress, Direct, Indirect, Memory, Constant, address_of}
+use Rattle.pp_step.specs.InstructionTable.{row, effect, code_of, instruction_at}
 use Rattle.pp_step.specs.PpPlaces.{Held, five_held, frame_held, words_held}
 use Rattle.pp_step.specs.Step.{pp_writes}
 use Rattle.pp_step.specs.View.{PpView, PpPlace, pp_place}
@@ -38,12 +37,13 @@ either_below false x y bound h k = k
 index_in : (m x : ℕ) → m < 4096 → x < 4096 → index12 m x < 4096
 index_in m x h k = grind (arith, nat_tests)
 
-address_in : (mode : Mode) (d second : ℕ) (cells : List ℕ) → d < 64 → second < 4096 → All (λ cell. cell ≤ 0o7777) cells → address_of mode d second cells < 4096
-address_in Direct d second cells few low small = omega (arith, few)
-address_in Indirect d second cells few low small = cell_in cells d small
-address_in Memory d second cells few low small =
-    either_below (d == 0) second (index12 second (slice_index cells d)) 4096 low (index_in second (slice_index cells d) low (cell_in cells d small))
-address_in Constant d second cells few low small = low
+address_in : (mode : Mode) (d m : ℕ) (cells : List ℕ) → d < 64 → m < 4096 → All (λ cell. cell ≤ 0o7777) cells → address_of mode d m cells < 4096
+address_in NoAddress d m cells few low small = omega (arith, few)
+address_in Direct d m cells few low small = omega (arith, few)
+address_in Indirect d m cells few low small = cell_in cells d small
+address_in Memory d m cells few low small =
+    either_below (d == 0) m (index12 m (slice_index cells d)) 4096 low (index_in m (slice_index cells d) low (cell_in cells d small))
+address_in Constant d m cells few low small = low
 
 -- ---- channels of a step
 
@@ -116,7 +116,7 @@ module _ (size n : ℕ) (is_processor : n < 10) where
   step_held m low small words =
       let first = slice_index m.cells m.p in
       let few : first % 0o100 < 64 = omega arith in
-      let address = address_in (mode_of (code_of (first / 0o100))) (first % 0o100) _ m.cells few (cell_in m.cells _ small) small in
+      let address = address_in (row (code_of (first / 0o100))).mode (first % 0o100) _ m.cells few (cell_in m.cells _ small) small in
       either (m.phase == 0) _ _
       (λ outside. effect_held (code_of (first / 0o100)) (instruction_at m.p m.cells) m address words)
       (λ inside. block_held (code_of (m.phase / 0o100)) (m.phase % 0o100) m low words)

@@ -20,7 +20,7 @@ branch taken i p = jump (if taken then relative p i.d else i.next)
 
 -- if the condition holds, a jump to m
 abbrev pub test : Bool → InstructionNumbers → Writes PpPlace
-test taken i = jump (if taken then i.second else i.next)
+test taken i = jump (if taken then i.m else i.next)
 
 -- a number goes to A
 abbrev pub load : InstructionNumbers → ℕ → Writes PpPlace

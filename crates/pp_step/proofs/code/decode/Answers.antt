@@ -1,6 +1,6 @@
 use Rattle.std.proofs.Common.{arith, ap, ◌∙◌, ◌/◌}
 use Rattle.pp_step.proofs.Numbers.{number_of-code_of}
-use Rattle.pp_step.specs.Codes.{number_of}
+use Rattle.pp_step.specs.InstructionTable.{number_of}
 use Rattle.pp_step.proofs.code.decode.Goals as goal
 
 pub returns-clause-number : goal.returns-clause-number

@@ -20,7 +20,7 @@ returns-else-perform-clause-few c = few_places _ c.exchange_into.new.back c.exch
 
 pub returns-else-perform-clause-issue : goal.returns-else-perform-clause-issue
 returns-else-perform-clause-issue c = λ idle busy.
-    issued_after _ _ (returns-else-perform-clause-step c) idle (c.perform.ensures.word_in idle) busy
+    issued_after _ _ (returns-else-perform-clause-step c) idle busy
 
 pub returns-then-perform-clause-back : goal.returns-then-perform-clause-back
 returns-then-perform-clause-back c =
@@ -31,4 +31,4 @@ returns-then-perform-clause-few c = rw c.keep.ensures (few_places _ (Step c.perf
 
 pub returns-then-perform-clause-issue : goal.returns-then-perform-clause-issue
 returns-then-perform-clause-issue c = λ idle busy.
-    issued_after _ _ (c.perform.ensures.step c.if-perform.true) idle (c.perform.ensures.word_in idle) busy
+    issued_after _ _ (c.perform.ensures.step c.if-perform.true) idle busy

@@ -11,4 +11,4 @@ pub returns-clause-few : goal.returns-clause-few
 returns-clause-few c = λ did. few_places _ (Step c.perform.new.back) (c.perform.ensures.fits did)
 
 pub returns-clause-issue : goal.returns-clause-issue
-returns-clause-issue c = λ did idle busy. issued_after _ _ (c.perform.ensures.step did) idle (c.perform.ensures.word_in idle) busy
+returns-clause-issue c = λ did idle busy. issued_after _ _ (c.perform.ensures.step did) idle busy
