@@ -1,70 +1,76 @@
 -- What a dead start writes fits the machine, and has a known length.
-use Rattle.std.specs.Prelude.{ℕ, ◌≡◌, ◌+◌, ◌/◌, ◌<◌, ◌≤◌, ◌^◌, ◌==◌, ◌||◌, IsTrue, true, false, All, List, [], ◌∷◌, ◌++◌, length, replicate, refl}
+use Rattle.std.specs.Prelude.{ℕ, ◌≡◌, ◌+◌, ◌/◌, ◌<◌, ◌≤◌, ◌^◌, ◌==◌, ◌||◌, IsTrue, Bool, true, false, All, List, [], ◌∷◌, ◌++◌, length, replicate, refl}
+use Rattle.std.specs.List.{list_all}
 use Rattle.std.proofs.Common.{arith, zero, suc, lit<, lit≤, ap, sym, ◌∙◌}
+use Rattle.std.proofs.lemmas.Bool.{and_parts}
 use Rattle.pp_machine.specs.Kept.{kept_pairs}
 use Rattle.pp_machine.specs.Machine.{Machine, number, olds}
 use Rattle.pp_machine.specs.Phase.{is_phase}
-use Rattle.pp_machine.specs.WriteLaws.{AllPlaces-append, places-olds}
-use Rattle.pp_machine.specs.Writes.{Writes, AllPlaces, places}
+use Rattle.pp_machine.specs.Shape.{Has}
+use Rattle.pp_machine.specs.WriteLaws.{places-append, places-olds}
+use Rattle.pp_machine.specs.Writes.{Writes, places}
 use Rattle.pp_machine.specs.declared.place.Kept.{Kept}
 use Rattle.pp_machine.specs.declared.place.Place.{Place}
-use Rattle.pp_machine.specs.declared.place.Place.TheVariants.{RegA, Phase, ChannelMode, Central, Slot}
+use Rattle.pp_machine.specs.declared.place.Place.TheVariants.{Cell, RegA, RegP, RegQ, Phase, ChannelMode, ChannelWord, Central, Slot}
 use Rattle.pp_rig.specs.CellLaws.{AreSettings-cell_list}
-use Rattle.pp_rig.specs.Deadstart.{loading, waiting, all_waiting, all_states, deadstart_pairs, deadstart_places}
-use Rattle.pp_rig.specs.Settings.{IsSetting, IsInRange, AreSettings, AreSettings-append}
+use Rattle.pp_rig.specs.Deadstart.{loading, waiting, all_waiting, all_states, states, deadstart_pairs, deadstart_places}
+use Rattle.pp_rig.specs.Ranges.{IsInRange, twelve_bits, eighteen_bits}
+use Rattle.pp_rig.specs.Settings.{IsSetting, IsSettable, AreSettings, AreSettings-append}
 use Rattle.pp_rig.specs.RecordLists.{numbers, numbered}
-use Rattle.pp_rig.specs.WriteLists.{cell_list, register_list}
-use Rattle.pp_rig.proofs.WriteLists.{places-cell_list, places-both, length-places, numbered-numbers}
+use Rattle.pp_rig.specs.WriteLists.{cell_list, register_list, state_list}
+use Rattle.pp_rig.proofs.Admitting.{all_at_most}
+use Rattle.pp_rig.proofs.WriteLists.{places-cell_list, length-places, numbered-numbers}
+
+one : (size : ℕ) (p : Place) (v : ℕ) → Has size p → IsSettable p → IsInRange p v → IsSetting size p v
+one size p v has settable in_range = record { has = has; settable = settable; in_range = in_range }
 
 input_phase : (n : ℕ) → n < 10 → IsTrue (is_phase (0o7100 + n))
 input_phase n h =
     let kind : (0o7100 + n) / 0o100 ≡ 0o71 = omega arith in
     rw kind (elim (0o7100 + n == 0) as (λ b. IsTrue (b || true)) [ true ↦ refl | false ↦ refl ])
 
-AreSettings-registers : (size n a p q phase : ℕ) → n < 10 → a ≤ 0o777777 → p ≤ 0o7777 → q ≤ 0o7777 → phase < 2 ^ 16 → IsTrue (is_phase phase) → AreSettings size (register_list n a p q phase)
+AreSettings-registers : (size n a p q phase : ℕ) → n < 10 → a ≤ eighteen_bits → p ≤ twelve_bits → q ≤ twelve_bits → phase < 2 ^ 16 → IsTrue (is_phase phase) → AreSettings size (register_list n a p q phase)
 AreSettings-registers size n a p q phase h ha hp hq hl hf =
-    (record { settable = h; in_range = ha }, (record { settable = h; in_range = hp }, (record { settable = h; in_range = hq }, (record { settable = h; in_range = (hl, hf) }, tt))))
+    (one size (RegA n) a h tt ha, (one size (RegP n) p h tt hp, (one size (RegQ n) q h tt hq, (one size (Phase n) phase h tt (hl, hf), tt))))
 
 AreSettings-waiting : (size n : ℕ) → n < 10 → AreSettings size (waiting n)
 AreSettings-waiting size n h =
-    (record { settable = (h, lit< tt); in_range = omega arith }, AreSettings-registers size n 0o10000 0 0 (0o7100 + n) h (omega arith) (omega arith) (omega arith) (omega arith) (input_phase n h))
+    (one size (Cell n 0) 0 (h, lit< tt) tt (lit≤ tt), AreSettings-registers size n 0o10000 0 0 (0o7100 + n) h (lit≤ tt) (lit≤ tt) (lit≤ tt) (omega arith) (input_phase n h))
 
 AreSettings-all_waiting : (size n k : ℕ) → n + k ≤ 10 → AreSettings size (all_waiting n k)
 unfolding all_waiting
 AreSettings-all_waiting size n zero h = tt
 AreSettings-all_waiting size n (suc k) h = AreSettings-append size (waiting n) (all_waiting (n + 1) k) (AreSettings-waiting size n (omega arith)) (AreSettings-all_waiting size (n + 1) k (omega arith))
 
-state : (size c s : ℕ) → c < 12 → s < 4 → IsSetting size (ChannelMode c) s
-state size c s h l = record { settable = h; in_range = l }
+AreSettings-states : (size c : ℕ) (ss : List ℕ) → c + length ss ≤ 12 → All (λ s. s ≤ 3) ss → AreSettings size (state_list c ss)
+AreSettings-states size c [] h low = tt
+AreSettings-states size c (s ∷ ss) h low =
+    (one size (ChannelMode c) s (omega arith) tt (omega (arith, low 0 s (omega arith))), AreSettings-states size (c + 1) ss (omega arith) (λ k d l. low (suc k) d (omega arith)))
 
 AreSettings-all_states : (size : ℕ) → AreSettings size all_states
 unfolding all_states
-AreSettings-all_states size =
-    (state size 0 0 (lit< tt) (lit< tt), (state size 1 1 (lit< tt) (lit< tt), (state size 2 1 (lit< tt) (lit< tt), (state size 3 1 (lit< tt) (lit< tt), (state size 4 1 (lit< tt) (lit< tt), (state size 5 1 (lit< tt) (lit< tt), (state size 6 1 (lit< tt) (lit< tt), (state size 7 1 (lit< tt) (lit< tt), (state size 8 1 (lit< tt) (lit< tt), (state size 9 1 (lit< tt) (lit< tt), (state size 10 0 (lit< tt) (lit< tt), (state size 11 0 (lit< tt) (lit< tt), tt))))))))))))
+AreSettings-all_states size = AreSettings-states size 0 states (lit≤ tt) (all_at_most 3 states refl)
 
-single : (v : ℕ) → v < 4096 → All (λ w. w < 4096) (v ∷ [])
-single v h zero d l = h
-single v h (suc k) d l = absurd (omega arith)
-
-AreSettings-loading : (size : ℕ) (panel : List ℕ) → All (λ word. word ≤ 0o7777) panel → AreSettings size (loading panel)
+AreSettings-loading : (size : ℕ) (panel : List ℕ) → All (λ word. word ≤ twelve_bits) panel → AreSettings size (loading panel)
 AreSettings-loading size panel small =
-    let zeros = AreSettings-cell_list size 0 0 (0 ∷ []) (lit< tt) (single 0 (lit< tt)) in
-    let words = AreSettings-cell_list size 0 1 panel (lit< tt) (λ k d l. omega (arith, small k d l)) in
-    let last = AreSettings-cell_list size 0 0o15 (0 ∷ []) (lit< tt) (single 0 (lit< tt)) in
+    let zero_at = λ (a : ℕ). AreSettings-cell_list size 0 a (0 ∷ []) (lit< tt) (all_at_most twelve_bits (0 ∷ []) refl) in
+    let words = AreSettings-cell_list size 0 1 panel (lit< tt) small in
     let registers = AreSettings-registers size 0 0 1 0 0 (lit< tt) (lit≤ tt) (lit≤ tt) (lit≤ tt) (lit< tt) refl in
-    let front = cell_list 0 0 (0 ∷ []) in
-    let middle = cell_list 0 1 panel in
+    let front = cell_list 0 0 (0 ∷ []) ++ cell_list 0 1 panel in
     let back = cell_list 0 0o15 (0 ∷ []) in
-    AreSettings-append size (front ++ middle ++ back) (register_list 0 0 1 0 0) (AreSettings-append size (front ++ middle) back (AreSettings-append size front middle zeros words) last) registers
+    AreSettings-append size (front ++ back) (register_list 0 0 1 0 0) (AreSettings-append size front back (AreSettings-append size (cell_list 0 0 (0 ∷ [])) (cell_list 0 1 panel) (zero_at 0) words) (zero_at 0o15)) registers
 
-pub AreSettings-deadstart : (size : ℕ) (panel : List ℕ) → All (λ word. word ≤ 0o7777) panel → AreSettings size (deadstart_pairs panel)
+pub AreSettings-deadstart : (size : ℕ) (panel : List ℕ) → All (λ word. word ≤ twelve_bits) panel → AreSettings size (deadstart_pairs panel)
 unfolding deadstart_pairs
 AreSettings-deadstart size panel small =
-    let processors = AreSettings-append size (loading panel) (all_waiting 1 9) (AreSettings-loading size panel small) (AreSettings-all_waiting size 1 9 (omega arith)) in
+    let processors = AreSettings-append size (loading panel) (all_waiting 1 9) (AreSettings-loading size panel small) (AreSettings-all_waiting size 1 9 (lit≤ tt)) in
     let channels = AreSettings-append size (loading panel ++ all_waiting 1 9) all_states processors (AreSettings-all_states size) in
-    AreSettings-append size (loading panel ++ all_waiting 1 9 ++ all_states) ((Slot, 0) ∷ []) channels (record { settable = tt; in_range = lit< tt }, tt)
+    AreSettings-append size (loading panel ++ all_waiting 1 9 ++ all_states) ((Slot, 0) ∷ []) channels (one size Slot 0 tt tt (lit< tt), tt)
 
 -- ---- its places
+
+places-before : (a b c : Writes Place) → places a ≡ places b → places (a ++ c) ≡ places (b ++ c)
+places-before a b c e = places-append a c ∙ (ap (λ ps. ps ++ places c) e ∙ sym (places-append b c))
 
 places-deadstart : (p q : List ℕ) → length p ≡ length q → places (deadstart_pairs p) ≡ places (deadstart_pairs q)
 unfolding deadstart_pairs
@@ -72,12 +78,11 @@ places-deadstart p q e =
     let front = cell_list 0 0 (0 ∷ []) in
     let back = cell_list 0 0o15 (0 ∷ []) in
     let registers = register_list 0 0 1 0 0 in
-    let panels = places-both front front (cell_list 0 1 p) (cell_list 0 1 q) refl (places-cell_list 0 1 p q e) in
-    let cells = places-both (front ++ cell_list 0 1 p) (front ++ cell_list 0 1 q) back back panels refl in
-    let loaded = places-both (front ++ cell_list 0 1 p ++ back) (front ++ cell_list 0 1 q ++ back) registers registers cells refl in
-    let processors = places-both (loading p) (loading q) (all_waiting 1 9) (all_waiting 1 9) loaded refl in
-    let channels = places-both (loading p ++ all_waiting 1 9) (loading q ++ all_waiting 1 9) all_states all_states processors refl in
-    places-both (loading p ++ all_waiting 1 9 ++ all_states) (loading q ++ all_waiting 1 9 ++ all_states) ((Slot, 0) ∷ []) ((Slot, 0) ∷ []) channels refl
+    let panels = places-before (front ++ cell_list 0 1 p) (front ++ cell_list 0 1 q) back (ap (λ ps. places front ++ ps) (places-cell_list 0 1 p q e)) in
+    let loaded = places-before (front ++ cell_list 0 1 p ++ back) (front ++ cell_list 0 1 q ++ back) registers panels in
+    let processors = places-before (loading p) (loading q) (all_waiting 1 9) loaded in
+    let channels = places-before (loading p ++ all_waiting 1 9) (loading q ++ all_waiting 1 9) all_states processors in
+    places-before (loading p ++ all_waiting 1 9 ++ all_states) (loading q ++ all_waiting 1 9 ++ all_states) ((Slot, 0) ∷ []) channels
 
 length-blank : length (deadstart_pairs (replicate 12 0)) ≡ 76
 unfolding deadstart_pairs all_waiting all_states
@@ -87,54 +92,39 @@ pub length-deadstart : (panel : List ℕ) → length panel ≡ 12 → length (de
 length-deadstart panel e =
     sym (length-places (deadstart_pairs panel)) ∙ (ap length (places-deadstart panel (replicate 12 0) e) ∙ (length-places (deadstart_pairs (replicate 12 0)) ∙ length-blank))
 
+places-stood : (m : Machine) (panel : List ℕ) → length panel ≡ 12 → places (olds m (deadstart_pairs panel)) ≡ places deadstart_places
+places-stood m panel e = places-olds number m (deadstart_pairs panel) ∙ places-deadstart panel (replicate 12 0) e
+
 -- the old numbers of a dead start, at its places, are its old values
 pub numbered-stood : (m : Machine) (panel : List ℕ) → length panel ≡ 12 → numbered deadstart_places (numbers (olds m (deadstart_pairs panel))) ≡ olds m (deadstart_pairs panel)
-numbered-stood m panel e =
-    numbered-numbers deadstart_places (olds m (deadstart_pairs panel)) (sym (places-olds number m (deadstart_pairs panel) ∙ places-deadstart panel (replicate 12 0) e))
+numbered-stood m panel e = numbered-numbers deadstart_places (olds m (deadstart_pairs panel)) (sym (places-stood m panel e))
 
--- ---- its numbers are short
+-- ---- its numbers are short: it writes no central word
 
-abbrev IsShort : Place → Type 0
-IsShort (Central a) = ⊥
-IsShort _ = Unit {0}
+abbrev is_short : Place → Bool
+is_short (Central a) = false
+is_short _ = true
 
-short-number : (p : Place) (v : ℕ) → IsShort p → IsInRange p v → v < 2 ^ 32
-short-number (Central a) v s h = absurd s
-short-number (RegA n) v s h = omega (arith, h)
-short-number (Phase n) v s h = omega (arith, h.0)
-short-number (ChannelMode c) v s h = omega (arith, h)
-short-number Slot v s h = omega (arith, h)
-short-number p v s h = omega (arith, h)
+short-number : (p : Place) (v : ℕ) → is_short p ≡ true → IsSettable p → IsInRange p v → v < 2 ^ 32
+short-number (Central a) v s can h = absurd (cc)
+short-number (Cell n a) v s can h = omega (arith, h)
+short-number (RegA n) v s can h = omega (arith, h)
+short-number (RegP n) v s can h = omega (arith, h)
+short-number (RegQ n) v s can h = omega (arith, h)
+short-number (Phase n) v s can h = omega (arith, h.0)
+short-number (ChannelMode c) v s can h = omega (arith, h)
+short-number (ChannelWord c) v s can h = omega (arith, h)
+short-number Slot v s can h = omega (arith, h)
+short-number p v s can h = absurd can
 
-short-cells : (n a : ℕ) (vs : List ℕ) → AllPlaces IsShort (cell_list n a vs)
-short-cells n a [] = tt
-short-cells n a (v ∷ vs) = (tt, short-cells n (a + 1) vs)
+short-places : list_all is_short (places deadstart_places) ≡ true
+unfolding deadstart_pairs all_waiting all_states
+short-places = refl
 
-short-waiting : (n k : ℕ) → AllPlaces IsShort (all_waiting n k)
-unfolding all_waiting
-short-waiting n zero = tt
-short-waiting n (suc k) = (tt, (tt, (tt, (tt, (tt, short-waiting (n + 1) k)))))
-
-short-deadstart : (panel : List ℕ) → AllPlaces IsShort (deadstart_pairs panel)
-unfolding deadstart_pairs all_states
-short-deadstart panel =
-    let front = cell_list 0 0 (0 ∷ []) in
-    let middle = cell_list 0 1 panel in
-    let back = cell_list 0 0o15 (0 ∷ []) in
-    let cells = AllPlaces-append IsShort (front ++ middle) back (AllPlaces-append IsShort front middle (short-cells 0 0 (0 ∷ [])) (short-cells 0 1 panel)) (short-cells 0 0o15 (0 ∷ [])) in
-    let loaded = AllPlaces-append IsShort (front ++ middle ++ back) (register_list 0 0 1 0 0) cells (tt, (tt, (tt, (tt, tt)))) in
-    let processors = AllPlaces-append IsShort (loading panel) (all_waiting 1 9) loaded (short-waiting 1 9) in
-    let channels = AllPlaces-append IsShort (loading panel ++ all_waiting 1 9) all_states processors (tt, (tt, (tt, (tt, (tt, (tt, (tt, (tt, (tt, (tt, (tt, (tt, tt)))))))))))) in
-    AllPlaces-append IsShort (loading panel ++ all_waiting 1 9 ++ all_states) ((Slot, 0) ∷ []) channels (tt, tt)
-
-AllPlaces-olds : (P : Place → Type 0) (m : Machine) (w : Writes Place) → AllPlaces P w → AllPlaces P (olds m w)
-AllPlaces-olds P m [] h = tt
-AllPlaces-olds P m (pair ∷ w) h = (h.0, AllPlaces-olds P m w h.1)
-
-short-at : (size : ℕ) (ks : List Kept) → AllPlaces IsShort (kept_pairs ks) → AreSettings size (kept_pairs ks) → All (λ k. k.number < 2 ^ 32) ks
+short-at : (size : ℕ) (ks : List Kept) → list_all is_short (places (kept_pairs ks)) ≡ true → AreSettings size (kept_pairs ks) → All (λ k. k.number < 2 ^ 32) ks
 short-at size [] a s i d l = absurd (omega arith)
-short-at size (k ∷ ks) a s zero d l = short-number k.place k.number a.0 s.0.in_range
-short-at size (k ∷ ks) a s (suc i) d l = short-at size ks a.1 s.1 i d (omega arith)
+short-at size (k ∷ ks) a s zero d l = short-number k.place k.number (and_parts (is_short k.place) (list_all is_short (places (kept_pairs ks))) a).0 s.0.settable s.0.in_range
+short-at size (k ∷ ks) a s (suc i) d l = short-at size ks (and_parts (is_short k.place) (list_all is_short (places (kept_pairs ks))) a).1 s.1 i d (omega arith)
 
-pub short-stood : (size : ℕ) (m : Machine) (panel : List ℕ) (ks : List Kept) → kept_pairs ks ≡ olds m (deadstart_pairs panel) → AreSettings size (kept_pairs ks) → All (λ k. k.number < 2 ^ 32) ks
-short-stood size m panel ks e s = short-at size ks (rw e (AllPlaces-olds IsShort m (deadstart_pairs panel) (short-deadstart panel))) s
+pub short-stood : (size : ℕ) (m : Machine) (panel : List ℕ) (ks : List Kept) → length panel ≡ 12 → kept_pairs ks ≡ olds m (deadstart_pairs panel) → AreSettings size (kept_pairs ks) → All (λ k. k.number < 2 ^ 32) ks
+short-stood size m panel ks count e s = short-at size ks (rw (e, places-stood m panel count) short-places) s

@@ -9,7 +9,7 @@ pub mod Stepped
 pub mod TurnNames
 pub mod Turns
 pub mod Unwatching
-pub mod Watching
+pub mod WatchCodes
 pub mod WriteLists
 pub mod WrittenOnce
 pub mod WrittenPlaces

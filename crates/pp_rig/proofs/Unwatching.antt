@@ -5,18 +5,18 @@ use Rattle.std.proofs.Common.{arith, zero, suc, ap, sym, subst, append_assoc, ad
 use Rattle.std.proofs.Math.Seq.{get_or-append_seam, drop-append-add}
 use Rattle.std.proofs.lemmas.List.{map-append, length-map, length-append, length-drop, length-set, length-take-le, drop_more, take-append-drop, set_at, length_push}
 use Rattle.std.proofs.lemmas.List.Elements.{All-take, All-drop, All-append}
-use Rattle.std.proofs.lemmas.List.Quantifiers.{all_pairs_remove, position-Some}
+use Rattle.std.proofs.lemmas.List.Quantifiers.{all_pairs_remove}
 use Rattle.pp_machine.specs.Machine.{Machine, put, over, olds}
 use Rattle.pp_machine.specs.Shape.{Has, HasAll, IsShaped}
 use Rattle.pp_machine.specs.declared.place.Place.TheVariants.{WatchEntry}
 use Rattle.pp_rig.specs.Action.{moved_up, unwatch_list}
 use Rattle.pp_rig.specs.Watches.{AreWatches, watched_at, watched_in, watched_place}
-use Rattle.pp_rig.specs.Watching.{watch_code, watch_entries, first_zero}
+use Rattle.pp_rig.specs.WatchCodes.{watch_code, watch_entries, first_zero}
 use Rattle.pp_rig.specs.RecordLists.{with_entries, entries_at}
 use Rattle.pp_rig.specs.WriteLists.{entry_list}
 use Rattle.pp_rig.specs.declared.watched.Watched.{Watched}
 use Rattle.pp_rig.specs.declared.watched.Watched.TheVariants.{RegA}
-use Rattle.pp_rig.proofs.Watching.{code-no_zero, zero-no_code, position-entries, AreWatches-entries, length-watched_in}
+use Rattle.pp_rig.proofs.WatchCodes.{code-no_zero, AreWatches-entries, length-watched_in}
 
 pub over-entries : (m : Machine) (i : ℕ) (codes : List ℕ) → over m (entry_list i codes) ≡ record m { watches = with_entries m.watches i codes }
 over-entries m i [] = refl
@@ -159,12 +159,6 @@ back-at ws i h few =
 
 pub told-remove : (ws : List Watched) (i : ℕ) → All (λ w. watched_at (watch_code w) ≡ w) ws → All (λ w. watched_at (watch_code w) ≡ w) (remove ws i)
 told-remove ws i told = All-append (λ w. watched_at (watch_code w) ≡ w) (take i ws) (drop (suc i) ws) (All-take (λ w. watched_at (watch_code w) ≡ w) i ws told) (All-drop (λ w. watched_at (watch_code w) ≡ w) (suc i) ws told)
-
--- the entry of a watched place is before the first zero
-pub entry-below : (ws : List Watched) (w : Watched) (i : ℕ) → position (λ code. code == watch_code w) (watch_entries ws) ≡ Some i → i < length ws
-entry-below ws w i found =
-    let among : position (λ v. watch_code v == watch_code w) ws ≡ Some i = sym (position-entries (λ code. code == watch_code w) ws (zero-no_code w)) ∙ found in
-    (position-Some (λ v. watch_code v == watch_code w) ws i (RegA 0) among).0
 
 -- ---- on the machine
 

@@ -5,19 +5,16 @@ use Rattle.std.proofs.lemmas.List.{append-nil, drop_all, drop_more, take_more}
 use Rattle.pp_machine.specs.Kept.{kept_pairs, kept_pairs-append}
 use Rattle.pp_machine.specs.Lookup.{lookup, same_place}
 use Rattle.pp_machine.specs.Machine.{Machine, number, olds}
-use Rattle.pp_machine.specs.WriteLaws.{olds-append, places-append}
+use Rattle.pp_machine.specs.WriteLaws.{olds-append}
 use Rattle.pp_machine.specs.declared.place.Kept.{Kept}
 use Rattle.pp_machine.specs.declared.place.Place.TheVariants.{ChannelMode, WatchEntry}
 use Rattle.pp_rig.specs.Deadstart.{all_waiting, waiting}
-use Rattle.pp_rig.specs.Watching.{watch_code}
+use Rattle.pp_rig.specs.WatchCodes.{watch_code}
 use Rattle.pp_rig.specs.declared.watched.Watched.{Watched}
 use Rattle.pp_machine.specs.Writes.{Writes, renamed, places}
 use Rattle.pp_machine.specs.declared.place.Place.{Place}
 use Rattle.pp_rig.specs.RecordLists.{numbers, numbered}
 use Rattle.pp_rig.specs.WriteLists.{cell_list, state_list, entry_list}
-
-pub places-both : (a b c d : Writes Place) → places a ≡ places b → places c ≡ places d → places (a ++ c) ≡ places (b ++ d)
-places-both a b c d e f = places-append a c ∙ (ap (λ ps. ps ++ places c) e ∙ (ap (λ ps. places b ++ ps) f ∙ sym (places-append b d)))
 
 pub length-olds : (m : Machine) (w : Writes Place) → length (olds m w) ≡ length w
 length-olds m [] = refl
@@ -26,10 +23,6 @@ length-olds m (pair ∷ w) = ap suc (length-olds m w)
 pub length-places : (w : Writes Place) → length (places w) ≡ length w
 length-places [] = refl
 length-places (pair ∷ w) = ap suc (length-places w)
-
-pub length-numbers : (w : Writes Place) → length (numbers w) ≡ length w
-length-numbers [] = refl
-length-numbers (pair ∷ w) = ap suc (length-numbers w)
 
 pub length-renamed : {P : Type 0} (name : P → Place) (w : Writes P) → length (renamed name w) ≡ length w
 length-renamed name [] = refl
@@ -61,10 +54,6 @@ numbers-append [] b = refl
 numbers-append (pair ∷ a) b = ap (λ ns. pair.1 ∷ ns) (numbers-append a b)
 
 -- ---- lists that are made pair by pair
-
-pub push-kept : (old ks list pushed : List Kept) (i : ℕ) (d : Kept) → i < length ks → kept_pairs list ≡ kept_pairs old ++ kept_pairs (take i ks) → pushed ≡ list ++ get_or ks i d ∷ [] → kept_pairs pushed ≡ kept_pairs old ++ kept_pairs (take (i + 1) ks)
-push-kept old ks list pushed i d h so e =
-    rw (e, kept_pairs-append, so, take_more ks i d h, kept_pairs-append (take i ks), append_assoc) refl
 
 pub push-number : (ks : List Kept) (list pushed : List ℕ) (i : ℕ) (d : Kept) → i < length ks → list ≡ numbers (kept_pairs (take i ks)) → pushed ≡ list ++ (get_or ks i d).number ∷ [] → pushed ≡ numbers (kept_pairs (take (i + 1) ks))
 push-number ks list pushed i d h so e =

@@ -13,7 +13,7 @@ use Rattle.pp_machine.specs.declared.place.Place.TheVariants.{Cell, RegA, RegP, 
 use Rattle.pp_machine.proofs.Once.{once, each-once}
 use Rattle.pp_rig.specs.Action.{most_places, writes, without_entry, moved_up}
 use Rattle.pp_rig.specs.Deadstart.{all_states, all_waiting, deadstart_list, deadstart_pairs}
-use Rattle.pp_rig.specs.Watching.{watch_code}
+use Rattle.pp_rig.specs.WatchCodes.{watch_code}
 use Rattle.pp_rig.specs.WriteLists.{cell_list, entry_list}
 use Rattle.pp_rig.specs.declared.action.Action.{Action}
 use Rattle.pp_rig.specs.declared.action.Action.TheVariants as action

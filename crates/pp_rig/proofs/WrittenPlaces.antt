@@ -9,22 +9,19 @@ use Rattle.pp_machine.specs.Shape.{Has, HasAll}
 use Rattle.pp_machine.specs.WriteLaws.{AllPlaces-append}
 use Rattle.pp_machine.specs.declared.place.Place.TheVariants.{Clock}
 use Rattle.pp_step.proofs.StepPlaces.{HasAll-step}
-use Rattle.pp_rig.proofs.Admitting.{performable}
+use Rattle.pp_rig.proofs.Admitting.{IsSet, is_set, is_watch}
 use Rattle.pp_rig.proofs.Deadstart.{AreSettings-deadstart}
 use Rattle.pp_rig.proofs.Unwatching.{HasAll-entries}
-use Rattle.pp_rig.specs.Action.{moved_up, without_entry, writes}
+use Rattle.pp_rig.specs.Action.{moved_up, set_list, without_entry, writes}
 use Rattle.pp_rig.specs.Admitting.{first_fault}
-use Rattle.pp_rig.specs.CellLaws.{AreSettings-cell_list}
 use Rattle.pp_rig.specs.Deadstart.{deadstart_list, deadstart_pairs}
 use Rattle.pp_rig.specs.IsSetup.{IsPanel}
 use Rattle.pp_rig.specs.Lift.{pp_of, printer_of, reader_of}
 use Rattle.pp_rig.specs.MachineLaws.{setup-over}
-use Rattle.pp_rig.specs.Performing.{IsPerformable}
 use Rattle.pp_rig.specs.Settings.{HasAll-settings}
 use Rattle.pp_rig.specs.Turn.{turn_list, pp_list, reader_list, printer_list}
-use Rattle.pp_rig.specs.Watching.{watch_code}
+use Rattle.pp_rig.specs.WatchCodes.{watch_code}
 use Rattle.pp_rig.specs.WellFormed.{IsProcessor, IsWellFormed}
-use Rattle.pp_rig.specs.WriteLists.{cell_list}
 use Rattle.pp_rig.specs.declared.action.Action.{Action}
 use Rattle.pp_rig.specs.declared.action.Action.TheVariants as action
 
@@ -80,20 +77,14 @@ HasAll-deadstart size (Some panel) ok = HasAll-settings size (deadstart_pairs pa
 
 -- ---- every action
 
-HasAll-performable : (s : Machine) (done : Action) → IsWellFormed s → IsPerformable s done → HasAll s.setup.central_words (writes s done)
-HasAll-performable s action.Turn ok h = HasAll-turn_list s ok
-HasAll-performable s (action.SetCells n a values) ok h = HasAll-settings s.setup.central_words (cell_list n a values) (AreSettings-cell_list s.setup.central_words n a values h.0 h.3)
-HasAll-performable s (action.SetA n v) ok h = (h.0, tt)
-HasAll-performable s (action.SetP n v) ok h = (h.0, (h.0, tt))
-HasAll-performable s (action.SetQ n v) ok h = (h.0, tt)
-HasAll-performable s (action.SetWord a v) ok h = (h.0, tt)
-HasAll-performable s (action.SetChannel c state None) ok h = (h.0, tt)
-HasAll-performable s (action.SetChannel c state (Some word)) ok h = (h.0, (h.0, tt))
-HasAll-performable s (action.Watch w) ok h = (h.1, tt)
-HasAll-performable s (action.Unwatch w) ok h =
-    let found = position (λ code. code == watch_code w) s.watches in
-    HasAll-without_entry s.setup.central_words s.watches found (position_within (λ code. code == watch_code w) s.watches found refl ok.sizes.watches) ok.sizes.watches
-HasAll-performable s action.Deadstart ok h = HasAll-deadstart s.setup.central_words s.setup.panel ok.setup.panel
+HasAll-set : (s : Machine) (done : Action) → IsSet s done → HasAll s.setup.central_words (set_list done)
+HasAll-set s done set = HasAll-settings s.setup.central_words (set_list done) set.settings
 
 pub HasAll-action : (s : Machine) (done : Action) → IsWellFormed s → first_fault s done ≡ None → HasAll s.setup.central_words (writes s done)
-HasAll-action s done ok admitted = HasAll-performable s done ok (performable s done admitted)
+HasAll-action s action.Turn ok admitted = HasAll-turn_list s ok
+HasAll-action s (action.Watch w) ok admitted = ((is_watch s w admitted).room, tt)
+HasAll-action s (action.Unwatch w) ok admitted =
+    let found = position (λ code. code == watch_code w) s.watches in
+    HasAll-without_entry s.setup.central_words s.watches found (position_within (λ code. code == watch_code w) s.watches found refl ok.sizes.watches) ok.sizes.watches
+HasAll-action s action.Deadstart ok admitted = HasAll-deadstart s.setup.central_words s.setup.panel ok.setup.panel
+HasAll-action s done ok admitted = HasAll-set s done (is_set s done admitted (λ e. cc) (λ w e. cc) (λ w e. cc) (λ e. cc))

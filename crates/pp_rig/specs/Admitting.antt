@@ -1,8 +1,9 @@
 -- Which actions a machine admits, and why it rejects the others.
-use Rattle.std.specs.Prelude.{ℕ, ◌^◌, ◌&&◌, nat_lt, nat_le, Bool, true, List, length, Option, Some, None, if◌then◌else◌}
+use Rattle.std.specs.Prelude.{ℕ, ◌&&◌, nat_lt, nat_le, Bool, true, List, length, Option, Some, None, if◌then◌else◌}
 use Rattle.std.specs.List.{list_all}
-use Rattle.pp_machine.specs.ChannelNumbers.{state_number}
+use Rattle.pp_machine.specs.ChannelNumbers.{state_number, function}
 use Rattle.pp_machine.specs.Machine.{Machine}
+use Rattle.pp_rig.specs.Ranges.{processor_count, cell_count, channel_count, twelve_bits, eighteen_bits, past_sixty_bits}
 use Rattle.pp_rig.specs.Watches.{watches_of, is_watched}
 use Rattle.pp_rig.specs.declared.watched.Watched.{Watched}
 use Rattle.pp_rig.specs.declared.watched.Watched.TheVariants as watched
@@ -13,27 +14,27 @@ use Rattle.pp_rig.specs.declared.action.ActionFault.TheVariants.{Range, WatchesF
 
 -- whether a machine with this many central words has the place
 abbrev pub is_watchable : ℕ → Watched → Bool
-is_watchable size (watched.Cell n a) = nat_lt n 10 && nat_lt a 4096
-is_watchable size (watched.RegA n) = nat_lt n 10
-is_watchable size (watched.RegP n) = nat_lt n 10
-is_watchable size (watched.RegQ n) = nat_lt n 10
+is_watchable size (watched.Cell n a) = nat_lt n processor_count && nat_lt a cell_count
+is_watchable size (watched.RegA n) = nat_lt n processor_count
+is_watchable size (watched.RegP n) = nat_lt n processor_count
+is_watchable size (watched.RegQ n) = nat_lt n processor_count
 is_watchable size (watched.Central a) = nat_lt a size
-is_watchable size (watched.Register c) = nat_le c 0o14
+is_watchable size (watched.Register c) = nat_le c channel_count
 
 -- no word, or one of twelve bits
 abbrev pub is_word_or_none : Option ℕ → Bool
 is_word_or_none None = true
-is_word_or_none (Some word) = nat_lt word 4096
+is_word_or_none (Some word) = nat_le word twelve_bits
 
 -- whether every number of the action is in its range
 abbrev pub is_in_range : Machine → Action → Bool
 is_in_range m Turn = true
-is_in_range m (SetCells n a values) = nat_lt n 10 && (nat_lt a 4096 && (nat_lt 0 (length values) && list_all (λ value. nat_lt value 4096) values))
-is_in_range m (SetA n v) = nat_lt n 10 && nat_le v 0o777777
-is_in_range m (SetP n v) = nat_lt n 10 && nat_le v 0o7777
-is_in_range m (SetQ n v) = nat_lt n 10 && nat_le v 0o7777
-is_in_range m (SetWord a v) = nat_lt a m.setup.central_words && nat_lt v (2 ^ 60)
-is_in_range m (SetChannel c state word) = nat_lt c 12 && (nat_lt (state_number state) 3 && is_word_or_none word)
+is_in_range m (SetCells n a values) = nat_lt n processor_count && (nat_lt a cell_count && (nat_lt 0 (length values) && list_all (λ value. nat_le value twelve_bits) values))
+is_in_range m (SetA n v) = nat_lt n processor_count && nat_le v eighteen_bits
+is_in_range m (SetP n v) = nat_lt n processor_count && nat_le v twelve_bits
+is_in_range m (SetQ n v) = nat_lt n processor_count && nat_le v twelve_bits
+is_in_range m (SetWord a v) = nat_lt a m.setup.central_words && nat_lt v past_sixty_bits
+is_in_range m (SetChannel c state word) = nat_lt c channel_count && (nat_lt (state_number state) function && is_word_or_none word)
 is_in_range m (Watch w) = is_watchable m.setup.central_words w
 is_in_range m (Unwatch w) = is_watchable m.setup.central_words w
 is_in_range m Deadstart = true

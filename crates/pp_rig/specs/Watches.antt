@@ -5,7 +5,7 @@ use Rattle.pp_machine.specs.Machine.{Machine}
 use Rattle.pp_machine.specs.Shape.{Has}
 use Rattle.pp_machine.specs.declared.place.Place.{Place}
 use Rattle.pp_machine.specs.declared.place.Place.TheVariants as place
-use Rattle.pp_rig.specs.Watching.{watch_code, watch_entries}
+use Rattle.pp_rig.specs.WatchCodes.{watch_code, watch_entries}
 use Rattle.pp_rig.specs.declared.watched.Watched.{Watched}
 use Rattle.pp_rig.specs.declared.watched.Watched.TheVariants.{Cell, RegA, RegP, RegQ, Central, Register}
 

@@ -1,5 +1,5 @@
 -- A well formed machine: every number is in its range.
-use Rattle.std.specs.Prelude.{◌<◌, ◌≤◌, ◌^◌, All, IsTrue}
+use Rattle.std.specs.Prelude.{◌<◌, ◌≤◌, All, IsTrue}
 use Rattle.pp_machine.specs.ChannelNumbers.{IsChannels}
 use Rattle.pp_machine.specs.Frame.{IsPackage}
 use Rattle.pp_machine.specs.Machine.{Machine, ProcessorNumbers}
@@ -8,15 +8,16 @@ use Rattle.pp_machine.specs.PrinterNumbers.{IsPrinter}
 use Rattle.pp_machine.specs.ReaderNumbers.{IsReader}
 use Rattle.pp_machine.specs.Shape.{IsShaped}
 use Rattle.pp_rig.specs.IsSetup.{IsSetup}
+use Rattle.pp_rig.specs.Ranges.{processor_count, twelve_bits, eighteen_bits, past_sixty_bits}
 use Rattle.pp_rig.specs.Watches.{AreWatches}
 
 -- registers, phase and cells of a processor
 pub record IsProcessor (x : ProcessorNumbers) : Type 0 where
-  pub a : x.a ≤ 0o777777
-  pub p : x.p ≤ 0o7777
-  pub q : x.q ≤ 0o7777
+  pub a : x.a ≤ eighteen_bits
+  pub p : x.p ≤ twelve_bits
+  pub q : x.q ≤ twelve_bits
   pub phase : IsTrue (is_phase x.phase)
-  pub cells : All (λ cell. cell ≤ 0o7777) x.cells
+  pub cells : All (λ cell. cell ≤ twelve_bits) x.cells
 
 -- the lists have their sizes, each number is in its range, the paper is zero past its length, a card is left if one is
 -- being read, the watch entries are those of distinct places of the machine, followed by zeros, the panel has twelve
@@ -25,10 +26,10 @@ pub record IsWellFormed (m : Machine) : Type 0 where
   pub sizes : IsShaped m.setup.central_words m
   pub processors : All IsProcessor m.processors
   pub channels : IsChannels m.channels
-  pub central : All (λ word. word < 2 ^ 60) m.central
+  pub central : All (λ word. word < past_sixty_bits) m.central
   pub frame : IsPackage m.frame
   pub reader : IsReader m.reader
   pub printer : IsPrinter m.printer
-  pub slot : m.slot < 10
+  pub slot : m.slot < processor_count
   pub watches : AreWatches m.setup.central_words m.watches
   pub setup : IsSetup m.setup

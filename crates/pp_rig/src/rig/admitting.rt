@@ -1,8 +1,9 @@
 //! Which actions the machine admits.
-ghost use Rattle.std.specs.Prelude.{◌≡◌, ◌&&◌, nat_lt, length, MatchResult, None, Some};
+ghost use Rattle.std.specs.Prelude.{◌≡◌, ◌&&◌, nat_le, nat_lt, length, MatchResult, None, Some};
 ghost use Rattle.std.specs.List.{list_all};
 ghost use Rattle.pp_machine.specs.CentralSizes.{words_of};
-ghost use Rattle.pp_machine.specs.ChannelNumbers.{state_number};
+ghost use Rattle.pp_machine.specs.ChannelNumbers.{function, state_number};
+ghost use Rattle.pp_rig.specs.Ranges.{twelve_bits};
 ghost use Rattle.pp_rig.specs.Admitting.{first_fault, is_in_range, is_watchable, is_word_or_none, state_fault};
 
 use super::Rig;
@@ -15,9 +16,9 @@ const WORD_END: u64 = 1 << 60;
 
 /// Returns whether each value has twelve bits.
 fn are_words(values: &[u16]) -> bool
-    ensures { result ≡ list_all (λ value. nat_lt value 4096) values.now }
+    ensures { result ≡ list_all (λ value. nat_le value twelve_bits) values.now }
 {
-    values.iter().all(|value| *value < 4096)
+    values.iter().all(|value| *value <= 0o7777)
 }
 
 /// Returns whether a number, if there is one, has twelve bits.
@@ -26,13 +27,13 @@ fn is_small(word: Option<u16>) -> bool
 {
     match word {
         None => true,
-        Some(word) => word < 4096,
+        Some(word) => word <= 0o7777,
     }
 }
 
 /// Returns whether a state may be set. `Function` may not: it comes only from a processor.
 fn may_be_set(state: ChannelState) -> bool
-    ensures { result ≡ nat_lt (state_number state) 3 }
+    ensures { result ≡ nat_lt (state_number state) function }
 {
     match state {
         ChannelState::Function => false,

@@ -1,16 +1,51 @@
 //! Performing an action of any kind.
 ghost use Rattle.std.specs.Prelude.{◌≡◌, ◌≤◌, None, IsSomeAnd, length};
+ghost use Rattle.pp_machine.specs.Kept.{kept_pairs};
 ghost use Rattle.pp_machine.specs.Writes.{places};
-ghost use Rattle.pp_rig.specs.Action.{FitsRecord, before, most_places, next, overwritten, record_pairs, writes};
+ghost use Rattle.pp_rig.specs.Action.{FitsRecord, before, most_places, next, overwritten, record_pairs, set_list, writes};
 ghost use Rattle.pp_rig.specs.Admitting.{first_fault};
-ghost use Rattle.pp_rig.specs.Performing.{IsPerformable};
 
 use super::settings::push_cells;
 use super::{Rig, RigRecord, TurnRecord};
 use crate::action::Action;
+use crate::lists::list_of;
 use arrayvec::ArrayVec;
 use pp_history::Reversible;
 use pp_machine::{Kept, Place};
+
+/// Returns the numbers that an action sets, by place.
+fn settings_of(action: &Action) -> ArrayVec<Kept, 8>
+    ensures { kept_pairs result.items ≡ set_list action.now }
+{
+    match action {
+        Action::SetCells { pp, a, values } => {
+            let mut list = ArrayVec::new();
+            push_cells(&mut list, *pp, *a, values.as_slice());
+            list
+        }
+        Action::SetA { pp, v } => list_of(&[Kept::new(Place::RegA { pp: *pp }, u64::from(*v))]),
+        Action::SetP { pp, v } => list_of(&[
+            Kept::new(Place::RegP { pp: *pp }, u64::from(*v)),
+            Kept::new(Place::Phase { pp: *pp }, 0),
+        ]),
+        Action::SetQ { pp, v } => list_of(&[Kept::new(Place::RegQ { pp: *pp }, u64::from(*v))]),
+        Action::SetWord { a, v } => list_of(&[Kept::new(Place::Central { a: *a }, *v)]),
+        Action::SetChannel {
+            c,
+            state,
+            word: None,
+        } => list_of(&[Kept::new(Place::ChannelMode { c: *c }, *state as u64)]),
+        Action::SetChannel {
+            c,
+            state,
+            word: Some(word),
+        } => list_of(&[
+            Kept::new(Place::ChannelMode { c: *c }, *state as u64),
+            Kept::new(Place::ChannelWord { c: *c }, u64::from(*word)),
+        ]),
+        Action::Turn | Action::Watch(_) | Action::Unwatch(_) | Action::Deadstart => ArrayVec::new(),
+    }
+}
 
 impl Rig {
     /// Performs an action that the rig admits, and writes its undo record over `back`. This is a separate function, so
@@ -28,9 +63,9 @@ impl Rig {
         *back = Some(self.act(action));
     }
 
-    /// Performs an action whose numbers are in their ranges and that nothing rules out, and returns its undo record.
+    /// Performs an action that the rig admits, and returns its undo record.
     pub(super) fn perform(&mut self, action: &Action) -> RigRecord
-        requires { IsPerformable self.old action.now }
+        requires { first_fault self.old action.now ≡ None }
         ensures step { self.new ≡ next self.old action.now }
         ensures stood { record_pairs result ≡ overwritten self.old action.now }
         ensures few { length (record_pairs result) ≤ most_places action.now }
@@ -42,43 +77,10 @@ impl Rig {
                 self.turn(&mut turn);
                 RigRecord::Turn(turn)
             }
-            Action::SetCells { pp, a, values } => {
-                let mut list: ArrayVec<Kept, 8> = ArrayVec::new();
-                push_cells(&mut list, *pp, *a, values.as_slice());
-                self.overwrite_all(list.as_slice())
-            }
-            Action::SetA { pp, v } => self.overwrite_all(&[Kept::new(
-                Place::RegA { pp: *pp },
-                u64::from(*v),
-            )]),
-            Action::SetQ { pp, v } => self.overwrite_all(&[Kept::new(
-                Place::RegQ { pp: *pp },
-                u64::from(*v),
-            )]),
-            Action::SetWord { a, v } => self.overwrite_all(&[Kept::new(
-                Place::Central { a: *a },
-                *v,
-            )]),
-            Action::SetChannel {
-                c,
-                state,
-                word: None,
-            } => self.overwrite_all(&[Kept::new(Place::ChannelMode { c: *c }, *state as u64)]),
-            Action::SetChannel {
-                c,
-                state,
-                word: Some(word),
-            } => self.overwrite_all(&[
-                Kept::new(Place::ChannelMode { c: *c }, *state as u64),
-                Kept::new(Place::ChannelWord { c: *c }, u64::from(*word)),
-            ]),
-            Action::SetP { pp, v } => self.overwrite_all(&[
-                Kept::new(Place::RegP { pp: *pp }, u64::from(*v)),
-                Kept::new(Place::Phase { pp: *pp }, 0),
-            ]),
             Action::Watch(watched) => self.watch(*watched),
             Action::Unwatch(watched) => self.unwatch(*watched),
             Action::Deadstart => self.deadstart(),
+            _ => self.overwrite_all(settings_of(action).as_slice()),
         }
     }
 }

@@ -3,6 +3,7 @@ ghost use Rattle.std.specs.Prelude.{◌≡◌, ◌<◌, ◌↔◌, IsSome, IsTru
 ghost use Rattle.pp_machine.specs.CentralSizes.{words_of};
 ghost use Rattle.pp_machine.specs.Machine.{number};
 ghost use Rattle.pp_machine.specs.Shape.{Has};
+ghost use Rattle.pp_rig.specs.Ranges.{IsInRange};
 
 use super::Rig;
 use pp_machine::{CentralSize, Place};
@@ -63,7 +64,8 @@ impl Rig {
     /// Returns the number at a place.
     pub(super) fn number_at(&self, place: &Place) -> u64
         requires { Has self.now.setup.central_words place.now }
-        ensures { result ≡ number self.now place.now }
+        ensures value { result ≡ number self.now place.now }
+        ensures in_range { IsInRange place.now result }
     {
         match *place {
             Place::Cell { pp, a } => u64::from(self.processors[pp as usize].cell(a)),

@@ -1,12 +1,12 @@
 //! Each undo record of the machine, rebuilt from its fields: the records of the three parts, places, numbers, and short
 //! lists. The rebuilt record leads back to the whole machine as it was before.
-ghost use Rattle.std.specs.Prelude.{◌≡◌, ◌≤◌, length};
 ghost use Rattle.pp_machine.specs.Machine.{Machine};
 ghost use Rattle.pp_rig.specs.Action.{FitsRecord};
 
 mod whole;
 
 use super::*;
+use crate::lists::list_of;
 use crate::setup::Setup;
 use crate::tests::deck_of;
 use crate::values::Values;
@@ -14,39 +14,6 @@ use std::alloc::Global;
 use std::process::Abort;
 use std::test::Fail;
 use whole::{is_short_true_of, is_true_of, numbers_at, places_of};
-
-fn same_pairs(pairs: &[Kept]) -> ArrayVec<Kept, 8>
-    requires { length pairs.now ≤ 8 }
-    ensures { result.items ≡ pairs.now }
-{
-    let mut again = ArrayVec::new();
-    for pair in pairs {
-        again.push(*pair);
-    }
-    again
-}
-
-fn same_places(places: &[Watched]) -> ArrayVec<Watched, 8>
-    requires { length places.now ≤ 8 }
-    ensures { result.items ≡ places.now }
-{
-    let mut again = ArrayVec::new();
-    for place in places {
-        again.push(*place);
-    }
-    again
-}
-
-fn same_numbers(numbers: &[u32]) -> ArrayVec<u32, 76>
-    requires { length numbers.now ≤ 76 }
-    ensures { result.items ≡ numbers.now }
-{
-    let mut again = ArrayVec::new();
-    for number in numbers {
-        again.push(*number);
-    }
-    again
-}
 
 /// Returns the record rebuilt from its fields alone.
 fn made_anew(back: RigRecord) -> RigRecord
@@ -78,14 +45,14 @@ fn made_anew(back: RigRecord) -> RigRecord
                 printer,
             },
         }),
-        RigRecord::Settings(standing) => RigRecord::Settings(same_pairs(standing.as_slice())),
+        RigRecord::Settings(standing) => RigRecord::Settings(list_of(standing.as_slice())),
         RigRecord::Watched(i) => RigRecord::Watched(i),
         RigRecord::Unwatched { i, places } => RigRecord::Unwatched {
             i,
-            places: same_places(places.as_slice()),
+            places: list_of(places.as_slice()),
         },
         RigRecord::Restarted { numbers } => RigRecord::Restarted {
-            numbers: same_numbers(numbers.as_slice()),
+            numbers: list_of(numbers.as_slice()),
         },
     }
 }

@@ -2,14 +2,14 @@
 ghost use Rattle.std.specs.Prelude.{◌≡◌, ◌≤◌, length, map};
 ghost use Rattle.pp_machine.specs.Lookup.{lookup, same_place};
 ghost use Rattle.pp_rig.specs.Action.{FitsRecord, before, record_pairs};
-ghost use Rattle.pp_rig.specs.Watching.{watch_code};
+ghost use Rattle.pp_rig.specs.WatchCodes.{watch_code};
 ghost use Rattle.pp_machine.specs.Machine.{over};
 ghost use Rattle.pp_rig.specs.Deadstart.{deadstart_places};
 ghost use Rattle.pp_rig.specs.Settings.{AreSettings};
 ghost use Rattle.pp_rig.specs.RecordLists.{numbered};
 ghost use Rattle.pp_rig.specs.WriteLists.{entry_list};
 
-use super::restarting::renumbered;
+use super::deadstart::renumbered;
 use super::{Rig, RigRecord};
 use crate::watched::Watched;
 use pp_machine::{Kept, Place, first_kept};

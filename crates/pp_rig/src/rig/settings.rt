@@ -2,10 +2,10 @@
 ghost use Rattle.std.specs.Prelude.{◌≡◌, ◌+◌, ◌<◌, ◌≤◌, ◌++◌, length};
 ghost use Rattle.arrayvec.specs.ArrayVec.{array_vec_len};
 ghost use Rattle.pp_machine.specs.Kept.{kept_pairs};
-ghost use Rattle.pp_machine.specs.Machine.{number, olds, over, put};
+ghost use Rattle.pp_machine.specs.Machine.{olds, over, put};
 ghost use Rattle.pp_machine.specs.Shape.{IsShaped};
 ghost use Rattle.pp_rig.specs.Action.{FitsRecord, record_pairs};
-ghost use Rattle.pp_rig.specs.Settings.{AreSettings, IsInRange, IsSettable, IsSetting};
+ghost use Rattle.pp_rig.specs.Settings.{AreSettings, IsSetting};
 ghost use Rattle.pp_rig.specs.WriteLists.{cell_list};
 
 use super::{Rig, RigRecord};
@@ -21,39 +21,24 @@ pub(super) fn push_cells<const N: usize>(
 )
     requires few { length values.now ≤ 4096 }
     requires room { array_vec_len list.old + length values.now ≤ N }
-    requires small { a < 4096 }
     ensures items { kept_pairs list.new.items ≡ kept_pairs list.old.items ++ cell_list pp a values.now }
     ensures len { array_vec_len list.new ≡ array_vec_len list.old + length values.now }
 {
     for (i, value) in values.iter().enumerate() {
         let place = Place::Cell {
             pp,
-            a: (a + i as u16) % 4096,
+            a: ((a as usize + i) % 4096) as u16,
         };
         list.push(Kept::new(place, u64::from(*value)));
     }
 }
 
 impl Rig {
-    /// Returns the number at a place that an action may set.
-    fn setting(&self, place: Place) -> u64
-        requires { IsSettable self.now.setup.central_words place }
-        ensures value { result ≡ number self.now place }
-        ensures fits { IsInRange place result }
-        ensures shaped { IsShaped self.now.setup.central_words self.now }
+    /// Theorem: the machine has the sizes of its setup. A field is read only because that opens the invariant.
+    fn keeps_sizes(&self)
+        ensures { IsShaped self.now.setup.central_words self.now }
     {
-        match place {
-            Place::Cell { pp, a } => u64::from(self.processors[pp as usize].cell(a)),
-            Place::RegA { pp } => u64::from(self.processors[pp as usize].a()),
-            Place::RegP { pp } => u64::from(self.processors[pp as usize].p()),
-            Place::RegQ { pp } => u64::from(self.processors[pp as usize].q()),
-            Place::Phase { pp } => u64::from(self.processors[pp as usize].phase()),
-            Place::ChannelMode { c } => self.channels.get(c).state as u64,
-            Place::ChannelWord { c } => u64::from(self.channels.get(c).word),
-            Place::Central { a } => self.central.get(a),
-            Place::Slot => u64::from(self.slot),
-            _ => unreachable!(),
-        }
+        let _slot = self.slot;
     }
 
     /// Sets the number at a place that an action may set.
@@ -100,18 +85,18 @@ impl Rig {
     }
 
     /// Returns the places of the list with their present numbers.
-    pub(super) fn standing<const N: usize>(&self, list: &[Kept]) -> ArrayVec<Kept, N>
+    fn old_values<const N: usize>(&self, list: &[Kept]) -> ArrayVec<Kept, N>
         requires room { length list.now ≤ N }
         requires settings { AreSettings self.now.setup.central_words (kept_pairs list.now) }
-        ensures stood { kept_pairs result.items ≡ olds self.now (kept_pairs list.now) }
+        ensures old_values { kept_pairs result.items ≡ olds self.now (kept_pairs list.now) }
         ensures settings { AreSettings self.now.setup.central_words (kept_pairs result.items) }
         ensures len { length result.items ≡ length list.now }
     {
-        let mut standing = ArrayVec::new();
+        let mut old_values = ArrayVec::new();
         for pair in list {
-            standing.push(Kept::new(pair.place, self.setting(pair.place)));
+            old_values.push(Kept::new(pair.place, self.number_at(&pair.place)));
         }
-        standing
+        old_values
     }
 
     /// Writes the numbers of the list to their places, the last pair first.
@@ -125,6 +110,22 @@ impl Rig {
         }
     }
 
+    /// Writes the numbers of the list to their places, and returns the old values.
+    pub(super) fn overwrite<const N: usize>(&mut self, list: &[Kept]) -> ArrayVec<Kept, N>
+        requires room { length list.now ≤ N }
+        requires settings { AreSettings self.old.setup.central_words (kept_pairs list.now) }
+        ensures step { self.new ≡ over self.old (kept_pairs list.now) }
+        ensures old_values { kept_pairs result.items ≡ olds self.old (kept_pairs list.now) }
+        ensures settings { AreSettings self.new.setup.central_words (kept_pairs result.items) }
+        ensures shaped { IsShaped self.new.setup.central_words self.new }
+        ensures len { length result.items ≡ length list.now }
+    {
+        let old_values = self.old_values(list);
+        self.put_all(list);
+        self.keeps_sizes();
+        old_values
+    }
+
     /// Writes the numbers of a short list to their places, and returns the undo record.
     pub(super) fn overwrite_all(&mut self, list: &[Kept]) -> RigRecord
         requires room { length list.now ≤ 8 }
@@ -134,9 +135,6 @@ impl Rig {
         ensures few { length (record_pairs result) ≤ 8 }
         ensures fits { FitsRecord result self.new }
     {
-        let standing = self.standing(list);
-        self.put_all(list);
-        let _ = &self.slot;
-        RigRecord::Settings(standing)
+        RigRecord::Settings(self.overwrite(list))
     }
 }

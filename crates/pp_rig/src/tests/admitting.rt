@@ -12,35 +12,45 @@ fn cells(pp: u8, a: u16, values: Values) -> Action {
     Action::SetCells { pp, a, values }
 }
 
+fn set_a(pp: u8, v: u32) -> Action {
+    Action::SetA { pp, v }
+}
+
 fn set_channel(c: u8, state: ChannelState, word: Option<u16>) -> Action {
     Action::SetChannel { c, state, word }
 }
 
+/// Checks that a machine admits the first action of each pair, and rejects the second because of a range.
+fn check_ranges(rt: &impl Abort, alloc: Global, pairs: &[(Action, Action)]) -> Result<(), Fail> {
+    let rig = make_rig(alloc)?;
+    for (within, beyond) in pairs {
+        assert_eq!(rt; rig.check(within), Ok(()));
+        assert_eq!(rt; rig.check(beyond), Err(ActionFault::Range));
+        assert!(rt; !rig.admits(beyond));
+    }
+    Ok(())
+}
+
 #[test]
-fn ranges_of_numbers(rt: HostRuntime) -> Result<(), Fail> {
-    let rig = make_rig(rt.alloc())?;
-    for (within, beyond) in [
+fn ranges_of_cells(rt: HostRuntime) -> Result<(), Fail> {
+    let none = Values::new(ArrayVec::new());
+    let pairs = [
         (
             cells(0o11, 0o7777, one_word(0o7777)),
             cells(0o12, 0, one_word(0)),
         ),
         (cells(0, 0, one_word(0)), cells(0, 0o10000, one_word(0))),
         (cells(0, 0, one_word(1)), cells(0, 0, one_word(0o10000))),
-        (
-            cells(0, 0, one_word(2)),
-            cells(0, 0, Values::new(ArrayVec::new())),
-        ),
-        (
-            Action::SetA { pp: 0, v: 0o777777 },
-            Action::SetA {
-                pp: 0,
-                v: 0o1000000,
-            },
-        ),
-        (
-            Action::SetA { pp: 0o11, v: 0 },
-            Action::SetA { pp: 0o12, v: 0 },
-        ),
+        (cells(0, 0, one_word(2)), cells(0, 0, none)),
+    ];
+    check_ranges(&rt, rt.alloc(), &pairs)
+}
+
+#[test]
+fn ranges_of_registers(rt: HostRuntime) -> Result<(), Fail> {
+    let pairs = [
+        (set_a(0, 0o777777), set_a(0, 0o1000000)),
+        (set_a(0o11, 0), set_a(0o12, 0)),
         (
             Action::SetP { pp: 0, v: 0o7777 },
             Action::SetP { pp: 0, v: 0o10000 },
@@ -49,17 +59,29 @@ fn ranges_of_numbers(rt: HostRuntime) -> Result<(), Fail> {
             Action::SetQ { pp: 0, v: 0o7777 },
             Action::SetQ { pp: 0, v: 0o10000 },
         ),
+    ];
+    check_ranges(&rt, rt.alloc(), &pairs)
+}
+
+#[test]
+fn ranges_of_central_words(rt: HostRuntime) -> Result<(), Fail> {
+    let greatest = (1 << 60) - 1;
+    let pairs = [
         (
             Action::SetWord { a: 0o77777, v: 0 },
             Action::SetWord { a: 0o100000, v: 0 },
         ),
         (
-            Action::SetWord {
-                a: 0,
-                v: (1 << 60) - 1,
-            },
+            Action::SetWord { a: 0, v: greatest },
             Action::SetWord { a: 0, v: 1 << 60 },
         ),
+    ];
+    check_ranges(&rt, rt.alloc(), &pairs)
+}
+
+#[test]
+fn ranges_of_channels(rt: HostRuntime) -> Result<(), Fail> {
+    let pairs = [
         (
             set_channel(0o13, ChannelState::Full, Some(0o7777)),
             set_channel(0o14, ChannelState::Full, Some(0)),
@@ -72,6 +94,13 @@ fn ranges_of_numbers(rt: HostRuntime) -> Result<(), Fail> {
             set_channel(3, ChannelState::Inactive, Some(0)),
             set_channel(3, ChannelState::Inactive, Some(0o10000)),
         ),
+    ];
+    check_ranges(&rt, rt.alloc(), &pairs)
+}
+
+#[test]
+fn ranges_of_watched_places(rt: HostRuntime) -> Result<(), Fail> {
+    let pairs = [
         (
             Action::Watch(Watched::Register { c: 0o14 }),
             Action::Watch(Watched::Register { c: 0o15 }),
@@ -80,12 +109,8 @@ fn ranges_of_numbers(rt: HostRuntime) -> Result<(), Fail> {
             Action::Watch(Watched::Central { a: 0o77777 }),
             Action::Watch(Watched::Central { a: 0o100000 }),
         ),
-    ] {
-        assert_eq!(rt; rig.check(&within), Ok(()));
-        assert_eq!(rt; rig.check(&beyond), Err(ActionFault::Range));
-        assert!(rt; !rig.admits(&beyond));
-    }
-    Ok(())
+    ];
+    check_ranges(&rt, rt.alloc(), &pairs)
 }
 
 #[test]

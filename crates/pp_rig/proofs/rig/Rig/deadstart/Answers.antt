@@ -1,37 +1,30 @@
 use Rattle.std.specs.Prelude.{◌≡◌, Some}
-use Rattle.std.proofs.Common.{arith, lit<, subst}
+use Rattle.std.proofs.Common.{arith, lit<}
 use Rattle.pp_machine.specs.Kept.{kept_pairs}
-use Rattle.pp_machine.specs.Machine.{Machine, olds}
-use Rattle.pp_machine.specs.Shape.{IsShaped}
+use Rattle.pp_machine.specs.Machine.{olds}
 use Rattle.pp_rig.specs.Deadstart.{deadstart_pairs, deadstart_places}
-use Rattle.pp_rig.specs.MachineLaws.{setup-over}
 use Rattle.pp_rig.specs.Settings.{AreSettings, HasAll-settings}
 use Rattle.pp_rig.specs.RecordLists.{numbered}
 use Rattle.pp_rig.proofs.Deadstart.{AreSettings-deadstart, length-deadstart, numbered-stood, short-stood}
 use Rattle.pp_rig.proofs.WriteLists.{length-olds}
 use Rattle.pp_rig.proofs.rig.Rig.deadstart.Goals as goal
 
-pub standing-standing-requires : goal.standing-standing-requires
-standing-standing-requires c =
+pub overwrite-old_values-requires : goal.overwrite-old_values-requires
+overwrite-old_values-requires c =
     let panel = rw c.in-Some.is at c.self.invariant.setup.panel in
     (lit< tt, (c.as_slice.ensures.fits, rw (c.as_slice.ensures.value, c.deadstart_settings-list.ensures.list) (AreSettings-deadstart _ c.in-Some.panel panel.small)))
 
-pub put_all-requires : goal.put_all-requires
-put_all-requires c =
-    let panel = rw c.in-Some.is at c.self.invariant.setup.panel in
-    rw (c.as_slice-2.ensures.value, c.deadstart_settings-list.ensures.list) (AreSettings-deadstart _ c.in-Some.panel panel.small)
-
 pub numbers_of-requires-clause-small : goal.numbers_of-requires-clause-small
 numbers_of-requires-clause-small c =
-    let stood : kept_pairs c.as_slice-3.result.now ≡ olds c.args.self.now (deadstart_pairs c.in-Some.panel) = rw (c.as_slice-3.ensures.value, c.standing-standing.ensures.stood, c.as_slice.ensures.value, c.deadstart_settings-list.ensures.list) in
-    short-stood c.args.self.now.setup.central_words c.args.self.now c.in-Some.panel c.as_slice-3.result.now stood (rw c.as_slice-3.ensures.value c.standing-standing.ensures.settings)
+    let stood : kept_pairs c.as_slice-2.result.now ≡ olds c.args.self.now (deadstart_pairs c.in-Some.panel) = rw (c.as_slice-2.ensures.value, c.overwrite-old_values.ensures.old_values, c.as_slice.ensures.value, c.deadstart_settings-list.ensures.list) in
+    short-stood c.overwrite-old_values.new.self.setup.central_words c.args.self.now c.in-Some.panel c.as_slice-2.result.now c.deadstart_settings-list.ensures.words stood (rw c.as_slice-2.ensures.value c.overwrite-old_values.ensures.settings)
 
 panel : (c : goal.After-numbers_of) → c.args.self.now.setup.panel ≡ Some c.in-Some.panel
 panel c = rw (← c.self.view_is) c.in-Some.is
 
 stood : (c : goal.After-numbers_of) → numbered deadstart_places c.numbers_of.result.items ≡ olds c.args.self.now (deadstart_pairs c.in-Some.panel)
 stood c =
-    rw (c.numbers_of.ensures, c.as_slice-3.ensures.value, c.standing-standing.ensures.stood, c.as_slice.ensures.value, c.deadstart_settings-list.ensures.list)
+    rw (c.numbers_of.ensures, c.as_slice-2.ensures.value, c.overwrite-old_values.ensures.old_values, c.as_slice.ensures.value, c.deadstart_settings-list.ensures.list)
     (numbered-stood c.args.self.now c.in-Some.panel c.deadstart_settings-list.ensures.words)
 
 pub returns-clause-stood : goal.returns-clause-stood
@@ -43,12 +36,6 @@ returns-clause-few c =
 
 pub returns-clause-fits : goal.returns-clause-fits
 returns-clause-fits c =
-    let P : Machine → Type 0 = λ m. IsShaped m.setup.central_words m in
-    let same : c.put_all.new.self.setup ≡ c.args.self.now.setup = rw c.put_all.ensures (setup-over c.args.self.now (kept_pairs c.as_slice-2.result.now)) in
-    let old : AreSettings c.args.self.now.setup.central_words (olds c.args.self.now (deadstart_pairs c.in-Some.panel)) = rw (c.standing-standing.ensures.stood, c.as_slice.ensures.value, c.deadstart_settings-list.ensures.list) at c.standing-standing.ensures.settings in
-    let settings : AreSettings c.put_all.new.self.setup.central_words (numbered deadstart_places c.numbers_of.result.items) = rw (stood c, same) old in
-    record {
-      part = settings;
-      shaped = subst P c.self-2.view_is c.self-2.invariant.shaped;
-      places = HasAll-settings _ _ settings;
-    }
+    let old : AreSettings c.overwrite-old_values.new.self.setup.central_words (olds c.args.self.now (deadstart_pairs c.in-Some.panel)) = rw (c.overwrite-old_values.ensures.old_values, c.as_slice.ensures.value, c.deadstart_settings-list.ensures.list) at c.overwrite-old_values.ensures.settings in
+    let settings : AreSettings c.overwrite-old_values.new.self.setup.central_words (numbered deadstart_places c.numbers_of.result.items) = rw (stood c) old in
+    record { part = settings; shaped = c.overwrite-old_values.ensures.shaped; places = HasAll-settings _ _ settings }

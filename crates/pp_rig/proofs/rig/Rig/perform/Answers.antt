@@ -1,7 +1,27 @@
-use Rattle.pp_rig.specs.CellLaws.{AreSettings-cell_list}
+use Rattle.pp_rig.proofs.Admitting.{is_set, is_watch}
 use Rattle.pp_rig.proofs.rig.Rig.perform.Goals as goal
+
+pub watch-requires : goal.watch-requires
+watch-requires c =
+    let free = is_watch c.args.self.now c.in-Watch.watched (rw c.in-Watch.is at c.requires) in
+    record { room = free.room; present = free.present; other = free.other }
 
 pub overwrite_all-requires-clause-settings : goal.overwrite_all-requires-clause-settings
 overwrite_all-requires-clause-settings c =
-    let admitted = rw c.in-SetCells.is at c.requires in
-    rw (c.as_slice-in-SetCells.ensures.value, c.push_cells.ensures.items, c.new-list.ensures) (AreSettings-cell_list _ _ _ _ admitted.0 (rw c.as_slice.ensures.value admitted.3))
+    let set = is_set c.args.self.now c.args.action.now c.requires c.in_default.not-Turn c.in_default.not-Watch c.in_default.not-Unwatch c.in_default.not-Deadstart in
+    rw (c.as_slice.ensures.value, c.settings_of.ensures) set.settings
+
+pub returns-in_default-clause-step : goal.returns-in_default-clause-step
+returns-in_default-clause-step c =
+    let set = is_set c.args.self.now c.args.action.now c.requires c.in_default.not-Turn c.in_default.not-Watch c.in_default.not-Unwatch c.in_default.not-Deadstart in
+    rw (c.overwrite_all.ensures.step, c.as_slice.ensures.value, c.settings_of.ensures, set.next)
+
+pub returns-in_default-clause-stood : goal.returns-in_default-clause-stood
+returns-in_default-clause-stood c =
+    let set = is_set c.args.self.now c.args.action.now c.requires c.in_default.not-Turn c.in_default.not-Watch c.in_default.not-Unwatch c.in_default.not-Deadstart in
+    rw (c.overwrite_all.ensures.stood, c.as_slice.ensures.value, c.settings_of.ensures, set.old_values)
+
+pub returns-in_default-clause-few : goal.returns-in_default-clause-few
+returns-in_default-clause-few c =
+    let set = is_set c.args.self.now c.args.action.now c.requires c.in_default.not-Turn c.in_default.not-Watch c.in_default.not-Unwatch c.in_default.not-Deadstart in
+    rw set.most c.overwrite_all.ensures.few

@@ -3,9 +3,9 @@ use Rattle.std.proofs.Common.{arith, sym, ◌∙◌}
 use Rattle.std.proofs.lemmas.List.{length-map}
 use Rattle.pp_rig.specs.Action.{moved_up}
 use Rattle.pp_rig.specs.RigView.{machine_of}
-use Rattle.pp_rig.specs.Watching.{watch_code}
+use Rattle.pp_rig.specs.WatchCodes.{watch_code}
 use Rattle.pp_rig.proofs.Unwatching.{unwatched, unwatched-stood, length-entry_list, length-with_entries, HasAll-entries, IsShaped-watches, AreWatches-removed}
-use Rattle.pp_rig.proofs.Watching.{words_of-few}
+use Rattle.pp_rig.proofs.WatchCodes.{words_of-few}
 use Rattle.pp_rig.proofs.rig.Rig.unwatch.Goals as goal
 
 found : (c : goal.After-remove-places) → position (λ code. code == watch_code c.args.watched) c.self.inside.watches ≡ Some c.in-Some.i

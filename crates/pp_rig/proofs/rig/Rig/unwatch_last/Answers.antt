@@ -1,6 +1,6 @@
 use Rattle.std.proofs.Common.{◌<◌, arith, rules}
-use Rattle.pp_rig.specs.Watching.{first_zero}
-use Rattle.pp_rig.proofs.Watching.{words_of-few, AreWatches-pop}
+use Rattle.pp_rig.specs.WatchCodes.{first_zero}
+use Rattle.pp_rig.proofs.WatchCodes.{words_of-few, AreWatches-pop}
 use Rattle.pp_rig.proofs.rig.Rig.unwatch_last.Goals as goal
 
 pub invariant_of-self : goal.invariant_of-self

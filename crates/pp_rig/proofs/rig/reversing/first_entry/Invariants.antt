@@ -1,6 +1,6 @@
 use Rattle.std.proofs.Common.{◌≡◌, ◌+◌, drop, map}
 use Rattle.pp_machine.specs.Lookup.{lookup}
-use Rattle.pp_rig.specs.Watching.{watch_code}
+use Rattle.pp_rig.specs.WatchCodes.{watch_code}
 use Rattle.pp_rig.specs.WriteLists.{entry_list}
 use Rattle.pp_rig.proofs.rig.reversing.first_entry.Given as goal
 

@@ -1,4 +1,4 @@
-use Rattle.pp_rig.proofs.Watching.{first_zero-entries, length-watched_in}
+use Rattle.pp_rig.proofs.WatchCodes.{first_zero-entries, length-watched_in}
 use Rattle.pp_rig.proofs.watched.WatchList.is_full.Goals as goal
 
 pub returns : goal.returns

@@ -1,7 +1,7 @@
 use Rattle.std.specs.Prelude.{◌==◌}
 use Rattle.std.proofs.Common.{sym}
-use Rattle.pp_rig.specs.Watching.{watch_code}
-use Rattle.pp_rig.proofs.Watching.{any-entries, zero-no_code}
+use Rattle.pp_rig.specs.WatchCodes.{watch_code}
+use Rattle.pp_rig.proofs.WatchCodes.{any-entries, zero-no_code}
 use Rattle.pp_rig.proofs.watched.WatchList.is_watched.Goals as goal
 
 pub returns : goal.returns

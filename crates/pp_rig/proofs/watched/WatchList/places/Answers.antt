@@ -1,5 +1,5 @@
 use Rattle.std.proofs.Common.{sym}
-use Rattle.pp_rig.proofs.Watching.{watched_in-entries}
+use Rattle.pp_rig.proofs.WatchCodes.{watched_in-entries}
 use Rattle.pp_rig.proofs.watched.WatchList.places.Goals as goal
 
 pub returns-clause-value : goal.returns-clause-value

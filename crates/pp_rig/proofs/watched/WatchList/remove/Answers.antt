@@ -4,9 +4,9 @@ use Rattle.std.proofs.lemmas.List.{length-drop}
 use Rattle.std.proofs.lemmas.List.Edits.{length-remove}
 use Rattle.std.proofs.lemmas.List.Elements.{All-drop}
 use Rattle.pp_rig.specs.Watches.{watched_at}
-use Rattle.pp_rig.specs.Watching.{watch_code}
+use Rattle.pp_rig.specs.WatchCodes.{watch_code}
 use Rattle.pp_rig.proofs.Unwatching.{removed-at, stood-at, back-at, told-remove}
-use Rattle.pp_rig.proofs.Watching.{first_zero-entries, watched_in-entries}
+use Rattle.pp_rig.proofs.WatchCodes.{first_zero-entries, watched_in-entries}
 use Rattle.pp_rig.proofs.watched.WatchList.remove.Goals as goal
 
 pub places_from-stood-requires-clause-within : goal.places_from-stood-requires-clause-within

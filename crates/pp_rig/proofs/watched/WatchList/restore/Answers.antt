@@ -1,5 +1,5 @@
 use Rattle.pp_rig.proofs.Unwatching.{restored-at}
-use Rattle.pp_rig.proofs.Watching.{first_zero-entries}
+use Rattle.pp_rig.proofs.WatchCodes.{first_zero-entries}
 use Rattle.pp_rig.proofs.watched.WatchList.restore.Goals as goal
 
 pub returns : goal.returns
@@ -7,4 +7,4 @@ returns c =
     let ws = c.self.inside.places.items in
     let within = rw (← c.self.view_is, first_zero-entries) at c.requires.within in
     let count = rw (← c.self.view_is, first_zero-entries) at c.requires.count in
-    rw (← c.self.view_is, c.push_places.ensures, c.truncate.ensures.items) (restored-at ws c.args.places.now c.args.i within count c.requires.few)
+    rw (← c.self.view_is, c.append.ensures.items, c.truncate.ensures.items) (restored-at ws c.args.places.now c.args.i within count c.requires.few)

@@ -1,8 +1,0 @@
-use Rattle.std.proofs.Common.{refl}
-use Rattle.pp_rig.specs.Deadstart.{deadstart_pairs, all_states}
-use Rattle.pp_rig.proofs.rig.restarting.deadstart_settings.Goals as goal
-
-pub returns-clause-list : goal.returns-clause-list
-unfolding deadstart_pairs all_states
-returns-clause-list c =
-    rw (c.push_all-2.ensures.items, c.push_states.ensures.items, c.push_all_waiting.ensures.items, c.push_all.ensures.items, c.push_cells-3.ensures.items, c.push_cells-2.ensures.items, c.push_cells.ensures.items, c.registers.ensures, c.new-list.ensures, c.new.ensures) refl

@@ -1,7 +1,0 @@
-use Rattle.std.proofs.Common.{append_assoc, refl}
-use Rattle.pp_machine.specs.Kept.{kept_pairs-append}
-use Rattle.pp_rig.proofs.rig.restarting.push_waiting.Goals as goal
-
-pub returns-clause-items : goal.returns-clause-items
-returns-clause-items c =
-    rw (c.push_all.ensures.items, c.push.ensures.items, kept_pairs-append, c.registers.ensures, c.from.ensures, c.new.ensures, append_assoc) refl
