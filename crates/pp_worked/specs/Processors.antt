@@ -1,8 +1,8 @@
 -- Rows of one processor: a number of steps leads from some numbers to others.
-use Rattle.std.specs.Prelude.{ℕ, zero, suc, ◌≡◌, replicate}
+use Rattle.std.specs.Prelude.{ℕ, zero, suc, ◌≡◌, ◌∷◌, replicate}
 use Rattle.pp_machine.specs.Writes.{Writes}
 use Rattle.pp_step.specs.Step.{pp_writes}
-use Rattle.pp_step.specs.View.{PpView, PpPlace, over, olds}
+use Rattle.pp_step.specs.View.{PpView, PpPlace, P, Cell, over, olds}
 
 -- a processor with its 4096 (decimal) cells, inactive channels and a central memory of 2000 words, all 0
 abbrev pub blank : PpView
@@ -27,3 +27,7 @@ after (suc n) m = after n (over m (pp_writes m))
 -- This many steps lead from the first numbers, with 0 at all other places, to a state with the second.
 abbrev pub Leads : Writes PpPlace → ℕ → Writes PpPlace → Type 0
 Leads before steps later = olds (after steps (over blank before)) later ≡ later
+
+-- One step performs this instruction at 0100. It leads from the first other numbers to the second.
+abbrev pub Performs : ℕ → Writes PpPlace → Writes PpPlace → Type 0
+Performs word before later = Leads ((P, 0o100) ∷ (Cell 0o100, word) ∷ before) 1 later

@@ -2,15 +2,14 @@
 
 ghost use Rattle.std.specs.Prelude.{[], ◌∷◌};
 ghost use Rattle.pp_step.specs.View.{A, Cell, Channel, Mode, P, Phase, Q, Word};
-ghost use Rattle.pp_worked.specs.Processors.{Leads};
+ghost use Rattle.pp_worked.specs.Processors.{Leads, Performs};
 
 /// While a block moves, cell 0000 holds the address of `m`. A block that overwrites cell 0000 continues at the
 /// number that it wrote there, plus one.
 #[tactic(auto, unfolding(pp_step::specs::Step::pp_writes))]
 pub fn return_address_in_cell_0000()
-    ensures issue { Leads
-        ((P, 0o100) ∷ (A, 0o1000) ∷ (Cell 0o10, 2) ∷ (Cell 0o100, 0o6110) ∷ (Cell 0o101, 0o7776) ∷ [])
-        1
+    ensures issue { Performs 0o6110
+        ((A, 0o1000) ∷ (Cell 0o10, 2) ∷ (Cell 0o101, 0o7776) ∷ [])
         ((P, 0o7776) ∷ (Q, 2) ∷ (Phase, 0o6110) ∷ (Cell 0, 0o101) ∷ []) }
     ensures central_block_over_it { Leads
         ((P, 0o100) ∷ (A, 0o1000) ∷ (Cell 0o10, 2) ∷ (Cell 0o100, 0o6110) ∷ (Cell 0o101, 0o7776) ∷

@@ -2,26 +2,22 @@
 
 ghost use Rattle.std.specs.Prelude.{[], ◌∷◌};
 ghost use Rattle.pp_step.specs.View.{A, Channel, Cell, Mode, P};
-ghost use Rattle.pp_worked.specs.Processors.{Leads};
+ghost use Rattle.pp_worked.specs.Processors.{Performs};
 
 /// 70 takes the data of a full channel, and 72 fills an empty one. Otherwise both wait, and nothing changes.
 #[tactic(auto, unfolding(pp_step::specs::Step::pp_writes))]
 pub fn words_in_channels()
-    ensures ian { Leads
-        ((P, 0o100) ∷ (A, 0o777777) ∷ (Cell 0o100, 0o7003) ∷ (Mode 3, 2) ∷ (Channel 3, 0o1234) ∷ [])
-        1
+    ensures ian { Performs 0o7003
+        ((A, 0o777777) ∷ (Mode 3, 2) ∷ (Channel 3, 0o1234) ∷ [])
         ((P, 0o101) ∷ (A, 0o1234) ∷ (Mode 3, 1) ∷ (Channel 3, 0o1234) ∷ []) }
-    ensures ian_waits_for_data { Leads
-        ((P, 0o100) ∷ (A, 0o777777) ∷ (Cell 0o100, 0o7003) ∷ (Mode 3, 3) ∷ (Channel 3, 0o1234) ∷ [])
-        1
+    ensures ian_waits_for_data { Performs 0o7003
+        ((A, 0o777777) ∷ (Mode 3, 3) ∷ (Channel 3, 0o1234) ∷ [])
         ((P, 0o100) ∷ (A, 0o777777) ∷ (Mode 3, 3) ∷ (Channel 3, 0o1234) ∷ []) }
-    ensures oan { Leads
-        ((P, 0o100) ∷ (A, 0o654321) ∷ (Cell 0o100, 0o7203) ∷ (Mode 3, 1) ∷ [])
-        1
+    ensures oan { Performs 0o7203
+        ((A, 0o654321) ∷ (Mode 3, 1) ∷ [])
         ((P, 0o101) ∷ (A, 0o654321) ∷ (Mode 3, 2) ∷ (Channel 3, 0o4321) ∷ []) }
-    ensures oan_waits { Leads
-        ((P, 0o100) ∷ (A, 0o654321) ∷ (Cell 0o100, 0o7203) ∷ (Mode 3, 2) ∷ (Channel 3, 0o1234) ∷ [])
-        1
+    ensures oan_waits { Performs 0o7203
+        ((A, 0o654321) ∷ (Mode 3, 2) ∷ (Channel 3, 0o1234) ∷ [])
         ((P, 0o100) ∷ (Mode 3, 2) ∷ (Channel 3, 0o1234) ∷ []) }
 {}
 
@@ -29,48 +25,37 @@ pub fn words_in_channels()
 /// inactive one. Neither changes the register. 76 and 77 send a function code, from A and from `m`.
 #[tactic(auto, unfolding(pp_step::specs::Step::pp_writes))]
 pub fn activity()
-    ensures acn { Leads
-        ((P, 0o100) ∷ (Cell 0o100, 0o7403) ∷ (Channel 3, 0o1234) ∷ [])
-        1
-        ((P, 0o101) ∷ (Mode 3, 1) ∷ (Channel 3, 0o1234) ∷ []) }
-    ensures acn_waits { Leads
-        ((P, 0o100) ∷ (Cell 0o100, 0o7403) ∷ (Mode 3, 1) ∷ [])
-        1
-        ((P, 0o100) ∷ (Mode 3, 1) ∷ []) }
-    ensures dcn { Leads
-        ((P, 0o100) ∷ (Cell 0o100, 0o7503) ∷ (Mode 3, 2) ∷ (Channel 3, 0o1234) ∷ [])
-        1
+    ensures acn { Performs 0o7403 ((Channel 3, 0o1234) ∷ []) ((P, 0o101) ∷ (Mode 3, 1) ∷ (Channel 3, 0o1234) ∷ []) }
+    ensures acn_waits { Performs 0o7403 ((Mode 3, 1) ∷ []) ((P, 0o100) ∷ (Mode 3, 1) ∷ []) }
+    ensures dcn { Performs 0o7503
+        ((Mode 3, 2) ∷ (Channel 3, 0o1234) ∷ [])
         ((P, 0o101) ∷ (Mode 3, 0) ∷ (Channel 3, 0o1234) ∷ []) }
-    ensures dcn_waits { Leads ((P, 0o100) ∷ (Cell 0o100, 0o7503) ∷ []) 1 ((P, 0o100) ∷ (Mode 3, 0) ∷ []) }
-    ensures fan { Leads
-        ((P, 0o100) ∷ (A, 0o654321) ∷ (Cell 0o100, 0o7603) ∷ [])
-        1
-        ((P, 0o101) ∷ (Mode 3, 3) ∷ (Channel 3, 0o4321) ∷ []) }
-    ensures fnc { Leads
-        ((P, 0o100) ∷ (A, 0o654321) ∷ (Cell 0o100, 0o7703) ∷ (Cell 0o101, 1) ∷ [])
-        1
+    ensures dcn_waits { Performs 0o7503 [] ((P, 0o100) ∷ (Mode 3, 0) ∷ []) }
+    ensures fan { Performs 0o7603 ((A, 0o654321) ∷ []) ((P, 0o101) ∷ (Mode 3, 3) ∷ (Channel 3, 0o4321) ∷ []) }
+    ensures fnc { Performs 0o7703
+        ((A, 0o654321) ∷ (Cell 0o101, 1) ∷ [])
         ((P, 0o102) ∷ (Mode 3, 3) ∷ (Channel 3, 1) ∷ []) }
 {}
 
 /// 15 to 77 name no channel: a test finds it inactive and not full, and every other instruction waits.
 #[tactic(auto, unfolding(pp_step::specs::Step::pp_writes))]
 pub fn no_channel()
-    ensures ajm { Leads ((P, 0o100) ∷ (Cell 0o100, 0o6415) ∷ (Cell 0o101, 0o200) ∷ []) 1 ((P, 0o102) ∷ []) }
-    ensures ijm { Leads ((P, 0o100) ∷ (Cell 0o100, 0o6515) ∷ (Cell 0o101, 0o200) ∷ []) 1 ((P, 0o200) ∷ []) }
-    ensures fjm { Leads ((P, 0o100) ∷ (Cell 0o100, 0o6615) ∷ (Cell 0o101, 0o200) ∷ []) 1 ((P, 0o102) ∷ []) }
-    ensures ejm { Leads ((P, 0o100) ∷ (Cell 0o100, 0o6715) ∷ (Cell 0o101, 0o200) ∷ []) 1 ((P, 0o200) ∷ []) }
-    ensures acn { Leads ((P, 0o100) ∷ (Cell 0o100, 0o7415) ∷ []) 1 ((P, 0o100) ∷ []) }
-    ensures dcn { Leads ((P, 0o100) ∷ (Cell 0o100, 0o7515) ∷ []) 1 ((P, 0o100) ∷ []) }
+    ensures ajm { Performs 0o6415 ((Cell 0o101, 0o200) ∷ []) ((P, 0o102) ∷ []) }
+    ensures ijm { Performs 0o6515 ((Cell 0o101, 0o200) ∷ []) ((P, 0o200) ∷ []) }
+    ensures fjm { Performs 0o6615 ((Cell 0o101, 0o200) ∷ []) ((P, 0o102) ∷ []) }
+    ensures ejm { Performs 0o6715 ((Cell 0o101, 0o200) ∷ []) ((P, 0o200) ∷ []) }
+    ensures acn { Performs 0o7415 [] ((P, 0o100) ∷ []) }
+    ensures dcn { Performs 0o7515 [] ((P, 0o100) ∷ []) }
 {}
 
 /// Channel 14, the clock, is always active and full. 75 passes and changes nothing.
 #[tactic(auto, unfolding(pp_step::specs::Step::pp_writes))]
 pub fn clock_channel()
-    ensures ajm { Leads ((P, 0o100) ∷ (Cell 0o100, 0o6414) ∷ (Cell 0o101, 0o200) ∷ []) 1 ((P, 0o200) ∷ []) }
-    ensures ijm { Leads ((P, 0o100) ∷ (Cell 0o100, 0o6514) ∷ (Cell 0o101, 0o200) ∷ []) 1 ((P, 0o102) ∷ []) }
-    ensures fjm { Leads ((P, 0o100) ∷ (Cell 0o100, 0o6614) ∷ (Cell 0o101, 0o200) ∷ []) 1 ((P, 0o200) ∷ []) }
-    ensures ejm { Leads ((P, 0o100) ∷ (Cell 0o100, 0o6714) ∷ (Cell 0o101, 0o200) ∷ []) 1 ((P, 0o102) ∷ []) }
-    ensures oan { Leads ((P, 0o100) ∷ (Cell 0o100, 0o7214) ∷ []) 1 ((P, 0o100) ∷ []) }
-    ensures acn { Leads ((P, 0o100) ∷ (Cell 0o100, 0o7414) ∷ []) 1 ((P, 0o100) ∷ []) }
-    ensures dcn { Leads ((P, 0o100) ∷ (Cell 0o100, 0o7514) ∷ []) 1 ((P, 0o101) ∷ []) }
+    ensures ajm { Performs 0o6414 ((Cell 0o101, 0o200) ∷ []) ((P, 0o200) ∷ []) }
+    ensures ijm { Performs 0o6514 ((Cell 0o101, 0o200) ∷ []) ((P, 0o102) ∷ []) }
+    ensures fjm { Performs 0o6614 ((Cell 0o101, 0o200) ∷ []) ((P, 0o200) ∷ []) }
+    ensures ejm { Performs 0o6714 ((Cell 0o101, 0o200) ∷ []) ((P, 0o102) ∷ []) }
+    ensures oan { Performs 0o7214 [] ((P, 0o100) ∷ []) }
+    ensures acn { Performs 0o7414 [] ((P, 0o100) ∷ []) }
+    ensures dcn { Performs 0o7514 [] ((P, 0o101) ∷ []) }
 {}

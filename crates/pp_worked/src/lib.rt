@@ -2,7 +2,8 @@
 //!
 //! Each function does nothing. Its contract is a theorem that the prover computes only from the definitions of the
 //! crates below, `crates/*/specs`. So a reader can compare these rows with the manual without reading code.
-//! A row names numbers before and after. Each number that it does not name before is 0. Numbers are octal.
+//! A row names numbers before and after. Each number that it does not name before is 0. Numbers are octal. Rows look
+//! alike on purpose: each is a case of its own.
 #![tactic(auto)]
 
 mod blocks;
