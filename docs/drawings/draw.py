@@ -201,7 +201,7 @@ PLACES = {
     "pp_lines": (550, "bytes, lines, words"),
     "pp_machine": (400, "the machine, its places"),
     "pp_arith": (750, "one's complement, octal"),
-    "pp_memory": (110, "running out of memory"),
+    "test_memory": (110, "running out of memory"),
     "test_client": (110, "a client of the crates"),
     "pp_worked": (110, "rows worked by hand"),
 }
@@ -211,7 +211,7 @@ LAYERS_KEY = [
     "and the crates of the kit.",
 ]
 # the crates for tests, each in a row of the column on the left
-TESTS = {"pp_memory": 1, "test_client": 2, "pp_worked": 3}
+TESTS = {"test_memory": 1, "test_client": 2, "pp_worked": 3}
 
 
 def read_uses():

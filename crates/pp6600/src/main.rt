@@ -1,7 +1,7 @@
 //! The program: passes its words, files and standard streams to `pp_program::run`.
 #![tactic(auto)]
 
-ghost use Rattle.pp_program.specs.Hosts.{words_known};
+ghost use Rattle.pp_program.specs.Host.{words_known};
 ghost use Rattle.std.specs.Prelude.{None};
 
 use pp_lines::{Counted, Source};

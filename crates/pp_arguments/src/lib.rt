@@ -4,9 +4,7 @@
 mod command_line;
 mod decimal;
 mod options;
-mod reading;
 #[cfg(test)]
 mod tests;
 
-pub use options::{ArgFault, Options};
-pub use reading::read_arguments;
+pub use options::{ArgFault, Options, read_arguments};

@@ -1,6 +1,14 @@
-//! What the words of the command line ask for, or why they are rejected.
+//! The options of the program: what the words of the command line ask for, or why they are rejected.
+ghost use Rattle.pp_arguments.specs.CommandLine.{faults_of};
+ghost use Rattle.pp_arguments.specs.Options.{AreAskedBy, AreInRange, IsCauseOf, IsMemoryOrChannel, are_admitted, asked_or, central_read, channel_read, history_read, size_of};
+ghost use Rattle.std.specs.Prelude.{◌≡◌, ◌≤◌, [], map, option_map, true, IfErr, IfOk, IfSome, OnOk};
+ghost use Rattle.std.specs.String.{string_bytes};
 
+use crate::command_line::read_words;
+use crate::decimal::read_decimal;
+use pp_arith::read_octal;
 use pp_machine::CentralSize;
+use std::alloc::Global;
 
 /// What the words of the command line ask for (this project's choice).
 #[derive(Debug, Drop)]
@@ -34,4 +42,125 @@ pub enum ArgFault {
     BadArguments,
     /// A device's channel is not octal, or is above 13 octal.
     BadChannel,
+}
+
+/// The largest number of actions in an undo history.
+const MOST_KEPT: u32 = 10_000;
+
+/// The highest channel that a device can be on.
+const LAST_CHANNEL: u64 = 0o13;
+
+/// The channels of the card reader and the line printer, if the words name none.
+const READER_CHANNEL: u8 = 0o12;
+
+const PRINTER_CHANNEL: u8 = 0o13;
+
+fn history(word: Option<&str>) -> Option<u32>
+    ensures value { result ≡ asked_or 10000 history_read (option_map (λ text. text.now) word.entry) }
+    ensures within { IfSome result (λ count. (1 ≤ count) × (count ≤ 10000)) }
+{
+    let Some(word) = word else {
+        return Some(MOST_KEPT);
+    };
+    match read_decimal(word, MOST_KEPT) {
+        Some(count) if count >= 1 => Some(count),
+        _ => None,
+    }
+}
+
+fn size(thousands: u32) -> Option<CentralSize>
+    ensures { result ≡ size_of thousands }
+{
+    match thousands {
+        32 => Some(CentralSize::K32),
+        64 => Some(CentralSize::K64),
+        128 => Some(CentralSize::K128),
+        _ => None,
+    }
+}
+
+fn central(word: Option<&str>) -> Option<CentralSize>
+    ensures { result ≡ asked_or CentralSize.K128 central_read (option_map (λ text. text.now) word.entry) }
+{
+    let Some(word) = word else {
+        return Some(CentralSize::K128);
+    };
+    size(read_decimal(word, 128)?)
+}
+
+fn channel(word: Option<&str>, usual: u8) -> Option<u8>
+    requires { usual ≤ 0o13 }
+    ensures value { result ≡ asked_or usual channel_read (option_map (λ text. text.now) word.entry) }
+    ensures within { IfSome result (λ number. number ≤ 0o13) }
+{
+    let Some(word) = word else {
+        return Some(usual);
+    };
+    match read_octal(word.as_bytes(), LAST_CHANNEL) {
+        Ok(number) => Some(number as u8),
+        Err(_) => None,
+    }
+}
+
+fn file(alloc: Global, word: Option<&str>) -> Result<Option<String>, ArgFault>
+    ensures name { IfOk result (λ name. option_map (λ text. text.now) word.entry ≡ option_map string_bytes name) }
+    ensures memory { IfErr result (λ fault. fault ≡ ArgFault.NoMemory) }
+{
+    let Some(word) = word else {
+        return Ok(None);
+    };
+    match word.to_string(alloc) {
+        Ok(name) => Ok(Some(name)),
+        Err(_) => Err(ArgFault::NoMemory),
+    }
+}
+
+fn read_options(alloc: Global, words: &[String]) -> Result<Options, ArgFault>
+    ensures asked { IfOk result (AreAskedBy (map string_bytes words.now)) }
+    ensures ranges { IfOk result AreInRange }
+    ensures line { OnOk result (faults_of (map string_bytes words.now) ≡ []) }
+    ensures cause { IfErr result (IsCauseOf (map string_bytes words.now)) }
+    ensures admitted { are_admitted (map string_bytes words.now) ≡ true → IfErr result IsMemoryOrChannel }
+{
+    let matches = read_words(alloc, words)?;
+    let Some(history) = history(matches.get_str("history")) else {
+        return Err(ArgFault::BadArguments);
+    };
+    let Some(central) = central(matches.get_str("central")) else {
+        return Err(ArgFault::BadArguments);
+    };
+    let Some(reader) = channel(matches.get_str("reader"), READER_CHANNEL) else {
+        return Err(ArgFault::BadChannel);
+    };
+    let Some(printer) = channel(matches.get_str("printer"), PRINTER_CHANNEL) else {
+        return Err(ArgFault::BadChannel);
+    };
+    Ok(Options {
+        history,
+        central,
+        deck: file(alloc, matches.get_str("deck"))?,
+        reader,
+        printer,
+        panel: file(alloc, matches.get_str("panel"))?,
+        script: file(alloc, matches.get_str("script"))?,
+    })
+}
+
+/// Returns the options that the words ask for. The first word is the program's name:
+/// `pp6600 [--history N] [--central K] [--deck F] [--reader C] [--printer C] [--panel F] [SCRIPT]`
+/// (this project's choice). N and K are decimal, C is octal, and any number of leading zeros is allowed.
+/// N is 1 to 10,000, K is 32, 64 or 128, and C is 0 to 13 octal.
+///
+/// # Errors
+/// `NoMemory` if memory runs out. `Help` or `BadArguments` if the words are not those of this command
+/// line, as `clap` reads it. Otherwise `BadArguments` if N or K is out of range, and otherwise
+/// `BadChannel` if a channel is.
+pub fn read_arguments(alloc: Global, words: Vec<String>) -> Result<Options, ArgFault>
+    ensures asked { IfOk result (AreAskedBy (map string_bytes words.items)) }
+    ensures ranges { IfOk result AreInRange }
+    ensures line { OnOk result (faults_of (map string_bytes words.items) ≡ []) }
+    ensures cause { IfErr result (IsCauseOf (map string_bytes words.items)) }
+    ensures admitted { are_admitted (map string_bytes words.items) ≡ true → IfErr result IsMemoryOrChannel }
+{
+    read_options(alloc, words.as_slice())
 }

@@ -4,8 +4,7 @@ use Rattle.std.specs.Bool.{Decides}
 use Rattle.std.specs.List.{list_all}
 use Rattle.std.proofs.Common.{arith}
 use Rattle.std.proofs.lemmas.Bool.Decides.{nat_tests, Decides-and, Decides-by_and, Decides-like, Decides-ltb}
-use Rattle.pp_command.specs.Asking.{CanBeAsked, IsPlaceWithin, IsWithin}
-use Rattle.pp_command.specs.Ranges.{IsActionInRange, IsPlaceInRange}
+use Rattle.pp_command.specs.Ranges.{CanBeAsked, IsActionInRange, IsPlaceInRange, IsPlaceWithin, IsWithin}
 use Rattle.pp_machine.specs.ChannelNumbers.{state_number}
 use Rattle.pp_machine.specs.Machine.{Machine}
 use Rattle.pp_rig.specs.Admitting.{is_in_range, is_watchable, is_word_or_none}

@@ -33,28 +33,16 @@ abbrev pub choose : {A : Type 0} → List (Row A) → Words → Result A LineFau
 choose rows [] = Err WordCount
 choose rows (kind ∷ given) = row_of rows kind given
 
+-- what is made of what the words say
+abbrev pub makes : {A B : Type 0} → (A → B) → (Words → Result A LineFault) → Words → Result B LineFault
+makes make read given = read given >>= λ x. Ok (make x)
+
 -- SET M n a v ..
 unfoldable pub set_cells : Words → Result Request LineFault
 set_cells (n ∷ a ∷ v ∷ more) =
     if nat_lt 7 (length more) then Err WordCount
     else if_octal (n ∷ a ∷ v ∷ more) (number 0o11 n >>= λ pp. number 0o7777 a >>= λ cell. numbers 0o7777 (v ∷ more) >>= λ values. Ok (Act (SetCells pp cell values)))
 set_cells _ = Err WordCount
-
--- SET A n v
-unfoldable pub set_a : Words → Result Request LineFault
-set_a given = two 0o11 0o777777 given >>= λ n. Ok (Act (SetA n.0 n.1))
-
--- SET P n v
-unfoldable pub set_p : Words → Result Request LineFault
-set_p given = two 0o11 0o7777 given >>= λ n. Ok (Act (SetP n.0 n.1))
-
--- SET Q n v
-unfoldable pub set_q : Words → Result Request LineFault
-set_q given = two 0o11 0o7777 given >>= λ n. Ok (Act (SetQ n.0 n.1))
-
--- SET C a v
-unfoldable pub set_word : Words → Result Request LineFault
-set_word given = two 0o377777 (2 ^ 60 - 1) given >>= λ n. Ok (Act (SetWord n.0 n.1))
 
 -- I (inactive), E (active, empty) or F (active, full)
 unfoldable pub state : List ℕ → Result ChannelState LineFault
@@ -79,59 +67,23 @@ set_channel _ = Err WordCount
 unfoldable pub set : Words → Result Request LineFault
 set = choose (
     codes "M" ⇒ set_cells
-    ∷ codes "A" ⇒ set_a
-    ∷ codes "P" ⇒ set_p
-    ∷ codes "Q" ⇒ set_q
-    ∷ codes "C" ⇒ set_word
+    ∷ codes "A" ⇒ makes (λ n. Act (SetA n.0 n.1)) (two 0o11 0o777777)
+    ∷ codes "P" ⇒ makes (λ n. Act (SetP n.0 n.1)) (two 0o11 0o7777)
+    ∷ codes "Q" ⇒ makes (λ n. Act (SetQ n.0 n.1)) (two 0o11 0o7777)
+    ∷ codes "C" ⇒ makes (λ n. Act (SetWord n.0 n.1)) (two 0o377777 (2 ^ 60 - 1))
     ∷ codes "H" ⇒ set_channel
     ∷ [])
 
--- M n a
-unfoldable pub cell_place : Words → Result Watched LineFault
-cell_place given = two 0o11 0o7777 given >>= λ n. Ok (Cell n.0 n.1)
-
--- A n
-unfoldable pub a_place : Words → Result Watched LineFault
-a_place given = one 0o11 given >>= λ n. Ok (RegA n)
-
--- P n
-unfoldable pub p_place : Words → Result Watched LineFault
-p_place given = one 0o11 given >>= λ n. Ok (RegP n)
-
--- Q n
-unfoldable pub q_place : Words → Result Watched LineFault
-q_place given = one 0o11 given >>= λ n. Ok (RegQ n)
-
--- C a
-unfoldable pub central_place : Words → Result Watched LineFault
-central_place given = one 0o377777 given >>= λ a. Ok (Central a)
-
--- H c, where 14 is the clock
-unfoldable pub register_place : Words → Result Watched LineFault
-register_place given = one 0o14 given >>= λ c. Ok (Register c)
-
--- a place, by its kind
+-- a place, by its kind; register 14 is the clock
 unfoldable pub place : Words → Result Watched LineFault
 place = choose (
-    codes "M" ⇒ cell_place
-    ∷ codes "A" ⇒ a_place
-    ∷ codes "P" ⇒ p_place
-    ∷ codes "Q" ⇒ q_place
-    ∷ codes "C" ⇒ central_place
-    ∷ codes "H" ⇒ register_place
+    codes "M" ⇒ makes (λ n. Cell n.0 n.1) (two 0o11 0o7777)
+    ∷ codes "A" ⇒ makes RegA (one 0o11)
+    ∷ codes "P" ⇒ makes RegP (one 0o11)
+    ∷ codes "Q" ⇒ makes RegQ (one 0o11)
+    ∷ codes "C" ⇒ makes Central (one 0o377777)
+    ∷ codes "H" ⇒ makes Register (one 0o14)
     ∷ [])
-
--- WATCH place
-unfoldable pub watch : Words → Result Request LineFault
-watch given = place given >>= λ watched. Ok (Act (Watch watched))
-
--- UNWATCH place
-unfoldable pub unwatch : Words → Result Request LineFault
-unwatch given = place given >>= λ watched. Ok (Act (Unwatch watched))
-
--- STEP [count]
-unfoldable pub step : Words → Result Request LineFault
-step given = count given >>= λ turns. Ok (Step turns)
 
 -- whether the only word is W
 abbrev pub is_change : Words → Bool
@@ -140,15 +92,7 @@ is_change _ = false
 
 -- BACK W, or BACK [count]
 unfoldable pub back : Words → Result Request LineFault
-back given = if is_change given then Ok BackToChange else (count given >>= λ actions. Ok (Back actions))
-
--- FORWARD [count]
-unfoldable pub forward : Words → Result Request LineFault
-forward given = count given >>= λ actions. Ok (Forward actions)
-
--- DEADSTART
-unfoldable pub deadstart : Words → Result Request LineFault
-deadstart = none (Act Deadstart)
+back given = if is_change given then Ok BackToChange else makes Back count given
 
 -- the request, if the first address is not above the last
 abbrev pub ordered : ℕ → ℕ → Request → Result Request LineFault
@@ -158,10 +102,6 @@ ordered first last request = if nat_le first last then Ok request else Err OutOf
 unfoldable pub dump_cells : Words → Result Request LineFault
 dump_cells given = three 0o11 0o7777 0o7777 given >>= λ n. ordered n.1 n.2 (DumpCells n.0 n.1 n.2)
 
--- DUMP PP n
-unfoldable pub dump_processor : Words → Result Request LineFault
-dump_processor given = one 0o11 given >>= λ n. Ok (DumpProcessor n)
-
 -- DUMP C a b
 unfoldable pub dump_central : Words → Result Request LineFault
 dump_central given = two 0o377777 0o377777 given >>= λ n. ordered n.0 n.1 (DumpCentral n.0 n.1)
@@ -170,7 +110,7 @@ dump_central given = two 0o377777 0o377777 given >>= λ n. ordered n.0 n.1 (Dump
 unfoldable pub dump : Words → Result Request LineFault
 dump = choose (
     codes "M" ⇒ dump_cells
-    ∷ codes "PP" ⇒ dump_processor
+    ∷ codes "PP" ⇒ makes DumpProcessor (one 0o11)
     ∷ codes "H" ⇒ none DumpChannels
     ∷ codes "C" ⇒ dump_central
     ∷ codes "XP" ⇒ none DumpFrame
@@ -183,12 +123,12 @@ dump = choose (
 unfoldable pub named : List ℕ → Words → Result Request LineFault
 named = row_of (
     codes "SET" ⇒ set
-    ∷ codes "STEP" ⇒ step
+    ∷ codes "STEP" ⇒ makes Step count
     ∷ codes "BACK" ⇒ back
-    ∷ codes "FORWARD" ⇒ forward
-    ∷ codes "WATCH" ⇒ watch
-    ∷ codes "UNWATCH" ⇒ unwatch
-    ∷ codes "DEADSTART" ⇒ deadstart
+    ∷ codes "FORWARD" ⇒ makes Forward count
+    ∷ codes "WATCH" ⇒ makes (λ watched. Act (Watch watched)) place
+    ∷ codes "UNWATCH" ⇒ makes (λ watched. Act (Unwatch watched)) place
+    ∷ codes "DEADSTART" ⇒ none (Act Deadstart)
     ∷ codes "DUMP" ⇒ dump
     ∷ [])
 

@@ -1,5 +1,5 @@
--- The ranges of a request's numbers.
-use Rattle.std.specs.Prelude.{◌<◌, ◌≤◌, ◌^◌, All, length, IfSome}
+-- The ranges of a request's numbers, and what separates them from the ranges of a machine.
+use Rattle.std.specs.Prelude.{ℕ, ◌<◌, ◌≤◌, ◌^◌, All, length, IfSome}
 use Rattle.pp_machine.specs.ChannelNumbers.{state_number}
 use Rattle.pp_rig.specs.declared.action.Action.{Action}
 use Rattle.pp_rig.specs.declared.action.Action.TheVariants as action
@@ -40,3 +40,23 @@ IsInRange (DumpCells n first last) = (n ≤ 0o11) × (first ≤ last) × (last �
 IsInRange (DumpProcessor n) = n ≤ 0o11
 IsInRange (DumpCentral first last) = (first ≤ last) × (last < 0o400000)
 IsInRange _ = Unit {0}
+
+-- ---- what a line may ask for and a machine may not have, and the reverse
+
+-- the central word of a place is below the size
+abbrev pub IsPlaceWithin : ℕ → Watched → Type 0
+IsPlaceWithin size (watched.Central a) = a < size
+IsPlaceWithin size _ = Unit {0}
+
+-- The central word that an action names, if any, is below the given size. A line may name one of the largest size.
+abbrev pub IsWithin : ℕ → Action → Type 0
+IsWithin size (action.SetWord a v) = a < size
+IsWithin size (action.Watch w) = IsPlaceWithin size w
+IsWithin size (action.Unwatch w) = IsPlaceWithin size w
+IsWithin size _ = Unit {0}
+
+-- a line sets at most eight cells, and it cannot ask for a turn
+abbrev pub CanBeAsked : Action → Type 0
+CanBeAsked action.Turn = ⊥
+CanBeAsked (action.SetCells n a values) = length values ≤ 8
+CanBeAsked _ = Unit {0}

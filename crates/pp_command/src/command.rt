@@ -24,6 +24,7 @@ impl Model for Command {
 }
 
 impl Command {
+    /// Returns the command of a request.
     pub(crate) fn new(request: Request) -> Command
         requires { IsInRange request }
         ensures { result ≡ request }

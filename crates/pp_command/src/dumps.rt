@@ -6,10 +6,9 @@ ghost use Rattle.pp_command.specs.CommandLine as spec;
 ghost use Rattle.pp_command.specs.Ranges.{IsInRange};
 
 use crate::fault::LineFault;
-use crate::keywords::is_word;
 use crate::numbers::{one, three, two};
 use crate::request::Request;
-use pp_lines::next_word;
+use crate::words::{first_word, is_word, no_words};
 
 /// Returns the request if the text has no words.
 ///
@@ -21,10 +20,8 @@ pub fn alone(request: Request, text: &[u8]) -> Result<Request, LineFault>
     ensures value { result ≡ none request (words text.now) }
     ensures in_range { IfOk result IsInRange }
 {
-    match next_word(text) {
-        None => Ok(request),
-        Some(_) => Err(LineFault::WordCount),
-    }
+    no_words(text)?;
+    Ok(request)
 }
 
 /// Parses `DUMP M n a b`.
@@ -42,16 +39,6 @@ fn dump_cells(text: &[u8]) -> Result<Request, LineFault>
         first: first as u16,
         last: last as u16,
     })
-}
-
-/// Parses `DUMP PP n`.
-#[tactic(auto, unfolding(crate::specs::CommandLine::dump_processor))]
-fn dump_processor(text: &[u8]) -> Result<Request, LineFault>
-    ensures value { result ≡ spec.dump_processor (words text.now) }
-    ensures in_range { IfOk result IsInRange }
-{
-    let pp = one(text, 0o11)? as u8;
-    Ok(Request::DumpProcessor(pp))
 }
 
 /// Parses `DUMP C a b`.
@@ -79,13 +66,12 @@ pub fn dump(text: &[u8]) -> Result<Request, LineFault>
     ensures value { result ≡ spec.dump (words text.now) }
     ensures in_range { IfOk result IsInRange }
 {
-    let Some((kind, rest)) = next_word(text) else {
-        return Err(LineFault::WordCount);
-    };
+    let (kind, rest) = first_word(text)?;
     if is_word(kind, b"M") {
         dump_cells(rest)
     } else if is_word(kind, b"PP") {
-        dump_processor(rest)
+        let pp = one(rest, 0o11)? as u8;
+        Ok(Request::DumpProcessor(pp))
     } else if is_word(kind, b"H") {
         alone(Request::DumpChannels, rest)
     } else if is_word(kind, b"C") {

@@ -3,20 +3,20 @@
 #![tactic(auto)]
 
 mod command;
+mod command_line;
 mod dumps;
 mod fault;
-mod keywords;
-mod laws;
-mod line;
 mod numbers;
 mod places;
+mod ranges;
 mod request;
 mod settings;
 #[cfg(test)]
 mod tests;
+mod words;
 
 pub use command::Command;
+pub use command_line::parse;
 pub use fault::LineFault;
-pub use laws::ranges_agree;
-pub use line::parse;
+pub use ranges::ranges_agree;
 pub use request::Request;

@@ -4,6 +4,7 @@ ghost use Rattle.pp_lines.specs.Words.{words};
 ghost use Rattle.pp_command.specs.Numbers as spec;
 
 use crate::fault::LineFault;
+use crate::words::{first_word, no_words};
 use pp_arith::{OctalFault, is_octal, read_octal};
 use pp_lines::next_word;
 
@@ -31,12 +32,8 @@ pub fn one(text: &[u8], most: u64) -> Result<u64, LineFault>
     ensures value { result ≡ spec.one most (words text.now) }
     ensures within { IfOk result (λ value. value ≤ most) }
 {
-    let Some((word, rest)) = next_word(text) else {
-        return Err(LineFault::WordCount);
-    };
-    if next_word(rest).is_some() {
-        return Err(LineFault::WordCount);
-    }
+    let (word, rest) = first_word(text)?;
+    no_words(rest)?;
     number(word, most)
 }
 
@@ -75,16 +72,22 @@ pub fn two(text: &[u8], first: u64, second: u64) -> Result<(u64, u64), LineFault
     ensures value { result ≡ spec.two first second (words text.now) }
     ensures within { IfOk result (λ values. (values.0 ≤ first) × (values.1 ≤ second)) }
 {
-    let Some((x, rest)) = next_word(text) else {
-        return Err(LineFault::WordCount);
-    };
-    let Some((y, rest)) = next_word(rest) else {
-        return Err(LineFault::WordCount);
-    };
-    if next_word(rest).is_some() {
-        return Err(LineFault::WordCount);
-    }
+    let (x, rest) = first_word(text)?;
+    let (y, rest) = first_word(rest)?;
+    no_words(rest)?;
     pair(x, y, first, second)
+}
+
+/// Reads the number of a processor, 0 to 11 octal, and another number, 0 to `most`.
+///
+/// # Errors
+/// As `two`.
+pub fn processor_and(text: &[u8], most: u64) -> Result<(u8, u64), LineFault>
+    ensures value { result ≡ spec.two 0o11 most (words text.now) }
+    ensures within { IfOk result (λ values. (values.0 ≤ 0o11) × (values.1 ≤ most)) }
+{
+    let (pp, number) = two(text, 0o11, most)?;
+    Ok((pp as u8, number))
 }
 
 /// Reads three numbers, 0 to `first`, 0 to `second` and 0 to `third`.
@@ -97,18 +100,10 @@ pub fn three(text: &[u8], first: u64, second: u64, third: u64) -> Result<(u64, u
     ensures value { result ≡ spec.three first second third (words text.now) }
     ensures within { IfOk result (λ values. (values.0 ≤ first) × (values.1 ≤ second) × (values.2 ≤ third)) }
 {
-    let Some((x, rest)) = next_word(text) else {
-        return Err(LineFault::WordCount);
-    };
-    let Some((y, rest)) = next_word(rest) else {
-        return Err(LineFault::WordCount);
-    };
-    let Some((z, rest)) = next_word(rest) else {
-        return Err(LineFault::WordCount);
-    };
-    if next_word(rest).is_some() {
-        return Err(LineFault::WordCount);
-    }
+    let (x, rest) = first_word(text)?;
+    let (y, rest) = first_word(rest)?;
+    let (z, rest) = first_word(rest)?;
+    no_words(rest)?;
     let (Ok(a), Ok(b), Ok(c)) = (number(x, first), number(y, second), number(z, third)) else {
         return Err(fault_of(is_octal(x) && is_octal(y) && is_octal(z)));
     };

@@ -5,73 +5,9 @@ ghost use Rattle.pp_command.specs.CommandLine as spec;
 ghost use Rattle.pp_command.specs.Ranges.{IsPlaceInRange};
 
 use crate::fault::LineFault;
-use crate::keywords::is_word;
-use crate::numbers::{one, two};
-use pp_lines::next_word;
+use crate::numbers::{one, processor_and};
+use crate::words::{first_word, is_word};
 use pp_rig::Watched;
-
-/// Parses `M n a`.
-#[tactic(auto, unfolding(crate::specs::CommandLine::cell_place))]
-fn cell_place(text: &[u8]) -> Result<Watched, LineFault>
-    ensures value { result ≡ spec.cell_place (words text.now) }
-    ensures in_range { IfOk result IsPlaceInRange }
-{
-    let (pp, a) = two(text, 0o11, 0o7777)?;
-    Ok(Watched::Cell {
-        pp: pp as u8,
-        a: a as u16,
-    })
-}
-
-/// Parses `A n`.
-#[tactic(auto, unfolding(crate::specs::CommandLine::a_place))]
-fn a_place(text: &[u8]) -> Result<Watched, LineFault>
-    ensures value { result ≡ spec.a_place (words text.now) }
-    ensures in_range { IfOk result IsPlaceInRange }
-{
-    let pp = one(text, 0o11)? as u8;
-    Ok(Watched::RegA { pp })
-}
-
-/// Parses `P n`.
-#[tactic(auto, unfolding(crate::specs::CommandLine::p_place))]
-fn p_place(text: &[u8]) -> Result<Watched, LineFault>
-    ensures value { result ≡ spec.p_place (words text.now) }
-    ensures in_range { IfOk result IsPlaceInRange }
-{
-    let pp = one(text, 0o11)? as u8;
-    Ok(Watched::RegP { pp })
-}
-
-/// Parses `Q n`.
-#[tactic(auto, unfolding(crate::specs::CommandLine::q_place))]
-fn q_place(text: &[u8]) -> Result<Watched, LineFault>
-    ensures value { result ≡ spec.q_place (words text.now) }
-    ensures in_range { IfOk result IsPlaceInRange }
-{
-    let pp = one(text, 0o11)? as u8;
-    Ok(Watched::RegQ { pp })
-}
-
-/// Parses `C a`.
-#[tactic(auto, unfolding(crate::specs::CommandLine::central_place))]
-fn central_place(text: &[u8]) -> Result<Watched, LineFault>
-    ensures value { result ≡ spec.central_place (words text.now) }
-    ensures in_range { IfOk result IsPlaceInRange }
-{
-    let a = one(text, 0o377777)? as u32;
-    Ok(Watched::Central { a })
-}
-
-/// Parses `H c`.
-#[tactic(auto, unfolding(crate::specs::CommandLine::register_place))]
-fn register_place(text: &[u8]) -> Result<Watched, LineFault>
-    ensures value { result ≡ spec.register_place (words text.now) }
-    ensures in_range { IfOk result IsPlaceInRange }
-{
-    let c = one(text, 0o14)? as u8;
-    Ok(Watched::Register { c })
-}
 
 /// Parses a place, by its kind.
 ///
@@ -82,21 +18,25 @@ pub fn place(text: &[u8]) -> Result<Watched, LineFault>
     ensures value { result ≡ spec.place (words text.now) }
     ensures in_range { IfOk result IsPlaceInRange }
 {
-    let Some((kind, rest)) = next_word(text) else {
-        return Err(LineFault::WordCount);
-    };
+    let (kind, rest) = first_word(text)?;
     if is_word(kind, b"M") {
-        cell_place(rest)
+        let (pp, a) = processor_and(rest, 0o7777)?;
+        Ok(Watched::Cell { pp, a: a as u16 })
     } else if is_word(kind, b"A") {
-        a_place(rest)
+        let pp = one(rest, 0o11)? as u8;
+        Ok(Watched::RegA { pp })
     } else if is_word(kind, b"P") {
-        p_place(rest)
+        let pp = one(rest, 0o11)? as u8;
+        Ok(Watched::RegP { pp })
     } else if is_word(kind, b"Q") {
-        q_place(rest)
+        let pp = one(rest, 0o11)? as u8;
+        Ok(Watched::RegQ { pp })
     } else if is_word(kind, b"C") {
-        central_place(rest)
+        let a = one(rest, 0o377777)? as u32;
+        Ok(Watched::Central { a })
     } else if is_word(kind, b"H") {
-        register_place(rest)
+        let c = one(rest, 0o14)? as u8;
+        Ok(Watched::Register { c })
     } else {
         Err(LineFault::NotACommand)
     }

@@ -1,7 +1,5 @@
 //! The lines that begin with SET.
 ghost use Rattle.std.specs.Prelude.{◌≡◌, ◌≤◌, ◌<◌, ◌∷◌, ◌+◌, length, All, IfOk};
-ghost use Rattle.std.specs.List.{list_all};
-ghost use Rattle.pp_arith.specs.Octal.{is_octal};
 ghost use Rattle.pp_lines.specs.Words.{words};
 ghost use Rattle.pp_machine.specs.ChannelNumbers.{state_number};
 ghost use Rattle.pp_command.specs.Numbers.{numbers};
@@ -9,12 +7,11 @@ ghost use Rattle.pp_command.specs.CommandLine as spec;
 ghost use Rattle.pp_command.specs.Ranges.{IsInRange};
 
 use crate::fault::LineFault;
-use crate::keywords::is_word;
-use crate::numbers::{number, pair, two};
+use crate::numbers::{number, pair, processor_and, two};
 use crate::request::Request;
+use crate::words::{first_word, is_word, no_words};
 use arrayvec::ArrayVec;
-use pp_arith::is_octal;
-use pp_lines::next_word;
+use pp_lines::{are_octal, next_word};
 use pp_machine::ChannelState;
 use pp_rig::{Action, Values};
 
@@ -29,20 +26,6 @@ fn count_words(text: &[u8]) -> usize
         rest = others;
     }
     count
-}
-
-/// Returns whether all words of the text are octal.
-fn are_octal(text: &[u8]) -> bool
-    ensures { result ≡ list_all is_octal (words text.now) }
-{
-    let mut rest = text;
-    'words: while let Some((word, others)) = next_word(rest) {
-        if !is_octal(word) {
-            return false;
-        }
-        rest = others;
-    }
-    true
 }
 
 /// Reads the numbers in all words of the text, at most eight, each 0 to 7777 octal.
@@ -74,66 +57,13 @@ fn set_cells(text: &[u8]) -> Result<Request, LineFault>
     if !are_octal(text) {
         return Err(LineFault::NotANumber);
     }
-    let Some((pp, rest)) = next_word(text) else {
-        return Err(LineFault::WordCount);
-    };
-    let Some((a, rest)) = next_word(rest) else {
-        return Err(LineFault::WordCount);
-    };
+    let (pp, rest) = first_word(text)?;
+    let (a, rest) = first_word(rest)?;
     Ok(Request::Act(Action::SetCells {
         pp: number(pp, 0o11)? as u8,
         a: number(a, 0o7777)? as u16,
         values: cell_values(rest)?,
     }))
-}
-
-/// Parses `SET A n v`.
-#[tactic(auto, unfolding(crate::specs::CommandLine::set_a))]
-fn set_a(text: &[u8]) -> Result<Request, LineFault>
-    ensures value { result ≡ spec.set_a (words text.now) }
-    ensures in_range { IfOk result IsInRange }
-{
-    let (pp, v) = two(text, 0o11, 0o777777)?;
-    Ok(Request::Act(Action::SetA {
-        pp: pp as u8,
-        v: v as u32,
-    }))
-}
-
-/// Parses `SET P n v`.
-#[tactic(auto, unfolding(crate::specs::CommandLine::set_p))]
-fn set_p(text: &[u8]) -> Result<Request, LineFault>
-    ensures value { result ≡ spec.set_p (words text.now) }
-    ensures in_range { IfOk result IsInRange }
-{
-    let (pp, v) = two(text, 0o11, 0o7777)?;
-    Ok(Request::Act(Action::SetP {
-        pp: pp as u8,
-        v: v as u16,
-    }))
-}
-
-/// Parses `SET Q n v`.
-#[tactic(auto, unfolding(crate::specs::CommandLine::set_q))]
-fn set_q(text: &[u8]) -> Result<Request, LineFault>
-    ensures value { result ≡ spec.set_q (words text.now) }
-    ensures in_range { IfOk result IsInRange }
-{
-    let (pp, v) = two(text, 0o11, 0o7777)?;
-    Ok(Request::Act(Action::SetQ {
-        pp: pp as u8,
-        v: v as u16,
-    }))
-}
-
-/// Parses `SET C a v`.
-#[tactic(auto, unfolding(crate::specs::CommandLine::set_word))]
-fn set_word(text: &[u8]) -> Result<Request, LineFault>
-    ensures value { result ≡ spec.set_word (words text.now) }
-    ensures in_range { IfOk result IsInRange }
-{
-    let (a, v) = two(text, 0o377777, (1 << 60) - 1)?;
-    Ok(Request::Act(Action::SetWord { a: a as u32, v }))
 }
 
 /// Returns the state that a letter names.
@@ -167,9 +97,7 @@ fn channel_in(state: ChannelState, c: &[u8], text: &[u8]) -> Result<Request, Lin
             word: None,
         }));
     };
-    if next_word(rest).is_some() {
-        return Err(LineFault::WordCount);
-    }
+    no_words(rest)?;
     let (c, word) = pair(c, v, 0o13, 0o7777)?;
     Ok(Request::Act(Action::SetChannel {
         c: c as u8,
@@ -184,12 +112,8 @@ fn set_channel(text: &[u8]) -> Result<Request, LineFault>
     ensures value { result ≡ spec.set_channel (words text.now) }
     ensures in_range { IfOk result IsInRange }
 {
-    let Some((c, rest)) = next_word(text) else {
-        return Err(LineFault::WordCount);
-    };
-    let Some((s, rest)) = next_word(rest) else {
-        return Err(LineFault::WordCount);
-    };
+    let (c, rest) = first_word(text)?;
+    let (s, rest) = first_word(rest)?;
     let state = state(s)?;
     channel_in(state, c, rest)
 }
@@ -203,19 +127,21 @@ pub fn set(text: &[u8]) -> Result<Request, LineFault>
     ensures value { result ≡ spec.set (words text.now) }
     ensures in_range { IfOk result IsInRange }
 {
-    let Some((kind, rest)) = next_word(text) else {
-        return Err(LineFault::WordCount);
-    };
+    let (kind, rest) = first_word(text)?;
     if is_word(kind, b"M") {
         set_cells(rest)
     } else if is_word(kind, b"A") {
-        set_a(rest)
+        let (pp, v) = processor_and(rest, 0o777777)?;
+        Ok(Request::Act(Action::SetA { pp, v: v as u32 }))
     } else if is_word(kind, b"P") {
-        set_p(rest)
+        let (pp, v) = processor_and(rest, 0o7777)?;
+        Ok(Request::Act(Action::SetP { pp, v: v as u16 }))
     } else if is_word(kind, b"Q") {
-        set_q(rest)
+        let (pp, v) = processor_and(rest, 0o7777)?;
+        Ok(Request::Act(Action::SetQ { pp, v: v as u16 }))
     } else if is_word(kind, b"C") {
-        set_word(rest)
+        let (a, v) = two(rest, 0o377777, (1 << 60) - 1)?;
+        Ok(Request::Act(Action::SetWord { a: a as u32, v }))
     } else if is_word(kind, b"H") {
         set_channel(rest)
     } else {

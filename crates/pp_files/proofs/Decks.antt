@@ -5,8 +5,8 @@ use Rattle.std.specs.List.{concat}
 use Rattle.pp_files.specs.declared.fault.LoadFault.{LoadFault}
 use Rattle.pp_files.specs.Rows.{Row}
 use Rattle.pp_files.specs.Files.{Rule, ◌>>=◌, file_limit, rows_of_file, card_rule, card_of_row, panel_rule, whole_panel, deck_of_file, panel_of_file}
-use Rattle.pp_files.specs.Loading.{IsCauseOf}
-use Rattle.pp_files.specs.Reading.{Reads}
+use Rattle.pp_files.specs.Fault.{IsCauseOf}
+use Rattle.pp_files.specs.Loading.{Reads}
 
 -- the cause of a fault of the rows is also a cause of the fault of the deck or panel made from the rows
 carried : {A : Type 0} (rule : Rule) (rows : List ℕ → Result (List Row) LoadFault) (f : List Row → Result A LoadFault) (fault : LoadFault) (taken bytes : List ℕ) →

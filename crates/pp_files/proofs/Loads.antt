@@ -12,10 +12,10 @@ use Rattle.pp_lines.proofs.LineCuts.{finished-feed, finished-byte}
 use Rattle.pp_lines.proofs.Limits.{lines-whole, lines-last}
 use Rattle.pp_files.specs.Rows.{Row}
 use Rattle.pp_files.specs.Files.{Rule, with_line, with_lines, rows_of_lines, file_limit, lines_of_file, rows_of_file}
-use Rattle.pp_files.specs.Loading.{RunsOut, BreaksOff, IsCauseOf}
+use Rattle.pp_files.specs.Fault.{RunsOut, BreaksOff, IsCauseOf}
 use Rattle.pp_lines.specs.Device.{all_bytes}
 use Rattle.pp_lines.proofs.Reading.{all-read, unread}
-use Rattle.pp_files.specs.Reading.{Stands, Reads, FailsAt, FailsIn}
+use Rattle.pp_files.specs.Loading.{HasRead, Reads, FailsAt, FailsIn}
 use Rattle.pp_files.proofs.MoreLines.{row_of_front, line-kept, lines-one, lines-short, file-fault, file-short, file-long, lines_of_file-feed}
 
 -- ---- a fault at a line
@@ -50,16 +50,16 @@ FailsIn-line rule limit bytes rows done line later fault split read (inr refused
 
 -- ---- the progress of a file
 
-pub Stands-within : (progress : Progress) (rule : Rule) (Holds : List Row → Type 0) (bytes : List ℕ) → Stands progress rule Holds bytes → length bytes ≤ file_limit
-Stands-within progress rule Holds bytes stands = rw (← stands.counts_bytes) progress.bytes_within
+pub HasRead-within : (progress : Progress) (rule : Rule) (Holds : List Row → Type 0) (bytes : List ℕ) → HasRead progress rule Holds bytes → length bytes ≤ file_limit
+HasRead-within progress rule Holds bytes stands = rw (← stands.counts_bytes) progress.bytes_within
 
 front-none : (kept : ℕ) (front : List ℕ) → front ≡ [] → IsFrontOf kept front []
 front-none kept front e = rw e (search rules)
 
 -- before the first byte
-pub Stands-new : (progress : Progress) (rule : Rule) (Holds : List Row → Type 0) → progress.cutter ≡ [] → progress.bytes ≡ 0 → progress.lines ≡ 0 → Holds [] → Stands progress rule Holds []
+pub HasRead-new : (progress : Progress) (rule : Rule) (Holds : List Row → Type 0) → progress.cutter ≡ [] → progress.bytes ≡ 0 → progress.lines ≡ 0 → Holds [] → HasRead progress rule Holds []
 unfolding with_lines
-Stands-new progress rule Holds front no_bytes no_lines held = record {
+HasRead-new progress rule Holds front no_bytes no_lines held = record {
   keeps = front-none KEPT progress.cutter front;
   counts_bytes = no_bytes;
   counts_lines = no_lines;
@@ -67,9 +67,9 @@ Stands-new progress rule Holds front no_bytes no_lines held = record {
 }
 
 -- a byte that is not a line feed
-pub Stands-byte : (old new : Progress) (rule : Rule) (Holds : List Row → Type 0) (bytes : List ℕ) (byte : ℕ) → eqb byte 10 ≡ false → Stands old rule Holds bytes →
-    IsFrontOf KEPT new.cutter (bytes ++ byte ∷ []) → new.bytes ≡ old.bytes + 1 → new.lines ≡ old.lines → Stands new rule Holds (bytes ++ byte ∷ [])
-Stands-byte old new rule Holds bytes byte h stands front more_bytes same_lines = record {
+pub HasRead-byte : (old new : Progress) (rule : Rule) (Holds : List Row → Type 0) (bytes : List ℕ) (byte : ℕ) → eqb byte 10 ≡ false → HasRead old rule Holds bytes →
+    IsFrontOf KEPT new.cutter (bytes ++ byte ∷ []) → new.bytes ≡ old.bytes + 1 → new.lines ≡ old.lines → HasRead new rule Holds (bytes ++ byte ∷ [])
+HasRead-byte old new rule Holds bytes byte h stands front more_bytes same_lines = record {
   keeps = front;
   counts_bytes = more_bytes ∙ rw (length-append bytes (byte ∷ [])) (ap (λ n. n + 1) stands.counts_bytes);
   counts_lines = rw (finished-byte bytes byte h) (same_lines ∙ stands.counts_lines);
@@ -77,11 +77,11 @@ Stands-byte old new rule Holds bytes byte h stands front more_bytes same_lines =
 }
 
 -- a line feed
-pub Stands-feed : (old new : Progress) (rule : Rule) (Holds Holds' : List Row → Type 0) (bytes : List ℕ) → Stands old rule Holds bytes →
+pub HasRead-feed : (old new : Progress) (rule : Rule) (Holds Holds' : List Row → Type 0) (bytes : List ℕ) → HasRead old rule Holds bytes →
     IsFrontOf KEPT new.cutter (bytes ++ 10 ∷ []) → new.bytes ≡ old.bytes + 1 → new.lines ≡ old.lines + 1 →
     ((rows : List Row) → Holds rows → Reads Holds' (with_line rule (old.lines + 1) rows old.cutter)) →
-    Stands new rule Holds' (bytes ++ 10 ∷ [])
-Stands-feed old new rule Holds Holds' bytes stands front more_bytes more_lines line =
+    HasRead new rule Holds' (bytes ++ 10 ∷ [])
+HasRead-feed old new rule Holds Holds' bytes stands front more_bytes more_lines line =
     let read = stands.reads in
     let next = line read.0 read.2 in
     record {
@@ -98,9 +98,9 @@ Stands-feed old new rule Holds Holds' bytes stands front more_bytes more_lines l
     }
 
 -- a fault at a line that ends with a line feed
-pub Stands-fault : (old : Progress) (rule : Rule) (Holds : List Row → Type 0) (fault : LoadFault) (bytes more : List ℕ) → Stands old rule Holds bytes → old.bytes < file_limit →
+pub HasRead-fault : (old : Progress) (rule : Rule) (Holds : List Row → Type 0) (fault : LoadFault) (bytes more : List ℕ) → HasRead old rule Holds bytes → old.bytes < file_limit →
     ((rows : List Row) → Holds rows → FailsAt rule (old.lines + 1) rows old.cutter fault) → FailsIn rule (bytes ++ 10 ∷ more) fault
-Stands-fault old rule Holds fault bytes more stands room line =
+HasRead-fault old rule Holds fault bytes more stands room line =
     let read = stands.reads in
     let room : length bytes < file_limit = rw (← stands.counts_bytes) room in
     let further = lines_of_file-feed file_limit bytes more room in
@@ -109,22 +109,22 @@ Stands-fault old rule Holds fault bytes more stands room line =
     (FailsAt-kept rule (length (finished bytes) + 1) read.0 old.cutter (unfinished bytes) fault stands.keeps fails)
 
 -- a byte above the limit
-pub Stands-long : (old : Progress) (rule : Rule) (Holds : List Row → Type 0) (bytes more : List ℕ) (byte : ℕ) → Stands old rule Holds bytes → old.bytes ≡ file_limit → FailsIn rule (bytes ++ byte ∷ more) FileTooLong
-Stands-long old rule Holds bytes more byte stands full =
+pub HasRead-long : (old : Progress) (rule : Rule) (Holds : List Row → Type 0) (bytes more : List ℕ) (byte : ℕ) → HasRead old rule Holds bytes → old.bytes ≡ file_limit → FailsIn rule (bytes ++ byte ∷ more) FileTooLong
+HasRead-long old rule Holds bytes more byte stands full =
     inl (file-long rule stands.reads.0 file_limit bytes more byte (sym stands.counts_bytes ∙ full) stands.reads.1)
 
 -- ---- the end of a file
 
 -- the last line ends with a line feed
-pub file-whole : (progress : Progress) (rule : Rule) (Holds : List Row → Type 0) (bytes : List ℕ) → Stands progress rule Holds bytes → length progress.cutter ≡ 0 →
+pub file-whole : (progress : Progress) (rule : Rule) (Holds : List Row → Type 0) (bytes : List ℕ) → HasRead progress rule Holds bytes → length progress.cutter ≡ 0 →
     Reads Holds (rows_of_file rule file_limit bytes)
 file-whole progress rule Holds bytes stands empty =
     let read = stands.reads in
     let all = lines-whole KEPT progress.cutter bytes (omega arith) stands.keeps empty in
-    (read.0, file-short rule file_limit bytes (Stands-within progress rule Holds bytes stands) ∙ ap (rows_of_lines rule) all ∙ read.1, read.2)
+    (read.0, file-short rule file_limit bytes (HasRead-within progress rule Holds bytes stands) ∙ ap (rows_of_lines rule) all ∙ read.1, read.2)
 
 -- the last line does not end with a line feed
-pub file-last : {T : Type 0} (progress : Progress) (rule : Rule) (Holds Holds' : List Row → Type 0) (result : Result T LoadFault) (bytes : List ℕ) → Stands progress rule Holds bytes → 0 < length progress.cutter →
+pub file-last : {T : Type 0} (progress : Progress) (rule : Rule) (Holds Holds' : List Row → Type 0) (result : Result T LoadFault) (bytes : List ℕ) → HasRead progress rule Holds bytes → 0 < length progress.cutter →
     ((rows : List Row) → Holds rows → MatchResult result (λ _. Reads Holds' (with_line rule (progress.lines + 1) rows progress.cutter)) (λ fault. FailsAt rule (progress.lines + 1) rows progress.cutter fault)) →
     MatchResult result (λ _. Reads Holds' (rows_of_file rule file_limit bytes)) (λ fault. FailsIn rule bytes fault)
 file-last progress rule Holds Holds' (Ok value) bytes stands begun line =
@@ -132,7 +132,7 @@ file-last progress rule Holds Holds' (Ok value) bytes stands begun line =
     let next = line read.0 read.2 in
     let all = lines-last KEPT progress.cutter bytes stands.keeps begun in (
       next.0,
-      file-short rule file_limit bytes (Stands-within progress rule Holds bytes stands) ∙ ap (rows_of_lines rule) all
+      file-short rule file_limit bytes (HasRead-within progress rule Holds bytes stands) ∙ ap (rows_of_lines rule) all
           ∙ lines-one rule read.0 (finished bytes) (unfinished bytes) read.1
           ∙ sym (line-kept rule (length (finished bytes) + 1) read.0 progress.cutter (unfinished bytes) stands.keeps)
           ∙ ap (λ n. with_line rule (n + 1) read.0 progress.cutter) (sym stands.counts_lines) ∙ next.1,
@@ -143,7 +143,7 @@ file-last progress rule Holds Holds' (Err fault) bytes stands begun line =
     let all = lines-last KEPT progress.cutter bytes stands.keeps begun in
     let fails : FailsAt rule (length (finished bytes) + 1) read.0 progress.cutter fault = rw stands.counts_lines at (line read.0 read.2) in
     FailsIn-line rule file_limit bytes read.0 (finished bytes) (unfinished bytes) [] fault
-    (lines-short file_limit bytes (Stands-within progress rule Holds bytes stands) ∙ all ∙ sym (append-nil (finished bytes ++ unfinished bytes ∷ []))) read.1
+    (lines-short file_limit bytes (HasRead-within progress rule Holds bytes stands) ∙ all ∙ sym (append-nil (finished bytes ++ unfinished bytes ∷ []))) read.1
     (FailsAt-kept rule (length (finished bytes) + 1) read.0 progress.cutter (unfinished bytes) fault stands.keeps fails)
 
 -- ---- the bytes that were read
@@ -161,8 +161,8 @@ fails-in rule first second taken fault p fails =
     rw rest.1 (caused rule taken (taken ++ rest.0) fault (fails rest.0))
 
 -- the source failed
-pub breaks-off : (progress : Progress) (rule : Rule) (Holds : List Row → Type 0) (taken : List ℕ) → Stands progress rule Holds taken → BreaksOff rule file_limit taken
-breaks-off progress rule Holds taken stands = (Stands-within progress rule Holds taken stands, (stands.reads.0, stands.reads.1))
+pub breaks-off : (progress : Progress) (rule : Rule) (Holds : List Row → Type 0) (taken : List ℕ) → HasRead progress rule Holds taken → BreaksOff rule file_limit taken
+breaks-off progress rule Holds taken stands = (HasRead-within progress rule Holds taken stands, (stands.reads.0, stands.reads.1))
 
 -- at the end of input
 pub ends : {T : Type 0} (result : Result T LoadFault) (P : T → Type 0) (rule : Rule) (first second : Option (List ℕ)) (taken : List ℕ) → Consumes first second taken → IsAtEnd second →

@@ -1,37 +1,49 @@
--- Why a file was not loaded.
-use Rattle.std.specs.Prelude.{◌≡◌, ℕ, ◌+◌, ◌≤◌, ◌⊎◌, List, [], ◌∷◌, ◌++◌, length, Some, Result, Ok, Err}
-use Rattle.pp_lines.specs.Device.{one_more}
-use Rattle.pp_lines.specs.Lines.{finished}
+-- Definitions for the inner contracts of loading: a file as far as it was read, and the fault that is reported there.
+use Rattle.std.specs.Prelude.{◌≡◌, ℕ, ◌⊎◌, Bool, true, List, length, Result, Ok, Err}
+use Rattle.pp_lines.specs.Lines.{finished, IsFrontOf}
 use Rattle.pp_files.specs.declared.fault.LoadFault.{LoadFault}
 use Rattle.pp_files.specs.declared.fault.LoadFault.TheVariants.{NoMemory, ReadFailed}
-use Rattle.pp_files.specs.Rows.{Row, row_of_line}
-use Rattle.pp_files.specs.Files.{Rule, rows_of_lines, file_limit, lines_of_file}
+use Rattle.pp_files.specs.declared.progress.Progress.{Progress}
+use Rattle.pp_files.specs.declared.progress.TheConstants.{KEPT}
+use Rattle.pp_files.specs.Rows.{Row}
+use Rattle.pp_files.specs.Files.{Rule, with_line, rows_of_lines, file_limit, rows_of_file}
+use Rattle.pp_files.specs.Fault.{IsRow, RunsOut}
 
--- these lines have no fault
-abbrev pub HasNoFault : Rule → List (List ℕ) → Type 0
-HasNoFault rule done = (rows : List Row) × (rows_of_lines rule done ≡ Ok rows)
+-- there are rows, and the sheet holds them
+abbrev pub Reads : (List Row → Type 0) → Result (List Row) LoadFault → Type 0
+Reads Holds read = (rows : List Row) × (read ≡ Ok rows) × Holds rows
 
--- line k has a row
-abbrev pub IsRow : ℕ → List ℕ → Type 0
-IsRow k line = (row : Row) × (row_of_line k line ≡ Ok (Some row))
+-- there are rows
+abbrev pub HasRows : Result (List Row) LoadFault → Type 0
+HasRows read = (rows : List Row) × (read ≡ Ok rows)
 
--- one of the file's lines has a row, and there is no fault up to it: memory ran out there
-abbrev pub RunsOut : Rule → ℕ → List ℕ → Type 0
-RunsOut rule limit bytes =
-    (done : List (List ℕ)) × (line : List ℕ) × (later : List (List ℕ)) × (lines_of_file limit bytes ≡ done ++ line ∷ later)
-    × HasNoFault rule (done ++ line ∷ []) × IsRow (length done + 1) line
+-- the fault is that of the rows, or memory ran out and the rows have no fault
+abbrev pub FailsBy : Result (List Row) LoadFault → LoadFault → Type 0
+FailsBy read fault = (read ≡ Err fault) ⊎ ((fault ≡ NoMemory) × HasRows read)
 
--- the bytes that were read are within the limit, and their finished lines have no fault: the source failed there
-abbrev pub BreaksOff : Rule → ℕ → List ℕ → Type 0
-BreaksOff rule limit taken = (length taken ≤ limit) × HasNoFault rule (finished taken)
+-- the fault is that of line k, or memory ran out for its row and the line has no fault
+abbrev pub FailsAt : Rule → ℕ → List Row → List ℕ → LoadFault → Type 0
+FailsAt rule k rows line fault =
+    (with_line rule k rows line ≡ Err fault) ⊎ ((fault ≡ NoMemory) × HasRows (with_line rule k rows line) × IsRow k line)
 
--- Why a file was not loaded, given the bytes that were read and all bytes of the file: the file has this fault, or
--- memory ran out or a read failed before any fault of the file.
-abbrev pub IsCauseOf : {A : Type 0} → Rule → (List ℕ → Result A LoadFault) → List ℕ → List ℕ → LoadFault → Type 0
-IsCauseOf rule file taken bytes fault =
-    (file bytes ≡ Err fault) ⊎ (((fault ≡ NoMemory) × RunsOut rule file_limit bytes) ⊎ ((fault ≡ ReadFailed) × BreaksOff rule file_limit taken))
+-- the fault is that of the file with these bytes, or memory ran out before any fault of the file
+abbrev pub FailsIn : Rule → List ℕ → LoadFault → Type 0
+FailsIn rule bytes fault = (rows_of_file rule file_limit bytes ≡ Err fault) ⊎ ((fault ≡ NoMemory) × RunsOut rule file_limit bytes)
 
--- the source's count of failures after a fault
-abbrev pub reads_after : LoadFault → ℕ → ℕ
-reads_after ReadFailed count = one_more count
-reads_after fault count = count
+-- no read failed, and memory ran out only if the sheet needs memory
+abbrev pub IsLineFault : Bool → LoadFault → Type 0
+IsLineFault needs_memory NoMemory = needs_memory ≡ true
+IsLineFault needs_memory ReadFailed = ⊥
+IsLineFault needs_memory fault = Unit {0}
+
+-- memory ran out only if the sheet needs memory
+abbrev pub IsSheetFault : Bool → LoadFault → Type 0
+IsSheetFault needs_memory NoMemory = needs_memory ≡ true
+IsSheetFault needs_memory fault = Unit {0}
+
+-- the file was read as far as these bytes
+pub record HasRead (progress : Progress) (rule : Rule) (Holds : List Row → Type 0) (bytes : List ℕ) : Type 0 where
+  pub keeps : IsFrontOf KEPT progress.cutter bytes
+  pub counts_bytes : progress.bytes ≡ length bytes
+  pub counts_lines : progress.lines ≡ length (finished bytes)
+  pub reads : Reads Holds (rows_of_lines rule (finished bytes))

@@ -2,7 +2,7 @@
 #![tactic(auto)]
 
 mod fault;
-mod load;
+mod files;
 mod loading;
 mod progress;
 mod rows;
@@ -11,4 +11,4 @@ mod sheet;
 mod tests;
 
 pub use fault::LoadFault;
-pub use load::{load_deck, load_panel};
+pub use files::{load_deck, load_panel};

@@ -4,14 +4,14 @@ ghost use Rattle.std.specs.Prelude.{◌≡◌, ◌+◌, ◌∷◌, ◌++◌, [],
 ghost use Rattle.pp_lines.specs.Device.{all_bytes};
 ghost use Rattle.pp_files.specs.Rows.{Row};
 ghost use Rattle.pp_files.specs.Files.{with_line, file_limit, rows_of_file};
-ghost use Rattle.pp_files.specs.Loading.{IsCauseOf, reads_after};
-ghost use Rattle.pp_files.specs.Reading.{Stands, Reads, FailsAt, FailsIn, MayTell, MayWant};
+ghost use Rattle.pp_files.specs.Fault.{IsCauseOf, reads_after};
+ghost use Rattle.pp_files.specs.Loading.{HasRead, Reads, FailsAt, FailsIn, IsLineFault, IsSheetFault};
 
 use crate::fault::LoadFault;
 use crate::progress::{FILE_LIMIT, LONGEST, Progress};
-use crate::rows::{are_numbers, are_octal};
+use crate::rows::are_numbers;
 use crate::sheet::Sheet;
-use pp_lines::{Failed, LINE_FEED, Source, is_ignored, without_return};
+use pp_lines::{Failed, LINE_FEED, Source, are_octal, is_ignored, without_return};
 
 /// The largest number of bytes read at once.
 const PIECE: usize = 4096;
@@ -22,7 +22,7 @@ fn read_line<S: Sheet>(sheet: &mut S, number: u32, line: &[u8]) -> Result<(), Lo
     ensures row { (rows : List Row) → S.holds sheet.old rows →
         MatchResult result (λ _. Reads (S.holds sheet.new) (with_line S.rule number rows line.now))
         (λ fault. FailsAt S.rule number rows line.now fault) }
-    ensures faults { IfErr result (MayTell S.wants_memory) }
+    ensures faults { IfErr result (IsLineFault S.needs_memory) }
 {
     let text = without_return(line);
     if text.len() > LONGEST {
@@ -42,12 +42,12 @@ fn read_line<S: Sheet>(sheet: &mut S, number: u32, line: &[u8]) -> Result<(), Lo
 
 /// Processes one more byte of the file.
 fn feed_byte<S: Sheet>(progress: &mut Progress, sheet: &mut S, byte: u8) -> Result<(), LoadFault>
-    ensures stands { (bytes more : List ℕ) → Stands progress.old S.rule (S.holds sheet.old) bytes →
+    ensures stands { (bytes more : List ℕ) → HasRead progress.old S.rule (S.holds sheet.old) bytes →
         MatchResult result
-        (λ _. Stands progress.new S.rule (S.holds sheet.new) (bytes ++ byte ∷ []))
+        (λ _. HasRead progress.new S.rule (S.holds sheet.new) (bytes ++ byte ∷ []))
         (λ fault. FailsIn S.rule (bytes ++ byte ∷ more) fault) }
     ensures bytes { OnOk result (progress.new.bytes ≡ progress.old.bytes + 1) }
-    ensures faults { IfErr result (MayTell S.wants_memory) }
+    ensures faults { IfErr result (IsLineFault S.needs_memory) }
 {
     if progress.bytes == FILE_LIMIT {
         return Err(LoadFault::FileTooLong);
@@ -65,12 +65,12 @@ fn feed_byte<S: Sheet>(progress: &mut Progress, sheet: &mut S, byte: u8) -> Resu
 
 /// Processes one more piece of the file.
 fn feed<S: Sheet>(progress: &mut Progress, sheet: &mut S, piece: &[u8]) -> Result<(), LoadFault>
-    ensures stands { (bytes more : List ℕ) → Stands progress.old S.rule (S.holds sheet.old) bytes →
+    ensures stands { (bytes more : List ℕ) → HasRead progress.old S.rule (S.holds sheet.old) bytes →
         MatchResult result
-        (λ _. Stands progress.new S.rule (S.holds sheet.new) (bytes ++ piece.now))
+        (λ _. HasRead progress.new S.rule (S.holds sheet.new) (bytes ++ piece.now))
         (λ fault. FailsIn S.rule ((bytes ++ piece.now) ++ more) fault) }
     ensures bytes { OnOk result (progress.new.bytes ≡ progress.old.bytes + length piece.now) }
-    ensures faults { IfErr result (MayTell S.wants_memory) }
+    ensures faults { IfErr result (IsLineFault S.needs_memory) }
 {
     for byte in piece {
         feed_byte(progress, sheet, *byte)?;
@@ -80,11 +80,11 @@ fn feed<S: Sheet>(progress: &mut Progress, sheet: &mut S, piece: &[u8]) -> Resul
 
 /// Reads the last line, if no line feed ended it.
 fn finish<S: Sheet>(progress: &Progress, sheet: &mut S) -> Result<(), LoadFault>
-    ensures read { (bytes : List ℕ) → Stands progress.now S.rule (S.holds sheet.old) bytes →
+    ensures read { (bytes : List ℕ) → HasRead progress.now S.rule (S.holds sheet.old) bytes →
         MatchResult result
         (λ _. Reads (S.holds sheet.new) (rows_of_file S.rule file_limit bytes))
         (λ fault. FailsIn S.rule bytes fault) }
-    ensures faults { IfErr result (MayTell S.wants_memory) }
+    ensures faults { IfErr result (IsLineFault S.needs_memory) }
 {
     let line = progress.cutter.line();
     if line.is_empty() {
@@ -108,7 +108,7 @@ pub fn read_sheet<R: Source, S: Sheet>(source: &mut R, sheet: &mut S) -> Result<
     ensures reads { MatchResult result
         (λ _. R.failure_count source.new ≡ R.failure_count source.old)
         (λ fault. R.failure_count source.new ≡ reads_after fault (R.failure_count source.old)) }
-    ensures faults { IfErr result (MayWant S.wants_memory) }
+    ensures faults { IfErr result (IsSheetFault S.needs_memory) }
 {
     let mut progress = Progress::new();
     let mut piece = [0; PIECE];

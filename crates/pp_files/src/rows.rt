@@ -1,30 +1,16 @@
 //! Reads the numbers in the text of a line.
 ghost use Rattle.std.specs.Prelude.{◌≡◌, ◌<◌, ◌≤◌, true, length, IfSome, MatchOption, All};
 ghost use Rattle.std.specs.List.{list_all};
-ghost use Rattle.pp_arith.specs.Octal.{is_octal, octal_value};
+ghost use Rattle.pp_arith.specs.Octal.{octal_value};
 ghost use Rattle.pp_lines.specs.Words.{words};
 ghost use Rattle.pp_files.specs.Rows.{is_number, numbers};
 
 use arrayvec::ArrayVec;
-use pp_arith::{is_octal, read_octal};
+use pp_arith::read_octal;
 use pp_lines::next_word;
 
 /// The largest number in a file.
 const MOST: u64 = 0o7777;
-
-/// Returns whether all words of the text are octal.
-pub fn are_octal(text: &[u8]) -> bool
-    ensures { result ≡ list_all is_octal (words text.now) }
-{
-    let mut rest = text;
-    'words: while let Some((word, others)) = next_word(rest) {
-        if !is_octal(word) {
-            return false;
-        }
-        rest = others;
-    }
-    true
-}
 
 /// Returns whether the word is octal and at most the largest number.
 fn is_number(word: &[u8]) -> bool

@@ -4,7 +4,7 @@ ghost use Rattle.std.specs.List.{list_all, concat};
 ghost use Rattle.pp_lines.specs.Words.{words};
 ghost use Rattle.pp_files.specs.Rows.{Row, is_number, numbers};
 ghost use Rattle.pp_files.specs.Files.{Rule, card_rule, card_of_row, panel_rule};
-ghost use Rattle.pp_files.specs.Reading.{Reads, FailsBy, MayTell};
+ghost use Rattle.pp_files.specs.Loading.{Reads, FailsBy, IsLineFault};
 
 use crate::fault::LoadFault;
 use crate::rows::numbers;
@@ -25,7 +25,7 @@ pub trait Sheet {
     ghost holds: { Self → List Row → Type 0 };
 
     // Whether a row may need memory.
-    ghost wants_memory: { Bool };
+    ghost needs_memory: { Bool };
 
     /// Adds the row of a line of numbers. `line` is the number of the line.
     ///
@@ -37,7 +37,7 @@ pub trait Sheet {
             MatchResult result
             (λ _. Reads (holds self.new) (rule line rows (numbers (words text.now))))
             (λ fault. FailsBy (rule line rows (numbers (words text.now))) fault) }
-        ensures faults { IfErr result (MayTell wants_memory) };
+        ensures faults { IfErr result (IsLineFault needs_memory) };
 }
 
 /// The cards of a deck.
@@ -52,7 +52,7 @@ impl Sheet for Deck {
 
     ghost holds = { λ deck rows. deck.cards.items ≡ map card_of_row rows };
 
-    ghost wants_memory = { true };
+    ghost needs_memory = { true };
 
     fn add(&mut self, line: u32, text: &[u8]) -> Result<(), LoadFault> {
         let Some(row) = numbers::<COLUMNS>(text) else {
@@ -96,7 +96,7 @@ impl Sheet for Panel {
 
     ghost holds = { λ panel rows. panel.words.items ≡ concat rows };
 
-    ghost wants_memory = { false };
+    ghost needs_memory = { false };
 
     fn add(&mut self, _line: u32, text: &[u8]) -> Result<(), LoadFault> {
         let Some(row) = numbers::<PANEL_WORDS>(text) else {

@@ -22,6 +22,17 @@ fn repeated(rt: HostRuntime, text: &str, times: usize, end: &str) -> Result<Stri
     Ok(all)
 }
 
+/// Returns the fault of a deck file with a text repeated `times` times, followed by `end`.
+fn repeated_deck_fault(
+    rt: HostRuntime,
+    text: &str,
+    times: usize,
+    end: &str,
+) -> Result<Option<LoadFault>, Fail> {
+    let file = repeated(rt, text, times, end)?;
+    Ok(deck_fault(rt, file.as_bytes()))
+}
+
 #[test]
 fn a_card_is_a_line_of_words(rt: HostRuntime) {
     for piece in [1, 2, 3, 4096] {
@@ -80,18 +91,13 @@ fn damaged_decks(rt: HostRuntime) -> Result<(), Fail> {
     assert_eq!(rt; deck_fault(rt, b"* \xc3\n"), None);
     assert_eq!(rt; deck_fault(rt, b"1\r2\n"), Some(LoadFault::NotOctal(1)));
     assert_eq!(rt; deck_fault(rt, b"8\n10000\n"), Some(LoadFault::NotOctal(1)));
-    let words = repeated(rt, "1 ", 80, "\n")?;
-    assert_eq!(rt; deck_fault(rt, words.as_bytes()), None);
-    let words = repeated(rt, "1 ", 81, "\n8\n")?;
-    assert_eq!(rt;
-        deck_fault(rt, words.as_bytes()),
-        Some(LoadFault::TooManyWords(1))
-    );
-    let words = repeated(rt, "1 ", 80, "10000")?;
-    assert_eq!(rt;
-        deck_fault(rt, words.as_bytes()),
-        Some(LoadFault::TooLarge(1))
-    );
+    for (times, end, fault) in [
+        (80, "\n", None),
+        (81, "\n8\n", Some(LoadFault::TooManyWords(1))),
+        (80, "10000", Some(LoadFault::TooLarge(1))),
+    ] {
+        assert_eq!(rt; repeated_deck_fault(rt, "1 ", times, end)?, fault);
+    }
     Ok(())
 }
 
@@ -110,22 +116,12 @@ fn a_comment_then_too_many_words(rt: HostRuntime) -> Result<(), Fail> {
 
 #[test]
 fn long_lines(rt: HostRuntime) -> Result<(), Fail> {
-    let longest = repeated(rt, " ", 1022, "1\r\n")?;
-    assert_eq!(rt; deck_fault(rt, longest.as_bytes()), None);
-    let longer = repeated(rt, " ", 1023, "1")?;
-    assert_eq!(rt;
-        deck_fault(rt, longer.as_bytes()),
-        Some(LoadFault::LineTooLong(1))
-    );
+    let too_long = Some(LoadFault::LineTooLong(1));
+    assert_eq!(rt; repeated_deck_fault(rt, " ", 1022, "1\r\n")?, None);
+    assert_eq!(rt; repeated_deck_fault(rt, " ", 1023, "1")?, too_long);
     let comment = repeated(rt, "*", 1023, "\r\r\n")?;
-    assert_eq!(rt;
-        deck_fault(rt, comment.as_bytes()),
-        Some(LoadFault::LineTooLong(1))
-    );
-    assert_eq!(rt;
-        panel_fault(comment.as_bytes()),
-        Some(LoadFault::LineTooLong(1))
-    );
+    assert_eq!(rt; deck_fault(rt, comment.as_bytes()), too_long);
+    assert_eq!(rt; panel_fault(comment.as_bytes()), too_long);
     Ok(())
 }
 
@@ -134,19 +130,18 @@ fn long_files(rt: HostRuntime) -> Result<(), Fail> {
     let feeds = repeated(rt, "\n", 1_048_576, "")?;
     let deck = load_deck(rt.alloc(), &mut Feed::new(feeds.as_bytes(), 4096));
     assert_eq!(rt; deck.map(|deck| deck.len()), Ok(0));
-    let feeds = repeated(rt, "\n", 1_048_577, "")?;
     assert_eq!(rt;
-        deck_fault(rt, feeds.as_bytes()),
+        repeated_deck_fault(rt, "\n", 1_048_577, "")?,
         Some(LoadFault::FileTooLong)
     );
-    let endless = load_deck(
-        rt.alloc(),
-        &mut Endless {
-            byte: b'1',
-            log: Log::new(),
-        },
+    let mut ones = Endless {
+        byte: b'1',
+        log: Log::new(),
+    };
+    assert_eq!(rt;
+        load_deck(rt.alloc(), &mut ones).err(),
+        Some(LoadFault::FileTooLong)
     );
-    assert_eq!(rt; endless.err(), Some(LoadFault::FileTooLong));
     assert_eq!(rt;
         load_panel(&mut Endless {
             byte: b'\n',

@@ -1,6 +1,6 @@
 pub mod Counted
 pub mod Device
-pub mod Full
 pub mod Lines
 pub mod Output
+pub mod Testing
 pub mod Words

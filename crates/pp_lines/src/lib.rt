@@ -2,23 +2,26 @@
 #![tactic(auto)]
 
 mod counted;
-mod cutter;
 mod device;
 mod fault;
+mod lines;
 mod log;
 mod output;
-pub mod testing;
+mod testing;
 #[cfg(test)]
 mod tests;
 mod text;
 mod words;
 
 pub use counted::Counted;
-pub use cutter::{LINE_FEED, LineCutter, next_line, without_return};
 pub use device::{Failed, Sink, Source};
 pub use fault::IoFault;
+pub use lines::{LINE_FEED, LineCutter, next_line, without_return};
 pub use log::Log;
 pub use output::put_all;
-pub use testing::{Endless, Feed, Tray};
 pub use text::push_text;
-pub use words::{is_ignored, next_word};
+pub use words::{are_octal, is_ignored, next_word};
+
+// For tests, but in no test module: the tests of the crates above use them, and no crate can use the test code of
+// another.
+pub use testing::{Calls, Endless, Feed, Tray};

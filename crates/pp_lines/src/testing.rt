@@ -2,7 +2,7 @@
 ghost use Rattle.std.specs.Io.KnownBytes.{ReadConsumes, WriteAppends};
 ghost use Rattle.std.specs.Prelude.{◌≡◌, ◌<◌, ◌↔◌, ◌⊎◌, [], IsErr, Some, None};
 ghost use Rattle.pp_lines.specs.Device.{AnswersWithin, Counts, Logs, TakesSome, one_more};
-ghost use Rattle.pp_lines.specs.Full.{IsFull};
+ghost use Rattle.pp_lines.specs.Testing.{IsFull};
 
 use crate::device::{Failed, Sink, Source};
 use crate::log::Log;

@@ -1,6 +1,6 @@
 use crate::{
-    Counted, Endless, Failed, Feed, IoFault, LineCutter, Log, Sink, Source, Tray, is_ignored,
-    next_line, next_word, push_text, put_all, without_return,
+    Counted, Endless, Failed, Feed, IoFault, LineCutter, Log, Sink, Source, Tray, are_octal,
+    is_ignored, next_line, next_word, push_text, put_all, without_return,
 };
 use arrayvec::ArrayVec;
 use std::collections::VecDeque;
@@ -131,6 +131,8 @@ fn words_stand_between_blanks_and_tabs(rt: HostRuntime) {
     ] {
         assert_eq!(rt; is_ignored(line), ignored);
     }
+    assert!(rt; are_octal(b" 17\t0"));
+    assert!(rt; !are_octal(b"17 8"));
 }
 
 #[test]

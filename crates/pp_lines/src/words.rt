@@ -1,7 +1,10 @@
 //! The words of a line.
 ghost use Rattle.std.specs.Prelude.{◌≡◌, ◌∷◌, ◌<◌, ◌≤◌, [], IfSome, MatchOption, length, not, position};
-ghost use Rattle.std.specs.List.{position_or_len};
+ghost use Rattle.std.specs.List.{list_all, position_or_len};
+ghost use Rattle.pp_arith.specs.Octal.{is_octal};
 ghost use Rattle.pp_lines.specs.Words.{is_blank, is_ignored, words};
+
+use pp_arith::is_octal;
 
 /// Returns whether the byte is a blank or a tab.
 fn is_blank(byte: u8) -> bool
@@ -52,4 +55,18 @@ pub fn is_ignored(text: &[u8]) -> bool
         None => true,
         Some((first, _)) => first.first() == Some(&b'*'),
     }
+}
+
+/// Returns whether all words of the text are octal.
+pub fn are_octal(text: &[u8]) -> bool
+    ensures { result ≡ list_all is_octal (words text.now) }
+{
+    let mut rest = text;
+    'words: while let Some((word, others)) = next_word(rest) {
+        if !is_octal(word) {
+            return false;
+        }
+        rest = others;
+    }
+    true
 }

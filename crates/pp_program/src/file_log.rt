@@ -9,6 +9,8 @@ use crate::file_event::FileEvent;
 use std::marker::Model;
 use std::mem::size_of;
 
+// Beside `pp_lines::Log`, and not one generic log: the logic stores ghost data by a code, and `coded_event` is that of
+// an event.
 /// What happened to the files of a program so far, in order. Only contracts see it. At run time the log has size zero.
 #[derive(Drop)]
 pub struct FileLog {

@@ -2,7 +2,7 @@
 ghost use Rattle.arrayvec.specs.ArrayVec.{array_vec_len};
 ghost use Rattle.pp_lines.specs.Device.{Counts};
 ghost use Rattle.pp_lines.specs.Output.{Writes};
-ghost use Rattle.pp_trouble.specs.Messages.{file_name, line_fault, line_of, load_text, text_of};
+ghost use Rattle.pp_trouble.specs.Message.{file_name, line_fault, line_of, load_text, text_of};
 ghost use Rattle.std.specs.Prelude.{◌≡◌, ◌+◌, ◌≤◌, ◌++◌, length};
 
 use crate::trouble::{FileKind, Trouble};

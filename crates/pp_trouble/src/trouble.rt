@@ -1,5 +1,5 @@
 //! What ends the program early.
-ghost use Rattle.pp_trouble.specs.Troubles.{of_arguments, of_load, of_serving, of_setup, status_of};
+ghost use Rattle.pp_trouble.specs.Trouble.{of_arguments, of_load, of_serving, of_setup, status_of};
 ghost use Rattle.std.specs.Prelude.{◌≡◌, ◌≢◌};
 
 use pp_arguments::ArgFault;
@@ -61,6 +61,8 @@ pub enum Trouble {
     LineLimit,
 }
 
+// The three conversions look alike, but each names the variants of its own fault, and the gate rejects impls that a
+// macro of the repository writes.
 impl From<ArgFault> for Trouble {
     ghost from_gives = { λ fault trouble. trouble ≡ of_arguments fault };
 

@@ -3,7 +3,7 @@ use Rattle.std.proofs.lemmas.Result.{err_from_is_err_and}
 use Rattle.std.proofs.lemmas.List.{append-nil}
 use Rattle.std.specs.Io.KnownBytes.{Consumes, IsAtEnd}
 use Rattle.pp_lines.proofs.Reading.{Consumes-nothing, Consumes-again, Consumes-keeps}
-use Rattle.pp_files.proofs.Loads.{Stands-new, breaks-off, ends, fails-in}
+use Rattle.pp_files.proofs.Loads.{HasRead-new, breaks-off, ends, fails-in}
 use Rattle.pp_files.proofs.loading.read_sheet.Goals as goal
 
 pub pieces-init : goal.pieces-init
@@ -12,7 +12,7 @@ pieces-init g c = record {
     [],
     Consumes-nothing (g.R.Source.rest c.args.source.now),
     sym (append-nil (g.R.Source.given c.args.source.now)),
-    Stands-new _ g.S.Sheet.rule _ c.new-progress.ensures.front c.new-progress.ensures.bytes c.new-progress.ensures.lines c.requires,
+    HasRead-new _ g.S.Sheet.rule _ c.new-progress.ensures.front c.new-progress.ensures.bytes c.new-progress.ensures.lines c.requires,
   );
   reads = refl;
 }

@@ -1,0 +1,19 @@
+//! The ranges of a line and those of a machine.
+ghost use Rattle.std.specs.Prelude.{◌≡◌, ◌≤◌, true};
+ghost use Rattle.pp_command.specs.Ranges.{CanBeAsked, IsActionInRange, IsWithin};
+ghost use Rattle.pp_machine.specs.Machine.{Machine};
+ghost use Rattle.pp_rig.specs.Admitting.{is_in_range};
+ghost use Rattle.pp_rig.specs.declared.action.Action.{Action};
+
+/// A line and a rig's machine have the same ranges, except for central memory. A line may name any of 400000 (octal)
+/// words, and a machine has as many as its size says. So a machine admits every action in a line's ranges, if it has
+/// the central word that the action names. A line can ask for every action that a machine admits, except a turn and
+/// the setting of more than eight cells. A machine admits no action on a central word that it does not have.
+pub fn ranges_agree()
+    ensures admitted { (m : Machine) (action : Action) → IsActionInRange action →
+        IsWithin m.setup.central_words action → is_in_range m action ≡ true }
+    ensures asked { (m : Machine) (action : Action) → m.setup.central_words ≤ 0o400000 → CanBeAsked action →
+        is_in_range m action ≡ true → IsActionInRange action }
+    ensures within { (m : Machine) (action : Action) → is_in_range m action ≡ true →
+        IsWithin m.setup.central_words action }
+{}

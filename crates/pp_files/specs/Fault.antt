@@ -1,0 +1,37 @@
+-- Why a file was not loaded.
+use Rattle.std.specs.Prelude.{◌≡◌, ℕ, ◌+◌, ◌≤◌, ◌⊎◌, List, [], ◌∷◌, ◌++◌, length, Some, Result, Ok, Err}
+use Rattle.pp_lines.specs.Device.{one_more}
+use Rattle.pp_lines.specs.Lines.{finished}
+use Rattle.pp_files.specs.declared.fault.LoadFault.{LoadFault}
+use Rattle.pp_files.specs.declared.fault.LoadFault.TheVariants.{NoMemory, ReadFailed}
+use Rattle.pp_files.specs.Rows.{Row, row_of_line}
+use Rattle.pp_files.specs.Files.{Rule, rows_of_lines, file_limit, lines_of_file}
+
+-- these lines have no fault
+abbrev pub HasNoFault : Rule → List (List ℕ) → Type 0
+HasNoFault rule done = (rows : List Row) × (rows_of_lines rule done ≡ Ok rows)
+
+-- line k has a row
+abbrev pub IsRow : ℕ → List ℕ → Type 0
+IsRow k line = (row : Row) × (row_of_line k line ≡ Ok (Some row))
+
+-- one of the file's lines has a row, and there is no fault up to it: memory ran out there
+abbrev pub RunsOut : Rule → ℕ → List ℕ → Type 0
+RunsOut rule limit bytes =
+    (done : List (List ℕ)) × (line : List ℕ) × (later : List (List ℕ)) × (lines_of_file limit bytes ≡ done ++ line ∷ later)
+    × HasNoFault rule (done ++ line ∷ []) × IsRow (length done + 1) line
+
+-- the bytes that were read are within the limit, and their finished lines have no fault: the source failed there
+abbrev pub BreaksOff : Rule → ℕ → List ℕ → Type 0
+BreaksOff rule limit taken = (length taken ≤ limit) × HasNoFault rule (finished taken)
+
+-- Why a file was not loaded, given the bytes that were read and all bytes of the file: the file has this fault, or
+-- memory ran out or a read failed before any fault of the file.
+abbrev pub IsCauseOf : {A : Type 0} → Rule → (List ℕ → Result A LoadFault) → List ℕ → List ℕ → LoadFault → Type 0
+IsCauseOf rule file taken bytes fault =
+    (file bytes ≡ Err fault) ⊎ (((fault ≡ NoMemory) × RunsOut rule file_limit bytes) ⊎ ((fault ≡ ReadFailed) × BreaksOff rule file_limit taken))
+
+-- the source's count of failures after a fault
+abbrev pub reads_after : LoadFault → ℕ → ℕ
+reads_after ReadFailed count = one_more count
+reads_after fault count = count

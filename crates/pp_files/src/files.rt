@@ -1,0 +1,81 @@
+//! Loads decks and panels.
+ghost use Rattle.std.specs.Io.KnownBytes.{Consumes, IsAtEnd};
+ghost use Rattle.std.specs.Prelude.{◌≡◌, ◌≢◌, ◌<◌, ◌++◌, ℕ, List, All, Ok, IfOk, IfErr, OnOk, MatchResult};
+ghost use Rattle.pp_lines.specs.Device.{all_bytes};
+ghost use Rattle.pp_files.specs.Files.{card_rule, panel_rule, whole_panel, deck_of_file, panel_of_file};
+ghost use Rattle.pp_files.specs.Fault.{IsCauseOf, reads_after};
+
+use crate::fault::LoadFault;
+use crate::loading::read_sheet;
+use crate::sheet::{COLUMNS, Deck, PANEL_WORDS, Panel};
+use arrayvec::ArrayVec;
+use pp_lines::Source;
+use std::alloc::Global;
+
+/// Reads the cards of a deck file to the end of input (the format is this project's choice).
+///
+/// Each line of words is a card. A line without words is skipped, and so is a line whose first byte
+/// that is not a blank or a tab is `*`. The words are octal, 0 to 7777, for the columns from the first
+/// on. Columns without a word are 0. A file without cards is an empty deck.
+///
+/// # Errors
+/// The file's first fault, in the order of `LoadFault`. `NoMemory` is reported only at a card.
+pub fn load_deck<R: Source>(alloc: Global, source: &mut R) -> Result<Vec<[u16; COLUMNS]>, LoadFault>
+    // For every source: the bytes read are the file, or after a fault the part of it that was read.
+    ensures file { (taken : List ℕ) × Consumes (R.rest source.old) (R.rest source.new) taken
+        × (R.given source.new ≡ R.given source.old ++ taken)
+        × MatchResult result
+        (λ deck. deck_of_file taken ≡ Ok deck.items)
+        (λ fault. IsCauseOf card_rule deck_of_file taken (all_bytes (R.rest source.old) taken) fault) }
+    ensures within { IfOk result (λ deck. All (All (λ value. value < 0o10000)) deck.items) }
+    ensures all { OnOk result (IsAtEnd (R.rest source.new)) }
+    ensures reads { MatchResult result
+        (λ _. R.failure_count source.new ≡ R.failure_count source.old)
+        (λ fault. R.failure_count source.new ≡ reads_after fault (R.failure_count source.old)) }
+{
+    let mut deck = Deck {
+        cards: Vec::new(alloc),
+    };
+    read_sheet(source, &mut deck)?;
+    Ok(deck.cards)
+}
+
+/// Reads the twelve words of a panel file to the end of input (the format is this project's choice):
+/// the words of all lines together, each octal, 0 to 7777. Lines are skipped as in a deck.
+///
+/// # Errors
+/// The file's first fault, in the order of `LoadFault`, and `PanelCount` if it ends with fewer than
+/// twelve words. It is never `NoMemory` or `TooManyWords`.
+pub fn load_panel<R: Source>(source: &mut R) -> Result<[u16; PANEL_WORDS], LoadFault>
+    // For every source: the bytes read are the file, or after a fault the part of it that was read.
+    ensures file { (taken : List ℕ) × Consumes (R.rest source.old) (R.rest source.new) taken
+        × (R.given source.new ≡ R.given source.old ++ taken)
+        × MatchResult result
+        (λ panel. panel_of_file taken ≡ Ok panel)
+        (λ fault. IsCauseOf panel_rule panel_of_file taken (all_bytes (R.rest source.old) taken) fault) }
+    ensures within { IfOk result (λ panel. All (λ value. value < 0o10000) panel) }
+    ensures no_memory { IfErr result (λ fault. fault ≢ LoadFault.NoMemory) }
+    ensures all { OnOk result (IsAtEnd (R.rest source.new)) }
+    ensures reads { MatchResult result
+        (λ _. R.failure_count source.new ≡ R.failure_count source.old)
+        (λ fault. R.failure_count source.new ≡ reads_after fault (R.failure_count source.old)) }
+{
+    let mut panel = Panel {
+        words: ArrayVec::new(),
+    };
+    read_sheet(source, &mut panel)?;
+    whole(&panel)
+}
+
+/// Returns the words of a panel that has all twelve.
+fn whole(panel: &Panel) -> Result<[u16; PANEL_WORDS], LoadFault>
+    ensures whole { result ≡ whole_panel panel.now.words.items }
+    ensures within { IfOk result (λ words. All (λ value. value < 0o10000) words) }
+{
+    if panel.words.len() != PANEL_WORDS {
+        return Err(LoadFault::PanelCount);
+    }
+    let mut words = [0; PANEL_WORDS];
+    words.copy_from_slice(panel.words.as_slice());
+    Ok(words)
+}
