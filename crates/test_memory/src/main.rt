@@ -3,7 +3,7 @@
 //! from the machine that the failed call returned.
 #![tactic(auto)]
 
-mod makers;
+mod constructors;
 mod scripts;
 
 use std::io::Read;
@@ -28,8 +28,8 @@ fn spend(rt: &HostRuntime) {
 }
 
 fn perform(rt: &HostRuntime) -> Option<()> {
-    makers::parts(rt)?;
-    makers::files_and_arguments(rt)?;
+    constructors::parts(rt)?;
+    constructors::files_and_arguments(rt)?;
     scripts::run(rt)?;
     if !request(rt) {
         let _ = println!(rt; "the request after all scripts refused");

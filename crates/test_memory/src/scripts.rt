@@ -1,6 +1,6 @@
 //! Runs scripts into a sink of fixed size, after everything else is made.
 
-use crate::makers::{session, told};
+use crate::constructors::{report, session};
 use pp_console::serve;
 use pp_history::Session;
 use pp_lines::{Feed, Tray};
@@ -72,7 +72,7 @@ DUMP W
 
 /// Returns a session for each script.
 fn sessions(rt: &HostRuntime) -> Option<Vec<Session<Rig>>> {
-    let mut sessions = told(
+    let mut sessions = report(
         rt,
         "the room for sessions",
         Vec::with_capacity(rt.alloc(), 6),
@@ -86,14 +86,14 @@ fn sessions(rt: &HostRuntime) -> Option<Vec<Session<Rig>>> {
 /// Writes the answers to a script.
 fn answer(rt: &HostRuntime, title: &str, mut session: Session<Rig>, script: &str) {
     let mut out = Tray::new(4096);
-    let told = serve(
+    let served = serve(
         &mut session,
         &mut Feed::new(script.as_bytes(), 4096),
         &mut out,
     );
     let _ = println!(rt; "{title}:");
     let _ = rt.stdout().write_all(out.text());
-    if let Err(fault) = told {
+    if let Err(fault) = served {
         let _ = println!(rt; "{fault:?}");
     }
 }

@@ -14,16 +14,16 @@ use std::fmt::Debug;
 const KEPT: u32 = 10_000;
 
 /// Prints the result of a constructor.
-pub fn told<T, E: Debug + Drop>(rt: &HostRuntime, maker: &str, answer: Result<T, E>) -> Option<T>
-    ensures { IfSome result (λ made. answer ≡ Ok made) }
+pub fn report<T, E: Debug + Drop>(rt: &HostRuntime, call: &str, outcome: Result<T, E>) -> Option<T>
+    ensures { IfSome result (λ made. outcome ≡ Ok made) }
 {
-    match answer {
+    match outcome {
         Ok(made) => {
-            let _ = println!(rt; "{maker} made");
+            let _ = println!(rt; "{call} made");
             Some(made)
         }
         Err(fault) => {
-            let _ = println!(rt; "{maker} {fault:?}");
+            let _ = println!(rt; "{call} {fault:?}");
             None
         }
     }
@@ -31,13 +31,13 @@ pub fn told<T, E: Debug + Drop>(rt: &HostRuntime, maker: &str, answer: Result<T,
 
 /// Makes the parts of a machine that take memory.
 pub fn parts(rt: &HostRuntime) -> Option<()> {
-    let _memory = told(rt, "Memory12::new", Memory12::new(rt.alloc()))?;
-    let _central = told(
+    let _memory = report(rt, "Memory12::new", Memory12::new(rt.alloc()))?;
+    let _central = report(
         rt,
         "Central::new",
         Central::new(rt.alloc(), CentralSize::K128),
     )?;
-    let _printer = told(rt, "Printer::new", Printer::new(rt.alloc()))?;
+    let _printer = report(rt, "Printer::new", Printer::new(rt.alloc()))?;
     Some(())
 }
 
@@ -57,14 +57,14 @@ fn deck(rt: &HostRuntime, lines: &[u8]) -> Option<Vec<[u16; 80]>>
     ensures { IfSome result (λ deck. All (All (λ word. word < 0o10000)) deck.items) }
 {
     let mut file = Feed::new(lines, 4096);
-    told(rt, "load_deck", load_deck(rt.alloc(), &mut file))
+    report(rt, "load_deck", load_deck(rt.alloc(), &mut file))
 }
 
 /// Loads a deck that grows more than once, and reads the options of the words of a command line.
 pub fn files_and_arguments(rt: &HostRuntime) -> Option<()> {
     let _nine_cards = deck(rt, b"1\n2\n3\n4\n5\n6\n7\n10\n11\n")?;
-    let words = told(rt, "words", words(rt.alloc()))?;
-    let _options = told(rt, "read_arguments", read_arguments(rt.alloc(), words))?;
+    let words = report(rt, "words", words(rt.alloc()))?;
+    let _options = report(rt, "read_arguments", read_arguments(rt.alloc(), words))?;
     Some(())
 }
 
@@ -78,13 +78,13 @@ pub fn session(rt: &HostRuntime) -> Option<Session<Rig>> {
         deck: deck(rt, b"1 2 3\n")?,
         panel: None,
     };
-    let rig = told(rt, "Rig::new", Rig::new(rt.alloc(), setup))?;
+    let rig = report(rt, "Rig::new", Rig::new(rt.alloc(), setup))?;
     match Session::new(rt.alloc(), rig, KEPT) {
-        Ok(session) => told::<_, ()>(rt, "Session::new", Ok(session)),
+        Ok(session) => report::<_, ()>(rt, "Session::new", Ok(session)),
         Err(unmade) => {
             let _ = println!(rt; "Session::new Unmade");
             let again = Session::new(rt.alloc(), unmade.machine, KEPT);
-            told(rt, "Session::new", again.map_err(|_| "Unmade again"))
+            report(rt, "Session::new", again.map_err(|_| "Unmade again"))
         }
     }
 }
