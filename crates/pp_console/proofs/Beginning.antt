@@ -9,7 +9,7 @@ use Rattle.pp_lines.proofs.Writing.{Appends-nothing}
 use Rattle.pp_rig.specs.Rules.{rules}
 use Rattle.pp_console.specs.declared.progress.Progress.{Progress}
 use Rattle.pp_console.specs.declared.progress.TheConstants.{LINE_LIMIT, BYTE_LIMIT}
-use Rattle.pp_console.specs.Answers.{State, Value}
+use Rattle.pp_console.specs.Commands.{State, Value}
 use Rattle.pp_console.specs.Script.{run}
 use Rattle.pp_console.specs.Serving.{Origin, origin_of, Performed}
 use Rattle.pp_console.specs.ServingSteps.{Stands}

@@ -9,7 +9,7 @@ use Rattle.pp_lines.proofs.Limits.{lines-whole, lines-last, finished_within-kept
 use Rattle.pp_console.specs.declared.progress.Progress.{Progress}
 use Rattle.pp_console.specs.declared.progress.Summary.{Summary}
 use Rattle.pp_console.specs.declared.progress.TheConstants.{KEPT, LINE_LIMIT, BYTE_LIMIT}
-use Rattle.pp_console.specs.Answers.{State}
+use Rattle.pp_console.specs.Commands.{State}
 use Rattle.pp_console.specs.Script.{run}
 use Rattle.pp_console.specs.Serving.{Origin, Performed, Serves, Stops, reads_after}
 use Rattle.pp_console.specs.ServingSteps.{Stands, Interrupts, IsNoReadFault}

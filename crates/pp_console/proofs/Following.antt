@@ -1,11 +1,10 @@
 -- One more line of a script.
 use Rattle.std.proofs.Common.{◌≡◌, ◌∙◌, ℕ, ◌+◌, List, [], ◌∷◌, ◌++◌, take, refl, sym, ap, arith, append_assoc, Bool}
-use Rattle.std.specs.Prelude.{Option}
-use Rattle.std.specs.Io.KnownBytes.{Appends}
+use Rattle.std.specs.Prelude.{Result, Ok, Err, MatchResult, not}
 use Rattle.std.proofs.lemmas.List.Sums.{fold-append}
 use Rattle.pp_console.specs.declared.progress.TheConstants.{KEPT}
-use Rattle.pp_lines.specs.Output.{AppendsFront}
-use Rattle.pp_console.specs.Answers.{State, Value}
+use Rattle.pp_lines.specs.declared.device.Sink.{Ghosts}
+use Rattle.pp_console.specs.Commands.{State, Value, Performs}
 use Rattle.pp_console.specs.Script.{answer_line, answer_parsed, begin, follow, refusals, run}
 use Rattle.pp_history.specs.SessionValue.{IsAt}
 use Rattle.pp_rig.specs.Rules.{rules}
@@ -23,31 +22,18 @@ pub answer_line-kept : (value : Value) (line : List ℕ) → answer_line value (
 unfolding answer_line
 answer_line-kept value line = ap (answer_parsed value) (command-kept KEPT line (omega arith))
 
--- what a line does to the session
-abbrev pub Moves : State → State → List ℕ → Type 0
-Moves old new line = (value : Value) → IsAt rules old value → IsAt rules new (answer_line value line).value
-
-module _ (old new : State) (second third : Option (List ℕ)) (origin : Origin) (done : List (List ℕ)) (line : List ℕ) (before : Performed old second origin done) where
-  pub leaves-line : Moves old new line → IsAt rules new (run origin.start (done ++ line ∷ [])).value
-  leaves-line moves = rw (run-line origin.start done line) (moves _ before.leaves)
-
-  -- the line was performed, and its answer was written
-  pub Performed-line : Moves old new line →
-      ((value : Value) → IsAt rules old value → Appends second third (answer_line value line).text) →
-      Performed new third origin (done ++ line ∷ [])
-  Performed-line moves writes = record {
-    leaves = leaves-line moves;
-    writes = rw (run-line origin.start done line) (Appends-again _ _ _ _ _ before.writes (writes _ before.leaves));
+module _ {W : Type 0} (sink : Ghosts W) (old new : State) (second third : W) (origin : Origin) (done : List (List ℕ)) (line : List ℕ) (before : Performed old (sink.text second) origin done) where
+  -- the line was performed, and its answer or a proper prefix of it was written
+  pub line-performed : {E : Type 0} (result : Result Bool E) → Performs sink old new second third result (λ v. answer_line v line) →
+      MatchResult result (λ _. Performed new (sink.text third) origin (done ++ line ∷ [])) (λ _. Breaks new (sink.text third) origin done line)
+  line-performed (Ok performed) performs = record {
+    leaves = rw (run-line origin.start done line) (performs.session _ before.leaves);
+    writes = rw (run-line origin.start done line) (Appends-again _ _ _ _ _ before.writes (performs.text _ before.leaves));
   }
-
-  -- the line was performed, but its answer was not written to the end
-  pub Breaks-line : Moves old new line →
-      ((value : Value) → IsAt rules old value → AppendsFront second third (answer_line value line).text) →
-      Breaks new third origin done line
-  Breaks-line moves writes = record {
-    leaves = leaves-line moves;
+  line-performed (Err fault) performs = record {
+    leaves = rw (run-line origin.start done line) (performs.session _ before.leaves);
     writes =
-        let answer = writes _ before.leaves in (
+        let answer = performs.text _ before.leaves in (
           answer.0,
           answer.1,
           Appends-again _ _ _ _ _ before.writes answer.2,
@@ -56,8 +42,8 @@ module _ (old new : State) (second third : Option (List ℕ)) (origin : Origin) 
         );
   }
 
-  -- a rejected line is counted
-  pub refused-line : (counted : ℕ) (refused : Bool) → counted ≡ (run origin.start done).refused →
-      ((value : Value) → IsAt rules old value → refused ≡ (answer_line value line).refused) →
-      counted + refusals refused ≡ (run origin.start (done ++ line ∷ [])).refused
-  refused-line counted refused e f = rw (run-line origin.start done line, e, f _ before.leaves) refl
+-- a rejected line is counted
+pub line-counted : (old : State) (origin : Origin) (done : List (List ℕ)) (line : List ℕ) (performed : Bool) (counted : ℕ) → IsAt rules old (run origin.start done).value →
+    ((v : Value) → IsAt rules old v → (answer_line v line).refused ≡ not performed) → counted ≡ (run origin.start done).refused →
+    counted + refusals (not performed) ≡ (run origin.start (done ++ line ∷ [])).refused
+line-counted old origin done line performed counted at answered e = rw (run-line origin.start done line, e, answered _ at) refl

@@ -1,124 +1,56 @@
 -- The lines of the paper, one after another.
-use Rattle.std.proofs.Common.{◌≡◌, ◌∙◌, ℕ, suc, ◌+◌, ◌-◌, ◌<◌, ◌≤◌, cond, Bool, true, false, List, [], ◌∷◌, ◌++◌, length, take, drop, refl, sym, ap, arith, one-add, append_assoc, ltb-false}
-use Rattle.std.specs.Prelude.{None, Some, map, position, nat_lt, codes}
+use Rattle.std.proofs.Common.{◌≡◌, ◌∙◌, ℕ, ◌-◌, ◌<◌, cond, eqb, Bool, true, false, List, [], ◌∷◌, ◌++◌, length, take, drop, refl, sym, ap, arith, append_assoc}
+use Rattle.std.specs.Prelude.{None, Some, ◌==◌, map, position, codes}
 use Rattle.std.specs.List.{position_or_len, flat_map}
-use Rattle.std.proofs.lemmas.List.{append-nil, drop-drop, map-append, take-append-drop}
-use Rattle.std.proofs.lemmas.List.Quantifiers.{position-Some}
-use Rattle.std.proofs.lemmas.List.Sums.{position_or_len_is}
-use Rattle.pp_lines.proofs.Writing.{slice_from}
-use Rattle.pp_lines.specs.Lines.{finished, unfinished, last_line}
+use Rattle.std.proofs.lemmas.List.{append-nil, drop-map, length-map, map-append, take-append-drop, take-map}
+use Rattle.pp_lines.proofs.OpenTexts.{feed-cut, feed-none, unfinished-text}
+use Rattle.pp_lines.specs.Lines.{extend_first, finished, unfinished, last_line}
 use Rattle.pp_console.specs.DisplayCode.{character}
 use Rattle.pp_console.specs.Paper.{marked, lines_of_paper, paper_text}
 use Rattle.pp_console.specs.PaperCuts.{is_line_end, rest_text}
 
--- the number of symbols before the first line end
-abbrev pub before_end : List ℕ → ℕ
-before_end = position_or_len is_line_end
-
-len-stop : (symbol : ℕ) (symbols : List ℕ) → is_line_end symbol ≡ true → before_end (symbol ∷ symbols) ≡ 0
-len-stop symbol symbols e = rw e refl
-
-len-more : (symbol : ℕ) (symbols : List ℕ) → is_line_end symbol ≡ false → before_end (symbol ∷ symbols) ≡ suc (before_end symbols)
-len-more symbol symbols e = rw (e, one-add) refl
-
--- the first line with a line end, and the others
-finished-first : (symbols : List ℕ) → before_end symbols < length symbols →
-    finished (map character symbols) ≡ map character (take (before_end symbols) symbols) ∷ finished (map character (drop (suc (before_end symbols)) symbols))
-finished-first [] less = absurd (omega arith)
-finished-first (symbol ∷ symbols) less = by_test (is_line_end symbol) refl (finished-first symbols) less
+-- a line feed after a text without one ends the first line
+feed-first : (line later : List ℕ) → finished line ≡ [] → (finished (line ++ 10 ∷ later) ≡ line ∷ finished later) × (unfinished (line ++ 10 ∷ later) ≡ unfinished later)
+feed-first [] later none = (refl, refl)
+feed-first (byte ∷ line) later none = by_test (eqb byte 10) refl (finished line) refl none (feed-first line later)
   where
-    by_test : (ends : Bool) → is_line_end symbol ≡ ends →
-        (before_end symbols < length symbols → finished (map character symbols) ≡ map character (take (before_end symbols) symbols) ∷ finished (map character (drop (suc (before_end symbols)) symbols))) →
-        before_end (symbol ∷ symbols) < length (symbol ∷ symbols) →
-        finished (map character (symbol ∷ symbols)) ≡ map character (take (before_end (symbol ∷ symbols)) (symbol ∷ symbols)) ∷ finished (map character (drop (suc (before_end (symbol ∷ symbols))) (symbol ∷ symbols)))
-    by_test true e more less = rw (len-stop symbol symbols e, e) refl
-    by_test false e more less =
-        let size = len-more symbol symbols e in
-        rw (size, e, more (omega arith)) refl
-
--- the symbols after the last line end are the same without the first line
-unfinished-first : (symbols : List ℕ) → before_end symbols < length symbols →
-    unfinished (map character symbols) ≡ unfinished (map character (drop (suc (before_end symbols)) symbols))
-unfinished-first [] less = absurd (omega arith)
-unfinished-first (symbol ∷ symbols) less = by_test (is_line_end symbol) refl (unfinished-first symbols) less
-  where
-    by_test : (ends : Bool) → is_line_end symbol ≡ ends →
-        (before_end symbols < length symbols → unfinished (map character symbols) ≡ unfinished (map character (drop (suc (before_end symbols)) symbols))) →
-        before_end (symbol ∷ symbols) < length (symbol ∷ symbols) →
-        unfinished (map character (symbol ∷ symbols)) ≡ unfinished (map character (drop (suc (before_end (symbol ∷ symbols))) (symbol ∷ symbols)))
-    by_test true e more less = rw (len-stop symbol symbols e, e) refl
-    by_test false e more less =
-        let size = len-more symbol symbols e in
-        let within : before_end symbols < length symbols = omega arith in
-        rw (size, e, finished-first symbols within) (more within)
-
--- without a line end no line is finished
-finished-none : (symbols : List ℕ) → length symbols ≤ before_end symbols → finished (map character symbols) ≡ []
-finished-none [] none = refl
-finished-none (symbol ∷ symbols) none = by_test (is_line_end symbol) refl (finished-none symbols) none
-  where
-    by_test : (ends : Bool) → is_line_end symbol ≡ ends → (length symbols ≤ before_end symbols → finished (map character symbols) ≡ []) →
-        length (symbol ∷ symbols) ≤ before_end (symbol ∷ symbols) → finished (map character (symbol ∷ symbols)) ≡ []
-    by_test true e more none = absurd (omega (arith, len-stop symbol symbols e))
-    by_test false e more none =
-        let size = len-more symbol symbols e in
-        rw (e, more (omega arith)) refl
-
-unfinished-none : (symbols : List ℕ) → length symbols ≤ before_end symbols → unfinished (map character symbols) ≡ map character symbols
-unfinished-none [] none = refl
-unfinished-none (symbol ∷ symbols) none = by_test (is_line_end symbol) refl (unfinished-none symbols) none
-  where
-    by_test : (ends : Bool) → is_line_end symbol ≡ ends → (length symbols ≤ before_end symbols → unfinished (map character symbols) ≡ map character symbols) →
-        length (symbol ∷ symbols) ≤ before_end (symbol ∷ symbols) → unfinished (map character (symbol ∷ symbols)) ≡ map character (symbol ∷ symbols)
-    by_test true e more none = absurd (omega (arith, len-stop symbol symbols e))
-    by_test false e more none =
-        let size = len-more symbol symbols e in
-        let within : length symbols ≤ before_end symbols = omega arith in
-        rw (e, finished-none symbols within) (ap (λ rest. character symbol ∷ rest) (more within))
+    by_test : (feed : Bool) → eqb byte 10 ≡ feed → (done : List (List ℕ)) → finished line ≡ done → cond feed ([] ∷ done) (extend_first byte done) ≡ [] →
+        (finished line ≡ [] → (finished (line ++ 10 ∷ later) ≡ line ∷ finished later) × (unfinished (line ++ 10 ∷ later) ≡ unfinished later)) →
+        (finished (byte ∷ line ++ 10 ∷ later) ≡ (byte ∷ line) ∷ finished later) × (unfinished (byte ∷ line ++ 10 ∷ later) ≡ unfinished later)
+    by_test true e done d none more = cc
+    by_test false e [] d none more = let rest = more d in (rw (e, rest.0) refl, rw (e, rest.0, rest.1) refl)
+    by_test false e (first ∷ done) d none more = cc
 
 -- the first line of the paper, and the others
-pub paper-first : (symbols : List ℕ) → before_end symbols < length symbols →
-    paper_text symbols ≡ marked (codes "|") (map character (take (before_end symbols) symbols)) ++ paper_text (drop (suc (before_end symbols)) symbols)
-unfolding paper_text lines_of_paper
-paper-first symbols less =
-    let later = drop (suc (before_end symbols)) symbols in
-    rw (finished-first symbols less, unfinished-first symbols less)
-    (append_assoc (marked (codes "|") (map character (take (before_end symbols) symbols))) (flat_map (marked (codes "|")) (finished (map character later))) (flat_map (marked (codes "/")) (last_line (unfinished (map character later)))))
+paper-first : (line later : List ℕ) → finished line ≡ [] → lines_of_paper (line ++ 10 ∷ later) ≡ marked (codes "|") line ++ lines_of_paper later
+unfolding lines_of_paper
+paper-first line later none =
+    let first = feed-first line later none in
+    rw (first.0, first.1) (append_assoc (marked (codes "|") line) (flat_map (marked (codes "|")) (finished later)) (flat_map (marked (codes "/")) (last_line (unfinished later))))
 
--- a paper without a line end
-pub paper-rest : (symbols : List ℕ) → length symbols ≤ before_end symbols → paper_text symbols ≡ rest_text symbols
-unfolding paper_text lines_of_paper
-paper-rest symbols none = rw (finished-none symbols none, unfinished-none symbols none) refl
+-- the first line end is the first line feed of the characters
+ends : (symbols : List ℕ) → position_or_len (λ byte. byte == 10) (map character symbols) ≡ position_or_len is_line_end symbols
+ends [] = refl
+ends (symbol ∷ symbols) = rw (ends symbols) refl
 
--- the position of the first line end
-end-some : (symbols : List ℕ) (end : ℕ) → position is_line_end symbols ≡ Some end → (before_end symbols ≡ end) × (end < length symbols)
-end-some symbols end e =
-    let first = position-Some is_line_end symbols end 0 e in
-    (position_or_len_is is_line_end symbols end 0 (omega (arith, first.0)) first.2 (λ within. first.1), first.0)
-
-end-none : (symbols : List ℕ) → position is_line_end symbols ≡ None → length symbols ≤ before_end symbols
-end-none symbols e = by_test (nat_lt (before_end symbols) (length symbols)) refl e
-  where
-    by_test : (less : Bool) → nat_lt (before_end symbols) (length symbols) ≡ less → cond less (Some (before_end symbols)) None ≡ None → length symbols ≤ before_end symbols
-    by_test true less e = cc
-    by_test false less e = ltb-false (before_end symbols) (length symbols) less
+first-end : (symbols : List ℕ) → position (λ byte. byte == 10) (map character symbols) ≡ position is_line_end symbols
+first-end symbols = rw (ends symbols, length-map) refl
 
 -- a paper that is cut at its first line end
 pub paper-cut : (symbols : List ℕ) (end : ℕ) (line rest : List ℕ) → position is_line_end symbols ≡ Some end → line ≡ take end symbols → rest ≡ drop end symbols →
     paper_text symbols ≡ marked (codes "|") (map character line) ++ paper_text (take (length rest - 1) (drop 1 rest))
+unfolding paper_text
 paper-cut symbols end line rest e front back =
-    let found = end-some symbols end e in
-    let later : take (length rest - 1) (drop 1 rest) ≡ drop (suc (before_end symbols)) symbols = slice_from 1 rest ∙ ap (drop 1) back ∙ rw found.0 (after-drop end symbols) in
-    rw (later, front, ← found.0) (paper-first symbols (omega (arith, found.0, found.1)))
-  where
-    after-drop : (n : ℕ) (xs : List ℕ) → drop 1 (drop n xs) ≡ drop (suc n) xs
-    after-drop n xs =
-        let size : n + 1 ≡ suc n = omega arith in
-        drop-drop 1 n xs ∙ ap (λ k. drop k xs) size
+    let cut = feed-cut (map character symbols) end (map character line) (map character rest) (first-end symbols ∙ e) (ap (map character) front ∙ sym (take-map character end symbols)) (ap (map character) back ∙ sym (drop-map character end symbols)) in
+    let later : map character (take (length rest - 1) (drop 1 rest)) ≡ take (length (map character rest) - 1) (drop 1 (map character rest)) = rw (length-map, drop-map character 1 rest, take-map character (length rest - 1) (drop 1 rest)) refl in
+    rw (cut.0, later) (paper-first (map character line) (take (length (map character rest) - 1) (drop 1 (map character rest))) cut.1)
 
 -- a paper that has no line end
 pub paper-uncut : (symbols : List ℕ) → position is_line_end symbols ≡ None → paper_text symbols ≡ rest_text symbols
-paper-uncut symbols e = paper-rest symbols (end-none symbols e)
+unfolding paper_text lines_of_paper
+paper-uncut symbols e =
+    let none = feed-none (map character symbols) (first-end symbols ∙ e) in
+    rw (none, unfinished-text [] (map character symbols) none) refl
 
 -- no symbols after the last line end
 pub rest-nothing : (symbols : List ℕ) → length symbols ≡ 0 → rest_text symbols ≡ []

@@ -3,57 +3,54 @@ use Rattle.std.proofs.Common.{◌≡◌, ℕ, ◌<◌, ◌≤◌, length, List, 
 use Rattle.std.specs.Prelude.{Option, Some, None, Result, IfOk, nat_lt, not, map}
 use Rattle.std.proofs.lemmas.Bool.Decides.{nat_tests}
 use Rattle.std.proofs.lemmas.Result.{IfOk-weaker}
-use Rattle.pp_history.specs.SessionValue.{after_act, after_back, after_forward}
+use Rattle.pp_history.specs.SessionValue.{after_back, after_forward}
 use Rattle.pp_history.specs.Change.{change}
 use Rattle.pp_machine.specs.Machine.{Machine}
 use Rattle.pp_machine.specs.declared.place.Place.{Place}
-use Rattle.pp_rig.specs.Admitting.{first_fault}
 use Rattle.pp_rig.specs.Rules.{rules}
 use Rattle.pp_rig.specs.Watches.{watched_place, watches_of}
-use Rattle.pp_rig.specs.declared.action.Action.{Action}
-use Rattle.pp_rig.specs.declared.action.ActionFault.{ActionFault}
 use Rattle.pp_console.specs.Dumps.{central_text}
 use Rattle.pp_console.specs.Moves.{back_name, forward_name}
-use Rattle.pp_console.specs.Refusals.{ok_text, action_fault_text, range_text, no_change_text, nothing_watched_text}
+use Rattle.pp_console.specs.Refusals.{range_text, no_change_text, nothing_watched_text}
 use Rattle.pp_history.specs.SessionValue.{IsAt}
+use Rattle.pp_lines.specs.Device.{Counts}
 use Rattle.pp_lines.specs.Output.{Writes}
-use Rattle.pp_console.specs.Performing.{Performs}
-use Rattle.pp_console.specs.Answers.{State, Value, Answer, present, told, refusal, moved, act_answer, back_answer, forward_answer, central_answer, change_answer}
+use Rattle.pp_lines.specs.declared.device.Sink.{Ghosts}
+use Rattle.pp_console.specs.Commands.{State, Value, Answer, Performs, present, answered, rejected, moved, back_answer, forward_answer, central_answer, change_answer}
 
-module _ {E : Type 0} (old new : State) (before after : Option (List ℕ)) (result : Result Bool E) (answer_of : Value → Answer) (written : List ℕ) (writes : Writes before after result written) where
+module _ {W E : Type 0} (sink : Ghosts W) (old new : State) (before after : W) (result : Result Bool E) (answer_of : Value → Answer) (written : List ℕ) (writes : Writes (sink.text before) (sink.text after) result written) (counts : Counts (sink.failure_count before) (sink.failure_count after) result) where
   -- the answer to a command that was performed
-  pub performs-told : IfOk result (λ performed. performed ≡ true) → ((v : Value) → IsAt rules old v → (next : Value) × (answer_of v ≡ told next written) × IsAt rules new next) →
-      Performs old new before after result answer_of
-  performs-told performed answered = record {
-    session = λ v at. let a = answered v at in rw a.1 a.2;
-    text = λ v at. let a = answered v at in rw a.1 writes;
-    performed = IfOk-weaker result _ _ (λ x same v at. ap (λ a. a.refused) (answered v at).1 ∙ sym (ap not same)) performed;
+  pub performs-answered : IfOk result (λ performed. performed ≡ true) → ((v : Value) → IsAt rules old v → (next : Value) × (answer_of v ≡ answered next written) × IsAt rules new next) →
+      Performs sink old new before after result answer_of
+  performs-answered performed agrees = record {
+    session = λ v at. let a = agrees v at in rw a.1 a.2;
+    text = λ v at. let a = agrees v at in rw a.1 writes;
+    counted = counts;
+    performed = IfOk-weaker result _ _ (λ x same v at. ap (λ a. a.refused) (agrees v at).1 ∙ sym (ap not same)) performed;
     unchanged = IfOk-weaker result _ _ (λ x yes no. cc) performed;
   }
 
   -- the answer to a command that was rejected
-  pub performs-refused : IfOk result (λ performed. performed ≡ false) → new ≡ old → ((v : Value) → IsAt rules old v → answer_of v ≡ refusal v written) →
-      Performs old new before after result answer_of
-  performs-refused performed unchanged answered = record {
-    session = λ v at. rw (answered v at, unchanged) at;
-    text = λ v at. rw (answered v at) writes;
-    performed = IfOk-weaker result _ _ (λ x same v at. ap (λ a. a.refused) (answered v at) ∙ sym (ap not same)) performed;
+  pub performs-rejected : IfOk result (λ performed. performed ≡ false) → new ≡ old → ((v : Value) → IsAt rules old v → answer_of v ≡ rejected v written) →
+      Performs sink old new before after result answer_of
+  performs-rejected performed unchanged agrees = record {
+    session = λ v at. rw (agrees v at, unchanged) at;
+    text = λ v at. rw (agrees v at) writes;
+    counted = counts;
+    performed = IfOk-weaker result _ _ (λ x same v at. ap (λ a. a.refused) (agrees v at) ∙ sym (ap not same)) performed;
     unchanged = IfOk-weaker result _ _ (λ x same no. unchanged) performed;
   }
 
--- an action that the machine admits
-pub act-admitted : (action : Action) (v : Value) (machine : Machine) → machine ≡ present v → first_fault machine action ≡ None → act_answer action v ≡ told (after_act v action) ok_text
-unfolding act_answer
-act-admitted action v machine same none =
-    let here = rw same at none in
-    rw here refl
-
--- an action that the machine does not admit
-pub act-refused : (action : Action) (v : Value) (machine : Machine) (fault : ActionFault) → machine ≡ present v → first_fault machine action ≡ Some fault → act_answer action v ≡ refusal v (action_fault_text fault)
-unfolding act_answer
-act-refused action v machine fault same some =
-    let here = rw same at some in
-    rw here refl
+module _ {W E : Type 0} {sink : Ghosts W} {old new : State} {before after : W} {result : Result Bool E} {first second : Value → Answer} where
+  -- the same effect, if the answers are the same
+  pub Performs-same : ((v : Value) → first v ≡ second v) → Performs sink old new before after result first → Performs sink old new before after result second
+  Performs-same same p = record {
+    session = λ v at. rw (← same v) (p.session v at);
+    text = λ v at. rw (← same v) (p.text v at);
+    counted = p.counted;
+    performed = IfOk-weaker result _ _ (λ x told v at. sym (ap (λ a. a.refused) (same v)) ∙ told v at) p.performed;
+    unchanged = p.unchanged;
+  }
 
 pub back-enough : (actions : ℕ) (v : Value) → actions ≤ v.kept → back_answer actions v ≡ moved back_name actions (after_back v actions)
 unfolding back_answer
@@ -68,7 +65,7 @@ forward-enough actions v enough =
     rw few refl
 
 -- nothing is watched
-pub change-unwatched : (v : Value) (places : List Place) → places ≡ map watched_place (watches_of (present v)) → length places ≡ 0 → change_answer v ≡ refusal v nothing_watched_text
+pub change-unwatched : (v : Value) (places : List Place) → places ≡ map watched_place (watches_of (present v)) → length places ≡ 0 → change_answer v ≡ rejected v nothing_watched_text
 unfolding change_answer
 change-unwatched v [] same none = rw (← same) refl
 change-unwatched v (place ∷ places) same none = absurd (omega arith)
@@ -80,14 +77,14 @@ change-found v [] actions same some found = absurd (omega arith)
 change-found v (place ∷ places) actions same some found = rw (← same, found) refl
 
 -- the undo history has no change
-pub change-none : (v : Value) (places : List Place) → places ≡ map watched_place (watches_of (present v)) → 0 < length places → change rules v places ≡ None → change_answer v ≡ refusal v no_change_text
+pub change-none : (v : Value) (places : List Place) → places ≡ map watched_place (watches_of (present v)) → 0 < length places → change rules v places ≡ None → change_answer v ≡ rejected v no_change_text
 unfolding change_answer
 change-none v [] same some found = absurd (omega arith)
 change-none v (place ∷ places) same some found = rw (← same, found) refl
 
 -- the machine has the last of the words
 pub central-within : (first last : ℕ) (v : Value) (sized shown : Machine) → sized ≡ present v → shown ≡ present v → last < sized.setup.central_words →
-    central_answer first last v ≡ told v (central_text shown first last)
+    central_answer first last v ≡ answered v (central_text shown first last)
 unfolding central_answer
 central-within first last v sized shown same also within =
     let less = rw same at within in
@@ -95,7 +92,7 @@ central-within first last v sized shown same also within =
     rw (has, also) refl
 
 -- the machine does not have the last of the words
-pub central-beyond : (first last : ℕ) (v : Value) (sized : Machine) → sized ≡ present v → sized.setup.central_words ≤ last → central_answer first last v ≡ refusal v range_text
+pub central-beyond : (first last : ℕ) (v : Value) (sized : Machine) → sized ≡ present v → sized.setup.central_words ≤ last → central_answer first last v ≡ rejected v range_text
 unfolding central_answer
 central-beyond first last v sized same beyond =
     let more = rw same at beyond in

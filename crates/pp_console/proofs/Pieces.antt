@@ -9,7 +9,7 @@ use Rattle.pp_lines.proofs.Limits.{last_line-one, lines-count}
 use Rattle.pp_lines.proofs.OpenTexts.{open-take, finished-text, unfinished-text}
 use Rattle.pp_console.specs.declared.progress.Progress.{Progress}
 use Rattle.pp_console.specs.declared.progress.TheConstants.{LINE_LIMIT, BYTE_LIMIT}
-use Rattle.pp_console.specs.Answers.{State}
+use Rattle.pp_console.specs.Commands.{State}
 use Rattle.pp_console.specs.Serving.{Origin}
 use Rattle.pp_console.specs.ServingSteps.{Stands, Interrupts}
 use Rattle.pp_console.proofs.Standing.{Stands-within}

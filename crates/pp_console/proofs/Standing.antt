@@ -7,7 +7,7 @@ use Rattle.pp_lines.proofs.OpenTexts.{finished-text}
 use Rattle.pp_lines.proofs.Limits.{last_line-one, kept-begun, lines-count, finished_within-whole}
 use Rattle.pp_console.specs.declared.progress.Progress.{Progress}
 use Rattle.pp_console.specs.declared.progress.TheConstants.{KEPT, LINE_LIMIT, BYTE_LIMIT}
-use Rattle.pp_console.specs.Answers.{State}
+use Rattle.pp_console.specs.Commands.{State}
 use Rattle.pp_console.specs.Script.{run}
 use Rattle.pp_console.specs.Serving.{Origin, Performed}
 use Rattle.pp_console.specs.ServingSteps.{Stands}

@@ -3,7 +3,7 @@ use Rattle.std.specs.Prelude.{ℕ, ◌+◌, ◌-◌, ◌*◌, ◌/◌, ◌==◌,
 use Rattle.std.specs.List.{flat_map, range_with_len}
 use Rattle.pp_machine.specs.Machine.{Machine, number}
 use Rattle.pp_machine.specs.declared.place.Place.TheVariants.{Cell, RegA, RegP, RegQ, Phase, ChannelMode, ChannelWord, Clock, Central, FrameWord, Card, CardColumn, ReaderMode, PaperLength, PaperColumn, PrinterMode, Slot}
-use Rattle.pp_console.specs.Texts.{field}
+use Rattle.pp_console.specs.Text.{field}
 use Rattle.pp_console.specs.Paper.{paper, paper_text}
 
 -- a line for each number of a range

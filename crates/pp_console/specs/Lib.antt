@@ -1,13 +1,12 @@
-pub mod Answers
+pub mod Commands
 pub mod DisplayCode
 pub mod Dumps
 pub mod Moves
 pub mod Paper
 pub mod PaperCuts
-pub mod Performing
 pub mod Refusals
 pub mod Script
 pub mod Serving
 pub mod ServingSteps
-pub mod Texts
+pub mod Text
 pub mod Watches

@@ -2,7 +2,7 @@
 use Rattle.std.specs.Prelude.{ℕ, List, [], ◌∷◌, ◌++◌, codes}
 use Rattle.pp_arith.specs.Octal.{octal_text}
 use Rattle.pp_rig.specs.declared.stopping.Stopped.{Stopped}
-use Rattle.pp_console.specs.Texts.{field}
+use Rattle.pp_console.specs.Text.{field}
 use Rattle.pp_console.specs.Watches.{hit_text}
 
 -- the number of actions done, without leading zeros, and the processor whose turn is next

@@ -4,7 +4,7 @@ use Rattle.pp_command.specs.declared.fault.LineFault.{LineFault}
 use Rattle.pp_command.specs.declared.fault.LineFault.TheVariants.{NotACommand, WordCount, NotANumber, OutOfRange, TooLong, NotAscii}
 use Rattle.pp_rig.specs.declared.action.ActionFault.{ActionFault}
 use Rattle.pp_rig.specs.declared.action.ActionFault.TheVariants.{Range, WatchesFull, AlreadyWatched, NotWatched, NoPanel}
-use Rattle.pp_console.specs.Texts.{line_text}
+use Rattle.pp_console.specs.Text.{line_text}
 
 unfoldable pub ok_text : List ℕ
 ok_text = line_text (codes "OK")

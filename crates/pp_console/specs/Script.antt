@@ -4,14 +4,14 @@ use Rattle.pp_lines.specs.Lines.{lines}
 use Rattle.pp_command.specs.CommandLine.{command}
 use Rattle.pp_command.specs.declared.fault.LineFault.{LineFault}
 use Rattle.pp_command.specs.declared.request.Request.{Request}
-use Rattle.pp_console.specs.Answers.{Value, Answer, told, refusal, answer}
+use Rattle.pp_console.specs.Commands.{Value, Answer, answered, rejected, answer}
 use Rattle.pp_console.specs.Refusals.{fault_text}
 
 -- the answer to the request of a line
 abbrev pub answer_parsed : Value → Result (Option Request) LineFault → Answer
-answer_parsed v (Ok None) = told v []
+answer_parsed v (Ok None) = answered v []
 answer_parsed v (Ok (Some request)) = answer request v
-answer_parsed v (Err fault) = refusal v (fault_text fault)
+answer_parsed v (Err fault) = rejected v (fault_text fault)
 
 -- the answer to a line
 unfoldable pub answer_line : Value → List ℕ → Answer

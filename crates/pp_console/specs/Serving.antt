@@ -1,5 +1,5 @@
 -- The result of a script, as far as it was read.
-use Rattle.std.specs.Prelude.{◌≡◌, ℕ, ◌<◌, ◌⊎◌, List, [], ◌∷◌, ◌++◌, length, Option}
+use Rattle.std.specs.Prelude.{◌≡◌, ℕ, ◌<◌, ◌⊎◌, List, [], ◌∷◌, ◌++◌, length, Option, Result, MatchResult}
 use Rattle.std.specs.Io.KnownBytes.{Appends, IsAtEnd}
 use Rattle.pp_console.specs.declared.progress.Summary.{Summary}
 use Rattle.pp_console.specs.declared.progress.TheConstants.{LINE_LIMIT, BYTE_LIMIT}
@@ -7,7 +7,7 @@ use Rattle.pp_lines.specs.declared.fault.IoFault.{IoFault}
 use Rattle.pp_lines.specs.declared.fault.IoFault.TheVariants.{ReadFailed, WriteFailed, LineLimit}
 use Rattle.pp_lines.specs.Device.{one_more}
 use Rattle.pp_lines.specs.Lines.{lines, finished_within, IsWithin}
-use Rattle.pp_console.specs.Answers.{State, Value}
+use Rattle.pp_console.specs.Commands.{State, Value}
 use Rattle.pp_console.specs.Script.{run, script}
 use Rattle.pp_history.specs.SessionValue.{IsAt}
 use Rattle.pp_rig.specs.Rules.{rules}
@@ -64,3 +64,11 @@ abbrev pub reads_after : IoFault → ℕ → ℕ
 reads_after ReadFailed count = one_more count
 reads_after LineLimit count = count
 reads_after WriteFailed count = count
+
+-- only a failed write raises the sink's count, by one
+abbrev pub CountsWrites : {T : Type 0} → ℕ → ℕ → Result T IoFault → Type 0
+CountsWrites old new result = MatchResult result (λ _. new ≡ old) (λ fault. new ≡ writes_after fault old)
+
+-- only a failed read raises the source's count, by one
+abbrev pub CountsReads : {T : Type 0} → ℕ → ℕ → Result T IoFault → Type 0
+CountsReads old new result = MatchResult result (λ _. new ≡ old) (λ fault. new ≡ reads_after fault old)

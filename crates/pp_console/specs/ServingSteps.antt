@@ -5,7 +5,7 @@ use Rattle.pp_console.specs.declared.progress.TheConstants.{LINE_LIMIT, BYTE_LIM
 use Rattle.pp_lines.specs.declared.fault.IoFault.{IoFault}
 use Rattle.pp_lines.specs.declared.fault.IoFault.TheVariants.{ReadFailed, WriteFailed, LineLimit}
 use Rattle.pp_lines.specs.Lines.{finished, finished_within, IsWithin, IsFrontOf}
-use Rattle.pp_console.specs.Answers.{State}
+use Rattle.pp_console.specs.Commands.{State}
 use Rattle.pp_console.specs.Script.{run}
 use Rattle.pp_console.specs.Serving.{Origin, Performed, Breaks}
 

@@ -1,21 +1,17 @@
 //! Performs one command, or one line, and writes the answer.
 ghost use Rattle.std.specs.Prelude.{◌≡◌, ◌≤◌, ◌<◌, IfErr, IfOk, true, false, length};
-ghost use Rattle.pp_history.specs.SessionValue.{IsAt};
-ghost use Rattle.pp_rig.specs.Rules.{rules};
 ghost use Rattle.pp_lines.specs.Device.{Counts};
 ghost use Rattle.pp_lines.specs.Output.{Writes};
 ghost use Rattle.pp_console.specs.Moves.{moved_text};
-ghost use Rattle.pp_console.specs.Performing.{Performs};
-ghost use Rattle.pp_console.specs.Answers.{Value, act_answer, step_answer, back_answer, forward_answer, change_answer, cells_answer, processor_answer, channels_answer, central_answer, frame_answer, reader_answer, printer_answer, watches_answer, answer};
+ghost use Rattle.pp_console.specs.Commands.{Performs, act_answer, step_answer, back_answer, forward_answer, change_answer, cells_answer, processor_answer, channels_answer, central_answer, frame_answer, reader_answer, printer_answer, watches_answer, answer};
 ghost use Rattle.pp_console.specs.Script.{answer_line};
 
-use crate::cells::put_cells;
-use crate::central::put_central;
-use crate::devices::reader_line;
+use crate::dumps::{
+    channel_lines, frame_lines, processor_line, put_cells, put_central, reader_line,
+};
 use crate::moves::{push_moved, push_stopped};
 use crate::paper::put_printer;
 use crate::refusals::{action_fault_text, fault_text};
-use crate::registers::{channel_lines, frame_lines, processor_line};
 use crate::watches::watch_lines;
 use arrayvec::ArrayVec;
 use pp_command::{Command, Request, parse};
@@ -24,7 +20,7 @@ use pp_lines::{Failed, IoFault, Sink, put_all};
 use pp_rig::{Action, Rig, run};
 
 /// Writes the answer to a command that was performed.
-fn tell<W: Sink>(out: &mut W, text: &[u8]) -> Result<bool, Failed>
+fn write_answer<W: Sink>(out: &mut W, text: &[u8]) -> Result<bool, Failed>
     ensures text { Writes (W.text out.old) (W.text out.new) result text.now }
     ensures performed { IfOk result (λ performed. performed ≡ true) }
     ensures counted { Counts (W.failure_count out.old) (W.failure_count out.new) result }
@@ -34,7 +30,7 @@ fn tell<W: Sink>(out: &mut W, text: &[u8]) -> Result<bool, Failed>
 }
 
 /// Writes the answer to a command that was rejected.
-fn refuse<W: Sink>(out: &mut W, text: &[u8]) -> Result<bool, Failed>
+fn reject<W: Sink>(out: &mut W, text: &[u8]) -> Result<bool, Failed>
     ensures text { Writes (W.text out.old) (W.text out.new) result text.now }
     ensures performed { IfOk result (λ performed. performed ≡ false) }
     ensures counted { Counts (W.failure_count out.old) (W.failure_count out.new) result }
@@ -44,34 +40,32 @@ fn refuse<W: Sink>(out: &mut W, text: &[u8]) -> Result<bool, Failed>
 }
 
 /// Performs an action, if the machine admits it.
-#[tactic(auto, unfolding(crate::specs::Answers::act_answer, crate::specs::Refusals::ok_text))]
+#[tactic(auto, unfolding(crate::specs::Commands::act_answer, crate::specs::Refusals::ok_text))]
 fn act<W: Sink>(session: &mut Session<Rig>, action: Action, out: &mut W) -> Result<bool, Failed>
-    ensures performs { Performs session.old session.new (W.text out.old) (W.text out.new) result (act_answer action) }
-    ensures counted { Counts (W.failure_count out.old) (W.failure_count out.new) result }
+    ensures { Performs ⟦<W as Sink>⟧ session.old session.new out.old out.new result (act_answer action) }
 {
     match session.machine().check(&action) {
         Ok(()) => {
             session.act(action);
-            tell(out, b"OK\n")
+            write_answer(out, b"OK\n")
         }
-        Err(fault) => refuse(out, action_fault_text(fault)),
+        Err(fault) => reject(out, action_fault_text(fault)),
     }
 }
 
 /// Makes turns, up to the first change of a watched number.
-#[tactic(auto, unfolding(crate::specs::Answers::step_answer))]
+#[tactic(auto, unfolding(crate::specs::Commands::step_answer))]
 fn step<W: Sink>(session: &mut Session<Rig>, most: u32, out: &mut W) -> Result<bool, Failed>
-    ensures performs { Performs session.old session.new (W.text out.old) (W.text out.new) result (step_answer most) }
-    ensures counted { Counts (W.failure_count out.old) (W.failure_count out.new) result }
+    ensures { Performs ⟦<W as Sink>⟧ session.old session.new out.old out.new result (step_answer most) }
 {
     let done = run(session, most);
     let mut lines = ArrayVec::new();
     push_stopped(&mut lines, done, session.machine().slot());
-    tell(out, lines.as_slice())
+    write_answer(out, lines.as_slice())
 }
 
 /// Writes the number of actions done, and the processor whose turn is next.
-fn tell_moved<W: Sink>(out: &mut W, name: &[u8], actions: u32, slot: u8) -> Result<bool, Failed>
+fn write_moved<W: Sink>(out: &mut W, name: &[u8], actions: u32, slot: u8) -> Result<bool, Failed>
     requires { length name.now ≤ 8 }
     ensures text { Writes (W.text out.old) (W.text out.new) result (moved_text name.now actions slot) }
     ensures performed { IfOk result (λ performed. performed ≡ true) }
@@ -79,55 +73,52 @@ fn tell_moved<W: Sink>(out: &mut W, name: &[u8], actions: u32, slot: u8) -> Resu
 {
     let mut line: ArrayVec<u8, 40> = ArrayVec::new();
     push_moved(&mut line, name, actions, slot);
-    tell(out, line.as_slice())
+    write_answer(out, line.as_slice())
 }
 
 /// Undoes actions, if the undo history has as many.
-#[tactic(auto, unfolding(crate::specs::Answers::back_answer, crate::specs::Moves::back_name, crate::specs::Refusals::too_few_text))]
+#[tactic(auto, unfolding(crate::specs::Commands::back_answer, crate::specs::Moves::back_name, crate::specs::Refusals::too_few_text))]
 fn back<W: Sink>(session: &mut Session<Rig>, actions: u32, out: &mut W) -> Result<bool, Failed>
-    ensures performs { Performs session.old session.new (W.text out.old) (W.text out.new) result (back_answer actions) }
-    ensures counted { Counts (W.failure_count out.old) (W.failure_count out.new) result }
+    ensures { Performs ⟦<W as Sink>⟧ session.old session.new out.old out.new result (back_answer actions) }
 {
     match session.back(actions) {
-        Ok(()) => tell_moved(out, b"BACK ", actions, session.machine().slot()),
-        Err(_) => refuse(out, b"ERR 07 TOO FEW KEPT\n"),
+        Ok(()) => write_moved(out, b"BACK ", actions, session.machine().slot()),
+        Err(_) => reject(out, b"ERR 07 TOO FEW KEPT\n"),
     }
 }
 
 /// Redoes actions, if the redo list has as many.
-#[tactic(auto, unfolding(crate::specs::Answers::forward_answer, crate::specs::Moves::forward_name, crate::specs::Refusals::too_few_ahead_text))]
+#[tactic(auto, unfolding(crate::specs::Commands::forward_answer, crate::specs::Moves::forward_name, crate::specs::Refusals::too_few_ahead_text))]
 fn forward<W: Sink>(session: &mut Session<Rig>, actions: u32, out: &mut W) -> Result<bool, Failed>
-    ensures performs { Performs session.old session.new (W.text out.old) (W.text out.new) result (forward_answer actions) }
-    ensures counted { Counts (W.failure_count out.old) (W.failure_count out.new) result }
+    ensures { Performs ⟦<W as Sink>⟧ session.old session.new out.old out.new result (forward_answer actions) }
 {
     match session.forward(actions) {
-        Ok(()) => tell_moved(out, b"FORWARD ", actions, session.machine().slot()),
-        Err(_) => refuse(out, b"ERR 16 TOO FEW AHEAD\n"),
+        Ok(()) => write_moved(out, b"FORWARD ", actions, session.machine().slot()),
+        Err(_) => reject(out, b"ERR 16 TOO FEW AHEAD\n"),
     }
 }
 
 /// Undoes the latest change of a watched number, if there is one.
-#[tactic(auto, unfolding(crate::specs::Answers::change_answer, crate::specs::Moves::back_name, crate::specs::Refusals::no_change_text, crate::specs::Refusals::nothing_watched_text))]
+#[tactic(auto, unfolding(crate::specs::Commands::change_answer, crate::specs::Moves::back_name, crate::specs::Refusals::no_change_text, crate::specs::Refusals::nothing_watched_text))]
 #[inline(never)]
 fn back_to_change<W: Sink>(session: &mut Session<Rig>, out: &mut W) -> Result<bool, Failed>
-    ensures performs { Performs session.old session.new (W.text out.old) (W.text out.new) result change_answer }
-    ensures counted { Counts (W.failure_count out.old) (W.failure_count out.new) result }
+    ensures { Performs ⟦<W as Sink>⟧ session.old session.new out.old out.new result change_answer }
 {
     let places = session.machine().watched_places();
     if places.is_empty() {
-        return refuse(out, b"ERR 15 NOTHING WATCHED\n");
+        return reject(out, b"ERR 15 NOTHING WATCHED\n");
     }
     match session.back_to_change(places.as_slice()) {
-        Ok(actions) => tell_moved(out, b"BACK ", actions, session.machine().slot()),
-        Err(_) => refuse(out, b"ERR 10 NO CHANGE KEPT\n"),
+        Ok(actions) => write_moved(out, b"BACK ", actions, session.machine().slot()),
+        Err(_) => reject(out, b"ERR 10 NO CHANGE KEPT\n"),
     }
 }
 
-// A function clears the space of its locals when it is entered. The locals of a dump are large, so no
-// dump is inlined.
+// A function clears the space of its locals when it is entered. The locals of a dump are large, so each
+// dump is a function of its own, and none is inlined.
 
 /// Writes cells of a processor.
-#[tactic(auto, unfolding(crate::specs::Answers::cells_answer))]
+#[tactic(auto, unfolding(crate::specs::Commands::cells_answer))]
 #[inline(never)]
 fn dump_cells<W: Sink>(
     session: &mut Session<Rig>,
@@ -138,8 +129,7 @@ fn dump_cells<W: Sink>(
 ) -> Result<bool, Failed>
     requires pp { pp < 10 }
     requires last { last < 4096 }
-    ensures performs { Performs session.old session.new (W.text out.old) (W.text out.new) result (cells_answer pp first last) }
-    ensures counted { Counts (W.failure_count out.old) (W.failure_count out.new) result }
+    ensures { Performs ⟦<W as Sink>⟧ session.old session.new out.old out.new result (cells_answer pp first last) }
 {
     put_cells(session.machine(), pp, first, last, out)?;
     Ok(true)
@@ -155,86 +145,78 @@ fn dump_central<W: Sink>(
 ) -> Result<bool, Failed>
     requires in_order { first ≤ last }
     requires small { last < 0o400000 }
-    ensures performs { Performs session.old session.new (W.text out.old) (W.text out.new) result (central_answer first last) }
-    ensures counted { Counts (W.failure_count out.old) (W.failure_count out.new) result }
+    ensures { Performs ⟦<W as Sink>⟧ session.old session.new out.old out.new result (central_answer first last) }
 {
     if last >= session.machine().central_size().words() {
-        return refuse(out, b"ERR 04 RANGE\n");
+        return reject(out, b"ERR 04 RANGE\n");
     }
     put_central(session.machine(), first, last, out)?;
     Ok(true)
 }
 
 /// Writes the registers of a processor.
-#[tactic(auto, unfolding(crate::specs::Answers::processor_answer))]
+#[tactic(auto, unfolding(crate::specs::Commands::processor_answer))]
 #[inline(never)]
 fn dump_processor<W: Sink>(session: &mut Session<Rig>, pp: u8, out: &mut W) -> Result<bool, Failed>
     requires { pp < 10 }
-    ensures performs { Performs session.old session.new (W.text out.old) (W.text out.new) result (processor_answer pp) }
-    ensures counted { Counts (W.failure_count out.old) (W.failure_count out.new) result }
+    ensures { Performs ⟦<W as Sink>⟧ session.old session.new out.old out.new result (processor_answer pp) }
 {
-    tell(out, processor_line(session.machine(), pp).as_slice())
+    write_answer(out, processor_line(session.machine(), pp).as_slice())
 }
 
 /// Writes the channels and the clock.
-#[tactic(auto, unfolding(crate::specs::Answers::channels_answer))]
+#[tactic(auto, unfolding(crate::specs::Commands::channels_answer))]
 #[inline(never)]
 fn dump_channels<W: Sink>(session: &mut Session<Rig>, out: &mut W) -> Result<bool, Failed>
-    ensures performs { Performs session.old session.new (W.text out.old) (W.text out.new) result channels_answer }
-    ensures counted { Counts (W.failure_count out.old) (W.failure_count out.new) result }
+    ensures { Performs ⟦<W as Sink>⟧ session.old session.new out.old out.new result channels_answer }
 {
-    tell(out, channel_lines(session.machine()).as_slice())
+    write_answer(out, channel_lines(session.machine()).as_slice())
 }
 
 /// Writes the exchange package.
-#[tactic(auto, unfolding(crate::specs::Answers::frame_answer))]
+#[tactic(auto, unfolding(crate::specs::Commands::frame_answer))]
 #[inline(never)]
 fn dump_frame<W: Sink>(session: &mut Session<Rig>, out: &mut W) -> Result<bool, Failed>
-    ensures performs { Performs session.old session.new (W.text out.old) (W.text out.new) result frame_answer }
-    ensures counted { Counts (W.failure_count out.old) (W.failure_count out.new) result }
+    ensures { Performs ⟦<W as Sink>⟧ session.old session.new out.old out.new result frame_answer }
 {
-    tell(out, frame_lines(session.machine()).as_slice())
+    write_answer(out, frame_lines(session.machine()).as_slice())
 }
 
 /// Writes the state of the card reader.
-#[tactic(auto, unfolding(crate::specs::Answers::reader_answer))]
+#[tactic(auto, unfolding(crate::specs::Commands::reader_answer))]
 #[inline(never)]
 fn dump_reader<W: Sink>(session: &mut Session<Rig>, out: &mut W) -> Result<bool, Failed>
-    ensures performs { Performs session.old session.new (W.text out.old) (W.text out.new) result reader_answer }
-    ensures counted { Counts (W.failure_count out.old) (W.failure_count out.new) result }
+    ensures { Performs ⟦<W as Sink>⟧ session.old session.new out.old out.new result reader_answer }
 {
-    tell(out, reader_line(session.machine()).as_slice())
+    write_answer(out, reader_line(session.machine()).as_slice())
 }
 
 /// Writes the watched places.
-#[tactic(auto, unfolding(crate::specs::Answers::watches_answer))]
+#[tactic(auto, unfolding(crate::specs::Commands::watches_answer))]
 #[inline(never)]
 fn dump_watches<W: Sink>(session: &mut Session<Rig>, out: &mut W) -> Result<bool, Failed>
-    ensures performs { Performs session.old session.new (W.text out.old) (W.text out.new) result watches_answer }
-    ensures counted { Counts (W.failure_count out.old) (W.failure_count out.new) result }
+    ensures { Performs ⟦<W as Sink>⟧ session.old session.new out.old out.new result watches_answer }
 {
-    tell(out, watch_lines(session.machine().watches()).as_slice())
+    write_answer(out, watch_lines(session.machine().watches()).as_slice())
 }
 
 /// Writes the state of the line printer, and its paper.
-#[tactic(auto, unfolding(crate::specs::Answers::printer_answer))]
+#[tactic(auto, unfolding(crate::specs::Commands::printer_answer))]
 #[inline(never)]
 fn dump_printer<W: Sink>(session: &mut Session<Rig>, out: &mut W) -> Result<bool, Failed>
-    ensures performs { Performs session.old session.new (W.text out.old) (W.text out.new) result printer_answer }
-    ensures counted { Counts (W.failure_count out.old) (W.failure_count out.new) result }
+    ensures { Performs ⟦<W as Sink>⟧ session.old session.new out.old out.new result printer_answer }
 {
     put_printer(session.machine(), out)?;
     Ok(true)
 }
 
 /// Performs a request completely, and then writes its answer. Returns `false` if it was rejected.
-fn perform_request<W: Sink>(
+fn answer_request<W: Sink>(
     session: &mut Session<Rig>,
     command: &Command,
     out: &mut W,
 ) -> Result<bool, Failed>
-    ensures performs { Performs session.old session.new (W.text out.old) (W.text out.new) result (answer command.now) }
-    ensures counted { Counts (W.failure_count out.old) (W.failure_count out.new) result }
+    ensures { Performs ⟦<W as Sink>⟧ session.old session.new out.old out.new result (answer command.now) }
 {
     match command.request() {
         Request::Act(action) => act(session, action.copied(), out),
@@ -265,43 +247,32 @@ pub fn perform<W: Sink>(
     command: &Command,
     out: &mut W,
 ) -> Result<bool, IoFault>
-    ensures performs { Performs session.old session.new (W.text out.old) (W.text out.new) result (answer command.now) }
+    ensures performs { Performs ⟦<W as Sink>⟧ session.old session.new out.old out.new result (answer command.now) }
     ensures fault { IfErr result (λ fault. fault ≡ IoFault.WriteFailed) }
-    ensures counted { Counts (W.failure_count out.old) (W.failure_count out.new) result }
 {
-    match perform_request(session, command, out) {
+    match answer_request(session, command, out) {
         Ok(performed) => Ok(performed),
         Err(Failed) => Err(IoFault::WriteFailed),
     }
 }
 
-/// Performs a line, and then writes its answer. Returns whether the line was rejected. A rejected line
-/// changes nothing.
+/// Performs a line, and then writes its answer. Returns `false` if the line was rejected: it changed
+/// nothing.
 ///
 /// # Errors
 /// `Failed` if a call of the sink fails. The line is performed all the same, and a proper prefix of
 /// its answer was written.
 #[tactic(auto, unfolding(crate::specs::Script::answer_line))]
-pub fn perform_line<W: Sink>(
+pub fn answer_line<W: Sink>(
     session: &mut Session<Rig>,
     line: &[u8],
     out: &mut W,
 ) -> Result<bool, Failed>
-    ensures session { (v : Value) → IsAt rules session.old v →
-        IsAt rules session.new (answer_line v line.now).value }
-    ensures text { (v : Value) → IsAt rules session.old v →
-        Writes (W.text out.old) (W.text out.new) result (answer_line v line.now).text }
-    ensures refused { IfOk result (λ refused. (v : Value) → IsAt rules session.old v →
-        refused ≡ (answer_line v line.now).refused) }
-    ensures unchanged { IfOk result (λ refused. refused ≡ true → session.new ≡ session.old) }
-    ensures counted { Counts (W.failure_count out.old) (W.failure_count out.new) result }
+    ensures { Performs ⟦<W as Sink>⟧ session.old session.new out.old out.new result (λ v. answer_line v line.now) }
 {
     match parse(line) {
-        Ok(None) => Ok(false),
-        Ok(Some(command)) => Ok(!perform_request(session, &command, out)?),
-        Err(fault) => {
-            put_all(out, fault_text(fault))?;
-            Ok(true)
-        }
+        Ok(None) => Ok(true),
+        Ok(Some(command)) => answer_request(session, &command, out),
+        Err(fault) => reject(out, fault_text(fault)),
     }
 }

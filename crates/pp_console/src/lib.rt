@@ -1,15 +1,12 @@
 //! The console: performs commands and whole scripts in a session, and writes their answers.
 #![tactic(auto)]
 
-mod cells;
-mod central;
 mod commands;
-mod devices;
+mod dumps;
 mod moves;
 mod paper;
 mod progress;
 mod refusals;
-mod registers;
 mod serving;
 #[cfg(test)]
 mod tests;

@@ -7,7 +7,7 @@ ghost use Rattle.pp_console.specs.Dumps.{printer_text};
 ghost use Rattle.pp_console.specs.Paper.{marked, paper_text};
 ghost use Rattle.pp_console.specs.PaperCuts.{is_line_end, rest_text};
 
-use crate::devices::printer_line;
+use crate::dumps::printer_line;
 use arrayvec::ArrayVec;
 use pp_lines::{Failed, Sink, put_all};
 use pp_rig::Rig;

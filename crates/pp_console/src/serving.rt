@@ -5,16 +5,15 @@ ghost use Rattle.pp_lines.specs.Device.{Counts};
 ghost use Rattle.pp_history.specs.SessionValue.{IsAt};
 ghost use Rattle.pp_rig.specs.Rules.{rules};
 ghost use Rattle.pp_lines.specs.Lines.{IsFrontOf, finished, unfinished};
-ghost use Rattle.pp_lines.specs.Output.{Writes};
-ghost use Rattle.pp_console.specs.Answers.{State, Value};
+ghost use Rattle.pp_console.specs.Commands.{Performs, State, Value};
 ghost use Rattle.pp_console.specs.Script.{answer_line, run};
-ghost use Rattle.pp_console.specs.Serving.{Origin, Performed, Breaks, Serves, Stops, writes_after, reads_after, origin_of};
+ghost use Rattle.pp_console.specs.Serving.{Origin, Performed, Breaks, Serves, Stops, CountsReads, CountsWrites, origin_of};
 ghost use Rattle.pp_console.specs.ServingSteps.{Stands, Interrupts, IsNoReadFault};
 
 #[cfg(test)]
 mod limit_tests;
 
-use crate::commands::perform_line;
+use crate::commands::answer_line;
 use crate::progress::{BYTE_LIMIT, KEPT, LINE_LIMIT, Progress, Summary};
 use pp_history::Session;
 use pp_lines::{Failed, IoFault, LineCutter, Sink, Source, next_line};
@@ -23,28 +22,24 @@ use pp_rig::Rig;
 /// The largest number of bytes read at once.
 const PIECE: usize = 4096;
 
-/// Performs a line whose kept prefix is `front` and which ends with this text. If nothing was kept, the
+/// Answers a line whose kept prefix is `front` and which ends with this text. If nothing was kept, the
 /// text is the whole line, and is not copied.
-fn perform_kept<W: Sink>(
+fn answer_kept_line<W: Sink>(
     front: &mut LineCutter<KEPT>,
     text: &[u8],
     session: &mut Session<Rig>,
     out: &mut W,
 ) -> Result<bool, Failed>
     requires { finished text.now ≡ [] }
-    ensures session { (bytes : List ℕ) (v : Value) → IsFrontOf KEPT front.old bytes → IsAt rules session.old v →
-        IsAt rules session.new (answer_line v (unfinished (bytes ++ text.now))).value }
-    ensures text { (bytes : List ℕ) (v : Value) → IsFrontOf KEPT front.old bytes → IsAt rules session.old v →
-        Writes (W.text out.old) (W.text out.new) result (answer_line v (unfinished (bytes ++ text.now))).text }
-    ensures refused { IfOk result (λ refused. (bytes : List ℕ) (v : Value) → IsFrontOf KEPT front.old bytes →
-        IsAt rules session.old v → refused ≡ (answer_line v (unfinished (bytes ++ text.now))).refused) }
+    ensures performs { (bytes : List ℕ) → IsFrontOf KEPT front.old bytes →
+        Performs ⟦<W as Sink>⟧ session.old session.new out.old out.new result (λ v. answer_line v (unfinished (bytes ++ text.now))) }
     ensures counted { Counts (W.failure_count out.old) (W.failure_count out.new) result }
 {
     if front.line().is_empty() {
-        return perform_line(session, text, out);
+        return answer_line(session, text, out);
     }
     front.take_text(text);
-    perform_line(session, front.line(), out)
+    answer_line(session, front.line(), out)
 }
 
 /// Performs the unfinished line, which ends with this text, and begins the next.
@@ -70,7 +65,7 @@ fn end_line<W: Sink>(
     ensures bytes { progress.new.bytes ≡ progress.old.bytes }
     ensures counted { Counts (W.failure_count out.old) (W.failure_count out.new) result }
 {
-    let refused = perform_kept(&mut progress.line, text, session, out)?;
+    let refused = !answer_kept_line(&mut progress.line, text, session, out)?;
     progress.line.end_line();
     progress.lines += 1;
     if refused {
@@ -116,8 +111,7 @@ fn feed_line<W: Sink>(
         (λ _. Stands progress.new session.new (W.text out.new) origin ((bytes ++ text.now) ++ 10 ∷ []))
         (λ fault. Interrupts fault session.new (W.text out.new) origin ((bytes ++ text.now) ++ 10 ∷ [])) }
     ensures bytes { OnOk result (progress.new.bytes ≡ progress.old.bytes + (length text.now + 1)) }
-    ensures counted { MatchResult result (λ _. W.failure_count out.new ≡ W.failure_count out.old)
-        (λ fault. W.failure_count out.new ≡ writes_after fault (W.failure_count out.old)) }
+    ensures counted { CountsWrites (W.failure_count out.old) (W.failure_count out.new) result }
     ensures faults { IfErr result IsNoReadFault }
 {
     let room = (BYTE_LIMIT - progress.bytes) as usize;
@@ -144,8 +138,7 @@ fn feed<W: Sink>(
         (λ _. Stands progress.new session.new (W.text out.new) origin (bytes ++ piece.now))
         (λ fault. Interrupts fault session.new (W.text out.new) origin (bytes ++ piece.now)) }
     ensures bytes { OnOk result (progress.new.bytes ≡ progress.old.bytes + length piece.now) }
-    ensures counted { MatchResult result (λ _. W.failure_count out.new ≡ W.failure_count out.old)
-        (λ fault. W.failure_count out.new ≡ writes_after fault (W.failure_count out.old)) }
+    ensures counted { CountsWrites (W.failure_count out.old) (W.failure_count out.new) result }
     ensures faults { IfErr result IsNoReadFault }
 {
     let mut rest = piece;
@@ -167,8 +160,7 @@ fn finish<W: Sink>(
         MatchResult result
         (λ summary. Serves summary session.new (W.text out.new) origin bytes)
         (λ fault. (left : Option (List ℕ)) → IsAtEnd left → Stops fault session.new (W.text out.new) origin bytes left) }
-    ensures counted { MatchResult result (λ _. W.failure_count out.new ≡ W.failure_count out.old)
-        (λ fault. W.failure_count out.new ≡ writes_after fault (W.failure_count out.old)) }
+    ensures counted { CountsWrites (W.failure_count out.old) (W.failure_count out.new) result }
     ensures faults { IfErr result IsNoReadFault }
 {
     if progress.line.line().is_empty() {
@@ -177,34 +169,6 @@ fn finish<W: Sink>(
     match end_line(progress, b"", session, out) {
         Ok(()) => Ok(progress.summary()),
         Err(Failed) => Err(IoFault::WriteFailed),
-    }
-}
-
-/// Performs every line of the source, and writes the answers.
-fn read_all<R: Source, W: Sink>(
-    session: &mut Session<Rig>,
-    source: &mut R,
-    out: &mut W,
-) -> Result<Summary, IoFault>
-    ensures serves { (taken : List ℕ) × Consumes (R.rest source.old) (R.rest source.new) taken
-        × (R.given source.new ≡ R.given source.old ++ taken)
-        × ((start : Value) → IsAt rules session.old start → MatchResult result
-        (λ summary. Serves summary session.new (W.text out.new) (origin_of start (W.text out.old)) taken)
-        (λ fault. Stops fault session.new (W.text out.new) (origin_of start (W.text out.old)) taken (R.rest source.new))) }
-    ensures all { OnOk result (IsAtEnd (R.rest source.new)) }
-    ensures reads { MatchResult result (λ _. R.failure_count source.new ≡ R.failure_count source.old)
-        (λ fault. R.failure_count source.new ≡ reads_after fault (R.failure_count source.old)) }
-    ensures writes { MatchResult result (λ _. W.failure_count out.new ≡ W.failure_count out.old)
-        (λ fault. W.failure_count out.new ≡ writes_after fault (W.failure_count out.old)) }
-{
-    let mut progress = Progress::new();
-    let mut piece = [0; PIECE];
-    'pieces: loop {
-        match source.take(&mut piece) {
-            Err(Failed) => return Err(IoFault::ReadFailed),
-            Ok(0) => return finish(&mut progress, session, out),
-            Ok(count) => feed(&mut progress, &piece[..count], session, out)?,
-        }
     }
 }
 
@@ -235,10 +199,16 @@ pub fn serve<R: Source, W: Sink>(
     ensures limits { (LINE_LIMIT ≡ 1000000) × (BYTE_LIMIT ≡ 268435456) }
 
     // The fault that is returned, and no other, raised its count of failures by one.
-    ensures reads { MatchResult result (λ _. R.failure_count source.new ≡ R.failure_count source.old)
-        (λ fault. R.failure_count source.new ≡ reads_after fault (R.failure_count source.old)) }
-    ensures writes { MatchResult result (λ _. W.failure_count out.new ≡ W.failure_count out.old)
-        (λ fault. W.failure_count out.new ≡ writes_after fault (W.failure_count out.old)) }
+    ensures reads { CountsReads (R.failure_count source.old) (R.failure_count source.new) result }
+    ensures writes { CountsWrites (W.failure_count out.old) (W.failure_count out.new) result }
 {
-    read_all(session, source, out)
+    let mut progress = Progress::new();
+    let mut piece = [0; PIECE];
+    'pieces: loop {
+        match source.take(&mut piece) {
+            Err(Failed) => return Err(IoFault::ReadFailed),
+            Ok(0) => return finish(&mut progress, session, out),
+            Ok(count) => feed(&mut progress, &piece[..count], session, out)?,
+        }
+    }
 }

@@ -4,34 +4,34 @@ use Rattle.std.specs.Prelude.{map}
 use Rattle.pp_history.specs.SessionValue.{after_back}
 use Rattle.pp_machine.specs.Machine.{Machine}
 use Rattle.pp_rig.specs.Watches.{watched_place, watches_of}
-use Rattle.pp_console.specs.Answers.{change_answer, told}
+use Rattle.pp_console.specs.Commands.{change_answer, answered}
 use Rattle.pp_console.specs.Moves.{moved_text, back_name}
 use Rattle.pp_console.specs.Refusals.{no_change_text, nothing_watched_text}
-use Rattle.pp_console.proofs.Performing.{performs-told, performs-refused, change-unwatched, change-found, change-none}
+use Rattle.pp_console.proofs.Performing.{performs-answered, performs-rejected, change-unwatched, change-found, change-none}
 use Rattle.pp_console.proofs.commands.back_to_change.Goals as goal
 
-pub returns-then-is_empty-clause-performs : goal.returns-then-is_empty-clause-performs
+pub returns-then-is_empty : goal.returns-then-is_empty
 unfolding nothing_watched_text
-returns-then-is_empty-clause-performs g c =
+returns-then-is_empty g c =
     let none : length c.watched_places-places.result.items ≡ 0 = grind (arith, nat_tests) in
-    performs-refused c.args.session.now _ _ (g.W.Sink.text c.refuse.new.out) _ change_answer _ c.refuse.ensures.text c.refuse.ensures.performed refl
+    performs-rejected g.W.Sink c.args.session.now _ c.args.out.now c.reject.new.out _ change_answer _ c.reject.ensures.text c.reject.ensures.counted c.reject.ensures.performed refl
     (λ v at. change-unwatched v c.watched_places-places.result.items (c.watched_places-places.ensures.value ∙ ap (λ (m : Machine). map watched_place (watches_of m)) (c.machine.ensures.replayed v at)) none)
 
-pub returns-in-Ok-clause-performs : goal.returns-in-Ok-clause-performs
+pub returns-in-Ok : goal.returns-in-Ok
 unfolding back_name
-returns-in-Ok-clause-performs g c =
+returns-in-Ok g c =
     let some : 0 < length c.watched_places-places.result.items = grind (arith, nat_tests) in
-    performs-told c.args.session.now _ _ (g.W.Sink.text c.tell_moved.new.out) _ change_answer _ c.tell_moved.ensures.text c.tell_moved.ensures.performed
+    performs-answered g.W.Sink c.args.session.now _ c.args.out.now c.write_moved.new.out _ change_answer _ c.write_moved.ensures.text c.write_moved.ensures.counted c.write_moved.ensures.performed
     (λ v at.
     let found = rw c.as_slice.ensures.value at (c.in-Ok.ensures.found v at) in
     let next = after_back v c.in-Ok.actions in
     let slot = c.slot.ensures.value ∙ ap (λ m. m.slot) (c.machine-in-Ok.ensures.replayed next (c.in-Ok.ensures.ok v at)) in
     let text = ap (moved_text back_name c.in-Ok.actions) slot in
-    (next, change-found v c.watched_places-places.result.items c.in-Ok.actions (c.watched_places-places.ensures.value ∙ ap (λ (m : Machine). map watched_place (watches_of m)) (c.machine.ensures.replayed v at)) some found ∙ ap (told next) (sym text), c.in-Ok.ensures.ok v at))
+    (next, change-found v c.watched_places-places.result.items c.in-Ok.actions (c.watched_places-places.ensures.value ∙ ap (λ (m : Machine). map watched_place (watches_of m)) (c.machine.ensures.replayed v at)) some found ∙ ap (answered next) (sym text), c.in-Ok.ensures.ok v at))
 
-pub returns-in-Err-clause-performs : goal.returns-in-Err-clause-performs
+pub returns-in-Err : goal.returns-in-Err
 unfolding no_change_text
-returns-in-Err-clause-performs g c =
+returns-in-Err g c =
     let some : 0 < length c.watched_places-places.result.items = grind (arith, nat_tests) in
-    performs-refused c.args.session.now _ _ (g.W.Sink.text c.refuse-in-Err.new.out) _ change_answer _ c.refuse-in-Err.ensures.text c.refuse-in-Err.ensures.performed c.in-Err.ensures.unchanged
+    performs-rejected g.W.Sink c.args.session.now _ c.args.out.now c.reject-in-Err.new.out _ change_answer _ c.reject-in-Err.ensures.text c.reject-in-Err.ensures.counted c.reject-in-Err.ensures.performed c.in-Err.ensures.unchanged
     (λ v at. change-none v c.watched_places-places.result.items (c.watched_places-places.ensures.value ∙ ap (λ (m : Machine). map watched_place (watches_of m)) (c.machine.ensures.replayed v at)) some (rw c.as_slice.ensures.value at (c.in-Err.ensures.none v at)))

@@ -3,7 +3,7 @@ use Rattle.std.proofs.lemmas.Result.{err_from_is_err_and}
 use Rattle.pp_lines.proofs.Writing.{Remains-next, Remains-fails, Remains-none}
 use Rattle.pp_console.specs.Dumps.{cells_text, row_at}
 use Rattle.pp_console.proofs.Each.{each-first, each-none}
-use Rattle.pp_console.proofs.cells.put_cells.Goals as goal
+use Rattle.pp_console.proofs.dumps.put_cells.Goals as goal
 
 pub loop-row-preserved : goal.loop-row-preserved
 loop-row-preserved g c = record {

@@ -1,7 +1,7 @@
 use Rattle.std.proofs.Common.{rules}
 use Rattle.pp_console.specs.Dumps.{frame_line}
 use Rattle.pp_console.proofs.Each.{each-push}
-use Rattle.pp_console.proofs.registers.frame_lines.Goals as goal
+use Rattle.pp_console.proofs.dumps.frame_lines.Goals as goal
 
 pub loop-i-preserved : goal.loop-i-preserved
 loop-i-preserved c = record {

@@ -1,7 +1,7 @@
 use Rattle.std.proofs.Common.{rules}
 use Rattle.pp_console.specs.Dumps.{cell_text}
 use Rattle.pp_console.proofs.Each.{each-next}
-use Rattle.pp_console.proofs.cells.push_cells.Goals as goal
+use Rattle.pp_console.proofs.dumps.push_cells.Goals as goal
 
 pub loop-i-preserved : goal.loop-i-preserved
 unfolding cell_text

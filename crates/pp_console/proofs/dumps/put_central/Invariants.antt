@@ -1,7 +1,7 @@
 use Rattle.std.proofs.Common.{◌≡◌, ◌+◌, ◌-◌}
 use Rattle.pp_lines.proofs.Writing.{Remains}
 use Rattle.pp_console.specs.Dumps.{each, central_line}
-use Rattle.pp_console.proofs.central.put_central.Given as goal
+use Rattle.pp_console.proofs.dumps.put_central.Given as goal
 
 abbrev pub invariant-loop-a : goal.invariant-loop-a
 invariant-loop-a g l = record {

@@ -3,7 +3,7 @@ use Rattle.std.proofs.lemmas.Result.{err_from_is_err_and}
 use Rattle.pp_lines.proofs.Writing.{Remains-next, Remains-fails, Remains-none}
 use Rattle.pp_console.specs.Dumps.{central_text, central_line}
 use Rattle.pp_console.proofs.Each.{each-first, each-none}
-use Rattle.pp_console.proofs.central.put_central.Goals as goal
+use Rattle.pp_console.proofs.dumps.put_central.Goals as goal
 
 pub loop-a-preserved : goal.loop-a-preserved
 loop-a-preserved g c = record {

@@ -1,12 +1,12 @@
 use Rattle.std.proofs.Common.{◌-◌, ◌++◌, ◌≡◌, ℕ, List}
 use Rattle.std.specs.Io.KnownBytes.{Consumes}
 use Rattle.pp_console.specs.declared.progress.TheConstants.{BYTE_LIMIT}
-use Rattle.pp_console.specs.Answers.{Value}
+use Rattle.pp_console.specs.Commands.{Value}
 use Rattle.pp_history.specs.SessionValue.{IsAt}
 use Rattle.pp_rig.specs.Rules.{rules}
 use Rattle.pp_console.specs.Serving.{origin_of}
 use Rattle.pp_console.specs.ServingSteps.{Stands}
-use Rattle.pp_console.proofs.serving.read_all.Given as goal
+use Rattle.pp_console.proofs.serving.serve.Given as goal
 
 abbrev pub invariant-pieces : goal.invariant-pieces
 invariant-pieces g l = record {

@@ -6,7 +6,7 @@ use Rattle.pp_console.specs.Serving.{origin_of, Serves, Stops}
 use Rattle.pp_lines.proofs.Reading.{Consumes-nothing, Consumes-again, Consumes-keeps}
 use Rattle.pp_console.proofs.Beginning.{Stands-new, Performed-within}
 use Rattle.pp_console.proofs.Ending.{Stops-interrupted, told-at}
-use Rattle.pp_console.proofs.serving.read_all.Goals as goal
+use Rattle.pp_console.proofs.serving.serve.Goals as goal
 
 pub pieces-init : goal.pieces-init
 pieces-init g c = record {
@@ -20,8 +20,8 @@ pieces-init g c = record {
   writes = refl;
 }
 
-pub returns-in-Err-clause-serves : goal.returns-in-Err-clause-serves
-returns-in-Err-clause-serves g c =
+pub returns-in-Err-clause-script : goal.returns-in-Err-clause-script
+returns-in-Err-clause-script g c =
     let past = c.pieces.invariant.stands in (
       past.0,
       Consumes-keeps _ (g.R.Source.rest c.pieces.source) _ _ past.1 c.in-Err.ensures.bytes,
@@ -29,8 +29,8 @@ returns-in-Err-clause-serves g c =
       λ start at. Performed-within _ _ _ _ past.0 (past.3 start at),
     )
 
-pub returns-in-Ok-eq0-clause-serves : goal.returns-in-Ok-eq0-clause-serves
-returns-in-Ok-eq0-clause-serves g c =
+pub returns-in-Ok-eq0-clause-script : goal.returns-in-Ok-eq0-clause-script
+returns-in-Ok-eq0-clause-script g c =
     let past = c.pieces.invariant.stands in
     let nothing : Consumes (g.R.Source.rest c.pieces.source) (g.R.Source.rest c.take.new.self) [] = search rules in
     let same : g.R.Source.given c.take.new.self ≡ g.R.Source.given c.pieces.source ++ [] = search rules in
@@ -59,8 +59,8 @@ pieces-preserved g c = record {
   writes = search rules;
 }
 
-pub returns-in_err-feed-in-Ok-clause-serves : goal.returns-in_err-feed-in-Ok-clause-serves
-returns-in_err-feed-in-Ok-clause-serves g c =
+pub returns-in_err-feed-in-Ok-clause-script : goal.returns-in_err-feed-in-Ok-clause-script
+returns-in_err-feed-in-Ok-clause-script g c =
     let past = c.pieces.invariant.stands in
     let p = err_from_is_err_and c.from_residual.result c.from_residual.ensures.1 in
     rw (p.1, p.2) (

@@ -1,7 +1,7 @@
 use Rattle.std.proofs.Common.{◌≡◌, ◌+◌, ◌*◌, ◌++◌}
 use Rattle.arrayvec.specs.ArrayVec.{array_vec_len}
 use Rattle.pp_console.specs.Dumps.{each, cell_text}
-use Rattle.pp_console.proofs.cells.push_cells.Given as goal
+use Rattle.pp_console.proofs.dumps.push_cells.Given as goal
 
 abbrev pub invariant-loop-i : goal.invariant-loop-i
 invariant-loop-i l = record {

@@ -1,7 +1,7 @@
 use Rattle.std.proofs.Common.{◌≡◌, ◌-◌}
 use Rattle.pp_lines.proofs.Writing.{Remains}
 use Rattle.pp_console.specs.Dumps.{each, row_at}
-use Rattle.pp_console.proofs.cells.put_cells.Given as goal
+use Rattle.pp_console.proofs.dumps.put_cells.Given as goal
 
 abbrev pub invariant-loop-row : goal.invariant-loop-row
 invariant-loop-row g l = record {

@@ -1,7 +1,7 @@
 use Rattle.std.proofs.Common.{rules}
 use Rattle.pp_console.specs.Dumps.{channel_line}
 use Rattle.pp_console.proofs.Each.{each-push}
-use Rattle.pp_console.proofs.registers.channel_lines.Goals as goal
+use Rattle.pp_console.proofs.dumps.channel_lines.Goals as goal
 
 pub loop-c-preserved : goal.loop-c-preserved
 loop-c-preserved c = record {

@@ -1,8 +1,11 @@
--- The answer to each command.
-use Rattle.std.specs.Prelude.{ℕ, nat_lt, Option, Some, None, if◌then◌else◌, Bool, true, false, List, [], ◌∷◌, length}
+-- The answer to each command, and the effect of performing it.
+use Rattle.std.specs.Prelude.{◌≡◌, ℕ, nat_lt, Option, Some, None, Result, IfOk, if◌then◌else◌, Bool, true, false, not, List, [], ◌∷◌, length, map}
 use Rattle.pp_history.specs.Contents.{Contents}
-use Rattle.pp_history.specs.SessionValue.{SessionValue, replay, after_act, after_back, after_forward}
+use Rattle.pp_history.specs.SessionValue.{SessionValue, IsAt, replay, after_act, after_back, after_forward}
 use Rattle.pp_history.specs.Change.{change}
+use Rattle.pp_lines.specs.Device.{Counts}
+use Rattle.pp_lines.specs.Output.{Writes}
+use Rattle.pp_lines.specs.declared.device.Sink.{Ghosts}
 use Rattle.pp_machine.specs.Machine.{Machine}
 use Rattle.pp_machine.specs.declared.place.Place.{Place}
 use Rattle.pp_rig.specs.Admitting.{first_fault}
@@ -15,7 +18,6 @@ use Rattle.pp_rig.specs.declared.rig.RigRecord.{RigRecord}
 use Rattle.pp_rig.specs.declared.stopping.Stopped.{Stopped}
 use Rattle.pp_command.specs.declared.request.Request.{Request}
 use Rattle.pp_command.specs.declared.request.Request.TheVariants.{Act, Step, Back, BackToChange, Forward, DumpCells, DumpProcessor, DumpChannels, DumpCentral, DumpFrame, DumpReader, DumpPrinter, DumpWatches}
-use Rattle.std.specs.Prelude.{map}
 use Rattle.pp_console.specs.Refusals.{ok_text, action_fault_text, range_text, too_few_text, too_few_ahead_text, no_change_text, nothing_watched_text}
 use Rattle.pp_console.specs.Moves.{moved_text, back_name, forward_name, stopped_text}
 use Rattle.pp_console.specs.Watches.{watches_text}
@@ -40,17 +42,17 @@ pub record Answer : Type 0 where
   pub refused : Bool
 
 -- a text, and the value after it
-abbrev pub told : Value → List ℕ → Answer
-told v text = record { text = text; value = v; refused = false }
+abbrev pub answered : Value → List ℕ → Answer
+answered v text = record { text = text; value = v; refused = false }
 
 -- a text, and the unchanged value
-abbrev pub refusal : Value → List ℕ → Answer
-refusal v text = record { text = text; value = v; refused = true }
+abbrev pub rejected : Value → List ℕ → Answer
+rejected v text = record { text = text; value = v; refused = true }
 
 -- an action, if the machine admits it
 abbrev pub act_or : Option ActionFault → Action → Value → Answer
-act_or None action v = told (after_act v action) ok_text
-act_or (Some fault) action v = refusal v (action_fault_text fault)
+act_or None action v = answered (after_act v action) ok_text
+act_or (Some fault) action v = rejected v (action_fault_text fault)
 
 -- SET, WATCH, UNWATCH and DEADSTART
 unfoldable pub act_answer : Action → Value → Answer
@@ -58,7 +60,7 @@ act_answer action v = act_or (first_fault (present v) action) action v
 
 -- turns, up to the first change of a watched number
 abbrev pub stopped_answer : Stopped → Value → Answer
-stopped_answer done v = told (after_turns done.turns v) (stopped_text done (present (after_turns done.turns v)).slot)
+stopped_answer done v = answered (after_turns done.turns v) (stopped_text done (present (after_turns done.turns v)).slot)
 
 -- STEP
 unfoldable pub step_answer : ℕ → Value → Answer
@@ -66,24 +68,24 @@ step_answer most v = stopped_answer (stopped most (present v)) v
 
 -- the session moved by this many actions, to a value
 abbrev pub moved : List ℕ → ℕ → Value → Answer
-moved name actions v = told v (moved_text name actions (present v).slot)
+moved name actions v = answered v (moved_text name actions (present v).slot)
 
 -- BACK: undoes actions, if the undo history has as many
 unfoldable pub back_answer : ℕ → Value → Answer
-back_answer actions v = if nat_lt v.kept actions then refusal v too_few_text else moved back_name actions (after_back v actions)
+back_answer actions v = if nat_lt v.kept actions then rejected v too_few_text else moved back_name actions (after_back v actions)
 
 -- FORWARD: redoes actions, if the redo list has as many
 unfoldable pub forward_answer : ℕ → Value → Answer
-forward_answer actions v = if nat_lt (length v.ahead) actions then refusal v too_few_ahead_text else moved forward_name actions (after_forward v actions)
+forward_answer actions v = if nat_lt (length v.ahead) actions then rejected v too_few_ahead_text else moved forward_name actions (after_forward v actions)
 
 -- undoes actions back to before a change, if there is one
 abbrev pub back_or : Option ℕ → Value → Answer
-back_or None v = refusal v no_change_text
+back_or None v = rejected v no_change_text
 back_or (Some actions) v = moved back_name actions (after_back v actions)
 
 -- undoes the latest change of one of these places, if there are any places
 abbrev pub changed_answer : List Place → Value → Answer
-changed_answer [] v = refusal v nothing_watched_text
+changed_answer [] v = rejected v nothing_watched_text
 changed_answer (place ∷ places) v = back_or (change rules v (place ∷ places)) v
 
 -- BACK W: for the places that are watched now
@@ -92,37 +94,37 @@ change_answer v = changed_answer (map watched_place (watches_of (present v))) v
 
 -- DUMP M
 unfoldable pub cells_answer : ℕ → ℕ → ℕ → Value → Answer
-cells_answer n first last v = told v (cells_text (present v) n first last)
+cells_answer n first last v = answered v (cells_text (present v) n first last)
 
 -- DUMP PP
 unfoldable pub processor_answer : ℕ → Value → Answer
-processor_answer n v = told v (processor_text (present v) n)
+processor_answer n v = answered v (processor_text (present v) n)
 
 -- DUMP H
 unfoldable pub channels_answer : Value → Answer
-channels_answer v = told v (channels_text (present v))
+channels_answer v = answered v (channels_text (present v))
 
 -- DUMP C: the words, if the machine has the last one
 unfoldable pub central_answer : ℕ → ℕ → Value → Answer
 central_answer first last v =
-    if nat_lt last (present v).setup.central_words then told v (central_text (present v) first last)
-    else refusal v range_text
+    if nat_lt last (present v).setup.central_words then answered v (central_text (present v) first last)
+    else rejected v range_text
 
 -- DUMP XP
 unfoldable pub frame_answer : Value → Answer
-frame_answer v = told v (frame_text (present v))
+frame_answer v = answered v (frame_text (present v))
 
 -- DUMP CR
 unfoldable pub reader_answer : Value → Answer
-reader_answer v = told v (reader_text (present v))
+reader_answer v = answered v (reader_text (present v))
 
 -- DUMP LP
 unfoldable pub printer_answer : Value → Answer
-printer_answer v = told v (printer_text (present v))
+printer_answer v = answered v (printer_text (present v))
 
 -- DUMP W
 unfoldable pub watches_answer : Value → Answer
-watches_answer v = told v (watches_text (watches_of (present v)))
+watches_answer v = answered v (watches_text (watches_of (present v)))
 
 -- the answer to a command
 abbrev pub answer : Request → Value → Answer
@@ -139,3 +141,12 @@ answer DumpFrame v = frame_answer v
 answer DumpReader v = reader_answer v
 answer DumpPrinter v = printer_answer v
 answer DumpWatches v = watches_answer v
+
+-- the session moves from its value to the answer's value, the answer's text is written, and only a failed write is counted
+pub record Performs {W E : Type 0} (sink : Ghosts W) (old new : State) (before after : W) (result : Result Bool E) (answer_of : Value → Answer) : Type 0 where
+  pub session : (v : Value) → IsAt rules old v → IsAt rules new (answer_of v).value
+  pub text : (v : Value) → IsAt rules old v → Writes (sink.text before) (sink.text after) result (answer_of v).text
+  pub counted : Counts (sink.failure_count before) (sink.failure_count after) result
+  pub performed : IfOk result (λ performed. (v : Value) → IsAt rules old v → (answer_of v).refused ≡ not performed)
+  -- a rejected command changes nothing
+  pub unchanged : IfOk result (λ performed. performed ≡ false → new ≡ old)

@@ -1,7 +1,7 @@
 use Rattle.std.proofs.Common.{◌≡◌, ◌*◌}
 use Rattle.arrayvec.specs.ArrayVec.{array_vec_len}
 use Rattle.pp_console.specs.Dumps.{each, channel_line}
-use Rattle.pp_console.proofs.registers.channel_lines.Given as goal
+use Rattle.pp_console.proofs.dumps.channel_lines.Given as goal
 
 abbrev pub invariant-loop-c : goal.invariant-loop-c
 invariant-loop-c l = record {

@@ -1,0 +1,18 @@
+use Rattle.std.proofs.Common.{◌∙◌, ◌≡◌, ◌++◌, length, ap, arith}
+use Rattle.std.proofs.lemmas.Bool.Decides.{nat_tests}
+use Rattle.pp_lines.specs.Lines.{unfinished}
+use Rattle.pp_console.specs.declared.progress.TheConstants.{KEPT}
+use Rattle.pp_console.specs.Script.{answer_line}
+use Rattle.pp_console.proofs.Following.{answer_line-kept}
+use Rattle.pp_console.proofs.Performing.{Performs-same}
+use Rattle.pp_console.proofs.Pieces.{whole-line}
+use Rattle.pp_console.proofs.serving.answer_kept_line.Goals as goal
+
+pub returns-then-is_empty-clause-performs : goal.returns-then-is_empty-clause-performs
+returns-then-is_empty-clause-performs g c = λ bytes front.
+    let empty : length c.args.front.now ≡ 0 = grind (arith, nat_tests) in
+    Performs-same (λ v. ap (answer_line v) (whole-line KEPT c.args.front.now bytes c.args.text.now (omega arith) c.requires front empty)) c.answer_line.ensures
+
+pub returns-clause-performs : goal.returns-clause-performs
+returns-clause-performs g c = λ bytes front.
+    Performs-same (λ v. ap (answer_line v) (c.line-2.ensures ∙ c.take_text.ensures bytes front) ∙ answer_line-kept v (unfinished (bytes ++ c.args.text.now))) c.answer_line-2.ensures
