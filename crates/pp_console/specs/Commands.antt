@@ -92,39 +92,15 @@ changed_answer (place ∷ places) v = back_or (change rules v (place ∷ places)
 unfoldable pub change_answer : Value → Answer
 change_answer v = changed_answer (map watched_place (watches_of (present v))) v
 
--- DUMP M
-unfoldable pub cells_answer : ℕ → ℕ → ℕ → Value → Answer
-cells_answer n first last v = answered v (cells_text (present v) n first last)
-
--- DUMP PP
-unfoldable pub processor_answer : ℕ → Value → Answer
-processor_answer n v = answered v (processor_text (present v) n)
-
--- DUMP H
-unfoldable pub channels_answer : Value → Answer
-channels_answer v = answered v (channels_text (present v))
+-- a dump: a text of the machine, and the unchanged value
+abbrev pub shown : (Machine → List ℕ) → Value → Answer
+shown text v = answered v (text (present v))
 
 -- DUMP C: the words, if the machine has the last one
 unfoldable pub central_answer : ℕ → ℕ → Value → Answer
 central_answer first last v =
     if nat_lt last (present v).setup.central_words then answered v (central_text (present v) first last)
     else rejected v range_text
-
--- DUMP XP
-unfoldable pub frame_answer : Value → Answer
-frame_answer v = answered v (frame_text (present v))
-
--- DUMP CR
-unfoldable pub reader_answer : Value → Answer
-reader_answer v = answered v (reader_text (present v))
-
--- DUMP LP
-unfoldable pub printer_answer : Value → Answer
-printer_answer v = answered v (printer_text (present v))
-
--- DUMP W
-unfoldable pub watches_answer : Value → Answer
-watches_answer v = answered v (watches_text (watches_of (present v)))
 
 -- the answer to a command
 abbrev pub answer : Request → Value → Answer
@@ -133,14 +109,14 @@ answer (Step most) v = step_answer most v
 answer (Back actions) v = back_answer actions v
 answer BackToChange v = change_answer v
 answer (Forward actions) v = forward_answer actions v
-answer (DumpCells n first last) v = cells_answer n first last v
-answer (DumpProcessor n) v = processor_answer n v
-answer DumpChannels v = channels_answer v
+answer (DumpCells n first last) v = shown (λ m. cells_text m n first last) v
+answer (DumpProcessor n) v = shown (λ m. processor_text m n) v
+answer DumpChannels v = shown channels_text v
 answer (DumpCentral first last) v = central_answer first last v
-answer DumpFrame v = frame_answer v
-answer DumpReader v = reader_answer v
-answer DumpPrinter v = printer_answer v
-answer DumpWatches v = watches_answer v
+answer DumpFrame v = shown frame_text v
+answer DumpReader v = shown reader_text v
+answer DumpPrinter v = shown printer_text v
+answer DumpWatches v = shown (λ m. watches_text (watches_of m)) v
 
 -- the session moves from its value to the answer's value, the answer's text is written, and only a failed write is counted
 pub record Performs {W E : Type 0} (sink : Ghosts W) (old new : State) (before after : W) (result : Result Bool E) (answer_of : Value → Answer) : Type 0 where

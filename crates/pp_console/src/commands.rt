@@ -2,9 +2,12 @@
 ghost use Rattle.std.specs.Prelude.{◌≡◌, ◌≤◌, ◌<◌, IfErr, IfOk, true, false, length};
 ghost use Rattle.pp_lines.specs.Device.{Counts};
 ghost use Rattle.pp_lines.specs.Output.{Writes};
+ghost use Rattle.pp_console.specs.Dumps.{cells_text, channels_text, frame_text, printer_text, processor_text, reader_text};
 ghost use Rattle.pp_console.specs.Moves.{moved_text};
-ghost use Rattle.pp_console.specs.Commands.{Performs, act_answer, step_answer, back_answer, forward_answer, change_answer, cells_answer, processor_answer, channels_answer, central_answer, frame_answer, reader_answer, printer_answer, watches_answer, answer};
+ghost use Rattle.pp_console.specs.Commands.{Performs, act_answer, step_answer, back_answer, forward_answer, change_answer, central_answer, shown, answer};
 ghost use Rattle.pp_console.specs.Script.{answer_line};
+ghost use Rattle.pp_console.specs.Watches.{watches_text};
+ghost use Rattle.pp_rig.specs.Watches.{watches_of};
 
 use crate::dumps::{
     channel_lines, frame_lines, processor_line, put_cells, put_central, reader_line,
@@ -118,7 +121,6 @@ fn back_to_change<W: Sink>(session: &mut Session<Rig>, out: &mut W) -> Result<bo
 // dump is a function of its own, and none is inlined.
 
 /// Writes cells of a processor.
-#[tactic(auto, unfolding(crate::specs::Commands::cells_answer))]
 #[inline(never)]
 fn dump_cells<W: Sink>(
     session: &mut Session<Rig>,
@@ -129,7 +131,7 @@ fn dump_cells<W: Sink>(
 ) -> Result<bool, Failed>
     requires pp { pp < 10 }
     requires last { last < 4096 }
-    ensures { Performs ⟦<W as Sink>⟧ session.old session.new out.old out.new result (cells_answer pp first last) }
+    ensures { Performs ⟦<W as Sink>⟧ session.old session.new out.old out.new result (shown (λ m. cells_text m pp first last)) }
 {
     put_cells(session.machine(), pp, first, last, out)?;
     Ok(true)
@@ -155,56 +157,50 @@ fn dump_central<W: Sink>(
 }
 
 /// Writes the registers of a processor.
-#[tactic(auto, unfolding(crate::specs::Commands::processor_answer))]
 #[inline(never)]
 fn dump_processor<W: Sink>(session: &mut Session<Rig>, pp: u8, out: &mut W) -> Result<bool, Failed>
     requires { pp < 10 }
-    ensures { Performs ⟦<W as Sink>⟧ session.old session.new out.old out.new result (processor_answer pp) }
+    ensures { Performs ⟦<W as Sink>⟧ session.old session.new out.old out.new result (shown (λ m. processor_text m pp)) }
 {
     write_answer(out, processor_line(session.machine(), pp).as_slice())
 }
 
 /// Writes the channels and the clock.
-#[tactic(auto, unfolding(crate::specs::Commands::channels_answer))]
 #[inline(never)]
 fn dump_channels<W: Sink>(session: &mut Session<Rig>, out: &mut W) -> Result<bool, Failed>
-    ensures { Performs ⟦<W as Sink>⟧ session.old session.new out.old out.new result channels_answer }
+    ensures { Performs ⟦<W as Sink>⟧ session.old session.new out.old out.new result (shown channels_text) }
 {
     write_answer(out, channel_lines(session.machine()).as_slice())
 }
 
 /// Writes the exchange package.
-#[tactic(auto, unfolding(crate::specs::Commands::frame_answer))]
 #[inline(never)]
 fn dump_frame<W: Sink>(session: &mut Session<Rig>, out: &mut W) -> Result<bool, Failed>
-    ensures { Performs ⟦<W as Sink>⟧ session.old session.new out.old out.new result frame_answer }
+    ensures { Performs ⟦<W as Sink>⟧ session.old session.new out.old out.new result (shown frame_text) }
 {
     write_answer(out, frame_lines(session.machine()).as_slice())
 }
 
 /// Writes the state of the card reader.
-#[tactic(auto, unfolding(crate::specs::Commands::reader_answer))]
 #[inline(never)]
 fn dump_reader<W: Sink>(session: &mut Session<Rig>, out: &mut W) -> Result<bool, Failed>
-    ensures { Performs ⟦<W as Sink>⟧ session.old session.new out.old out.new result reader_answer }
+    ensures { Performs ⟦<W as Sink>⟧ session.old session.new out.old out.new result (shown reader_text) }
 {
     write_answer(out, reader_line(session.machine()).as_slice())
 }
 
 /// Writes the watched places.
-#[tactic(auto, unfolding(crate::specs::Commands::watches_answer))]
 #[inline(never)]
 fn dump_watches<W: Sink>(session: &mut Session<Rig>, out: &mut W) -> Result<bool, Failed>
-    ensures { Performs ⟦<W as Sink>⟧ session.old session.new out.old out.new result watches_answer }
+    ensures { Performs ⟦<W as Sink>⟧ session.old session.new out.old out.new result (shown (λ m. watches_text (watches_of m))) }
 {
     write_answer(out, watch_lines(session.machine().watches()).as_slice())
 }
 
 /// Writes the state of the line printer, and its paper.
-#[tactic(auto, unfolding(crate::specs::Commands::printer_answer))]
 #[inline(never)]
 fn dump_printer<W: Sink>(session: &mut Session<Rig>, out: &mut W) -> Result<bool, Failed>
-    ensures { Performs ⟦<W as Sink>⟧ session.old session.new out.old out.new result printer_answer }
+    ensures { Performs ⟦<W as Sink>⟧ session.old session.new out.old out.new result (shown printer_text) }
 {
     put_printer(session.machine(), out)?;
     Ok(true)
