@@ -1,9 +1,17 @@
 //! Lines, and why they are rejected.
 use super::*;
+use std::process::Abort;
 
 /// Returns why a line is rejected, if it is.
 fn fault_of(line: &[u8]) -> Option<LineFault> {
     parse(line).err()
+}
+
+/// Checks that each line is rejected for this reason.
+fn rejects(rt: &impl Abort, fault: LineFault, lines: &[&[u8]]) {
+    for line in lines {
+        assert_eq!(rt; fault_of(line), Some(fault));
+    }
 }
 
 /// Returns whether a line is ignored.
@@ -23,22 +31,21 @@ fn is_command(line: &[u8]) -> bool {
 }
 
 #[test]
-fn tells_words_that_name_nothing(rt: HostRuntime) {
-    for line in [
+fn words_that_name_nothing(rt: HostRuntime) {
+    let lines = [
         b"GO".as_slice(),
         b"SET Z",
         b"DUMP Z 1",
         b"WATCH X 0",
         b"UNWATCH PP 0",
         b"SET H 3 Z 1 2",
-    ] {
-        assert_eq!(rt; fault_of(line), Some(LineFault::NotACommand));
-    }
+    ];
+    rejects(&rt, LineFault::NotACommand, &lines);
 }
 
 #[test]
-fn tells_too_few_words_and_too_many(rt: HostRuntime) {
-    for line in [
+fn too_few_words_and_too_many(rt: HostRuntime) {
+    let lines = [
         b"SET".as_slice(),
         b"SET H 3",
         b"SET H 3 E 1 2",
@@ -53,14 +60,13 @@ fn tells_too_few_words_and_too_many(rt: HostRuntime) {
         b"DEADSTART 0",
         b"BACK W 1",
         b"STEP 1 2",
-    ] {
-        assert_eq!(rt; fault_of(line), Some(LineFault::WordCount));
-    }
+    ];
+    rejects(&rt, LineFault::WordCount, &lines);
 }
 
 #[test]
-fn tells_words_that_are_no_numbers_before_any_range(rt: HostRuntime) {
-    for line in [
+fn words_that_are_no_numbers_before_any_range(rt: HostRuntime) {
+    let lines = [
         b"SET M 0 8 1".as_slice(),
         b"SET M 0 10000 8",
         b"SET M 0 10000 1 2 9",
@@ -69,14 +75,13 @@ fn tells_words_that_are_no_numbers_before_any_range(rt: HostRuntime) {
         b"BACK X",
         b"FORWARD W",
         b"STEP -1",
-    ] {
-        assert_eq!(rt; fault_of(line), Some(LineFault::NotANumber));
-    }
+    ];
+    rejects(&rt, LineFault::NotANumber, &lines);
 }
 
 #[test]
-fn tells_numbers_out_of_range(rt: HostRuntime) {
-    for line in [
+fn numbers_out_of_range(rt: HostRuntime) {
+    let lines = [
         b"SET M 12 0 1".as_slice(),
         b"SET M 0 10000 1",
         b"SET M 0 0 10000",
@@ -96,13 +101,12 @@ fn tells_numbers_out_of_range(rt: HostRuntime) {
         b"DUMP M 0 2 1",
         b"DUMP C 2 1",
         b"DUMP PP 12",
-    ] {
-        assert_eq!(rt; fault_of(line), Some(LineFault::OutOfRange));
-    }
+    ];
+    rejects(&rt, LineFault::OutOfRange, &lines);
 }
 
 #[test]
-fn takes_every_command_in_letters_of_either_case(rt: HostRuntime) {
+fn accepts_every_command_in_letters_of_either_case(rt: HostRuntime) {
     for line in [
         b"SET M 11 7777 1 2 3 4 5 6 7 7777".as_slice(),
         b"SET A 0 777777",
@@ -139,7 +143,7 @@ fn takes_every_command_in_letters_of_either_case(rt: HostRuntime) {
 }
 
 #[test]
-fn looks_at_length_and_bytes_first(rt: HostRuntime) {
+fn checks_length_and_bytes_first(rt: HostRuntime) {
     assert_eq!(rt;
         fault_of([b'X'; 255].as_slice()),
         Some(LineFault::NotACommand)
