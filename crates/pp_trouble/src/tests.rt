@@ -5,6 +5,8 @@ use pp_arguments::ArgFault;
 use pp_files::LoadFault;
 use pp_lines::{IoFault, Tray};
 use pp_rig::SetupFault;
+use std::alloc::Global;
+use std::process::Abort;
 use std::test::Fail;
 
 /// Returns whether the trouble prints this line, in pieces of five bytes.
@@ -19,124 +21,118 @@ fn prints(trouble: &Trouble, line: &str) -> bool {
     }
 }
 
+/// Checks the line and the exit status of a trouble.
+fn check(
+    rt: &impl Abort,
+    alloc: Global,
+    trouble: Trouble,
+    line: &str,
+    status: u8,
+) -> Result<(), Fail> {
+    assert_eq!(rt; trouble.to_string(alloc)?.as_str(), line);
+    assert!(rt; prints(&trouble, line));
+    assert_eq!(rt; trouble.status(), status, "{line}");
+    Ok(())
+}
+
 #[test]
-fn each_trouble_has_its_line_and_its_status(rt: HostRuntime) -> Result<(), Fail> {
+fn help_is_the_usage(rt: HostRuntime) -> Result<(), Fail> {
     let usage =
         "usage: pp6600 [--history N] [--central K] [--deck F] [--reader C] [--printer C] [--panel F] [SCRIPT]";
-    let rows = [
-        (Trouble::from(ArgFault::Help), usage, 0),
-        (
-            Trouble::from(ArgFault::BadArguments),
-            "pp6600: BAD ARGUMENTS",
-            2,
-        ),
-        (
-            Trouble::from(ArgFault::BadChannel),
-            "pp6600: BAD CHANNEL",
-            2,
-        ),
-        (Trouble::from(ArgFault::NoMemory), "pp6600: NO MEMORY", 2),
-        (
-            Trouble::from(SetupFault::SameChannel),
-            "pp6600: SAME CHANNEL",
-            2,
-        ),
-        (
-            Trouble::from(SetupFault::DeckTooLong),
-            "pp6600: DECK TOO LONG",
-            2,
-        ),
-        (Trouble::from(SetupFault::NoMemory), "pp6600: NO MEMORY", 2),
-        (
-            Trouble::CannotOpen(FileKind::Deck),
-            "pp6600: CANNOT OPEN DECK",
-            2,
-        ),
-        (
-            Trouble::CannotOpen(FileKind::Panel),
-            "pp6600: CANNOT OPEN PANEL",
-            2,
-        ),
-        (
-            Trouble::CannotOpen(FileKind::Script),
-            "pp6600: CANNOT OPEN SCRIPT",
-            2,
-        ),
-        (Trouble::from(IoFault::ReadFailed), "pp6600: READ FAILED", 3),
-        (
-            Trouble::from(IoFault::WriteFailed),
-            "pp6600: WRITE FAILED",
-            3,
-        ),
-        (Trouble::from(IoFault::LineLimit), "pp6600: LINE LIMIT", 3),
-    ];
-    for (trouble, line, status) in rows {
-        assert_eq!(rt; trouble.to_string(rt.alloc())?.as_str(), line);
-        assert!(rt; prints(&trouble, line));
-        assert_eq!(rt; trouble.status(), status, "{line}");
+    check(&rt, rt.alloc(), Trouble::from(ArgFault::Help), usage, 0)
+}
+
+#[test]
+fn faults_before_the_first_line_have_status_2(rt: HostRuntime) -> Result<(), Fail> {
+    for (trouble, text) in [
+        (Trouble::from(ArgFault::BadArguments), "BAD ARGUMENTS"),
+        (Trouble::from(ArgFault::BadChannel), "BAD CHANNEL"),
+        (Trouble::from(ArgFault::NoMemory), "NO MEMORY"),
+        (Trouble::from(SetupFault::SameChannel), "SAME CHANNEL"),
+        (Trouble::from(SetupFault::DeckTooLong), "DECK TOO LONG"),
+        (Trouble::from(SetupFault::NoMemory), "NO MEMORY"),
+        (Trouble::CannotOpen(FileKind::Deck), "CANNOT OPEN DECK"),
+        (Trouble::CannotOpen(FileKind::Panel), "CANNOT OPEN PANEL"),
+        (Trouble::CannotOpen(FileKind::Script), "CANNOT OPEN SCRIPT"),
+    ] {
+        let line = format!(in rt.alloc(); "pp6600: {text}")?;
+        check(&rt, rt.alloc(), trouble, line.as_str(), 2)?;
     }
     Ok(())
 }
 
 #[test]
+fn faults_of_input_and_output_have_status_3(rt: HostRuntime) -> Result<(), Fail> {
+    check(
+        &rt,
+        rt.alloc(),
+        Trouble::from(IoFault::ReadFailed),
+        "pp6600: READ FAILED",
+        3,
+    )?;
+    check(
+        &rt,
+        rt.alloc(),
+        Trouble::from(IoFault::WriteFailed),
+        "pp6600: WRITE FAILED",
+        3,
+    )?;
+    check(
+        &rt,
+        rt.alloc(),
+        Trouble::from(IoFault::LineLimit),
+        "pp6600: LINE LIMIT",
+        3,
+    )
+}
+
+#[test]
 fn each_fault_of_a_file_names_it(rt: HostRuntime) -> Result<(), Fail> {
-    let rows = [
-        (
-            FileKind::Deck,
-            LoadFault::FileTooLong,
-            "pp6600: DECK FILE TOO LONG",
-            2,
-        ),
+    for (file, fault, text) in [
+        (FileKind::Deck, LoadFault::FileTooLong, "DECK FILE TOO LONG"),
         (
             FileKind::Panel,
             LoadFault::FileTooLong,
-            "pp6600: PANEL FILE TOO LONG",
-            2,
+            "PANEL FILE TOO LONG",
         ),
         (
             FileKind::Deck,
             LoadFault::LineTooLong(1),
-            "pp6600: DECK LINE 1 TOO LONG",
-            2,
+            "DECK LINE 1 TOO LONG",
         ),
         (
             FileKind::Deck,
             LoadFault::NotOctal(12),
-            "pp6600: DECK LINE 12 NOT OCTAL",
-            2,
+            "DECK LINE 12 NOT OCTAL",
         ),
         (
             FileKind::Panel,
             LoadFault::TooLarge(3),
-            "pp6600: PANEL LINE 3 TOO LARGE",
-            2,
+            "PANEL LINE 3 TOO LARGE",
         ),
         (
             FileKind::Deck,
             LoadFault::TooManyWords(1_048_576),
-            "pp6600: DECK LINE 1048576 TOO MANY WORDS",
-            2,
+            "DECK LINE 1048576 TOO MANY WORDS",
         ),
-        (
-            FileKind::Panel,
-            LoadFault::PanelCount,
-            "pp6600: PANEL PANEL COUNT",
-            2,
-        ),
-        (
-            FileKind::Deck,
-            LoadFault::ReadFailed,
-            "pp6600: READ FAILED",
-            3,
-        ),
-        (FileKind::Panel, LoadFault::NoMemory, "pp6600: NO MEMORY", 2),
-    ];
-    for (file, fault, line, status) in rows {
+        (FileKind::Panel, LoadFault::PanelCount, "PANEL PANEL COUNT"),
+        (FileKind::Panel, LoadFault::NoMemory, "NO MEMORY"),
+    ] {
         assert!(rt; file != FileKind::Script);
-        let trouble = Trouble::load(file, fault);
-        assert_eq!(rt; trouble.to_string(rt.alloc())?.as_str(), line);
-        assert!(rt; prints(&trouble, line));
-        assert_eq!(rt; trouble.status(), status, "{line}");
+        let line = format!(in rt.alloc(); "pp6600: {text}")?;
+        check(
+            &rt,
+            rt.alloc(),
+            Trouble::load(file, fault),
+            line.as_str(),
+            2,
+        )?;
     }
-    Ok(())
+    check(
+        &rt,
+        rt.alloc(),
+        Trouble::load(FileKind::Deck, LoadFault::ReadFailed),
+        "pp6600: READ FAILED",
+        3,
+    )
 }
