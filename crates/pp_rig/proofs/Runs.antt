@@ -1,4 +1,5 @@
 -- Runs, one turn after another.
+use Rattle.std.proofs.lemmas.Bool.{and_parts}
 use Rattle.std.proofs.lemmas.Bool.Decides.{nat_tests}
 use Rattle.std.proofs.Common.{drop, get_or, length, min, ◌≡◌, ◌==◌, true, false, ◌∷◌, ℕ, suc, ◌+◌, ◌-◌, ◌<◌, ◌≤◌, refl, ap, subst, sym, ◌∙◌, arith, List}
 use Rattle.std.specs.Prelude.{Bool, ◌&&◌, Option, Some, None, [], MatchOption}
@@ -22,10 +23,6 @@ use Rattle.pp_machine.specs.declared.place.Place.{Place}
 use Rattle.std.proofs.lemmas.List.{at_drop_more}
 use Rattle.pp_rig.specs.declared.stopping.Hit.{Hit}
 use Rattle.pp_rig.specs.declared.stopping.Stopped.{Stopped}
-
-and-true : (a b : Bool) → (a && b) ≡ true → (a ≡ true) × (b ≡ true)
-and-true true b e = (refl, e)
-and-true false b e = cc
 
 -- this many turns before the rest of a run
 abbrev pub turns_before : ℕ → Stopped → Stopped
@@ -119,7 +116,7 @@ short-told m turn place fits named e =
 pub storage-same : (m : Machine) (turn : ShortTurn) (watches : List Watched) → FitsRecord (whole turn) m → are_storage watches ≡ true → ((place : Place) → is_storage place ≡ true → lookup (turn_pairs (whole_turn turn)) place ≡ None) → first_change (before (whole turn) m) m watches ≡ None
 storage-same m turn [] fits e none = refl
 storage-same m turn (w ∷ ws) fits e none =
-    let both = and-true (is_storage (watched_place w)) (are_storage ws) e in
+    let both = and_parts (is_storage (watched_place w)) (are_storage ws) e in
     let same : number (before (whole turn) m) (watched_place w) ≡ number m (watched_place w) = short-told m turn (watched_place w) fits None (sym (none (watched_place w) both.0)) in
     let equal : (number m (watched_place w) == number (before (whole turn) m) (watched_place w)) ≡ true = grind (arith, nat_tests, same) in
     rw equal (storage-same m turn ws fits both.1 none)

@@ -1,7 +1,8 @@
 -- Watched places that are removed and restored.
 use Rattle.std.specs.Prelude.{ℕ, ◌≡◌, ◌+◌, ◌-◌, ◌<◌, ◌≤◌, ◌==◌, ◌≢◌, All, Some, position, List, [], ◌∷◌, ◌++◌, drop, take, get_or, set, length, map, replicate, refl}
 use Rattle.std.specs.List.{remove}
-use Rattle.std.proofs.Common.{arith, zero, suc, ap, sym, subst, append_assoc, add-one, ◌∙◌}
+use Rattle.std.proofs.Common.{arith, zero, suc, ap, sym, subst, append_assoc, add-one, ◌∙◌, ⊎_elim}
+use Rattle.std.proofs.lemmas.Bool.Decides.{eqb_tells}
 use Rattle.std.proofs.Math.Seq.{get_or-append_seam, drop-append-add}
 use Rattle.std.proofs.lemmas.List.{map-append, length-map, length-append, length-drop, length-set, length-take-le, drop_more, take-append-drop, set_at, length_push}
 use Rattle.std.proofs.lemmas.List.Elements.{All-take, All-drop, All-append}
@@ -66,9 +67,10 @@ moved_up-codes [] zero = refl
 moved_up-codes [] (suc k) = refl
 moved_up-codes (w ∷ ws) k = rw code-no_zero (ap (λ codes. watch_code w ∷ codes) (moved_up-codes ws k))
 
-module _ (front : List Watched) (w : Watched) (rest : List Watched) (few : length (front ++ w ∷ rest) ≤ 8) where
+-- the place w is the one at i
+module _ (ws front rest : List Watched) (w : Watched) (i : ℕ) (whole : front ++ w ∷ rest ≡ ws) (at_i : length front ≡ i) (few : length ws ≤ 8) where
   abbrev zeros : List ℕ
-  zeros = replicate (8 - length (front ++ w ∷ rest)) 0
+  zeros = replicate (8 - length ws) 0
 
   abbrev before : List ℕ
   before = map watch_code front
@@ -76,36 +78,37 @@ module _ (front : List Watched) (w : Watched) (rest : List Watched) (few : lengt
   abbrev after : List ℕ
   after = map watch_code rest
 
-  full : watch_entries (front ++ w ∷ rest) ≡ before ++ ((watch_code w ∷ after) ++ zeros)
-  full = rw (map-append, append_assoc)
+  full : watch_entries ws ≡ before ++ ((watch_code w ∷ after) ++ zeros)
+  full = ap (λ codes. codes ++ zeros) (ap (map watch_code) (sym whole) ∙ map-append watch_code front (w ∷ rest)) ∙ append_assoc before (watch_code w ∷ after) zeros
 
   fewer : watch_entries (front ++ rest) ≡ before ++ ((after ++ 0 ∷ []) ++ zeros)
   fewer =
-      let count : 8 - length (front ++ rest) ≡ suc (8 - length (front ++ w ∷ rest)) = omega (arith, length-append front rest, length-append front (w ∷ rest)) in
+      let count : 8 - length (front ++ rest) ≡ suc (8 - length ws) = omega (arith, length-append front rest, length-append front (w ∷ rest), ap length whole) in
       rw (map-append, count, append_assoc, append_assoc)
 
-  closing : moved_up (drop (length front + 1) (watch_entries (front ++ w ∷ rest))) ≡ after ++ 0 ∷ []
+  length-before : length before ≡ i
+  length-before = length-map front watch_code ∙ at_i
+
+  closing : moved_up (drop (i + 1) (watch_entries ws)) ≡ after ++ 0 ∷ []
   closing =
-      let i : length before ≡ length front = length-map front watch_code in
       let dropped : drop (length before + 1) (before ++ ((watch_code w ∷ after) ++ zeros)) ≡ after ++ zeros = drop-append-add before ((watch_code w ∷ after) ++ zeros) 1 in
-      let at_front : drop (length front + 1) (watch_entries (front ++ w ∷ rest)) ≡ after ++ zeros = rw (full, ← i) dropped in
-      ap moved_up at_front ∙ moved_up-codes rest (8 - length (front ++ w ∷ rest))
+      let behind : drop (i + 1) (watch_entries ws) ≡ after ++ zeros = rw (full, ← length-before) dropped in
+      ap moved_up behind ∙ moved_up-codes rest (8 - length ws)
 
   same_count : length (watch_code w ∷ after) ≡ length (after ++ 0 ∷ [])
   same_count = omega (arith, length_push after 0)
 
   -- the entries without the place w
-  pub entries-removed : watch_entries (front ++ rest) ≡ with_entries (watch_entries (front ++ w ∷ rest)) (length front) (moved_up (drop (length front + 1) (watch_entries (front ++ w ∷ rest))))
-  entries-removed =
-      fewer ∙ sym (rw (closing, full) (with_entries-split before (watch_code w ∷ after) (after ++ 0 ∷ []) zeros (length front) (length-map front watch_code) same_count))
+  pub entries-removed : watch_entries (front ++ rest) ≡ with_entries (watch_entries ws) i (moved_up (drop (i + 1) (watch_entries ws)))
+  entries-removed = fewer ∙ sym (rw (closing, full) (with_entries-split before (watch_code w ∷ after) (after ++ 0 ∷ []) zeros i length-before same_count))
 
   -- the old codes in the entries that change
-  pub entries-stood : entries_at (watch_entries (front ++ w ∷ rest)) (length front) (moved_up (drop (length front + 1) (watch_entries (front ++ w ∷ rest)))) ≡ map watch_code (w ∷ rest)
-  entries-stood = rw (closing, full) (entries_at-split before (watch_code w ∷ after) (after ++ 0 ∷ []) zeros (length front) (length-map front watch_code) same_count)
+  pub entries-stood : entries_at (watch_entries ws) i (moved_up (drop (i + 1) (watch_entries ws))) ≡ map watch_code (w ∷ rest)
+  entries-stood = rw (closing, full) (entries_at-split before (watch_code w ∷ after) (after ++ 0 ∷ []) zeros i length-before same_count)
 
--- places that are put back behind the first ones
-pub entries-restored : (front rest places : List Watched) → length places ≡ length rest + 1 → length front + length places ≤ 8 → watch_entries (front ++ places) ≡ with_entries (watch_entries (front ++ rest)) (length front) (map watch_code places)
-entries-restored front rest places more room =
+-- places that are put back behind the first i ones
+entries-restored : (front rest places : List Watched) (i : ℕ) → length front ≡ i → length places ≡ length rest + 1 → i + length places ≤ 8 → watch_entries (front ++ places) ≡ with_entries (watch_entries (front ++ rest)) i (map watch_code places)
+entries-restored front rest places i at_i more room =
     let before = map watch_code front in
     let after = map watch_code rest in
     let codes = map watch_code places in
@@ -114,7 +117,7 @@ entries-restored front rest places more room =
     let now : watch_entries (front ++ rest) ≡ before ++ ((after ++ 0 ∷ []) ++ zeros) = rw (map-append, count, append_assoc, append_assoc) in
     let then : watch_entries (front ++ places) ≡ before ++ (codes ++ zeros) = rw (map-append, append_assoc) in
     let same : length (after ++ 0 ∷ []) ≡ length codes = omega (arith, length_push after 0, length-map rest watch_code, length-map places watch_code) in
-    then ∙ sym (rw now (with_entries-split before (after ++ 0 ∷ []) codes zeros (length front) (length-map front watch_code) same))
+    then ∙ sym (rw now (with_entries-split before (after ++ 0 ∷ []) codes zeros i (length-map front watch_code ∙ at_i) same))
 
 -- ---- the same, for the place at i
 
@@ -125,37 +128,23 @@ removed : (ws : List Watched) (i : ℕ) → remove ws i ≡ take i ws ++ drop (i
 removed ws i = rw add-one refl
 
 pub removed-at : (ws : List Watched) (i : ℕ) → i < length ws → length ws ≤ 8 → watch_entries (remove ws i) ≡ with_entries (watch_entries ws) i (moved_up (drop (i + 1) (watch_entries ws)))
-removed-at ws i h few =
-    let P : List Watched → ℕ → Type 0 = λ vs n. watch_entries (take i ws ++ drop (i + 1) ws) ≡ with_entries (watch_entries vs) n (moved_up (drop (n + 1) (watch_entries vs))) in
-    let count : length (take i ws) ≡ i = length-take-le i ws (omega arith) in
-    let room : length (take i ws ++ (get_or ws i (RegA 0) ∷ drop (i + 1) ws)) ≤ 8 = rw (split ws i h) few in
-    ap watch_entries (removed ws i) ∙ subst (λ vs. P vs i) (split ws i h) (subst (P (take i ws ++ (get_or ws i (RegA 0) ∷ drop (i + 1) ws))) count (entries-removed (take i ws) (get_or ws i (RegA 0)) (drop (i + 1) ws) room))
+removed-at ws i h few = ap watch_entries (removed ws i) ∙ entries-removed ws (take i ws) (drop (i + 1) ws) (get_or ws i (RegA 0)) i (split ws i h) (length-take-le i ws (omega arith)) few
 
 pub stood-at : (ws : List Watched) (i : ℕ) → i < length ws → length ws ≤ 8 → map watch_code (drop i ws) ≡ entries_at (watch_entries ws) i (moved_up (drop (i + 1) (watch_entries ws)))
-stood-at ws i h few =
-    let P : List Watched → ℕ → Type 0 = λ vs n. entries_at (watch_entries vs) n (moved_up (drop (n + 1) (watch_entries vs))) ≡ map watch_code (get_or ws i (RegA 0) ∷ drop (i + 1) ws) in
-    let count : length (take i ws) ≡ i = length-take-le i ws (omega arith) in
-    let room : length (take i ws ++ (get_or ws i (RegA 0) ∷ drop (i + 1) ws)) ≤ 8 = rw (split ws i h) few in
-    let found = subst (λ vs. P vs i) (split ws i h) (subst (P (take i ws ++ (get_or ws i (RegA 0) ∷ drop (i + 1) ws))) count (entries-stood (take i ws) (get_or ws i (RegA 0)) (drop (i + 1) ws) room)) in
-    ap (map watch_code) (drop_more ws i (RegA 0) h) ∙ sym found
+stood-at ws i h few = ap (map watch_code) (drop_more ws i (RegA 0) h) ∙ sym (entries-stood ws (take i ws) (drop (i + 1) ws) (get_or ws i (RegA 0)) i (split ws i h) (length-take-le i ws (omega arith)) few)
 
 -- places from i on replace those there, of which there is one fewer
 pub restored-at : (ws places : List Watched) (i : ℕ) → i ≤ length ws → length ws + 1 ≡ i + length places → i + length places ≤ 8 → watch_entries (take i ws ++ places) ≡ with_entries (watch_entries ws) i (map watch_code places)
 restored-at ws places i h more room =
-    let P : List Watched → ℕ → Type 0 = λ vs n. watch_entries (take i ws ++ places) ≡ with_entries (watch_entries vs) n (map watch_code places) in
-    let count : length (take i ws) ≡ i = length-take-le i ws h in
     let rest : length places ≡ length (drop i ws) + 1 = omega (arith, length-drop i ws) in
-    let few : length (take i ws) + length places ≤ 8 = omega arith in
-    subst (λ vs. P vs i) (take-append-drop i ws) (subst (P (take i ws ++ drop i ws)) count (entries-restored (take i ws) (drop i ws) places rest few))
+    entries-restored (take i ws) (drop i ws) places i (length-take-le i ws h) rest room ∙ ap (λ vs. with_entries (watch_entries vs) i (map watch_code places)) (take-append-drop i ws)
 
 pub back-at : (ws : List Watched) (i : ℕ) → i < length ws → length ws ≤ 8 → with_entries (watch_entries (remove ws i)) i (map watch_code (drop i ws)) ≡ watch_entries ws
 back-at ws i h few =
-    let count : length (take i ws) ≡ i = length-take-le i ws (omega arith) in
     let rest : length (drop i ws) ≡ length (drop (i + 1) ws) + 1 = omega (arith, length-drop i ws, length-drop (i + 1) ws) in
-    let room : length (take i ws) + length (drop i ws) ≤ 8 = omega (arith, length-drop i ws) in
-    let restored = entries-restored (take i ws) (drop (i + 1) ws) (drop i ws) rest room in
-    let at_i = subst (λ n. watch_entries (take i ws ++ drop i ws) ≡ with_entries (watch_entries (take i ws ++ drop (i + 1) ws)) n (map watch_code (drop i ws))) count restored in
-    ap (λ vs. with_entries (watch_entries vs) i (map watch_code (drop i ws))) (removed ws i) ∙ (sym at_i ∙ ap watch_entries (take-append-drop i ws))
+    let room : i + length (drop i ws) ≤ 8 = omega (arith, length-drop i ws) in
+    let restored = entries-restored (take i ws) (drop (i + 1) ws) (drop i ws) i (length-take-le i ws (omega arith)) rest room in
+    ap (λ vs. with_entries (watch_entries vs) i (map watch_code (drop i ws))) (removed ws i) ∙ (sym restored ∙ ap watch_entries (take-append-drop i ws))
 
 pub told-remove : (ws : List Watched) (i : ℕ) → All (λ w. watched_at (watch_code w) ≡ w) ws → All (λ w. watched_at (watch_code w) ≡ w) (remove ws i)
 told-remove ws i told = All-append (λ w. watched_at (watch_code w) ≡ w) (take i ws) (drop (suc i) ws) (All-take (λ w. watched_at (watch_code w) ≡ w) i ws told) (All-drop (λ w. watched_at (watch_code w) ≡ w) (suc i) ws told)
@@ -174,6 +163,12 @@ length-with_entries entries i (code ∷ codes) = length-set (with_entries entrie
 
 pub IsShaped-watches : (size : ℕ) (m : Machine) (entries : List ℕ) → IsShaped size m → length entries ≡ 8 → IsShaped size (record m { watches = entries })
 IsShaped-watches size m entries s e = record { processors = s.processors; memories = s.memories; modes = s.modes; words = s.words; central = s.central; frame = s.frame; symbols = s.symbols; watches = e }
+
+-- behind the last place there is nothing to move up
+pub moved_up-last : (entries : List ℕ) → moved_up (drop (first_zero entries) entries) ≡ 0 ∷ []
+moved_up-last [] = refl
+moved_up-last (code ∷ codes) =
+    ⊎_elim (λ t. rw t.0 (rw t.0 refl)) (λ t. rw (t.0, add-one) (moved_up-last codes)) (eqb_tells code 0)
 
 -- without the place at i the entries are still well formed
 pub AreWatches-removed : (size : ℕ) (entries : List ℕ) (i : ℕ) → size ≤ 2097152 → AreWatches size entries → i < first_zero entries → AreWatches size (watch_entries (remove (watched_in entries) i))

@@ -60,28 +60,6 @@ first_zero-at [] = refl
 first_zero-at (x ∷ xs) =
     ⊎_elim (λ t. rw t.0 t.1) (λ t. rw (t.0, add-one) (first_zero-at xs)) (eqb_tells x 0)
 
--- the last place is removed
-pub watch_entries-pop : (ws : List Watched) (w : Watched) → length (ws ++ w ∷ []) ≤ 8 → watch_entries ws ≡ set (watch_entries (ws ++ w ∷ [])) (length ws) 0
-watch_entries-pop ws w h =
-    let count = length-push ws w in
-    let room : length ws < 8 = omega arith in
-    let at = rw first_zero-entries at (first_zero-at (watch_entries ws)) in
-    rw watch_entries-push (sym (set-back_to_zero (watch_entries ws) (length ws) (watch_code w) at))
-
--- the same, stated for the whole list
-pub watch_entries-shorter : (ws : List Watched) → 0 < length ws → length ws ≤ 8 → watch_entries (take (length ws - 1) ws) ≡ set (watch_entries ws) (length ws - 1) 0
-watch_entries-shorter ws some few =
-    let k = length ws - 1 in
-    let last = get_or ws k (RegA 0) in
-    let below : k < length ws = omega arith in
-    let whole : k + 1 ≡ length ws = omega arith in
-    let same : take (k + 1) ws ≡ ws = rw whole (take_all (length ws) ws (omega arith)) in
-    let split : take k ws ++ last ∷ [] ≡ ws = sym (take_more ws k (RegA 0) below) ∙ same in
-    let count : length (take k ws) ≡ k = length-take-le k ws (omega arith) in
-    let P : List Watched → ℕ → Type 0 = λ vs n. watch_entries (take k ws) ≡ set (watch_entries vs) n 0 in
-    let room : length (take k ws ++ last ∷ []) ≤ 8 = rw split few in
-    subst (λ vs. P vs k) split (subst (P (take k ws ++ last ∷ [])) count (watch_entries-pop (take k ws) last room))
-
 -- no place has the code zero
 pub zero-no_code : (w : Watched) → eqb 0 (watch_code w) ≡ false
 zero-no_code w = ⊎_elim (λ t. absurd (omega (arith, t.1, code-below w))) (λ t. t.0) (eqb_tells 0 (watch_code w))
@@ -181,25 +159,3 @@ AreWatches-push size entries w few ok room has new =
     let more = AreWatches-entries size (ws ++ w ∷ []) few (All-push (λ v. Has size (watched_place v)) ws w ok.present has) (all_pairs_push (λ v u. watch_code v ≢ watch_code u) ws w ok.distinct (λ k d l. other-code ws w k d none l)) in
     let pushed : watch_entries (ws ++ w ∷ []) ≡ set entries (first_zero entries) (watch_code w) = watch_entries-push ws w short ∙ (ap (λ es. set es (length ws) (watch_code w)) ok.closed_up ∙ ap (λ n. set entries n (watch_code w)) count) in
     subst (AreWatches size) pushed more
-
-first_zero-within : (entries : List ℕ) → first_zero entries ≤ length entries
-first_zero-within [] = omega arith
-first_zero-within (code ∷ codes) =
-    ⊎_elim (λ t. rw t.0 (omega arith)) (λ t. rw t.0 (omega (arith, first_zero-within codes))) (eqb_tells code 0)
-
-apart-take : (n : ℕ) (ws : List Watched) → AllPairs (λ v w. watch_code v ≢ watch_code w) ws → AllPairs (λ v w. watch_code v ≢ watch_code w) (take n ws)
-apart-take n ws apart = λ i j d l h.
-    let count = length-take n ws in
-    let kept_i : get_or (take n ws) i d ≡ get_or ws i d = get_or-take n ws i d (omega arith) in
-    let kept_j : get_or (take n ws) j d ≡ get_or ws j d = get_or-take n ws j d (omega arith) in
-    rw (kept_i, kept_j) (apart i j d l (omega arith))
-
--- the last place is removed
-pub AreWatches-pop : (size : ℕ) (entries : List ℕ) → size ≤ 2097152 → AreWatches size entries → 0 < first_zero entries → length entries ≡ 8 → AreWatches size (set entries (first_zero entries - 1) 0)
-AreWatches-pop size entries few ok some all =
-    let ws = watched_in entries in
-    let count : length ws ≡ first_zero entries = length-watched_in entries in
-    let within = first_zero-within entries in
-    let fewer = AreWatches-entries size (take (length ws - 1) ws) few (All-take (λ v. Has size (watched_place v)) (length ws - 1) ws ok.present) (apart-take (length ws - 1) ws ok.distinct) in
-    let popped : watch_entries (take (length ws - 1) ws) ≡ set entries (first_zero entries - 1) 0 = watch_entries-shorter ws (omega arith) (omega arith) ∙ (ap (λ es. set es (length ws - 1) 0) ok.closed_up ∙ ap (λ n. set entries (n - 1) 0) count) in
-    subst (AreWatches size) popped fewer

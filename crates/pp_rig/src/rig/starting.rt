@@ -1,5 +1,6 @@
 //! The starting machine.
 ghost use Rattle.std.specs.Prelude.{◌≡◌, ◌≤◌, All, IfErr, IfOk, IfSome, None, OnOk, replicate, unwrap_or};
+ghost use Rattle.pp_machine.specs.CentralSizes.{words_of};
 ghost use Rattle.pp_machine.specs.ReaderNumbers.{IsCard};
 ghost use Rattle.pp_rig.specs.Starting.{blank_processor, setup_fault, starting};
 
@@ -7,7 +8,7 @@ use super::Rig;
 use crate::processor::Processor;
 use crate::setup::{Setup, SetupFault};
 use crate::watched::WatchList;
-use pp_machine::{Central, Channels, Frame, MakeFault, Printer, Reader};
+use pp_machine::{Central, CentralSize, Channels, Frame, MakeFault, Printer, Reader};
 use std::alloc::Global;
 
 /// Creates ten processors whose numbers are all 0.
@@ -19,6 +20,21 @@ fn blank_processors(alloc: Global) -> Result<Vec<Processor>, MakeFault>
         processors.push(Processor::new(alloc)?)?;
     }
     Ok(processors)
+}
+
+/// Creates the parts that need memory, with every number 0.
+fn allocate(
+    alloc: Global,
+    central_size: CentralSize,
+) -> Result<(Vec<Processor>, Central, Printer), MakeFault>
+    ensures processors { IfOk result (λ parts. parts.0.items ≡ replicate 10 blank_processor) }
+    ensures central { IfOk result (λ parts. parts.1 ≡ replicate (words_of central_size) 0) }
+    ensures printer { IfOk result (λ parts. parts.2 ≡ record { symbols = replicate 65536 0; length = 0; column = 0; mode = 0 }) }
+{
+    let processors = blank_processors(alloc)?;
+    let central = Central::new(alloc, central_size)?;
+    let printer = Printer::new(alloc)?;
+    Ok((processors, central, printer))
 }
 
 impl Rig {
@@ -50,13 +66,7 @@ impl Rig {
         let Ok(reader) = Reader::new(deck) else {
             return Err(SetupFault::DeckTooLong);
         };
-        let Ok(processors) = blank_processors(alloc) else {
-            return Err(SetupFault::NoMemory);
-        };
-        let Ok(central) = Central::new(alloc, central_size) else {
-            return Err(SetupFault::NoMemory);
-        };
-        let Ok(printer) = Printer::new(alloc) else {
+        let Ok((processors, central, printer)) = allocate(alloc, central_size) else {
             return Err(SetupFault::NoMemory);
         };
         Ok(Rig {

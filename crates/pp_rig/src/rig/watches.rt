@@ -76,6 +76,6 @@ impl Rig {
         requires { first_zero self.old.watches ≡ i + 1 }
         ensures { self.new ≡ over self.old ((Place.WatchEntry i, 0) ∷ []) }
     {
-        self.watches.pop();
+        self.watches.remove(i);
     }
 }

@@ -1,5 +1,5 @@
-use Rattle.std.proofs.Common.{◌≡◌, arith}
-use Rattle.std.specs.Prelude.{drop}
+use Rattle.std.proofs.Common.{◌≡◌, ◌<◌, arith}
+use Rattle.std.specs.Prelude.{drop, length}
 use Rattle.std.proofs.lemmas.List.{length-drop}
 use Rattle.std.proofs.lemmas.List.Edits.{length-remove}
 use Rattle.std.proofs.lemmas.List.Elements.{All-drop}
@@ -25,23 +25,23 @@ invariant_of-self c =
     let count = length-remove c.self.inside.places.items c.args.i below in
     rw c.remove.ensures.items (record { few = omega (arith, count, c.self.invariant.few); told = told-remove c.self.inside.places.items c.args.i c.self.invariant.told })
 
+below : (c : goal.After-remove) → c.args.i < length c.self.inside.places.items
+below c = rw (← c.self.view_is, first_zero-entries) at c.requires
+
 stood : (c : goal.After-remove) → c.places_from-stood.result.items ≡ drop c.args.i c.self.inside.places.items
 stood c = rw (c.places_from-stood.ensures, c.as_slice.ensures.value)
 
 pub returns-clause-removed : goal.returns-clause-removed
 returns-clause-removed c =
-    let below = rw (← c.self.view_is, first_zero-entries) at c.requires in
-    rw (← c.self.view_is, c.remove.ensures.items) (removed-at c.self.inside.places.items c.args.i below c.self.invariant.few)
+    rw (← c.self.view_is, c.remove.ensures.items) (removed-at c.self.inside.places.items c.args.i (below c) c.self.invariant.few)
 
 pub returns-clause-stood : goal.returns-clause-stood
 returns-clause-stood c =
-    let below = rw (← c.self.view_is, first_zero-entries) at c.requires in
-    rw (← c.self.view_is, stood c) (stood-at c.self.inside.places.items c.args.i below c.self.invariant.few)
+    rw (← c.self.view_is, stood c) (stood-at c.self.inside.places.items c.args.i (below c) c.self.invariant.few)
 
 pub returns-clause-back : goal.returns-clause-back
 returns-clause-back c =
-    let below = rw (← c.self.view_is, first_zero-entries) at c.requires in
-    rw (← c.self.view_is, c.remove.ensures.items, stood c) (back-at c.self.inside.places.items c.args.i below c.self.invariant.few)
+    rw (← c.self.view_is, c.remove.ensures.items, stood c) (back-at c.self.inside.places.items c.args.i (below c) c.self.invariant.few)
 
 pub returns-clause-places : goal.returns-clause-places
 returns-clause-places c =
@@ -49,20 +49,17 @@ returns-clause-places c =
 
 pub returns-clause-count : goal.returns-clause-count
 returns-clause-count c =
-    let below = rw (← c.self.view_is, first_zero-entries) at c.requires in
-    let count = length-remove c.self.inside.places.items c.args.i below in
-    rw (c.remove.ensures.items, first_zero-entries, stood c, length-drop) (omega (arith, count, below))
+    let count = length-remove c.self.inside.places.items c.args.i (below c) in
+    rw (c.remove.ensures.items, first_zero-entries, stood c, length-drop) (omega (arith, count, below c))
 
 pub returns-clause-within : goal.returns-clause-within
 returns-clause-within c =
-    let below = rw (← c.self.view_is, first_zero-entries) at c.requires in
-    let count = length-remove c.self.inside.places.items c.args.i below in
-    rw (c.remove.ensures.items, first_zero-entries) (omega (arith, count, below))
+    let count = length-remove c.self.inside.places.items c.args.i (below c) in
+    rw (c.remove.ensures.items, first_zero-entries) (omega (arith, count, below c))
 
 pub returns-clause-few : goal.returns-clause-few
 returns-clause-few c =
-    let below = rw (← c.self.view_is, first_zero-entries) at c.requires in
-    rw (stood c, length-drop) (omega (arith, below, c.self.invariant.few))
+    rw (stood c, length-drop) (omega (arith, below c, c.self.invariant.few))
 
 pub returns-clause-told : goal.returns-clause-told
 returns-clause-told c = rw (stood c) (All-drop (λ w. watched_at (watch_code w) ≡ w) c.args.i c.self.inside.places.items c.self.invariant.told)
