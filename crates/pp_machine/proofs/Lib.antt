@@ -1,7 +1,6 @@
 pub mod ChannelRanges
-pub mod DevicePlaces
-pub mod DeviceStores
-pub mod DeviceWrites
+pub mod DeviceLaws
 pub mod Once
 pub mod PrinterLaws
+pub mod ReaderLaws
 pub mod Same

@@ -5,8 +5,8 @@ ghost use Rattle.std.specs.Prelude.{◌≡◌, ◌≢◌, ◌<◌, ℕ, unwrap_o
 ghost use Rattle.std.specs.List.{AllPairs};
 ghost use Rattle.pp_machine.specs.Lookup.{lookup};
 ghost use Rattle.pp_machine.specs.Machine.{Machine, number, over};
-ghost use Rattle.pp_machine.specs.Printed.{PrinterView, FitsPrinter, printer_pairs, printer_place, printer_writes};
-ghost use Rattle.pp_machine.specs.Read.{ReaderView, reader_pairs, reader_place, reader_writes};
+ghost use Rattle.pp_machine.specs.Printer.{PrinterView, FitsPrinter, printer_pairs, printer_place, printer_writes};
+ghost use Rattle.pp_machine.specs.Reader.{ReaderView, reader_pairs, reader_place, reader_writes};
 ghost use Rattle.pp_machine.specs.Shape.{Has, HasAll, IsShaped};
 ghost use Rattle.pp_machine.specs.Writes.{Writes, places, renamed};
 

@@ -3,9 +3,10 @@ use Rattle.std.specs.Prelude.{ℕ, Bool, true, false, ◌≡◌, ◌==◌, ◌�
 use Rattle.std.proofs.Common.{arith}
 use Rattle.std.proofs.lemmas.List.{length-append}
 use Rattle.pp_machine.specs.Machine.{Machine, number, over}
-use Rattle.pp_machine.proofs.DevicePlaces.{printer_few, reader_few}
-use Rattle.pp_machine.specs.Printed.{printer_pairs, printer_place}
-use Rattle.pp_machine.specs.Read.{reader_pairs, reader_place}
+use Rattle.pp_machine.proofs.PrinterLaws.{printer_few}
+use Rattle.pp_machine.proofs.ReaderLaws.{reader_few}
+use Rattle.pp_machine.specs.Printer.{printer_pairs, printer_place}
+use Rattle.pp_machine.specs.Reader.{reader_pairs, reader_place}
 use Rattle.pp_machine.specs.WriteLaws.{over-append, places-append, places-olds}
 use Rattle.pp_machine.specs.Writes.{places}
 use Rattle.pp_step.specs.Step.{pp_pairs}

@@ -10,8 +10,9 @@ use Rattle.pp_rig.specs.Lift.{pp_of, with_pp}
 use Rattle.pp_rig.specs.LiftLaws.{step-pp, record-pp}
 use Rattle.pp_rig.specs.MachineLaws.{has_processor, IsMachine-with_pp}
 use Rattle.pp_machine.specs.Machine.{over, olds}
-use Rattle.pp_machine.specs.Printed.{FitsPrinter, printer_pairs, printer_place}
-use Rattle.pp_machine.specs.Read.{FitsReader, reader_pairs, reader_place}
+use Rattle.pp_machine.specs.Attached.{device_pairs, the_printer, the_reader}
+use Rattle.pp_machine.specs.Printer.{FitsPrinter}
+use Rattle.pp_machine.specs.Reader.{FitsReader}
 use Rattle.pp_machine.specs.declared.place.Place.TheVariants.{Slot}
 use Rattle.pp_rig.specs.Lift.{printer_of, reader_of}
 use Rattle.pp_rig.specs.Short.{IsTurned}
@@ -47,8 +48,8 @@ IsMachine-short false m new back ok step same = subst IsMachine (sym (slot-same 
 
 pub devices-called : (m new : Machine) (r : TurnRest) → r.are_devices_called ≡ true → r.reader_channel ≡ m.setup.reader_channel → r.printer_channel ≡ m.setup.printer_channel →
     new ≡ over (over m (reader_list m)) (printer_list (over m (reader_list m))) →
-    renamed (reader_place m.setup.reader_channel) (reader_pairs r.reader) ≡ olds m (reader_list m) →
-    renamed (printer_place m.setup.printer_channel) (printer_pairs r.printer) ≡ olds (over m (reader_list m)) (printer_list (over m (reader_list m))) →
+    device_pairs the_reader m.setup.reader_channel r.reader ≡ olds m (reader_list m) →
+    device_pairs the_printer m.setup.printer_channel r.printer ≡ olds (over m (reader_list m)) (printer_list (over m (reader_list m))) →
     FitsReader r.reader (reader_of m.setup.reader_channel (over m (reader_list m))) → FitsPrinter r.printer (printer_of m.setup.printer_channel new) → KeepsSlot m new → AreDevicesStepped m new r
 devices-called m new r called at_reader at_printer step reader printer fits_reader fits_printer kept = record {
   step = step;

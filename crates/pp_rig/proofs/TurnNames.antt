@@ -1,14 +1,15 @@
 -- Which parts of a turn's record may have a place.
 use Rattle.std.proofs.Common.{ℕ, Bool, true, false, ◌≡◌, ◌==◌, [], ◌∷◌, Option, Some, None, if◌then◌else◌, refl, ap, ◌∙◌}
+use Rattle.pp_machine.proofs.DeviceLaws.{IsAttached, not_at}
+use Rattle.pp_machine.proofs.PrinterLaws.{printer-attached}
+use Rattle.pp_machine.proofs.ReaderLaws.{reader-attached}
+use Rattle.pp_machine.specs.Attached.{Attached, device_pairs, of_device, the_printer, the_reader}
+use Rattle.pp_machine.specs.Device.{device_place}
 use Rattle.pp_machine.specs.Lookup.{lookup, same_place}
-use Rattle.pp_machine.specs.Printed.{PrinterPlace, printer_pairs, printer_place}
-use Rattle.pp_machine.specs.Printed as printed
-use Rattle.pp_machine.specs.Read.{ReaderPlace, reader_pairs, reader_place}
-use Rattle.pp_machine.specs.Read as read
 use Rattle.pp_machine.specs.WriteLaws.{lookup-append}
 use Rattle.pp_machine.specs.Writes.{Writes, first_of_two, renamed}
 use Rattle.pp_machine.specs.declared.place.Place.{Place}
-use Rattle.pp_machine.specs.declared.place.Place.TheVariants.{Cell, RegA, RegP, RegQ, Phase, ChannelMode, ChannelWord, Clock, Central, FrameWord, Card, CardColumn, ReaderMode, PaperLength, PaperColumn, PrinterMode, PaperSymbol, Slot, WatchEntry}
+use Rattle.pp_machine.specs.declared.place.Place.TheVariants.{Cell, RegA, RegP, RegQ, Phase, ChannelMode, ChannelWord, Clock, Central, FrameWord, Slot, WatchEntry}
 use Rattle.pp_rig.specs.Turn.{clock_part, printer_part, printer_record, reader_part, reader_record, rest_pairs, turn_pairs}
 use Rattle.pp_rig.specs.declared.rig.TurnRecord.{TurnRecord}
 use Rattle.pp_rig.specs.Short.{whole_turn}
@@ -35,35 +36,9 @@ not_among : {P : Type 0} (name : P → Place) (ws : Writes P) (p : Place) → ((
 not_among name [] p other = refl
 not_among name (w ∷ ws) p other = rw (other w.0) (not_among name ws p other)
 
--- the places that a device's list may have: its own places and its channel's
-abbrev of_device : Place → Bool
-of_device Card = true
-of_device CardColumn = true
-of_device ReaderMode = true
-of_device PaperLength = true
-of_device PaperColumn = true
-of_device PrinterMode = true
-of_device (PaperSymbol k) = true
-of_device (ChannelMode c) = true
-of_device (ChannelWord c) = true
-of_device _ = false
-
-no_reader_place : (c : ℕ) (x : ReaderPlace) (p : Place) → of_device p ≡ false → same_place (reader_place c x) p ≡ false
-no_reader_place c read.AtCard Card e = e
-no_reader_place c read.AtColumn CardColumn e = e
-no_reader_place c read.AtMode ReaderMode e = e
-no_reader_place c read.AtState (ChannelMode k) e = cc
-no_reader_place c read.AtWord (ChannelWord k) e = cc
-no_reader_place c x p e = refl
-
-no_printer_place : (c : ℕ) (x : PrinterPlace) (p : Place) → of_device p ≡ false → same_place (printer_place c x) p ≡ false
-no_printer_place c printed.AtLength PaperLength e = e
-no_printer_place c printed.AtColumn PaperColumn e = e
-no_printer_place c printed.AtMode PrinterMode e = e
-no_printer_place c (printed.AtSymbol k) (PaperSymbol j) e = cc
-no_printer_place c printed.AtState (ChannelMode k) e = cc
-no_printer_place c printed.AtWord (ChannelWord k) e = cc
-no_printer_place c x p e = refl
+-- nor does a device's record
+not_by_device : {Numbers Own Record : Type 0} (a : Attached Numbers Own Record) → IsAttached a → (c : ℕ) (r : Record) (p : Place) → of_device p ≡ false → lookup (device_pairs a c r) p ≡ None
+not_by_device a laws c r p e = not_among (device_place a.model c) (a.model.pairs r) p (not_at a laws c p e)
 
 -- ---- the parts that are looked up
 
@@ -75,7 +50,7 @@ by_devices r p = first_of_two (lookup (reader_part r.rest) p) (lookup (printer_p
 
 not_by_devices : (r : TurnRecord) (p : Place) → of_device p ≡ false → by_devices r p ≡ None
 not_by_devices r p e =
-    rw (not_among (reader_place r.rest.reader_channel) (reader_pairs (reader_record r.rest)) p (λ x. no_reader_place r.rest.reader_channel x p e), not_among (printer_place r.rest.printer_channel) (printer_pairs (printer_record r.rest)) p (λ x. no_printer_place r.rest.printer_channel x p e))
+    rw (not_by_device the_reader reader-attached r.rest.reader_channel (reader_record r.rest) p e, not_by_device the_printer printer-attached r.rest.printer_channel (printer_record r.rest) p e)
     refl
 
 -- the lookup of a processor's own place: the record is of one processor
@@ -160,15 +135,9 @@ lookup_told r (FrameWord i) = processor_alone r (FrameWord i) refl refl refl
 lookup_told r (ChannelMode c) = shared r (ChannelMode c) refl refl
 lookup_told r (ChannelWord c) = shared r (ChannelWord c) refl refl
 lookup_told r Clock = neither r Clock refl refl ∙ first_alone (lookup (clock_part r.rest.slot r.rest.clock) Clock)
-lookup_told r Card = devices_alone r Card refl refl refl
-lookup_told r CardColumn = devices_alone r CardColumn refl refl refl
-lookup_told r ReaderMode = devices_alone r ReaderMode refl refl refl
-lookup_told r PaperLength = devices_alone r PaperLength refl refl refl
-lookup_told r PaperColumn = devices_alone r PaperColumn refl refl refl
-lookup_told r PrinterMode = devices_alone r PrinterMode refl refl refl
-lookup_told r (PaperSymbol k) = devices_alone r (PaperSymbol k) refl refl refl
 lookup_told r Slot = neither r Slot refl refl ∙ rw (no_clock (r.rest.slot == 9) r.rest.clock Slot refl) refl
 lookup_told r (WatchEntry i) = neither r (WatchEntry i) refl refl ∙ rw (no_clock (r.rest.slot == 9) r.rest.clock (WatchEntry i) refl) refl
+lookup_told r p = devices_alone r p refl refl refl
 
 -- ---- a turn that wrote only registers, the clock and the slot
 

@@ -1,18 +1,19 @@
 -- What a turn leaves unchanged.
 use Rattle.std.specs.Prelude.{ℕ, ◌+◌, ◌%◌, ◌≡◌, [], ◌∷◌, Bool, true, false, if◌then◌else◌, ◌==◌, refl}
 use Rattle.std.proofs.Common.{◌∙◌}
+use Rattle.pp_machine.specs.Attached.{Attached, device_list, the_printer, the_reader, view_of}
+use Rattle.pp_machine.specs.Device.{device_place}
 use Rattle.pp_machine.specs.Machine.{Machine, put, over}
-use Rattle.pp_machine.specs.Printed.{PrinterPlace, printer_place, printer_writes}
-use Rattle.pp_machine.specs.Printed as printed
-use Rattle.pp_machine.specs.Read.{ReaderPlace, reader_place, reader_writes}
-use Rattle.pp_machine.specs.Read as read
 use Rattle.pp_machine.specs.Writes.{Writes, renamed}
 use Rattle.pp_machine.specs.declared.place.Place.{Place}
 use Rattle.pp_machine.specs.declared.place.Place.TheVariants.{Clock}
 use Rattle.pp_step.specs.View.{PpPlace, pp_place}
 use Rattle.pp_step.specs.View as stepped
 use Rattle.pp_step.specs.Step.{pp_writes}
-use Rattle.pp_rig.specs.Lift.{pp_of, printer_of, reader_of}
+use Rattle.pp_machine.proofs.DeviceLaws.{IsAttached, watches-kept}
+use Rattle.pp_machine.proofs.PrinterLaws.{printer-attached}
+use Rattle.pp_machine.proofs.ReaderLaws.{reader-attached}
+use Rattle.pp_rig.specs.Lift.{pp_of}
 use Rattle.pp_rig.specs.Turn.{turn, pp_list, reader_list, printer_list}
 
 -- a list of writes without a watch entry
@@ -24,13 +25,9 @@ keeps-pp : (n : ℕ) (m : Machine) (p : PpPlace) (v : ℕ) → (put m (pp_place 
 keeps-pp n m stepped.A v = refl
 keeps-pp n m p v = refl
 
-keeps-reader : (c : ℕ) (m : Machine) (p : ReaderPlace) (v : ℕ) → (put m (reader_place c p) v).watches ≡ m.watches
-keeps-reader c m read.AtCard v = refl
-keeps-reader c m p v = refl
-
-keeps-printer : (c : ℕ) (m : Machine) (p : PrinterPlace) (v : ℕ) → (put m (printer_place c p) v).watches ≡ m.watches
-keeps-printer c m printed.AtLength v = refl
-keeps-printer c m p v = refl
+-- nor does the list of a device
+keeps-device : {Numbers Own Record : Type 0} (a : Attached Numbers Own Record) → IsAttached a → (m : Machine) → (over m (device_list a m)).watches ≡ m.watches
+keeps-device a laws m = watches-over (device_place a.model (a.channel m.setup)) (watches-kept a laws (a.channel m.setup)) m (a.model.writes (view_of a (a.channel m.setup) m))
 
 keeps-clock : (m m4 : Machine) (last : Bool) (v : ℕ) → (over m4 (if last then (Clock, v) ∷ [] else [])).watches ≡ m4.watches
 keeps-clock m m4 true v = refl
@@ -44,6 +41,6 @@ turn-watches m =
     let m2 = over m1 (reader_list m1) in
     let m3 = over m2 (printer_list m2) in
     keeps-clock m m3 (m3.slot == 9) ((m3.channels.clock + 1) % 4096)
-    ∙ (watches-over (printer_place m2.setup.printer_channel) (keeps-printer m2.setup.printer_channel) m2 (printer_writes (printer_of m2.setup.printer_channel m2))
-    ∙ (watches-over (reader_place m1.setup.reader_channel) (keeps-reader m1.setup.reader_channel) m1 (reader_writes (reader_of m1.setup.reader_channel m1))
+    ∙ (keeps-device the_printer printer-attached m2
+    ∙ (keeps-device the_reader reader-attached m1
     ∙ watches-over (pp_place m.slot) (keeps-pp m.slot) m (pp_writes (pp_of m.slot m))))

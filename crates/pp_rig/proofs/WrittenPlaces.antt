@@ -3,7 +3,8 @@ use Rattle.std.proofs.Common.{◌≡◌, ℕ, ◌+◌, ◌%◌, ◌<◌, ◌≤�
 use Rattle.std.specs.Prelude.{Option, Some, None, IfSome}
 use Rattle.std.proofs.lemmas.Bool.Decides.{eqb_tells}
 use Rattle.std.proofs.lemmas.List.Quantifiers.{position-Some}
-use Rattle.pp_machine.proofs.DeviceWrites.{HasAll-reader_writes, HasAll-printer_writes}
+use Rattle.pp_machine.proofs.PrinterLaws.{HasAll-printer_writes}
+use Rattle.pp_machine.proofs.ReaderLaws.{HasAll-reader_writes}
 use Rattle.pp_machine.specs.Machine.{Machine, no_processor, over, processor}
 use Rattle.pp_machine.specs.Shape.{Has, HasAll}
 use Rattle.pp_machine.specs.WriteLaws.{AllPlaces-append}

@@ -5,7 +5,7 @@ use Rattle.std.proofs.lemmas.Bool.Decides.{nat_tests}
 use Rattle.std.proofs.lemmas.List.{get_or_past}
 use Rattle.pp_arith.specs.Arith.{index12}
 use Rattle.pp_arith.specs.Words60.{split60}
-use Rattle.pp_machine.proofs.DeviceWrites.{AllPlaces-if}
+use Rattle.pp_machine.specs.WriteLaws.{AllPlaces-if}
 use Rattle.pp_machine.specs.Writes.{Writes, renamed}
 use Rattle.pp_machine.specs.WriteLaws.{AllPlaces-append, AllPlaces-renamed}
 use Rattle.pp_machine.specs.Shape.{Has, HasAll}

@@ -1,7 +1,7 @@
 -- Rows of the devices: one step leads from some numbers to others.
 use Rattle.std.specs.Prelude.{ℕ, List, ◌≡◌, ◌++◌, ◌-◌, length, replicate}
-use Rattle.pp_machine.specs.Printed.{PrinterPlace, PrinterView, over_printer, olds_printer, printer_writes}
-use Rattle.pp_machine.specs.Read.{ReaderPlace, ReaderView, over_reader, olds_reader, reader_writes}
+use Rattle.pp_machine.specs.Printer.{PrinterPlace, PrinterView, over_printer, olds_printer, printer_writes}
+use Rattle.pp_machine.specs.Reader.{ReaderPlace, ReaderView, over_reader, olds_reader, reader_writes}
 use Rattle.pp_machine.specs.Writes.{Writes}
 
 -- a card of 80 (decimal) columns that begins with these numbers
@@ -10,7 +10,7 @@ card columns = columns ++ replicate (80 - length columns) 0
 
 -- an idle reader before the first card of the deck, on an inactive channel
 abbrev pub blank_reader : List (List ℕ) → ReaderView
-blank_reader deck = record { reader = record { deck = deck; card = 0; column = 0; mode = 0 }; state = 0; word = 0 }
+blank_reader deck = record { device = record { deck = deck; card = 0; column = 0; mode = 0 }; state = 0; word = 0 }
 
 -- One step of the reader leads from the first numbers, with 0 at all other places, to the second.
 abbrev pub ReaderLeads : List (List ℕ) → Writes ReaderPlace → Writes ReaderPlace → Type 0
@@ -20,7 +20,7 @@ ReaderLeads deck before later =
 
 -- an idle printer on an inactive channel; the rows look only at its first eight symbols
 abbrev pub blank_printer : PrinterView
-blank_printer = record { printer = record { symbols = replicate 8 0; length = 0; column = 0; mode = 0 }; state = 0; word = 0 }
+blank_printer = record { device = record { symbols = replicate 8 0; length = 0; column = 0; mode = 0 }; state = 0; word = 0 }
 
 -- One step of the printer leads from the first numbers, with 0 at all other places, to the second.
 abbrev pub PrinterLeads : Writes PrinterPlace → Writes PrinterPlace → Type 0

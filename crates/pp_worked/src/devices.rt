@@ -1,10 +1,10 @@
 //! The card reader and the printer, in single steps.
 
 ghost use Rattle.std.specs.Prelude.{[], ◌∷◌};
-ghost use Rattle.pp_machine.specs.Printed.{AtLength, AtSymbol};
-ghost use Rattle.pp_machine.specs.Printed.{AtColumn as PaperColumn, AtMode as PrinterMode};
-ghost use Rattle.pp_machine.specs.Printed.{AtState as PrinterState, AtWord as PrinterWord};
-ghost use Rattle.pp_machine.specs.Read.{AtCard, AtColumn, AtMode, AtState, AtWord};
+ghost use Rattle.pp_machine.specs.Device.{AtState, AtWord};
+ghost use Rattle.pp_machine.specs.Printer.{AtLength, AtSymbol};
+ghost use Rattle.pp_machine.specs.Printer.{AtColumn as PaperColumn, AtMode as PrinterMode};
+ghost use Rattle.pp_machine.specs.Reader.{AtCard, AtColumn, AtMode};
 ghost use Rattle.pp_worked.specs.Devices.{PrinterLeads, ReaderLeads, card};
 
 /// Function 0001 starts the reader at the first column of a card. The rest of a card that was begun is skipped.
@@ -48,30 +48,30 @@ pub fn reader_status()
 
 /// Function 0001 makes the printer print, 0002 asks for its status, and 0003 ends a line in any mode.
 pub fn printer_functions()
-    ensures prints { PrinterLeads ((PrinterState, 3) ∷ (PrinterWord, 1) ∷ [])
-        ((PrinterState, 0) ∷ (PrinterMode, 1) ∷ (AtLength, 0) ∷ []) }
-    ensures status { PrinterLeads ((PrinterState, 3) ∷ (PrinterWord, 2) ∷ [])
-        ((PrinterState, 0) ∷ (PrinterMode, 2) ∷ (AtLength, 0) ∷ []) }
-    ensures line_end { PrinterLeads ((PrinterState, 3) ∷ (PrinterWord, 3) ∷ (AtLength, 2) ∷ (PaperColumn, 2) ∷ [])
-        ((PrinterState, 0) ∷ (PrinterMode, 0) ∷ (AtSymbol 2, 0o100) ∷ (AtLength, 3) ∷ (PaperColumn, 0) ∷ []) }
-    ensures no_line_end_on_full_paper { PrinterLeads ((PrinterState, 3) ∷ (PrinterWord, 3) ∷ (AtLength, 0o200000) ∷ [])
-        ((PrinterState, 3) ∷ (PrinterWord, 3) ∷ (AtLength, 0o200000) ∷ []) }
+    ensures prints { PrinterLeads ((AtState, 3) ∷ (AtWord, 1) ∷ [])
+        ((AtState, 0) ∷ (PrinterMode, 1) ∷ (AtLength, 0) ∷ []) }
+    ensures status { PrinterLeads ((AtState, 3) ∷ (AtWord, 2) ∷ [])
+        ((AtState, 0) ∷ (PrinterMode, 2) ∷ (AtLength, 0) ∷ []) }
+    ensures line_end { PrinterLeads ((AtState, 3) ∷ (AtWord, 3) ∷ (AtLength, 2) ∷ (PaperColumn, 2) ∷ [])
+        ((AtState, 0) ∷ (PrinterMode, 0) ∷ (AtSymbol 2, 0o100) ∷ (AtLength, 3) ∷ (PaperColumn, 0) ∷ []) }
+    ensures no_line_end_on_full_paper { PrinterLeads ((AtState, 3) ∷ (AtWord, 3) ∷ (AtLength, 0o200000) ∷ [])
+        ((AtState, 3) ∷ (AtWord, 3) ∷ (AtLength, 0o200000) ∷ []) }
 {}
 
 /// A word has two symbols, the upper six bits first. Symbols past column 210 are dropped. If fewer than two symbols
 /// fit on the paper, the word stays in the channel and the status is 0001.
 pub fn printed_words()
-    ensures two_symbols { PrinterLeads ((PrinterState, 2) ∷ (PrinterWord, 0o0102) ∷ (PrinterMode, 1) ∷ [])
-        ((PrinterState, 1) ∷ (AtSymbol 0, 0o01) ∷ (AtSymbol 1, 0o02) ∷ (AtLength, 2) ∷ (PaperColumn, 2) ∷ []) }
+    ensures two_symbols { PrinterLeads ((AtState, 2) ∷ (AtWord, 0o0102) ∷ (PrinterMode, 1) ∷ [])
+        ((AtState, 1) ∷ (AtSymbol 0, 0o01) ∷ (AtSymbol 1, 0o02) ∷ (AtLength, 2) ∷ (PaperColumn, 2) ∷ []) }
     ensures upper_symbol { PrinterLeads
-        ((PrinterState, 2) ∷ (PrinterWord, 0o0102) ∷ (PrinterMode, 1) ∷ (PaperColumn, 0o207) ∷ [])
-        ((PrinterState, 1) ∷ (AtSymbol 0, 0o01) ∷ (AtSymbol 1, 0) ∷ (AtLength, 1) ∷ (PaperColumn, 0o210) ∷ []) }
+        ((AtState, 2) ∷ (AtWord, 0o0102) ∷ (PrinterMode, 1) ∷ (PaperColumn, 0o207) ∷ [])
+        ((AtState, 1) ∷ (AtSymbol 0, 0o01) ∷ (AtSymbol 1, 0) ∷ (AtLength, 1) ∷ (PaperColumn, 0o210) ∷ []) }
     ensures none { PrinterLeads
-        ((PrinterState, 2) ∷ (PrinterWord, 0o0102) ∷ (PrinterMode, 1) ∷ (PaperColumn, 0o210) ∷ [])
-        ((PrinterState, 1) ∷ (AtSymbol 0, 0) ∷ (AtLength, 0) ∷ (PaperColumn, 0o210) ∷ []) }
+        ((AtState, 2) ∷ (AtWord, 0o0102) ∷ (PrinterMode, 1) ∷ (PaperColumn, 0o210) ∷ [])
+        ((AtState, 1) ∷ (AtSymbol 0, 0) ∷ (AtLength, 0) ∷ (PaperColumn, 0o210) ∷ []) }
     ensures no_room { PrinterLeads
-        ((PrinterState, 2) ∷ (PrinterWord, 0o0102) ∷ (PrinterMode, 1) ∷ (AtLength, 0o177777) ∷ [])
-        ((PrinterState, 2) ∷ (PrinterWord, 0o0102) ∷ (PrinterMode, 1) ∷ (AtLength, 0o177777) ∷ []) }
-    ensures no_room_told { PrinterLeads ((PrinterState, 1) ∷ (PrinterMode, 2) ∷ (AtLength, 0o177777) ∷ [])
-        ((PrinterState, 2) ∷ (PrinterWord, 1) ∷ (PrinterMode, 3) ∷ []) }
+        ((AtState, 2) ∷ (AtWord, 0o0102) ∷ (PrinterMode, 1) ∷ (AtLength, 0o177777) ∷ [])
+        ((AtState, 2) ∷ (AtWord, 0o0102) ∷ (PrinterMode, 1) ∷ (AtLength, 0o177777) ∷ []) }
+    ensures no_room_told { PrinterLeads ((AtState, 1) ∷ (PrinterMode, 2) ∷ (AtLength, 0o177777) ∷ [])
+        ((AtState, 2) ∷ (AtWord, 1) ∷ (PrinterMode, 3) ∷ []) }
 {}

@@ -1,9 +1,10 @@
 //! One turn of the barrel, and its undoing.
 ghost use Rattle.std.specs.Prelude.{◌≡◌, ◌<◌, ◌≤◌, true, false, None, [], ◌∷◌, length};
+ghost use Rattle.pp_machine.specs.Attached.{device_pairs, the_printer, the_reader};
 ghost use Rattle.pp_machine.specs.Lookup.{lookup};
 ghost use Rattle.pp_machine.specs.Machine.{olds, over};
-ghost use Rattle.pp_machine.specs.Printed.{FitsPrinter, printer_pairs, printer_place};
-ghost use Rattle.pp_machine.specs.Read.{FitsReader, reader_pairs, reader_place};
+ghost use Rattle.pp_machine.specs.Printer.{FitsPrinter};
+ghost use Rattle.pp_machine.specs.Reader.{FitsReader};
 ghost use Rattle.pp_machine.specs.Writes.{first_of_two, renamed};
 ghost use Rattle.pp_rig.specs.IsMachine.{IsMachine};
 ghost use Rattle.pp_rig.specs.Lift.{printer_of, reader_of};
@@ -14,6 +15,7 @@ ghost use Rattle.pp_step.specs.Pairs.{pairs_as};
 ghost use Rattle.pp_step.specs.Step.{FitsPp, pp_pairs};
 ghost use Rattle.pp_step.specs.View.{pp_place};
 
+use super::devices::{step_device, undo_device};
 use super::{Rig, RigRecord, ShortTurn, TurnRecord, TurnRest};
 use pp_machine::{CentralSize, ChannelState, Kept, Place, PrinterRecord, ReaderRecord, first_kept};
 use pp_step::{ExchangeRecord, PpRecord, StepRecord, Target};
@@ -263,63 +265,19 @@ impl Rig {
         self.processors[slot as usize].undo_short(back, &mut self.channels, &mut self.central);
     }
 
-    fn step_reader(&mut self) -> ReaderRecord
-        ensures step { self.new ≡ over self.old (reader_list self.old) }
-        ensures record { renamed (reader_place self.old.setup.reader_channel) (reader_pairs result) ≡ olds self.old (reader_list self.old) }
-        ensures fits { FitsReader result (reader_of self.new.setup.reader_channel self.new) }
-        ensures kept { KeepsSlot self.old self.new }
-    {
-        let mut channel = self.channels.get(self.reader_channel);
-        let record = self.reader.step(&mut channel);
-        self.channels.set(self.reader_channel, channel);
-        record
-    }
-
-    fn undo_reader(&mut self, back: ReaderRecord)
-        requires { FitsReader back (reader_of self.old.setup.reader_channel self.old) }
-        ensures undone { self.new ≡ over self.old (renamed (reader_place self.old.setup.reader_channel) (reader_pairs back)) }
-        ensures kept { KeepsSlot self.old self.new }
-    {
-        let mut channel = self.channels.get(self.reader_channel);
-        self.reader.undo(back, &mut channel);
-        self.channels.set(self.reader_channel, channel);
-    }
-
-    fn step_printer(&mut self) -> PrinterRecord
-        ensures step { self.new ≡ over self.old (printer_list self.old) }
-        ensures record { renamed (printer_place self.old.setup.printer_channel) (printer_pairs result) ≡ olds self.old (printer_list self.old) }
-        ensures fits { FitsPrinter result (printer_of self.new.setup.printer_channel self.new) }
-        ensures kept { KeepsSlot self.old self.new }
-    {
-        let mut channel = self.channels.get(self.printer_channel);
-        let record = self.printer.step(&mut channel);
-        self.channels.set(self.printer_channel, channel);
-        record
-    }
-
-    fn undo_printer(&mut self, back: PrinterRecord)
-        requires { FitsPrinter back (printer_of self.old.setup.printer_channel self.old) }
-        ensures undone { self.new ≡ over self.old (renamed (printer_place self.old.setup.printer_channel) (printer_pairs back)) }
-        ensures kept { KeepsSlot self.old self.new }
-    {
-        let mut channel = self.channels.get(self.printer_channel);
-        self.printer.undo(back, &mut channel);
-        self.channels.set(self.printer_channel, channel);
-    }
-
     /// Steps the reader and the printer. This is a separate function because in most turns no channel of a device is
     /// active.
     #[inline(never)]
     fn step_called_devices(&mut self) -> (ReaderRecord, PrinterRecord)
         ensures step { let m2 = over self.old (reader_list self.old) in self.new ≡ over m2 (printer_list m2) }
-        ensures reader { renamed (reader_place self.old.setup.reader_channel) (reader_pairs result.0) ≡ olds self.old (reader_list self.old) }
-        ensures printer { let m2 = over self.old (reader_list self.old) in renamed (printer_place self.old.setup.printer_channel) (printer_pairs result.1) ≡ olds m2 (printer_list m2) }
+        ensures reader { device_pairs the_reader self.old.setup.reader_channel result.0 ≡ olds self.old (reader_list self.old) }
+        ensures printer { let m2 = over self.old (reader_list self.old) in device_pairs the_printer self.old.setup.printer_channel result.1 ≡ olds m2 (printer_list m2) }
         ensures fits_reader { FitsReader result.0 (reader_of self.old.setup.reader_channel (over self.old (reader_list self.old))) }
         ensures fits_printer { FitsPrinter result.1 (printer_of self.old.setup.printer_channel self.new) }
         ensures kept { KeepsSlot self.old self.new }
     {
-        let reader = self.step_reader();
-        let printer = self.step_printer();
+        let reader = step_device(&mut self.reader, &mut self.channels, self.reader_channel);
+        let printer = step_device(&mut self.printer, &mut self.channels, self.printer_channel);
         (reader, printer)
     }
 
@@ -357,8 +315,18 @@ impl Rig {
         ensures undone { self.new ≡ over (over self.old (printer_part back.now)) (reader_part back.now) }
         ensures kept { KeepsSlot self.old self.new }
     {
-        self.undo_printer(back.printer);
-        self.undo_reader(back.reader);
+        undo_device(
+            &mut self.printer,
+            &mut self.channels,
+            self.printer_channel,
+            back.printer,
+        );
+        undo_device(
+            &mut self.reader,
+            &mut self.channels,
+            self.reader_channel,
+            back.reader,
+        );
     }
 
     /// Advances the clock by one in the turn of the last processor. Returns the clock before.

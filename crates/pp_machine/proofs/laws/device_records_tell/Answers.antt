@@ -1,8 +1,9 @@
 use Rattle.pp_machine.specs.NumberLaws.{number-over}
-use Rattle.pp_machine.specs.Printed.{printer_pairs, printer_place}
-use Rattle.pp_machine.specs.Read.{reader_pairs, reader_place}
+use Rattle.pp_machine.specs.Printer.{printer_pairs, printer_place}
+use Rattle.pp_machine.specs.Reader.{reader_pairs, reader_place}
 use Rattle.pp_machine.specs.Writes.{renamed}
-use Rattle.pp_machine.proofs.DevicePlaces.{HasAll-printer, HasAll-reader}
+use Rattle.pp_machine.proofs.PrinterLaws.{HasAll-printer}
+use Rattle.pp_machine.proofs.ReaderLaws.{HasAll-reader}
 use Rattle.pp_machine.proofs.laws.device_records_tell.Goals as goal
 
 pub returns-clause-reader : goal.returns-clause-reader

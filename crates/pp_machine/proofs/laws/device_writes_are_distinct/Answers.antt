@@ -1,4 +1,5 @@
-use Rattle.pp_machine.proofs.Once.{reader-each-once, printer-each-once}
+use Rattle.pp_machine.proofs.PrinterLaws.{printer-each-once}
+use Rattle.pp_machine.proofs.ReaderLaws.{reader-each-once}
 use Rattle.pp_machine.proofs.laws.device_writes_are_distinct.Goals as goal
 
 pub returns-clause-reader : goal.returns-clause-reader

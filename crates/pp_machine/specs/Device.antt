@@ -1,0 +1,62 @@
+-- A device as the machine sees it: numbers of its own, and the state and register of its channel.
+use Rattle.std.specs.Prelude.{ℕ, get_or}
+use Rattle.pp_machine.specs.ChannelNumbers.{ChannelNumbers, state_number}
+use Rattle.pp_machine.specs.Writes.{Writes, over_by, olds_by}
+use Rattle.pp_machine.specs.declared.channel.Channel.{Channel}
+use Rattle.pp_machine.specs.declared.place.Place.{Place}
+use Rattle.pp_machine.specs.declared.place.Place.TheVariants.{ChannelMode, ChannelWord}
+
+-- what a step of a device reads and writes
+pub record DeviceView (Numbers : Type 0) : Type 0 where
+  pub device : Numbers
+  pub state : ℕ
+  pub word : ℕ
+
+-- the places of these numbers
+pub data DevicePlace (Own : Type 0) : Type 0 where
+  AtOwn : Own → DevicePlace Own
+  AtState : DevicePlace Own
+  AtWord : DevicePlace Own
+
+-- What makes a device: the numbers at its own places, and the machine's names for these; one step as a write list; the
+-- old values that an undo record has, and when a record can be undone.
+pub record DeviceModel (Numbers Own Record : Type 0) : Type 1 where
+  pub number : Numbers → Own → ℕ
+  pub put : Numbers → Own → ℕ → Numbers
+  pub name : Own → Place
+  pub writes : DeviceView Numbers → Writes (DevicePlace Own)
+  pub pairs : Record → Writes (DevicePlace Own)
+  pub Fits : Record → DeviceView Numbers → Type 0
+
+abbrev pub device_view : {Numbers : Type 0} → Numbers → Channel → DeviceView Numbers
+device_view d c = record { device = d; state = state_number c.state; word = c.word }
+
+-- the same, for a device on channel c
+abbrev pub view_on : {Numbers : Type 0} → ℕ → Numbers → ChannelNumbers → DeviceView Numbers
+view_on c d channels = record { device = d; state = get_or channels.modes c 0; word = get_or channels.words c 0 }
+
+-- the number at a place, from the numbers at the device's own places
+abbrev pub number_at : {Numbers Own : Type 0} → (Numbers → Own → ℕ) → DeviceView Numbers → DevicePlace Own → ℕ
+number_at own s (AtOwn x) = own s.device x
+number_at own s AtState = s.state
+number_at own s AtWord = s.word
+
+abbrev pub put_at : {Numbers Own : Type 0} → (Numbers → Own → ℕ → Numbers) → DeviceView Numbers → DevicePlace Own → ℕ → DeviceView Numbers
+put_at own s (AtOwn x) v = record s { device = own s.device x v }
+put_at own s AtState v = record s { state = v }
+put_at own s AtWord v = record s { word = v }
+
+-- the corresponding place of the machine, for a device on channel c
+abbrev pub place_at : {Own : Type 0} → (Own → Place) → ℕ → DevicePlace Own → Place
+place_at name c (AtOwn x) = name x
+place_at name c AtState = ChannelMode c
+place_at name c AtWord = ChannelWord c
+
+abbrev pub over_device : {Numbers Own Record : Type 0} → DeviceModel Numbers Own Record → DeviceView Numbers → Writes (DevicePlace Own) → DeviceView Numbers
+over_device d = over_by (put_at d.put)
+
+abbrev pub olds_device : {Numbers Own Record : Type 0} → DeviceModel Numbers Own Record → DeviceView Numbers → Writes (DevicePlace Own) → Writes (DevicePlace Own)
+olds_device d = olds_by (number_at d.number)
+
+abbrev pub device_place : {Numbers Own Record : Type 0} → DeviceModel Numbers Own Record → ℕ → DevicePlace Own → Place
+device_place d = place_at d.name

@@ -1,0 +1,27 @@
+use Rattle.std.proofs.Common.{◌≡◌, ◌∙◌, ap, arith, subst, sym}
+use Rattle.pp_machine.proofs.DeviceLaws.{view-channels, view-device, view-handed, view-put_back}
+use Rattle.pp_machine.specs.Device.{DeviceView, device_view, olds_device, over_device, view_on}
+use Rattle.pp_rig.proofs.rig.devices.step_device.Goals as goal
+
+pub returns-clause-device : goal.returns-clause-device
+returns-clause-device g c =
+    let d = g.D.Device.model in
+    let seen = view-handed c.args.c c.args.channels.now c.args.device.now c.get-channel.result c.get-channel.ensures.state c.get-channel.ensures.word in
+    view-device c.args.c c.args.channels.now _ c.step-record.new.channel _ (c.step-record.ensures.step ∙ ap (λ old. over_device d old (d.writes old)) seen)
+
+pub returns-clause-channels : goal.returns-clause-channels
+returns-clause-channels g c =
+    let d = g.D.Device.model in
+    let seen = view-handed c.args.c c.args.channels.now c.args.device.now c.get-channel.result c.get-channel.ensures.state c.get-channel.ensures.word in
+    c.set.ensures ∙ view-channels c.args.c c.args.channels.now _ c.step-record.new.channel _ (c.step-record.ensures.step ∙ ap (λ old. over_device d old (d.writes old)) seen)
+
+pub returns-clause-record : goal.returns-clause-record
+returns-clause-record g c =
+    let d = g.D.Device.model in
+    let seen = view-handed c.args.c c.args.channels.now c.args.device.now c.get-channel.result c.get-channel.ensures.state c.get-channel.ensures.word in
+    c.step-record.ensures.record ∙ ap (λ old. olds_device d old (d.writes old)) seen
+
+pub returns-clause-fits : goal.returns-clause-fits
+returns-clause-fits g c =
+    let d = g.D.Device.model in
+    rw (c.set.ensures, view-put_back c.args.c c.args.channels.now c.step-record.new.self c.step-record.new.channel (omega (arith, c.get-channel.ensures.modes)) (omega (arith, c.get-channel.ensures.words))) c.step-record.ensures.fits
