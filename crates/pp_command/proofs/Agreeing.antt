@@ -31,12 +31,12 @@ is_some_count n = Decides-like (nat_lt 0 n) (λ h. omega arith) (λ h. omega ari
 at_most : (v b : ℕ) → Decides (nat_le v b) (v ≤ b)
 at_most v b = (λ h. grind (arith, nat_tests), λ h. grind (arith, nat_tests))
 
-are_words : (values : List ℕ) → Decides (list_all (λ v. nat_lt v 4096) values) (All (λ v. v ≤ 4095) values)
-are_words values = Decides-by_and (λ v. nat_lt v 4096) (λ v. v ≤ 4095) (list_all (λ v. nat_lt v 4096)) is_word refl (λ _ _. refl) values
+are_words : (values : List ℕ) → Decides (list_all (λ v. nat_le v 4095) values) (All (λ v. v ≤ 4095) values)
+are_words values = Decides-by_and (λ v. nat_le v 4095) (λ v. v ≤ 4095) (list_all (λ v. nat_le v 4095)) (λ v. at_most v 4095) refl (λ _ _. refl) values
 
 is_no_word_or_one : (word : Option ℕ) → Decides (is_word_or_none word) (IfSome word (λ v. v ≤ 4095))
 is_no_word_or_one None = (λ h. tt, λ h. refl)
-is_no_word_or_one (Some v) = is_word v
+is_no_word_or_one (Some v) = at_most v 4095
 
 is_register : (n v b : ℕ) → Decides (nat_lt n 10 && nat_le v b) ((n ≤ 9) × (v ≤ b))
 is_register n v b = Decides-and (nat_lt n 10) (nat_le v b) (is_processor n) (at_most v b)
@@ -44,9 +44,9 @@ is_register n v b = Decides-and (nat_lt n 10) (nat_le v b) (is_processor n) (at_
 is_cell : (n a : ℕ) → Decides (nat_lt n 10 && nat_lt a 4096) ((n ≤ 9) × (a ≤ 4095))
 is_cell n a = Decides-and (nat_lt n 10) (nat_lt a 4096) (is_processor n) (is_word a)
 
-are_cells : (n a : ℕ) (values : List ℕ) → Decides (nat_lt n 10 && (nat_lt a 4096 && (nat_lt 0 (length values) && list_all (λ v. nat_lt v 4096) values))) ((n ≤ 9) × ((a ≤ 4095) × ((1 ≤ length values) × All (λ v. v ≤ 4095) values)))
+are_cells : (n a : ℕ) (values : List ℕ) → Decides (nat_lt n 10 && (nat_lt a 4096 && (nat_lt 0 (length values) && list_all (λ v. nat_le v 4095) values))) ((n ≤ 9) × ((a ≤ 4095) × ((1 ≤ length values) × All (λ v. v ≤ 4095) values)))
 are_cells n a values =
-    let small = list_all (λ v. nat_lt v 4096) values in
+    let small = list_all (λ v. nat_le v 4095) values in
     let some = nat_lt 0 (length values) in
     let inner = Decides-and some small (is_some_count (length values)) (are_words values) in
     let middle = Decides-and (nat_lt a 4096) (some && small) (is_word a) inner in

@@ -2,7 +2,7 @@
 use Rattle.std.proofs.lemmas.Bool.{and_parts}
 use Rattle.std.proofs.lemmas.Bool.Decides.{nat_tests}
 use Rattle.std.proofs.Common.{drop, get_or, length, min, ◌≡◌, ◌==◌, true, false, ◌∷◌, ℕ, suc, ◌+◌, ◌-◌, ◌<◌, ◌≤◌, refl, ap, subst, sym, ◌∙◌, arith, List}
-use Rattle.std.specs.Prelude.{Bool, ◌&&◌, Option, Some, None, [], MatchOption}
+use Rattle.std.specs.Prelude.{Option, Some, None, [], MatchOption}
 use Rattle.pp_machine.specs.Lookup.{lookup}
 use Rattle.pp_rig.specs.Action.{FitsRecord, before, record_tells}
 use Rattle.pp_rig.specs.Short.{whole, whole_turn}

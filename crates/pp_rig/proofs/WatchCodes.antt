@@ -1,16 +1,15 @@
 -- Watched places and their codes.
-use Rattle.std.specs.Prelude.{ℕ, ◌+◌, ◌-◌, ◌*◌, ◌<◌, ◌==◌, ◌≢◌, All, ◌≤◌, ◌≡◌, ◌||◌, Bool, false, eqb, cond, position, Some, None, get_or, set, take, List, [], ◌∷◌, ◌++◌, length, map, replicate, refl}
+use Rattle.std.specs.Prelude.{ℕ, ◌+◌, ◌-◌, ◌*◌, ◌<◌, ◌==◌, ◌≢◌, All, ◌≤◌, ◌≡◌, ◌||◌, Bool, false, eqb, cond, position, Some, None, get_or, set, List, [], ◌∷◌, ◌++◌, length, map, replicate, refl}
 use Rattle.std.specs.List.{list_any, position_from, AllPairs}
 use Rattle.std.proofs.Common.{arith, zero, suc, sym, ap, subst, append_assoc, add-one, ◌∙◌, ⊎_elim}
 use Rattle.std.proofs.lemmas.Bool.Decides.{eqb_tells}
 use Rattle.std.proofs.lemmas.Iterator.Adapters.{position_from-zero}
 use Rattle.std.proofs.lemmas.Bool.{false≢true, eq-eqb}
-use Rattle.std.proofs.lemmas.List.Elements.{All-tail, All-push, All-take}
+use Rattle.std.proofs.lemmas.List.Elements.{All-tail, All-push}
 use Rattle.std.proofs.lemmas.List.Folds.{list_any_at}
 use Rattle.std.proofs.lemmas.List.Quantifiers.{all_pairs_push}
 use Rattle.std.proofs.lemmas.Nat.{div-mul-add, mod-mul-add}
-use Rattle.std.proofs.lemmas.List.{map_push, take_more, take_all, length-take, length-take-le, get_or-take, set_at, length-map, length_push as length-push}
-use Rattle.pp_machine.proofs.PrinterLaws.{set-back_to_zero}
+use Rattle.std.proofs.lemmas.List.{map_push, set_at, length-map, length_push as length-push}
 use Rattle.pp_machine.specs.CentralSizes.{words_of}
 use Rattle.pp_machine.specs.Shape.{Has}
 use Rattle.pp_machine.specs.declared.central.CentralSize.{CentralSize}
