@@ -41,7 +41,7 @@ fn command_line<'a>(alloc: Global) -> Result<Command<'a>, AllocError>
 
 fn fault_of(kind: ErrorKind) -> ArgFault
     ensures memory { kind ≡ ErrorKind.OutOfMemory → result ≡ ArgFault.NoMemory }
-    ensures told { (kinds : Kinds) → (kind ≡ ErrorKind.OutOfMemory) ⊎ IsAmong kind kinds → IsToldOf kinds result }
+    ensures names_cause { (kinds : Kinds) → (kind ≡ ErrorKind.OutOfMemory) ⊎ IsAmong kind kinds → IsToldOf kinds result }
 {
     match kind {
         ErrorKind::OutOfMemory => ArgFault::NoMemory,
@@ -58,7 +58,7 @@ fn fault_of(kind: ErrorKind) -> ArgFault
 pub fn read_words<'a>(alloc: Global, words: &'a [String]) -> Result<ArgMatches<'a>, ArgFault>
     ensures matches { IfOk result (λ matches. (name : List ℕ) →
         first_value (found_of matches) name ≡ given (map string_bytes words.entry.now) name) }
-    ensures taken { IfErr result (λ fault.
+    ensures takes_words { IfErr result (λ fault.
         are_taken (map string_bytes words.entry.now) ≡ true → fault ≡ ArgFault.NoMemory) }
     ensures faults { MatchResult result (λ _. faults_of (map string_bytes words.entry.now) ≡ [])
         (IsToldOf (faults_of (map string_bytes words.entry.now))) }

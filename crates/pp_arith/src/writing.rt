@@ -9,7 +9,7 @@ use arrayvec::ArrayVec;
 /// Appends the last `digits` octal digits of the value to the line, most significant first: a number of
 /// fixed width. `digits` is 0 to 22, and the line has room for them.
 pub fn push_octal<const N: usize>(line: &mut ArrayVec<u8, N>, value: u64, digits: u8)
-    requires few { digits ≤ 22 }
+    requires at_most { digits ≤ 22 }
     requires room { array_vec_len line.old + digits ≤ N }
     ensures items { line.new.items ≡ line.old.items ++ octal_digits digits value }
     ensures len { array_vec_len line.new ≡ array_vec_len line.old + digits }
@@ -39,7 +39,7 @@ fn width(value: u64, digits: u8) -> u8
 /// `digits` (1 to 22), with leading zeros, and more if the value needs more.
 pub fn octal(value: u64, digits: u8) -> ArrayVec<u8, 22>
     requires some { 1 ≤ digits }
-    requires few { digits ≤ 22 }
+    requires at_most { digits ≤ 22 }
     ensures value { result.items ≡ octal_text value digits }
     ensures reads_back { (most : ℕ) → value ≤ most → octal_read result.items most ≡ Ok value }
 {

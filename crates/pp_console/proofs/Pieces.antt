@@ -4,7 +4,7 @@ use Rattle.std.specs.Prelude.{Option}
 use Rattle.std.proofs.lemmas.List.{take-append-drop}
 use Rattle.pp_lines.specs.declared.fault.IoFault.{IoFault}
 use Rattle.pp_lines.specs.declared.fault.IoFault.TheVariants.{LineLimit}
-use Rattle.pp_lines.specs.Lines.{finished, unfinished, IsWithin, IsFrontOf}
+use Rattle.pp_lines.specs.Lines.{finished, unfinished, IsWithin, IsPrefixOf}
 use Rattle.pp_lines.proofs.Limits.{last_line-one, lines-count}
 use Rattle.pp_lines.proofs.OpenTexts.{open-take, finished-text, unfinished-text}
 use Rattle.pp_console.specs.declared.progress.Progress.{Progress}
@@ -74,6 +74,6 @@ begun-nothing : (most : ℕ) (rest : List ℕ) → 0 < most → length (take mos
 begun-nothing most [] some e = refl
 begun-nothing most (byte ∷ rest) some e = absurd (omega (arith, rw length-take at e))
 
-pub whole-line : (kept : ℕ) (front bytes text : List ℕ) → 0 < kept → finished text ≡ [] → IsFrontOf kept front bytes → length front ≡ 0 → text ≡ unfinished (bytes ++ text)
+pub whole-line : (kept : ℕ) (front bytes text : List ℕ) → 0 < kept → finished text ≡ [] → IsPrefixOf kept front bytes → length front ≡ 0 → text ≡ unfinished (bytes ++ text)
 whole-line kept front bytes text some none is_front empty =
     sym (unfinished-text bytes text none ∙ ap (λ begun. begun ++ text) (begun-nothing kept (unfinished bytes) some (sym (ap length is_front) ∙ empty)))

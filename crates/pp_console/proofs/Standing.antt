@@ -1,7 +1,7 @@
 -- The progress of a script after more bytes.
 use Rattle.std.proofs.Common.{◌≡◌, ◌∙◌, ℕ, ◌+◌, ◌-◌, ◌<◌, List, [], ◌∷◌, ◌++◌, length, ap, arith, length-append}
 use Rattle.std.specs.Prelude.{Option}
-use Rattle.pp_lines.specs.Lines.{finished, unfinished, finished_within, IsWithin, IsFrontOf}
+use Rattle.pp_lines.specs.Lines.{finished, unfinished, finished_within, IsWithin, IsPrefixOf}
 use Rattle.pp_lines.proofs.LineCuts.{finished-feed}
 use Rattle.pp_lines.proofs.OpenTexts.{finished-text}
 use Rattle.pp_lines.proofs.Limits.{last_line-one, kept-begun, lines-count, finished_within-whole}
@@ -49,7 +49,7 @@ Stands-finishes progress session written origin bytes text none stands few_bytes
 -- bytes without a line feed
 pub Stands-text : (old new : Progress) (session : State) (written : Option (List ℕ)) (origin : Origin) (bytes text : List ℕ) → finished text ≡ [] →
     Stands old session written origin bytes →
-    IsFrontOf KEPT new.line (bytes ++ text) → new.bytes ≡ old.bytes + length text → new.lines ≡ old.lines → new.refused ≡ old.refused →
+    IsPrefixOf KEPT new.line (bytes ++ text) → new.bytes ≡ old.bytes + length text → new.lines ≡ old.lines → new.refused ≡ old.refused →
     Stands new session written origin (bytes ++ text)
 Stands-text old new session written origin bytes text h stands kept more_bytes same_lines same_refused = record {
   keeps = kept;
@@ -62,7 +62,7 @@ Stands-text old new session written origin bytes text h stands kept more_bytes s
 -- bytes without a line feed, and then a line feed
 pub Stands-line : (old new : Progress) (session session' : State) (written written' : Option (List ℕ)) (origin : Origin) (bytes text : List ℕ) → finished text ≡ [] →
     Stands old session written origin bytes →
-    IsFrontOf KEPT new.line ((bytes ++ text) ++ 10 ∷ []) → new.bytes ≡ old.bytes + (length text + 1) → new.lines ≡ old.lines + 1 →
+    IsPrefixOf KEPT new.line ((bytes ++ text) ++ 10 ∷ []) → new.bytes ≡ old.bytes + (length text + 1) → new.lines ≡ old.lines + 1 →
     new.refused ≡ (run origin.start (finished bytes ++ unfinished (bytes ++ text) ∷ [])).refused →
     Performed session' written' origin (finished bytes ++ unfinished (bytes ++ text) ∷ []) →
     Stands new session' written' origin ((bytes ++ text) ++ 10 ∷ [])

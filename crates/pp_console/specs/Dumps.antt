@@ -12,24 +12,24 @@ each line first count = flat_map line (range_with_len first count)
 
 -- DUMP M: a cell of a row
 unfoldable pub cell_text : Machine → ℕ → ℕ → List ℕ
-cell_text m n a = field (codes " ") 4 (number m (Cell n a))
+cell_text s n a = field (codes " ") 4 (number s (Cell n a))
 
 -- a row: its address and eight cells; the last row may have fewer
 unfoldable pub cell_row : Machine → ℕ → ℕ → ℕ → List ℕ
-cell_row m n last from = field [] 4 from ++ each (cell_text m n) from (min (last + 1 - from) 8) ++ 10 ∷ []
+cell_row s n last from = field [] 4 from ++ each (cell_text s n) from (min (last + 1 - from) 8) ++ 10 ∷ []
 
 -- the rows one after another
 abbrev pub row_at : Machine → ℕ → ℕ → ℕ → ℕ → List ℕ
-row_at m n first last row = cell_row m n last (first + 8 * row)
+row_at s n first last row = cell_row s n last (first + 8 * row)
 
 unfoldable pub cells_text : Machine → ℕ → ℕ → ℕ → List ℕ
-cells_text m n first last = each (row_at m n first last) 0 ((last + 8 - first) / 8)
+cells_text s n first last = each (row_at s n first last) 0 ((last + 8 - first) / 8)
 
 -- DUMP PP
 unfoldable pub processor_text : Machine → ℕ → List ℕ
-processor_text m n =
-    field (codes "PP ") 2 n ++ field (codes " P ") 4 (number m (RegP n)) ++ field (codes " A ") 6 (number m (RegA n))
-    ++ field (codes " Q ") 4 (number m (RegQ n)) ++ field (codes " PHASE ") 4 (number m (Phase n)) ++ field (codes " SLOT ") 2 (number m Slot) ++ 10 ∷ []
+processor_text s n =
+    field (codes "PP ") 2 n ++ field (codes " P ") 4 (number s (RegP n)) ++ field (codes " A ") 6 (number s (RegA n))
+    ++ field (codes " Q ") 4 (number s (RegQ n)) ++ field (codes " PHASE ") 4 (number s (Phase n)) ++ field (codes " SLOT ") 2 (number s Slot) ++ 10 ∷ []
 
 -- inactive, empty, full, or with a function code
 unfoldable pub state_text : ℕ → List ℕ
@@ -41,24 +41,24 @@ state_text state =
 
 -- DUMP H: a channel
 unfoldable pub channel_line : Machine → ℕ → List ℕ
-channel_line m c = field (codes "H ") 2 c ++ state_text (number m (ChannelMode c)) ++ field [] 4 (number m (ChannelWord c)) ++ 10 ∷ []
+channel_line s c = field (codes "H ") 2 c ++ state_text (number s (ChannelMode c)) ++ field [] 4 (number s (ChannelWord c)) ++ 10 ∷ []
 
 unfoldable pub channels_text : Machine → List ℕ
-channels_text m = each (channel_line m) 0 12 ++ field (codes "H 14 F ") 4 (number m Clock) ++ 10 ∷ []
+channels_text s = each (channel_line s) 0 12 ++ field (codes "H 14 F ") 4 (number s Clock) ++ 10 ∷ []
 
 -- DUMP C: a central word
 unfoldable pub central_line : Machine → ℕ → List ℕ
-central_line m a = field (codes "C ") 6 a ++ field (codes " ") 20 (number m (Central a)) ++ 10 ∷ []
+central_line s a = field (codes "C ") 6 a ++ field (codes " ") 20 (number s (Central a)) ++ 10 ∷ []
 
 unfoldable pub central_text : Machine → ℕ → ℕ → List ℕ
-central_text m first last = each (central_line m) first (last + 1 - first)
+central_text s first last = each (central_line s) first (last + 1 - first)
 
 -- DUMP XP: a word of the exchange package
 unfoldable pub frame_line : Machine → ℕ → List ℕ
-frame_line m i = field (codes "XP ") 2 i ++ field (codes " ") 20 (number m (FrameWord i)) ++ 10 ∷ []
+frame_line s i = field (codes "XP ") 2 i ++ field (codes " ") 20 (number s (FrameWord i)) ++ 10 ∷ []
 
 unfoldable pub frame_text : Machine → List ℕ
-frame_text m = each (frame_line m) 0 16
+frame_text s = each (frame_line s) 0 16
 
 -- the mode of a device
 unfoldable pub mode_text : List ℕ → ℕ → List ℕ
@@ -70,15 +70,15 @@ mode_text active mode =
 
 -- DUMP CR
 unfoldable pub reader_text : Machine → List ℕ
-reader_text m =
-    field (codes "CR H ") 2 m.setup.reader_channel ++ field (codes " CARD ") 4 (number m Card) ++ field (codes " OF ") 4 (length m.reader.deck)
-    ++ field (codes " COLUMN ") 3 (number m CardColumn) ++ mode_text (codes " MODE READING\n") (number m ReaderMode)
+reader_text s =
+    field (codes "CR H ") 2 s.setup.reader_channel ++ field (codes " CARD ") 4 (number s Card) ++ field (codes " OF ") 4 (length s.reader.deck)
+    ++ field (codes " COLUMN ") 3 (number s CardColumn) ++ mode_text (codes " MODE READING\n") (number s ReaderMode)
 
 -- DUMP LP: the printer, and its paper
 unfoldable pub printer_line : Machine → List ℕ
-printer_line m =
-    field (codes "LP H ") 2 m.setup.printer_channel ++ field (codes " SYMBOLS ") 6 (number m PaperLength)
-    ++ field (codes " COLUMN ") 3 (number m PaperColumn) ++ mode_text (codes " MODE PRINTING\n") (number m PrinterMode)
+printer_line s =
+    field (codes "LP H ") 2 s.setup.printer_channel ++ field (codes " SYMBOLS ") 6 (number s PaperLength)
+    ++ field (codes " COLUMN ") 3 (number s PaperColumn) ++ mode_text (codes " MODE PRINTING\n") (number s PrinterMode)
 
 unfoldable pub printer_text : Machine → List ℕ
-printer_text m = printer_line m ++ paper_text (paper m)
+printer_text s = printer_line s ++ paper_text (paper s)

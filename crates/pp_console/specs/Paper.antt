@@ -15,7 +15,7 @@ lines_of_paper characters = flat_map (marked (codes "|")) (finished characters) 
 
 -- the symbols on the paper
 abbrev pub paper : Machine → List ℕ
-paper m = take m.printer.length m.printer.symbols
+paper s = take s.printer.length s.printer.symbols
 
 unfoldable pub paper_text : List ℕ → List ℕ
 paper_text symbols = lines_of_paper (map character symbols)

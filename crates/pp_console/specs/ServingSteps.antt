@@ -4,14 +4,14 @@ use Rattle.pp_console.specs.declared.progress.Progress.{Progress}
 use Rattle.pp_console.specs.declared.progress.TheConstants.{LINE_LIMIT, BYTE_LIMIT, KEPT}
 use Rattle.pp_lines.specs.declared.fault.IoFault.{IoFault}
 use Rattle.pp_lines.specs.declared.fault.IoFault.TheVariants.{ReadFailed, WriteFailed, LineLimit}
-use Rattle.pp_lines.specs.Lines.{finished, finished_within, IsWithin, IsFrontOf}
+use Rattle.pp_lines.specs.Lines.{finished, finished_within, IsWithin, IsPrefixOf}
 use Rattle.pp_console.specs.Commands.{State}
 use Rattle.pp_console.specs.Script.{run}
 use Rattle.pp_console.specs.Serving.{Origin, Performed, Breaks}
 
 -- the script was read as far as these bytes
 pub record Stands (progress : Progress) (session : State) (text : Option (List ℕ)) (origin : Origin) (bytes : List ℕ) : Type 0 where
-  pub keeps : IsFrontOf KEPT progress.line bytes
+  pub keeps : IsPrefixOf KEPT progress.line bytes
   pub counts_bytes : progress.bytes ≡ length bytes
   pub counts_lines : progress.lines ≡ length (finished bytes)
   pub counts_refused : progress.refused ≡ (run origin.start (finished bytes)).refused

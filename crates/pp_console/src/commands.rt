@@ -26,7 +26,7 @@ use pp_rig::{Action, Rig, run};
 fn write_answer<W: Sink>(out: &mut W, text: &[u8]) -> Result<bool, Failed>
     ensures text { Writes (W.text out.old) (W.text out.new) result text.now }
     ensures performed { IfOk result (λ performed. performed ≡ true) }
-    ensures counted { Counts (W.failure_count out.old) (W.failure_count out.new) result }
+    ensures counts { Counts (W.failure_count out.old) (W.failure_count out.new) result }
 {
     put_all(out, text)?;
     Ok(true)
@@ -36,7 +36,7 @@ fn write_answer<W: Sink>(out: &mut W, text: &[u8]) -> Result<bool, Failed>
 fn reject<W: Sink>(out: &mut W, text: &[u8]) -> Result<bool, Failed>
     ensures text { Writes (W.text out.old) (W.text out.new) result text.now }
     ensures performed { IfOk result (λ performed. performed ≡ false) }
-    ensures counted { Counts (W.failure_count out.old) (W.failure_count out.new) result }
+    ensures counts { Counts (W.failure_count out.old) (W.failure_count out.new) result }
 {
     put_all(out, text)?;
     Ok(false)
@@ -72,7 +72,7 @@ fn write_moved<W: Sink>(out: &mut W, name: &[u8], actions: u32, slot: u8) -> Res
     requires { length name.now ≤ 8 }
     ensures text { Writes (W.text out.old) (W.text out.new) result (moved_text name.now actions slot) }
     ensures performed { IfOk result (λ performed. performed ≡ true) }
-    ensures counted { Counts (W.failure_count out.old) (W.failure_count out.new) result }
+    ensures counts { Counts (W.failure_count out.old) (W.failure_count out.new) result }
 {
     let mut line: ArrayVec<u8, 40> = ArrayVec::new();
     push_moved(&mut line, name, actions, slot);

@@ -67,7 +67,7 @@ pub fn put_cells<W: Sink>(
     requires pp { pp < 10 }
     requires last { last < 4096 }
     ensures text { Writes (W.text out.old) (W.text out.new) result (cells_text machine.now pp first last) }
-    ensures counted { Counts (W.failure_count out.old) (W.failure_count out.new) result }
+    ensures counts { Counts (W.failure_count out.old) (W.failure_count out.new) result }
 {
     let count = row_count(first, last);
     for row in 0..count {
@@ -187,7 +187,7 @@ pub fn put_central<W: Sink>(machine: &Rig, first: u32, last: u32, out: &mut W) -
     requires within { last < machine.now.setup.central_words }
     requires small { last < 0o400000 }
     ensures text { Writes (W.text out.old) (W.text out.new) result (central_text machine.now first last) }
-    ensures counted { Counts (W.failure_count out.old) (W.failure_count out.new) result }
+    ensures counts { Counts (W.failure_count out.old) (W.failure_count out.new) result }
 {
     for a in first..last + 1 {
         put_all(out, word_line(machine, a).as_slice())?;
@@ -200,7 +200,7 @@ pub fn put_central<W: Sink>(machine: &Rig, first: u32, last: u32, out: &mut W) -
 fn mode_text(active: &'static [u8], mode: u64) -> &'static [u8]
     requires { length active.now ≤ 15 }
     ensures value { result.now ≡ mode_text active.now mode }
-    ensures few { length result.now ≤ 15 }
+    ensures at_most { length result.now ≤ 15 }
 {
     match mode {
         0 => b" MODE IDLE\n",

@@ -46,7 +46,7 @@ fn characters(symbols: &[u8]) -> ArrayVec<u8, PIECE>
 /// Writes the characters of the symbols, a piece at a time.
 fn put_characters<W: Sink>(symbols: &[u8], out: &mut W) -> Result<(), Failed>
     ensures text { Writes (W.text out.old) (W.text out.new) result (map character symbols.now) }
-    ensures counted { Counts (W.failure_count out.old) (W.failure_count out.new) result }
+    ensures counts { Counts (W.failure_count out.old) (W.failure_count out.new) result }
 {
     let mut rest = symbols;
     'pieces: while !rest.is_empty() {
@@ -61,7 +61,7 @@ fn put_characters<W: Sink>(symbols: &[u8], out: &mut W) -> Result<(), Failed>
 fn put_line<W: Sink>(mark: &[u8], symbols: &[u8], out: &mut W) -> Result<(), Failed>
     ensures text { Writes (W.text out.old) (W.text out.new) result
         (marked mark.now (map character symbols.now)) }
-    ensures counted { Counts (W.failure_count out.old) (W.failure_count out.new) result }
+    ensures counts { Counts (W.failure_count out.old) (W.failure_count out.new) result }
 {
     put_all(out, mark)?;
     put_characters(symbols, out)?;
@@ -92,7 +92,7 @@ fn next_line(symbols: &[u8]) -> Option<(&[u8], &[u8])>
 /// Writes the symbols after the last line end, if there are any.
 fn put_rest<W: Sink>(symbols: &[u8], out: &mut W) -> Result<(), Failed>
     ensures text { Writes (W.text out.old) (W.text out.new) result (rest_text symbols.now) }
-    ensures counted { Counts (W.failure_count out.old) (W.failure_count out.new) result }
+    ensures counts { Counts (W.failure_count out.old) (W.failure_count out.new) result }
 {
     if symbols.is_empty() {
         return Ok(());
@@ -103,7 +103,7 @@ fn put_rest<W: Sink>(symbols: &[u8], out: &mut W) -> Result<(), Failed>
 /// Writes the paper: each line after a bar, and the symbols after the last line end after a slash.
 fn put_paper<W: Sink>(symbols: &[u8], out: &mut W) -> Result<(), Failed>
     ensures text { Writes (W.text out.old) (W.text out.new) result (paper_text symbols.now) }
-    ensures counted { Counts (W.failure_count out.old) (W.failure_count out.new) result }
+    ensures counts { Counts (W.failure_count out.old) (W.failure_count out.new) result }
 {
     let mut rest = symbols;
     'lines: while let Some((line, later)) = next_line(rest) {
@@ -120,7 +120,7 @@ fn put_paper<W: Sink>(symbols: &[u8], out: &mut W) -> Result<(), Failed>
 #[tactic(auto, unfolding(crate::specs::Dumps::printer_text))]
 pub fn put_printer<W: Sink>(machine: &Rig, out: &mut W) -> Result<(), Failed>
     ensures text { Writes (W.text out.old) (W.text out.new) result (printer_text machine.now) }
-    ensures counted { Counts (W.failure_count out.old) (W.failure_count out.new) result }
+    ensures counts { Counts (W.failure_count out.old) (W.failure_count out.new) result }
 {
     put_all(out, printer_line(machine).as_slice())?;
     put_paper(machine.paper(), out)

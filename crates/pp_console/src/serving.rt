@@ -4,7 +4,7 @@ ghost use Rattle.std.specs.Io.KnownBytes.{Consumes, IsAtEnd};
 ghost use Rattle.pp_lines.specs.Device.{Counts};
 ghost use Rattle.pp_history.specs.SessionValue.{IsAt};
 ghost use Rattle.pp_rig.specs.Rules.{rules};
-ghost use Rattle.pp_lines.specs.Lines.{IsFrontOf, finished, unfinished};
+ghost use Rattle.pp_lines.specs.Lines.{IsPrefixOf, finished, unfinished};
 ghost use Rattle.pp_console.specs.Commands.{Performs, State, Value};
 ghost use Rattle.pp_console.specs.Script.{answer_line, run};
 ghost use Rattle.pp_console.specs.Serving.{Origin, Performed, Breaks, Serves, Stops, CountsReads, CountsWrites, origin_of};
@@ -31,9 +31,9 @@ fn answer_kept_line<W: Sink>(
     out: &mut W,
 ) -> Result<bool, Failed>
     requires { finished text.now ≡ [] }
-    ensures performs { (bytes : List ℕ) → IsFrontOf KEPT front.old bytes →
+    ensures performs { (bytes : List ℕ) → IsPrefixOf KEPT front.old bytes →
         Performs ⟦<W as Sink>⟧ session.old session.new out.old out.new result (λ v. answer_line v (unfinished (bytes ++ text.now))) }
-    ensures counted { Counts (W.failure_count out.old) (W.failure_count out.new) result }
+    ensures counts { Counts (W.failure_count out.old) (W.failure_count out.new) result }
 {
     if front.line().is_empty() {
         return answer_line(session, text, out);
@@ -51,19 +51,19 @@ fn end_line<W: Sink>(
 ) -> Result<(), Failed>
     requires text { finished text.now ≡ [] }
     requires lines { progress.old.lines < LINE_LIMIT }
-    ensures performed { (origin : Origin) (bytes : List ℕ) → IsFrontOf KEPT progress.old.line bytes →
+    ensures performed { (origin : Origin) (bytes : List ℕ) → IsPrefixOf KEPT progress.old.line bytes →
         Performed session.old (W.text out.old) origin (finished bytes) →
         MatchResult result
         (λ _. Performed session.new (W.text out.new) origin (finished bytes ++ unfinished (bytes ++ text.now) ∷ []))
         (λ _. Breaks session.new (W.text out.new) origin (finished bytes) (unfinished (bytes ++ text.now))) }
-    ensures refused { OnOk result ((origin : Origin) (bytes : List ℕ) → IsFrontOf KEPT progress.old.line bytes →
+    ensures refused { OnOk result ((origin : Origin) (bytes : List ℕ) → IsPrefixOf KEPT progress.old.line bytes →
         Performed session.old (W.text out.old) origin (finished bytes) →
         progress.old.refused ≡ (run origin.start (finished bytes)).refused →
         progress.new.refused ≡ (run origin.start (finished bytes ++ unfinished (bytes ++ text.now) ∷ [])).refused) }
     ensures lines { OnOk result (progress.new.lines ≡ progress.old.lines + 1) }
-    ensures line { OnOk result ((bytes : List ℕ) → IsFrontOf KEPT progress.new.line (bytes ++ 10 ∷ [])) }
+    ensures line { OnOk result ((bytes : List ℕ) → IsPrefixOf KEPT progress.new.line (bytes ++ 10 ∷ [])) }
     ensures bytes { progress.new.bytes ≡ progress.old.bytes }
-    ensures counted { Counts (W.failure_count out.old) (W.failure_count out.new) result }
+    ensures counts { Counts (W.failure_count out.old) (W.failure_count out.new) result }
 {
     let refused = !answer_kept_line(&mut progress.line, text, session, out)?;
     progress.line.end_line();
@@ -111,7 +111,7 @@ fn feed_line<W: Sink>(
         (λ _. Stands progress.new session.new (W.text out.new) origin ((bytes ++ text.now) ++ 10 ∷ []))
         (λ fault. Interrupts fault session.new (W.text out.new) origin ((bytes ++ text.now) ++ 10 ∷ [])) }
     ensures bytes { OnOk result (progress.new.bytes ≡ progress.old.bytes + (length text.now + 1)) }
-    ensures counted { CountsWrites (W.failure_count out.old) (W.failure_count out.new) result }
+    ensures counts { CountsWrites (W.failure_count out.old) (W.failure_count out.new) result }
     ensures faults { IfErr result IsNoReadFault }
 {
     let room = (BYTE_LIMIT - progress.bytes) as usize;
@@ -138,7 +138,7 @@ fn feed<W: Sink>(
         (λ _. Stands progress.new session.new (W.text out.new) origin (bytes ++ piece.now))
         (λ fault. Interrupts fault session.new (W.text out.new) origin (bytes ++ piece.now)) }
     ensures bytes { OnOk result (progress.new.bytes ≡ progress.old.bytes + length piece.now) }
-    ensures counted { CountsWrites (W.failure_count out.old) (W.failure_count out.new) result }
+    ensures counts { CountsWrites (W.failure_count out.old) (W.failure_count out.new) result }
     ensures faults { IfErr result IsNoReadFault }
 {
     let mut rest = piece;
@@ -160,7 +160,7 @@ fn finish<W: Sink>(
         MatchResult result
         (λ summary. Serves summary session.new (W.text out.new) origin bytes)
         (λ fault. (left : Option (List ℕ)) → IsAtEnd left → Stops fault session.new (W.text out.new) origin bytes left) }
-    ensures counted { CountsWrites (W.failure_count out.old) (W.failure_count out.new) result }
+    ensures counts { CountsWrites (W.failure_count out.old) (W.failure_count out.new) result }
     ensures faults { IfErr result IsNoReadFault }
 {
     if progress.line.line().is_empty() {

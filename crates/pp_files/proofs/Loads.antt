@@ -7,7 +7,7 @@ use Rattle.pp_files.specs.declared.fault.LoadFault.{LoadFault}
 use Rattle.pp_files.specs.declared.fault.LoadFault.TheVariants.{NoMemory, FileTooLong}
 use Rattle.pp_files.specs.declared.progress.Progress.{Progress}
 use Rattle.pp_files.specs.declared.progress.TheConstants.{KEPT}
-use Rattle.pp_lines.specs.Lines.{finished, unfinished, IsFrontOf}
+use Rattle.pp_lines.specs.Lines.{finished, unfinished, IsPrefixOf}
 use Rattle.pp_lines.proofs.LineCuts.{finished-feed, finished-byte}
 use Rattle.pp_lines.proofs.Limits.{lines-whole, lines-last}
 use Rattle.pp_files.specs.Rows.{Row}
@@ -53,7 +53,7 @@ FailsIn-line rule limit bytes rows done line later fault split read (inr refused
 pub HasRead-within : (progress : Progress) (rule : Rule) (Holds : List Row → Type 0) (bytes : List ℕ) → HasRead progress rule Holds bytes → length bytes ≤ file_limit
 HasRead-within progress rule Holds bytes stands = rw (← stands.counts_bytes) progress.bytes_within
 
-front-none : (kept : ℕ) (front : List ℕ) → front ≡ [] → IsFrontOf kept front []
+front-none : (kept : ℕ) (front : List ℕ) → front ≡ [] → IsPrefixOf kept front []
 front-none kept front e = rw e (search rules)
 
 -- before the first byte
@@ -68,7 +68,7 @@ HasRead-new progress rule Holds front no_bytes no_lines held = record {
 
 -- a byte that is not a line feed
 pub HasRead-byte : (old new : Progress) (rule : Rule) (Holds : List Row → Type 0) (bytes : List ℕ) (byte : ℕ) → eqb byte 10 ≡ false → HasRead old rule Holds bytes →
-    IsFrontOf KEPT new.cutter (bytes ++ byte ∷ []) → new.bytes ≡ old.bytes + 1 → new.lines ≡ old.lines → HasRead new rule Holds (bytes ++ byte ∷ [])
+    IsPrefixOf KEPT new.cutter (bytes ++ byte ∷ []) → new.bytes ≡ old.bytes + 1 → new.lines ≡ old.lines → HasRead new rule Holds (bytes ++ byte ∷ [])
 HasRead-byte old new rule Holds bytes byte h stands front more_bytes same_lines = record {
   keeps = front;
   counts_bytes = more_bytes ∙ rw (length-append bytes (byte ∷ [])) (ap (λ n. n + 1) stands.counts_bytes);
@@ -78,7 +78,7 @@ HasRead-byte old new rule Holds bytes byte h stands front more_bytes same_lines 
 
 -- a line feed
 pub HasRead-feed : (old new : Progress) (rule : Rule) (Holds Holds' : List Row → Type 0) (bytes : List ℕ) → HasRead old rule Holds bytes →
-    IsFrontOf KEPT new.cutter (bytes ++ 10 ∷ []) → new.bytes ≡ old.bytes + 1 → new.lines ≡ old.lines + 1 →
+    IsPrefixOf KEPT new.cutter (bytes ++ 10 ∷ []) → new.bytes ≡ old.bytes + 1 → new.lines ≡ old.lines + 1 →
     ((rows : List Row) → Holds rows → Reads Holds' (with_line rule (old.lines + 1) rows old.cutter)) →
     HasRead new rule Holds' (bytes ++ 10 ∷ [])
 HasRead-feed old new rule Holds Holds' bytes stands front more_bytes more_lines line =

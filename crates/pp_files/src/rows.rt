@@ -48,7 +48,7 @@ fn number(word: &[u8]) -> u16
 /// Returns the numbers in the text, or `None` if there are more than `ROOM`.
 pub fn numbers<const ROOM: usize>(text: &[u8]) -> Option<ArrayVec<u16, ROOM>>
     requires { list_all is_number (words text.now) ≡ true }
-    ensures few { MatchOption result (ROOM < length (words text.now))
+    ensures at_most { MatchOption result (ROOM < length (words text.now))
         (λ row. row.items ≡ numbers (words text.now)) }
     ensures short { IfSome result (λ row. length row.items ≤ ROOM) }
     ensures within { IfSome result (λ row. All (λ value. value < 0o10000) row.items) }

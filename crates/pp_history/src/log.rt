@@ -79,8 +79,8 @@ impl<T: Reversible> Log<T> {
     #[inline(always)]
     pub(crate) fn perform(&mut self, machine: &mut T, action: T::Action)
         requires { T.admitted machine.old action }
-        ensures machine { machine.new ≡ T.next machine.old action }
-        ensures kept { (back : T.Record) × (T.fits back machine.new) × (T.before back machine.new ≡ machine.old)
+        ensures machine { machine.new ≡ T.after_act machine.old action }
+        ensures kept { (back : T.Record) × (T.fits back machine.new) × (T.after_undo back machine.new ≡ machine.old)
             × (self.new ≡ record { records = take self.old.capacity ((action, back) ∷ self.old.records); ahead = []; capacity = self.old.capacity }) }
     {
         forget(&mut self.entries, self.ahead);
@@ -94,7 +94,7 @@ impl<T: Reversible> Log<T> {
         requires some { 0 < length self.old.records }
         requires fits { (newest : T.Action × T.Record) → slice_get self.old.records 0 ≡ Some newest → T.fits newest.1 machine.old }
         ensures { (newest : T.Action × T.Record) × (slice_get self.old.records 0 ≡ Some newest)
-            × (machine.new ≡ T.before newest.1 machine.old)
+            × (machine.new ≡ T.after_undo newest.1 machine.old)
             × (self.new ≡ record { records = drop 1 self.old.records; ahead = newest.0 ∷ self.old.ahead; capacity = self.old.capacity }) }
     {
         take_back(machine, &self.entries, &mut self.longs, self.ahead);
@@ -107,7 +107,7 @@ impl<T: Reversible> Log<T> {
         requires some { 0 < length self.old.ahead }
         requires admitted { (action : T.Action) → slice_get self.old.ahead 0 ≡ Some action → T.admitted machine.old action }
         ensures { (action : T.Action) × (back : T.Record) × (slice_get self.old.ahead 0 ≡ Some action)
-            × (machine.new ≡ T.next machine.old action) × (T.fits back machine.new) × (T.before back machine.new ≡ machine.old)
+            × (machine.new ≡ T.after_act machine.old action) × (T.fits back machine.new) × (T.after_undo back machine.new ≡ machine.old)
             × (self.new ≡ record { records = (action, back) ∷ self.old.records; ahead = drop 1 self.old.ahead; capacity = self.old.capacity }) }
     {
         self.ahead -= 1;
@@ -132,7 +132,7 @@ impl<T: Reversible> Log<T> {
     /// none.
     #[inline(always)]
     pub(crate) fn newest_old_value(&self, place: &T::Place) -> Option<u64>
-        ensures value { (newest : T.Action × T.Record) → slice_get self.now.records 0 ≡ Some newest → result ≡ T.old_number newest.1 place.now }
+        ensures value { (newest : T.Action × T.Record) → slice_get self.now.records 0 ≡ Some newest → result ≡ T.old_value newest.1 place.now }
         ensures none_kept { length self.now.records ≡ 0 → result ≡ None }
     {
         match self.entries.get(self.ahead) {
@@ -153,7 +153,7 @@ impl<T: Reversible> Log<T> {
         looks: &mut Looks,
     ) -> Option<u32>
         requires { All (λ place. T.has_place machine.now place) places.now }
-        ensures value { result ≡ first_changing T.Reversible (λ place. T.number machine.now place) places.now self.now.records }
+        ensures value { result ≡ first_changing T.Reversible (λ place. T.value_at machine.now place) places.now self.now.records }
         ensures counts_up { looks.old.count ≤ looks.new.count }
         ensures cost { MatchOption result (looks.new.count ≤ looks.old.count + length places.now * length self.now.records) (λ k. looks.new.count ≤ looks.old.count + length places.now * k) }
         ensures looks_at_each { 1 ≤ length places.now → MatchOption result (looks.old.count + length self.now.records ≤ looks.new.count) (λ k. looks.old.count + k ≤ looks.new.count) }
@@ -187,7 +187,7 @@ fn is_other<T: Reversible>(
     looks: &mut Looks,
 ) -> bool
     requires { T.has_place machine.now place.now }
-    ensures value { result ≡ differs_from old (T.number machine.now place.now) }
+    ensures value { result ≡ differs_from old (T.value_at machine.now place.now) }
     ensures counted { looks.new.count ≡ looks.old.count + 1 }
 {
     looks.tick();
@@ -206,7 +206,7 @@ fn short_changes<T: Reversible>(
     looks: &mut Looks,
 ) -> bool
     requires { All (λ place. T.has_place machine.now place) places.now }
-    ensures value { result ≡ changes T.Reversible (λ place. T.number machine.now place) places.now (T.whole back.now) }
+    ensures value { result ≡ changes T.Reversible (λ place. T.value_at machine.now place) places.now (T.whole back.now) }
     ensures counts_up { looks.old.count ≤ looks.new.count }
     ensures cost { looks.new.count ≤ looks.old.count + length places.now }
     ensures looks_at_each { 1 ≤ length places.now → looks.old.count + 1 ≤ looks.new.count }
@@ -231,7 +231,7 @@ fn long_changes<T: Reversible>(
 ) -> bool
     requires { All (λ place. T.has_place machine.now place) places.now }
     ensures value { (back : T.Record) → slice_get longs.now.items long ≡ Some (Some back) →
-        result ≡ changes T.Reversible (λ place. T.number machine.now place) places.now back }
+        result ≡ changes T.Reversible (λ place. T.value_at machine.now place) places.now back }
     ensures counts_up { looks.old.count ≤ looks.new.count }
     ensures cost { looks.new.count ≤ looks.old.count + length places.now }
     ensures looks_at_each { (back : T.Record) → slice_get longs.now.items long ≡ Some (Some back) →
@@ -255,7 +255,7 @@ fn newest_long_old_value<T: Reversible>(
     longs: &HeapCircularBuffer<Option<T::Record>>,
     place: &T::Place,
 ) -> Option<u64>
-    ensures { (back : T.Record) → slice_get longs.now.items 0 ≡ Some (Some back) → result ≡ T.old_number back place.now }
+    ensures { (back : T.Record) → slice_get longs.now.items 0 ≡ Some (Some back) → result ≡ T.old_value back place.now }
 {
     match longs.get(0) {
         Some(Some(back)) => T::was(back, place),
@@ -292,8 +292,8 @@ fn act_at_length<T: Reversible>(
 )
     requires admitted { T.admitted machine.old action.now }
     requires room { 1 ≤ longs.old.capacity }
-    ensures next { machine.new ≡ T.next machine.old action.now }
-    ensures left { (back : T.Record) × (T.fits back machine.new) × (T.before back machine.new ≡ machine.old)
+    ensures next { machine.new ≡ T.after_act machine.old action.now }
+    ensures left { (back : T.Record) × (T.fits back machine.new) × (T.after_undo back machine.new ≡ machine.old)
         × (longs.new ≡ buffer (take longs.old.capacity (Some back ∷ longs.old.items)) longs.old.capacity) }
 {
     push(longs, T::spare_record());
@@ -313,8 +313,8 @@ fn act<T: Reversible>(
 )
     requires admitted { T.admitted machine.old action.now }
     requires room { 1 ≤ longs.old.capacity }
-    ensures next { machine.new ≡ T.next machine.old action.now }
-    ensures left { (left : T.Record) × (T.fits left machine.new) × (T.before left machine.new ≡ machine.old)
+    ensures next { machine.new ≡ T.after_act machine.old action.now }
+    ensures left { (left : T.Record) × (T.fits left machine.new) × (T.after_undo left machine.new ≡ machine.old)
         × IsLeft T.whole back.new left longs.old longs.new }
 {
     if let Some(short) = back {
@@ -338,11 +338,11 @@ fn perform<T: Reversible>(
     requires admitted { T.admitted machine.old action }
     requires room { 1 ≤ entries.old.capacity }
     requires long_room { 1 ≤ longs.old.capacity }
-    ensures machine { machine.new ≡ T.next machine.old action }
+    ensures machine { machine.new ≡ T.after_act machine.old action }
     ensures kept { (short : Option T.Short) × (back : T.Record)
         × (entries.new ≡ buffer (take entries.old.capacity ((action, short) ∷ entries.old.items)) entries.old.capacity)
         × IsLeft T.whole short back longs.old longs.new
-        × T.fits back machine.new × (T.before back machine.new ≡ machine.old) }
+        × T.fits back machine.new × (T.after_undo back machine.new ≡ machine.old) }
 {
     push(entries, (action, T::spare()));
     if let Some(newest) = entries.get_mut(0) {
@@ -362,10 +362,10 @@ fn perform_again<T: Reversible>(
     requires long_room { 1 ≤ longs.old.capacity }
     requires admitted { (entry : Entry T.Action T.Short) → slice_get entries.old.items at ≡ Some entry → T.admitted machine.old entry.0 }
     ensures { (entry : Entry T.Action T.Short) → slice_get entries.old.items at ≡ Some entry → (short : Option T.Short) × (back : T.Record)
-        × (machine.new ≡ T.next machine.old entry.0)
+        × (machine.new ≡ T.after_act machine.old entry.0)
         × (entries.new ≡ buffer (slice_set entries.old.items at (entry.0, short)) entries.old.capacity)
         × IsLeft T.whole short back longs.old longs.new
-        × T.fits back machine.new × (T.before back machine.new ≡ machine.old) }
+        × T.fits back machine.new × (T.after_undo back machine.new ≡ machine.old) }
 {
     if let Some(entry) = entries.get_mut(at) {
         act(machine, &entry.0, &mut entry.1, longs);
@@ -384,7 +384,7 @@ fn take_back<T: Reversible>(
     requires fits { (entry : Entry T.Action T.Short) → slice_get entries.now.items at ≡ Some entry →
         IsSomeAnd (record_of T.whole entry.1 longs.old.items) (λ back. T.fits back machine.old) }
     ensures { (entry : Entry T.Action T.Short) → slice_get entries.now.items at ≡ Some entry →
-        IsSomeAnd (record_of T.whole entry.1 longs.old.items) (λ back. machine.new ≡ T.before back machine.old)
+        IsSomeAnd (record_of T.whole entry.1 longs.old.items) (λ back. machine.new ≡ T.after_undo back machine.old)
         × (longs.new ≡ buffer (longs_behind entry.1 longs.old.items) longs.old.capacity) }
 {
     if let Some(entry) = entries.get(at) {
@@ -402,7 +402,7 @@ fn take_back_at_length<T: Reversible>(
     longs: &mut HeapCircularBuffer<Option<T::Record>>,
 )
     requires { (back : T.Record) × (slice_get longs.old.items 0 ≡ Some (Some back)) × T.fits back machine.old }
-    ensures machine { (back : T.Record) → slice_get longs.old.items 0 ≡ Some (Some back) → machine.new ≡ T.before back machine.old }
+    ensures machine { (back : T.Record) → slice_get longs.old.items 0 ≡ Some (Some back) → machine.new ≡ T.after_undo back machine.old }
     ensures longs { longs.new ≡ buffer (drop 1 longs.old.items) longs.old.capacity }
 {
     if let Some(newest) = longs.get_mut(0) {

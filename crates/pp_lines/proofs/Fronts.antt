@@ -5,7 +5,7 @@ use Rattle.std.proofs.lemmas.Grind.{common_steps}
 use Rattle.std.proofs.lemmas.Bool.Decides.{nat_tests}
 use Rattle.std.proofs.lemmas.List.{take_all}
 use Rattle.std.proofs.Math.Seq.{take-append_seam}
-use Rattle.pp_lines.specs.Lines.{IsFrontOf, finished, unfinished}
+use Rattle.pp_lines.specs.Lines.{IsPrefixOf, finished, unfinished}
 use Rattle.pp_lines.proofs.LineCuts.{unfinished-feed, unfinished-byte}
 use Rattle.pp_lines.proofs.OpenTexts.{unfinished-text}
 use Rattle.pp_lines.proofs.Limits.{take-front}
@@ -25,7 +25,7 @@ keeps_full most xs x h = sym (rw (← h) (take-append_seam xs (x ∷ [])))
 no-feed : (byte : ℕ) → byte ≢ 10 → eqb byte 10 ≡ false
 no-feed byte h = grind (arith, nat_tests)
 
-pub front-byte : (kept : ℕ) (front new bytes : List ℕ) (byte : ℕ) → byte ≢ 10 → IsFrontOf kept front bytes → new ≡ take kept (front ++ byte ∷ []) → IsFrontOf kept new (bytes ++ byte ∷ [])
+pub front-byte : (kept : ℕ) (front new bytes : List ℕ) (byte : ℕ) → byte ≢ 10 → IsPrefixOf kept front bytes → new ≡ take kept (front ++ byte ∷ []) → IsPrefixOf kept new (bytes ++ byte ∷ [])
 front-byte kept front new bytes byte h is_front e =
     rw (unfinished-byte bytes byte (no-feed byte h)) (e ∙ rw is_front (take-goes_on kept (unfinished bytes) (byte ∷ [])))
 
@@ -40,7 +40,7 @@ keeps_text most front text h =
     let room : take (min (length text) (most - length front)) text ≡ take (most - length front) text = grind (arith, common_steps) in
     ap (λ more. front ++ more) room ∙ sym (take-front most front text h)
 
-pub front-text : (kept : ℕ) (front new bytes text : List ℕ) → finished text ≡ [] → IsFrontOf kept front bytes → new ≡ take kept (front ++ text) → IsFrontOf kept new (bytes ++ text)
+pub front-text : (kept : ℕ) (front new bytes text : List ℕ) → finished text ≡ [] → IsPrefixOf kept front bytes → new ≡ take kept (front ++ text) → IsPrefixOf kept new (bytes ++ text)
 front-text kept front new bytes text h is_front e =
     rw (unfinished-text bytes text h) (e ∙ rw is_front (take-goes_on kept (unfinished bytes) text))
 
@@ -48,5 +48,5 @@ front-nothing : (kept : ℕ) (none : List ℕ) → none ≡ [] → none ≡ take
 front-nothing kept none e = rw e (grind (arith, common_steps))
 
 -- after a line feed nothing is kept
-pub front-feed : (kept : ℕ) (front bytes : List ℕ) → front ≡ [] → IsFrontOf kept front (bytes ++ 10 ∷ [])
+pub front-feed : (kept : ℕ) (front bytes : List ℕ) → front ≡ [] → IsPrefixOf kept front (bytes ++ 10 ∷ [])
 front-feed kept front bytes e = rw (unfinished-feed bytes) (e ∙ front-nothing kept [] refl)

@@ -2,7 +2,7 @@
 use Rattle.std.proofs.Common.{◌≡◌, ◌∙◌, ℕ, zero, suc, ◌+◌, ◌-◌, ◌<◌, ◌≤◌, ◌⊎◌, Bool, true, false, cond, eqb, List, [], ◌∷◌, ◌++◌, length, take, refl, sym, ap, arith, inl, inr, length-append, length-take}
 use Rattle.std.proofs.lemmas.List.{append-nil, take_all}
 use Rattle.std.proofs.Math.Seq.{take-append_seam, take-append-add}
-use Rattle.pp_lines.specs.Lines.{lines, begin_first, extend_first, finished, unfinished, last_line, finished_within, IsWithin, IsFrontOf}
+use Rattle.pp_lines.specs.Lines.{lines, begin_first, extend_first, finished, unfinished, last_line, finished_within, IsWithin, IsPrefixOf}
 use Rattle.pp_lines.proofs.LineCuts.{lines_split, finished-more}
 
 -- at most one line is unfinished
@@ -25,12 +25,12 @@ something-kept most [] e = absurd (omega (arith, rw length-take at e))
 something-kept most (byte ∷ rest) e = refl
 
 -- the lines, if the last one ends with a line feed
-pub lines-whole : (kept : ℕ) (front bytes : List ℕ) → 0 < kept → IsFrontOf kept front bytes → length front ≡ 0 → lines bytes ≡ finished bytes
+pub lines-whole : (kept : ℕ) (front bytes : List ℕ) → 0 < kept → IsPrefixOf kept front bytes → length front ≡ 0 → lines bytes ≡ finished bytes
 lines-whole kept front bytes some is_front empty =
     lines_split bytes ∙ rw (nothing-kept kept (unfinished bytes) some (sym (ap length is_front) ∙ empty)) (append-nil (finished bytes))
 
 -- the lines, if the last one does not end with a line feed
-pub lines-last : (kept : ℕ) (front bytes : List ℕ) → IsFrontOf kept front bytes → 0 < length front → lines bytes ≡ finished bytes ++ unfinished bytes ∷ []
+pub lines-last : (kept : ℕ) (front bytes : List ℕ) → IsPrefixOf kept front bytes → 0 < length front → lines bytes ≡ finished bytes ++ unfinished bytes ∷ []
 lines-last kept front bytes is_front begun =
     lines_split bytes ∙ ap (λ last. finished bytes ++ last) (something-kept kept (unfinished bytes) (omega (arith, ap length is_front)))
 

@@ -5,7 +5,7 @@ use Rattle.std.specs.Io.KnownBytes.{Appends, Keeps}
 use Rattle.std.proofs.lemmas.List.{take-append-drop, append-nil}
 use Rattle.std.proofs.lemmas.Grind.{common_steps}
 use Rattle.std.proofs.Math.Seq.{take-add}
-use Rattle.pp_lines.specs.Output.{AppendsFront}
+use Rattle.pp_lines.specs.Output.{AppendsPrefix}
 
 -- nothing is written
 pub Appends-nothing : (known : Option (List ℕ)) → Appends known known []
@@ -42,9 +42,9 @@ Appends-further first second third done more text p q =
     Appends-same first third (take done text ++ take more (drop done text)) (take (done + more) text) (sym (take-add done more text)) (Appends-again first second third _ _ p piece)
 
 -- the sink failed before the end of the text
-pub AppendsFront-at : (first second third : Option (List ℕ)) (done : ℕ) (text : List ℕ) → done < length text →
-    Appends first second (take done text) → Keeps second third → AppendsFront first third text
-AppendsFront-at first second third done text within p q =
+pub AppendsPrefix-at : (first second third : Option (List ℕ)) (done : ℕ) (text : List ℕ) → done < length text →
+    Appends first second (take done text) → Keeps second third → AppendsPrefix first third text
+AppendsPrefix-at first second third done text within p q =
     (take done text, drop done text, Appends-keeps first second third _ p q, sym (take-append-drop done text), simp length-drop (omega arith))
 
 -- a prefix of the whole text was written, and this is left
@@ -63,7 +63,7 @@ Remains-next first second third whole piece left p q =
 
 -- the sink failed within a piece
 pub Remains-fails : (first second third : Option (List ℕ)) (whole piece left : List ℕ) →
-    Remains first second whole (piece ++ left) → AppendsFront second third piece → AppendsFront first third whole
+    Remains first second whole (piece ++ left) → AppendsPrefix second third piece → AppendsPrefix first third whole
 Remains-fails first second third whole piece left p q = (
   p.0 ++ q.0,
   q.1 ++ left,
@@ -80,11 +80,11 @@ pub Remains-none : (first second : Option (List ℕ)) (whole : List ℕ) → Rem
 Remains-none first second whole p = Appends-same first second p.0 whole (sym (p.2 ∙ append-nil p.0)) p.1
 
 -- the sink failed, and more text would have followed
-pub front_longer : (first second : Option (List ℕ)) (text more : List ℕ) → AppendsFront first second text → AppendsFront first second (text ++ more)
+pub front_longer : (first second : Option (List ℕ)) (text more : List ℕ) → AppendsPrefix first second text → AppendsPrefix first second (text ++ more)
 front_longer first second text more p =
     (p.0, p.1 ++ more, p.2, ap (λ whole. whole ++ more) p.3 ∙ append_assoc p.0 p.1 more, simp length-append (omega (arith, p.4)))
 
 -- the sink failed after a text
-pub front_after : (first second third : Option (List ℕ)) (text more : List ℕ) → Appends first second text → AppendsFront second third more → AppendsFront first third (text ++ more)
+pub front_after : (first second third : Option (List ℕ)) (text more : List ℕ) → Appends first second text → AppendsPrefix second third more → AppendsPrefix first third (text ++ more)
 front_after first second third text more p q =
     (text ++ q.0, q.1, Appends-again first second third text q.0 p q.2, ap (λ rest. text ++ rest) q.3 ∙ sym (append_assoc text q.0 q.1), q.4)

@@ -46,8 +46,8 @@ pub record IsWithin (line_limit byte_limit : ℕ) (bytes : List ℕ) : Type 0 wh
   pub few_bytes : length bytes ≤ byte_limit
 
 -- the first `kept` bytes of the unfinished line
-abbrev pub IsFrontOf : ℕ → List ℕ → List ℕ → Type 0
-IsFrontOf kept front bytes = front ≡ take kept (unfinished bytes)
+abbrev pub IsPrefixOf : ℕ → List ℕ → List ℕ → Type 0
+IsPrefixOf kept front bytes = front ≡ take kept (unfinished bytes)
 
 -- the line without one carriage return at its end
 abbrev pub without_return : List ℕ → List ℕ

@@ -30,7 +30,7 @@ pub trait Source {
         ensures within { AnswersWithin result into.new }
         ensures bytes { ReadConsumes (rest self.old) (rest self.new) result into.new }
         ensures given { Logs (given self.old) (given self.new) result into.new }
-        ensures counted { Counts (failure_count self.old) (failure_count self.new) result };
+        ensures counts { Counts (failure_count self.old) (failure_count self.new) result };
 
     /// Returns the number of failed calls.
     fn failures(&self) -> u64
@@ -57,7 +57,7 @@ pub trait Sink {
         ensures within { AnswersWithin result from.now }
         ensures some { TakesSome result from.now }
         ensures bytes { WriteAppends (text self.old) (text self.new) result from.now }
-        ensures counted { Counts (failure_count self.old) (failure_count self.new) result };
+        ensures counts { Counts (failure_count self.old) (failure_count self.new) result };
 
     /// Returns the number of failed calls.
     fn failures(&self) -> u64

@@ -1,6 +1,6 @@
 //! Cuts bytes into lines.
 ghost use Rattle.std.specs.Prelude.{◌≡◌, ◌≢◌, ◌<◌, ◌==◌, ◌∷◌, ◌++◌, [], ℕ, List, length, position, IfSome, MatchOption};
-ghost use Rattle.pp_lines.specs.Lines.{IsFrontOf, finished, without_return};
+ghost use Rattle.pp_lines.specs.Lines.{IsPrefixOf, finished, without_return};
 
 use arrayvec::ArrayVec;
 use std::marker::Model;
@@ -35,7 +35,7 @@ impl<const KEPT: usize> LineCutter<KEPT> {
     pub fn take_byte(&mut self, byte: u8)
         requires { byte ≢ 10 }
         ensures { (bytes : List ℕ) →
-            IsFrontOf KEPT self.old bytes → IsFrontOf KEPT self.new (bytes ++ byte ∷ []) }
+            IsPrefixOf KEPT self.old bytes → IsPrefixOf KEPT self.new (bytes ++ byte ∷ []) }
     {
         if !self.front.is_full() {
             self.front.push(byte);
@@ -46,7 +46,7 @@ impl<const KEPT: usize> LineCutter<KEPT> {
     pub fn take_text(&mut self, text: &[u8])
         requires { finished text.now ≡ [] }
         ensures { (bytes : List ℕ) →
-            IsFrontOf KEPT self.old bytes → IsFrontOf KEPT self.new (bytes ++ text.now) }
+            IsPrefixOf KEPT self.old bytes → IsPrefixOf KEPT self.new (bytes ++ text.now) }
     {
         let kept = text.len().min(self.front.remaining_capacity());
         let _ = self.front.try_extend_from_slice(&text[..kept]);
@@ -55,7 +55,7 @@ impl<const KEPT: usize> LineCutter<KEPT> {
     /// Ends the line with a line feed.
     pub fn end_line(&mut self)
         ensures empty { self.new ≡ [] }
-        ensures front { (bytes : List ℕ) → IsFrontOf KEPT self.new (bytes ++ 10 ∷ []) }
+        ensures front { (bytes : List ℕ) → IsPrefixOf KEPT self.new (bytes ++ 10 ∷ []) }
     {
         self.front.clear();
     }

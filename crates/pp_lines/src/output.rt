@@ -11,7 +11,7 @@ use crate::device::{Failed, Sink};
 /// `Failed` if a call of the sink fails. A proper prefix of the text was then written.
 pub fn put_all<W: Sink>(out: &mut W, text: &[u8]) -> Result<(), Failed>
     ensures text { Writes (W.text out.old) (W.text out.new) result text.now }
-    ensures counted { Counts (W.failure_count out.old) (W.failure_count out.new) result }
+    ensures counts { Counts (W.failure_count out.old) (W.failure_count out.new) result }
 {
     let mut written = 0;
     while written < text.len() {

@@ -49,7 +49,7 @@ impl Calls {
 
     /// Counts a call, and fails if it is the failing one.
     fn begin(&mut self) -> Result<(), Failed>
-        ensures counted { Counts self.old.failures self.new.failures result }
+        ensures counts { Counts self.old.failures self.new.failures result }
         ensures made { self.new.made ≡ one_more self.old.made }
         ensures failing { self.new.failing ≡ self.old.failing }
         ensures fails { IsErr result ↔ (self.old.failing ≡ Some (one_more self.old.made)) }
@@ -122,7 +122,7 @@ impl Source for Feed<'_> {
         ensures within { AnswersWithin result into.new }
         ensures bytes { ReadConsumes (Some self.old.bytes.now) (Some self.new.bytes.now) result into.new }
         ensures given { Logs self.old.log.bytes self.new.log.bytes result into.new }
-        ensures counted { Counts self.old.calls.failures self.new.calls.failures result }
+        ensures counts { Counts self.old.calls.failures self.new.calls.failures result }
         ensures made { self.new.calls.made ≡ one_more self.old.calls.made }
         ensures failing { self.new.calls.failing ≡ self.old.calls.failing }
         ensures fails { IsErr result ↔ (self.old.calls.failing ≡ Some (one_more self.old.calls.made)) }
@@ -227,7 +227,7 @@ impl Sink for Tray {
         ensures within { AnswersWithin result from.now }
         ensures some { TakesSome result from.now }
         ensures bytes { WriteAppends (Some self.old.text.items) (Some self.new.text.items) result from.now }
-        ensures counted { Counts self.old.calls.failures self.new.calls.failures result }
+        ensures counts { Counts self.old.calls.failures self.new.calls.failures result }
         ensures made { self.new.calls.made ≡ one_more self.old.calls.made }
         ensures failing { self.new.calls.failing ≡ self.old.calls.failing }
         ensures fails { IsErr result ↔ ((self.old.calls.failing ≡ Some (one_more self.old.calls.made)) ⊎ IsFull self.old.text.items from.now) }

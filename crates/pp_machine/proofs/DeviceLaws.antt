@@ -4,11 +4,11 @@ use Rattle.std.specs.List.{AllPairs}
 use Rattle.std.proofs.lemmas.List.{get_or-set_same, set-set, set-get_or}
 use Rattle.pp_machine.specs.Attached.{Attached, of_device, view_of, with_view}
 use Rattle.pp_machine.specs.ChannelNumbers.{ChannelNumbers, state_number, with_channel}
-use Rattle.pp_machine.specs.Device.{DeviceModel, DevicePlace, DeviceView, AtOwn, AtState, AtWord, device_place, device_view, number_at, olds_device, over_device, place_at, put_at, view_on}
+use Rattle.pp_machine.specs.Device.{DeviceModel, DevicePlace, DeviceView, AtOwn, AtState, AtWord, device_place, device_view, number_at, device_old_values, over_device, place_at, put_at, view_on}
 use Rattle.pp_machine.specs.Lookup.{same_place}
-use Rattle.pp_machine.specs.Machine.{Machine, number, olds, over, put}
+use Rattle.pp_machine.specs.Machine.{Machine, number, old_values, over, put}
 use Rattle.pp_machine.specs.Shape.{Has, HasAll}
-use Rattle.pp_machine.specs.WriteLaws.{AllPlaces-renamed, Commute, IsStore, olds-renamed, over-renamed, places-olds, taken-back}
+use Rattle.pp_machine.specs.WriteLaws.{AllPlaces-renamed, Commute, IsStore, old_values-renamed, over-renamed, places-old_values, undone-by-old-values}
 use Rattle.pp_machine.specs.Writes.{AllPlaces, Writes, places, renamed}
 use Rattle.pp_machine.specs.declared.channel.Channel.{Channel}
 use Rattle.pp_machine.specs.declared.place.Place.{Place}
@@ -40,18 +40,18 @@ module _ {Numbers Own Record : Type 0} (d : DeviceModel Numbers Own Record) (sto
   own-at s x = refl
 
   -- the record of a step leads back to the state before it
-  pub led_back : (old new : DeviceView Numbers) (w r : Writes (DevicePlace Own)) → new ≡ over_device d old w → r ≡ olds_device d old w → over_device d new r ≡ old
+  pub led_back : (old new : DeviceView Numbers) (w r : Writes (DevicePlace Own)) → new ≡ over_device d old w → r ≡ device_old_values d old w → over_device d new r ≡ old
   led_back old new w r step named =
-      rw (step, named) (taken-back (DeviceView Numbers) (DevicePlace Own) (number_at d.number) (put_at d.put) (record { apart = apart-at; again = again-at; own = own-at }) old w)
+      rw (step, named) (undone-by-old-values (DeviceView Numbers) (DevicePlace Own) (number_at d.number) (put_at d.put) (record { apart = apart-at; again = again-at; own = own-at }) old w)
 
 -- a record of the old values of a write list has the places of that list
-pub old_places : {Numbers Own Record : Type 0} (d : DeviceModel Numbers Own Record) (s : DeviceView Numbers) (w r : Writes (DevicePlace Own)) → r ≡ olds_device d s w → places r ≡ places w
-old_places d s w r named = ap (λ pairs. places pairs) named ∙ places-olds (number_at d.number) s w
+pub old_places : {Numbers Own Record : Type 0} (d : DeviceModel Numbers Own Record) (s : DeviceView Numbers) (w r : Writes (DevicePlace Own)) → r ≡ device_old_values d s w → places r ≡ places w
+old_places d s w r named = ap (λ pairs. places pairs) named ∙ places-old_values (number_at d.number) s w
 
 -- ---- a device and the channel that it is handed
 
 module _ {Numbers : Type 0} (c : ℕ) (channels : ChannelNumbers) (n : Numbers) (channel : Channel) where
-  pub view-handed : state_number channel.state ≡ get_or channels.modes c 0 → channel.word ≡ get_or channels.words c 0 → device_view n channel ≡ view_on c n channels
+  pub view-handed : state_number channel.state ≡ get_or channels.states c 0 → channel.word ≡ get_or channels.registers c 0 → device_view n channel ≡ view_on c n channels
   view-handed state word = rw (state, word) refl
 
   pub view-device : (s : DeviceView Numbers) → device_view n channel ≡ s → n ≡ s.device
@@ -60,7 +60,7 @@ module _ {Numbers : Type 0} (c : ℕ) (channels : ChannelNumbers) (n : Numbers) 
   pub view-channels : (s : DeviceView Numbers) → device_view n channel ≡ s → with_channel channels c (state_number channel.state) channel.word ≡ with_channel channels c s.state s.word
   view-channels s e = ap (λ (v : DeviceView Numbers). with_channel channels c v.state v.word) e
 
-  pub view-put_back : c < length channels.modes → c < length channels.words → view_on c n (with_channel channels c (state_number channel.state) channel.word) ≡ device_view n channel
+  pub view-put_back : c < length channels.states → c < length channels.registers → view_on c n (with_channel channels c (state_number channel.state) channel.word) ≡ device_view n channel
   view-put_back in_modes in_words = simp get_or-set_same
 
 -- ---- write lists that write no place twice, and only places that the machine has
@@ -101,10 +101,10 @@ abbrev with_channels : Machine → ChannelNumbers → Machine
 with_channels m channels = record m { channels = channels }
 
 abbrev with_modes : ChannelNumbers → List ℕ → ChannelNumbers
-with_modes channels modes = record channels { modes = modes }
+with_modes channels states = record channels { states = states }
 
 abbrev with_words : ChannelNumbers → List ℕ → ChannelNumbers
-with_words channels words = record channels { words = words }
+with_words channels registers = record channels { registers = registers }
 
 -- The machine has the device's numbers at the device's own places, and nothing else is there.
 pub record IsAttached {Numbers Own Record : Type 0} (a : Attached Numbers Own Record) : Type 0 where
@@ -128,15 +128,15 @@ module _ {Numbers Own Record : Type 0} (a : Attached Numbers Own Record) (laws :
   put-with_view s (AtOwn x) v = laws.put_named _ s.device x v
   put-with_view s AtState v =
       let before = with_channel m.channels c s.state s.word in
-      beside before _ s.device (λ (x : ChannelNumbers). with_modes x (set x.modes c v)) (ap (with_modes before) (set-set m.channels.modes c s.state v))
+      beside before _ s.device (λ (x : ChannelNumbers). with_modes x (set x.states c v)) (ap (with_modes before) (set-set m.channels.states c s.state v))
   put-with_view s AtWord v =
       let before = with_channel m.channels c s.state s.word in
-      beside before _ s.device (λ (x : ChannelNumbers). with_words x (set x.words c v)) (ap (with_words before) (set-set m.channels.words c s.word v))
+      beside before _ s.device (λ (x : ChannelNumbers). with_words x (set x.registers c v)) (ap (with_words before) (set-set m.channels.registers c s.word v))
 
   with_view-same : with_view a m c (view_of a c m) ≡ m
   with_view-same =
-      ap (λ modes. a.replace (with_channels m (with_words (with_modes m.channels modes) (set m.channels.words c (get_or m.channels.words c 0)))) (a.get m)) (set-get_or m.channels.modes c 0)
-      ∙ (ap (λ words. a.replace (with_channels m (with_words m.channels words)) (a.get m)) (set-get_or m.channels.words c 0) ∙ laws.same m)
+      ap (λ states. a.replace (with_channels m (with_words (with_modes m.channels states) (set m.channels.registers c (get_or m.channels.registers c 0)))) (a.get m)) (set-get_or m.channels.states c 0)
+      ∙ (ap (λ registers. a.replace (with_channels m (with_words m.channels registers)) (a.get m)) (set-get_or m.channels.registers c 0) ∙ laws.same m)
 
   -- the device's writes are writes of the machine
   pub lifted : (s : DeviceView Numbers) (w : Writes (DevicePlace Own)) → s ≡ over_device a.model (view_of a c m) w → with_view a m c s ≡ over m (renamed (device_place a.model c) w)
@@ -149,8 +149,8 @@ module _ {Numbers Own Record : Type 0} (a : Attached Numbers Own Record) (laws :
   named-at AtWord = refl
 
   -- and its old values are those of the machine
-  pub lifted-olds : (w : Writes (DevicePlace Own)) → renamed (device_place a.model c) (olds_device a.model (view_of a c m) w) ≡ olds m (renamed (device_place a.model c) w)
-  lifted-olds = olds-renamed (number_at a.model.number) number (device_place a.model c) (view_of a c m) m named-at
+  pub lifted-old_values : (w : Writes (DevicePlace Own)) → renamed (device_place a.model c) (device_old_values a.model (view_of a c m) w) ≡ old_values m (renamed (device_place a.model c) w)
+  lifted-old_values = old_values-renamed (number_at a.model.number) number (device_place a.model c) (view_of a c m) m named-at
 
   -- a device and channels that a write list leads to, put into the machine
   pub lifted-parts : (n : Numbers) (channels : ChannelNumbers) (w : Writes (DevicePlace Own)) →

@@ -4,7 +4,7 @@ use Rattle.std.specs.List.{AllPairs}
 use Rattle.pp_machine.specs.Attached.{of_device, the_reader}
 use Rattle.pp_machine.specs.ChannelNumbers.{empty, function}
 use Rattle.pp_machine.specs.Lookup.{same_place}
-use Rattle.pp_machine.specs.Reader.{ReaderOwn, ReaderPlace, ReaderView, Card, Column, Mode, name_own, function_writes, input_writes, olds_reader, reader_model, reader_pairs, reader_place, reader_writes}
+use Rattle.pp_machine.specs.Reader.{ReaderOwn, ReaderPlace, ReaderView, Card, Column, Mode, name_own, function_writes, input_writes, reader_old_values, reader_model, reader_pairs, reader_place, reader_writes}
 use Rattle.pp_machine.specs.ReaderNumbers.{reader_mode_number}
 use Rattle.pp_machine.specs.Shape.{HasAll}
 use Rattle.pp_machine.specs.Writes.{Writes, places, renamed}
@@ -34,7 +34,7 @@ reader-attached = record {
 
 -- ---- the record of a step
 
-pub reader_names : (r : ReaderRecord) (s : ReaderView) (w : Writes ReaderPlace) → reader_pairs r ≡ olds_reader s w → places (reader_pairs r) ≡ places w
+pub reader_names : (r : ReaderRecord) (s : ReaderView) (w : Writes ReaderPlace) → reader_pairs r ≡ reader_old_values s w → places (reader_pairs r) ≡ places w
 reader_names r s w named = old_places reader_model s w (reader_pairs r) named
 
 pub reader_few : (r : ReaderRecord) → length (reader_pairs r) ≤ 4

@@ -45,10 +45,10 @@ module _ (size : ℕ) (m m' : Machine) (shaped : IsShaped size m) (shaped' : IsS
 
   channels : m.channels ≡ m'.channels
   channels =
-      let make : List ℕ → List ℕ → ℕ → ChannelNumbers = λ modes words clock. record { modes = modes; words = words; clock = clock } in
-      ap (λ v. make v m.channels.words m.channels.clock) (same-list 12 m.channels.modes m'.channels.modes shaped.modes shaped'.modes (λ c h. each (ChannelMode c) h))
-      ∙ ap (λ v. make m'.channels.modes v m.channels.clock) (same-list 12 m.channels.words m'.channels.words shaped.words shaped'.words (λ c h. each (ChannelWord c) h))
-      ∙ ap (λ v. make m'.channels.modes m'.channels.words v) (each Clock tt)
+      let make : List ℕ → List ℕ → ℕ → ChannelNumbers = λ states registers clock. record { states = states; registers = registers; clock = clock } in
+      ap (λ v. make v m.channels.registers m.channels.clock) (same-list 12 m.channels.states m'.channels.states shaped.states shaped'.states (λ c h. each (ChannelMode c) h))
+      ∙ ap (λ v. make m'.channels.states v m.channels.clock) (same-list 12 m.channels.registers m'.channels.registers shaped.registers shaped'.registers (λ c h. each (ChannelWord c) h))
+      ∙ ap (λ v. make m'.channels.states m'.channels.registers v) (each Clock tt)
 
   reader : m.reader.deck ≡ m'.reader.deck → m.reader ≡ m'.reader
   reader deck =

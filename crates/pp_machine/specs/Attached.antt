@@ -36,8 +36,8 @@ module _ {Numbers Own Record : Type 0} (a : Attached Numbers Own Record) where
   with_view m c s = a.replace (record m { channels = with_channel m.channels c s.state s.word }) s.device
 
   -- one step as a write list of the machine
-  abbrev pub device_list : Machine → Writes Place
-  device_list m = renamed (device_place a.model (a.channel m.setup)) (a.model.writes (view_of (a.channel m.setup) m))
+  abbrev pub device_step_writes : Machine → Writes Place
+  device_step_writes m = renamed (device_place a.model (a.channel m.setup)) (a.model.writes (view_of (a.channel m.setup) m))
 
   -- the undo record of a device on channel c as places of the machine with their old numbers
   abbrev pub device_pairs : ℕ → Record → Writes Place

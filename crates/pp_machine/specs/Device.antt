@@ -1,7 +1,7 @@
 -- A device as the machine sees it: numbers of its own, and the state and register of its channel.
 use Rattle.std.specs.Prelude.{ℕ, get_or}
 use Rattle.pp_machine.specs.ChannelNumbers.{ChannelNumbers, state_number}
-use Rattle.pp_machine.specs.Writes.{Writes, over_by, olds_by}
+use Rattle.pp_machine.specs.Writes.{Writes, over_by, old_values_by}
 use Rattle.pp_machine.specs.declared.channel.Channel.{Channel}
 use Rattle.pp_machine.specs.declared.place.Place.{Place}
 use Rattle.pp_machine.specs.declared.place.Place.TheVariants.{ChannelMode, ChannelWord}
@@ -33,7 +33,7 @@ device_view d c = record { device = d; state = state_number c.state; word = c.wo
 
 -- the same, for a device on channel c
 abbrev pub view_on : {Numbers : Type 0} → ℕ → Numbers → ChannelNumbers → DeviceView Numbers
-view_on c d channels = record { device = d; state = get_or channels.modes c 0; word = get_or channels.words c 0 }
+view_on c d channels = record { device = d; state = get_or channels.states c 0; word = get_or channels.registers c 0 }
 
 -- the number at a place, from the numbers at the device's own places
 abbrev pub number_at : {Numbers Own : Type 0} → (Numbers → Own → ℕ) → DeviceView Numbers → DevicePlace Own → ℕ
@@ -55,8 +55,8 @@ place_at name c AtWord = ChannelWord c
 abbrev pub over_device : {Numbers Own Record : Type 0} → DeviceModel Numbers Own Record → DeviceView Numbers → Writes (DevicePlace Own) → DeviceView Numbers
 over_device d = over_by (put_at d.put)
 
-abbrev pub olds_device : {Numbers Own Record : Type 0} → DeviceModel Numbers Own Record → DeviceView Numbers → Writes (DevicePlace Own) → Writes (DevicePlace Own)
-olds_device d = olds_by (number_at d.number)
+abbrev pub device_old_values : {Numbers Own Record : Type 0} → DeviceModel Numbers Own Record → DeviceView Numbers → Writes (DevicePlace Own) → Writes (DevicePlace Own)
+device_old_values d = old_values_by (number_at d.number)
 
 abbrev pub device_place : {Numbers Own Record : Type 0} → DeviceModel Numbers Own Record → ℕ → DevicePlace Own → Place
 device_place d = place_at d.name

@@ -1,6 +1,6 @@
 //! What the machine asks of a device.
 ghost use Rattle.std.specs.Prelude.{◌≡◌};
-ghost use Rattle.pp_machine.specs.Device.{DeviceModel, device_place, device_view, olds_device, over_device};
+ghost use Rattle.pp_machine.specs.Device.{DeviceModel, device_place, device_view, device_old_values, over_device};
 ghost use Rattle.pp_machine.specs.Lookup.{lookup};
 ghost use Rattle.pp_machine.specs.Writes.{renamed};
 
@@ -22,14 +22,14 @@ pub trait Device: Drop {
     /// each place that was written, and of no other place.
     fn step(&mut self, channel: &mut Channel) -> Self::Record
         ensures step { let old = device_view self.old channel.old in device_view self.new channel.new ≡ over_device model old (model.writes old) }
-        ensures record { let old = device_view self.old channel.old in model.pairs result ≡ olds_device model old (model.writes old) }
+        ensures old_values { let old = device_view self.old channel.old in model.pairs result ≡ device_old_values model old (model.writes old) }
         ensures fits { model.Fits result (device_view self.new channel.new) };
 
     /// Undoes a step: writes the numbers of its record into the device and its channel. The record must fit both, as
     /// it does right after the `step` that returned it.
     fn undo(&mut self, back: Self::Record, channel: &mut Channel)
         requires fits { model.Fits back (device_view self.old channel.old) }
-        ensures undone { device_view self.new channel.new ≡ over_device model (device_view self.old channel.old) (model.pairs back) };
+        ensures undoes { device_view self.new channel.new ≡ over_device model (device_view self.old channel.old) (model.pairs back) };
 
     /// Returns the old number of a place, or `None` if the record, of a device on channel c, does not have that place.
     fn was(back: &Self::Record, c: u8, place: &Place) -> Option<u64>

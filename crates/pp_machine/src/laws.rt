@@ -16,7 +16,7 @@ use crate::reader::ReaderRecord;
 
 /// After the undo record of a device is written back into a machine, each place in the record has the number that
 /// the record holds for it, and every other place keeps its number.
-pub fn device_records_tell()
+pub fn device_records_restore()
     ensures reader { (m : Machine) (c : ℕ) (back : ReaderRecord) (place : Place) →
         IsShaped m.setup.central_words m → c < 12 →
         number (over m (renamed (reader_place c) (reader_pairs back))) place

@@ -5,17 +5,17 @@ use Rattle.std.proofs.Common.{arith, ⊎_elim}
 use Rattle.std.proofs.lemmas.Bool.{and_parts}
 use Rattle.std.proofs.lemmas.Bool.Decides.{eqb_tells, nat_tests, Decides-by_and, Decides-ltb}
 use Rattle.pp_machine.specs.ChannelNumbers.{state_number}
-use Rattle.pp_machine.specs.Machine.{Machine, over, olds}
+use Rattle.pp_machine.specs.Machine.{Machine, over, old_values}
 use Rattle.pp_machine.specs.Shape.{Has}
 use Rattle.pp_machine.specs.declared.channel.ChannelState.{ChannelState}
-use Rattle.pp_rig.specs.Action.{next, overwritten, most_places, set_list}
+use Rattle.pp_rig.specs.Action.{next, old_values_of, most_places, set_list}
 use Rattle.pp_rig.specs.Admitting.{first_fault, state_fault, is_in_range, is_watchable}
-use Rattle.pp_rig.specs.CellLaws.{AreSettings-cell_list}
+use Rattle.pp_rig.specs.CellLaws.{AreSettings-cell_writes}
 use Rattle.pp_rig.specs.Ranges.{processor_count, cell_count, channel_count, twelve_bits, eighteen_bits, past_sixty_bits}
 use Rattle.pp_rig.specs.Settings.{AreSettings}
 use Rattle.pp_rig.specs.Watches.{is_watched, watched_place, watches_of}
 use Rattle.pp_rig.specs.WatchCodes.{first_zero}
-use Rattle.pp_rig.specs.WriteLists.{cell_list}
+use Rattle.pp_rig.specs.WriteLists.{cell_writes}
 use Rattle.pp_rig.proofs.WatchCodes.{length-watched_in}
 use Rattle.pp_rig.specs.declared.watched.Watched.{Watched}
 use Rattle.pp_rig.specs.declared.watched.Watched.TheVariants.{Cell, RegA as WatchedA, RegP as WatchedP, RegQ as WatchedQ, Central, Register}
@@ -45,7 +45,7 @@ no_state_fault m action h = rw in_range at h
 -- it writes the numbers that it sets and nothing else, and each fits its place
 pub record IsSet (m : Machine) (done : Action) : Type 0 where
   pub next : next m done ≡ over m (set_list done)
-  pub old_values : overwritten m done ≡ olds m (set_list done)
+  pub old_values : old_values_of m done ≡ old_values m (set_list done)
   pub most : most_places done ≡ 8
   pub settings : AreSettings m.setup.central_words (set_list done)
 
@@ -54,13 +54,13 @@ of_processor n v most h =
     let t = and_parts (nat_lt n processor_count) (nat_le v most) h in
     (less n processor_count t.0, at_most v most t.1)
 
-settings-cells : (size n a : ℕ) (values : List ℕ) → (nat_lt n processor_count && (nat_lt a cell_count && (nat_lt 0 (length values) && list_all (λ value. nat_le value twelve_bits) values))) ≡ true → AreSettings size (cell_list n a values)
+settings-cells : (size n a : ℕ) (values : List ℕ) → (nat_lt n processor_count && (nat_lt a cell_count && (nat_lt 0 (length values) && list_all (λ value. nat_le value twelve_bits) values))) ≡ true → AreSettings size (cell_writes n a values)
 settings-cells size n a values h =
     let small = list_all (λ value. nat_le value twelve_bits) values in
     let some = nat_lt 0 (length values) in
     let t = and_parts (nat_lt n processor_count) (nat_lt a cell_count && (some && small)) h in
     let u = and_parts (nat_lt a cell_count) (some && small) t.1 in
-    AreSettings-cell_list size n a values (less n processor_count t.0) (all_at_most twelve_bits values (and_parts some small u.1).1)
+    AreSettings-cell_writes size n a values (less n processor_count t.0) (all_at_most twelve_bits values (and_parts some small u.1).1)
 
 settings-channel : (m : Machine) (c : ℕ) (state : ChannelState) (word : Option ℕ) → is_in_range m (SetChannel c state word) ≡ true → AreSettings m.setup.central_words (set_list (SetChannel c state word))
 settings-channel m c state None h =

@@ -3,23 +3,23 @@ use Rattle.std.specs.Prelude.{ℕ, ◌≡◌, ◌+◌, ◌/◌, ◌<◌, ◌≤�
 use Rattle.std.specs.List.{list_all}
 use Rattle.std.proofs.Common.{arith, zero, suc, lit<, lit≤, ap, sym, ◌∙◌}
 use Rattle.std.proofs.lemmas.Bool.{and_parts}
-use Rattle.pp_machine.specs.Kept.{kept_pairs}
-use Rattle.pp_machine.specs.Machine.{Machine, number, olds}
+use Rattle.pp_machine.specs.WriteList.{write_list}
+use Rattle.pp_machine.specs.Machine.{Machine, number, old_values}
 use Rattle.pp_machine.specs.Phase.{is_phase}
 use Rattle.pp_machine.specs.Shape.{Has}
-use Rattle.pp_machine.specs.WriteLaws.{places-append, places-olds}
+use Rattle.pp_machine.specs.WriteLaws.{places-append, places-old_values}
 use Rattle.pp_machine.specs.Writes.{Writes, places}
-use Rattle.pp_machine.specs.declared.place.Kept.{Kept}
+use Rattle.pp_machine.specs.declared.place.Write.{Write}
 use Rattle.pp_machine.specs.declared.place.Place.{Place}
 use Rattle.pp_machine.specs.declared.place.Place.TheVariants.{Cell, RegA, RegP, RegQ, Phase, ChannelMode, ChannelWord, Central, Slot}
-use Rattle.pp_rig.specs.CellLaws.{AreSettings-cell_list}
-use Rattle.pp_rig.specs.Deadstart.{loading, waiting, all_waiting, all_states, states, deadstart_pairs, deadstart_places}
+use Rattle.pp_rig.specs.CellLaws.{AreSettings-cell_writes}
+use Rattle.pp_rig.specs.Deadstart.{loading, waiting, all_waiting, all_states, states, deadstart_write_list, deadstart_places}
 use Rattle.pp_rig.specs.Ranges.{IsInRange, twelve_bits, eighteen_bits}
 use Rattle.pp_rig.specs.Settings.{IsSetting, IsSettable, AreSettings, AreSettings-append}
-use Rattle.pp_rig.specs.RecordLists.{numbers, numbered}
-use Rattle.pp_rig.specs.WriteLists.{cell_list, register_list, state_list}
+use Rattle.pp_rig.specs.RecordLists.{numbers, with_new_numbers}
+use Rattle.pp_rig.specs.WriteLists.{cell_writes, register_writes, state_writes}
 use Rattle.pp_rig.proofs.Admitting.{all_at_most}
-use Rattle.pp_rig.proofs.WriteLists.{places-cell_list, length-places, numbered-numbers}
+use Rattle.pp_rig.proofs.WriteLists.{places-cell_writes, length-places, with_new_numbers-numbers}
 
 one : (size : ℕ) (p : Place) (v : ℕ) → Has size p → IsSettable p → IsInRange p v → IsSetting size p v
 one size p v has settable in_range = record { has = has; settable = settable; in_range = in_range }
@@ -29,7 +29,7 @@ input_phase n h =
     let kind : (0o7100 + n) / 0o100 ≡ 0o71 = omega arith in
     rw kind (elim (0o7100 + n == 0) as (λ b. IsTrue (b || true)) [ true ↦ refl | false ↦ refl ])
 
-AreSettings-registers : (size n a p q phase : ℕ) → n < 10 → a ≤ eighteen_bits → p ≤ twelve_bits → q ≤ twelve_bits → phase < 2 ^ 16 → IsTrue (is_phase phase) → AreSettings size (register_list n a p q phase)
+AreSettings-registers : (size n a p q phase : ℕ) → n < 10 → a ≤ eighteen_bits → p ≤ twelve_bits → q ≤ twelve_bits → phase < 2 ^ 16 → IsTrue (is_phase phase) → AreSettings size (register_writes n a p q phase)
 AreSettings-registers size n a p q phase h ha hp hq hl hf =
     (one size (RegA n) a h tt ha, (one size (RegP n) p h tt hp, (one size (RegQ n) q h tt hq, (one size (Phase n) phase h tt (hl, hf), tt))))
 
@@ -42,7 +42,7 @@ unfolding all_waiting
 AreSettings-all_waiting size n zero h = tt
 AreSettings-all_waiting size n (suc k) h = AreSettings-append size (waiting n) (all_waiting (n + 1) k) (AreSettings-waiting size n (omega arith)) (AreSettings-all_waiting size (n + 1) k (omega arith))
 
-AreSettings-states : (size c : ℕ) (ss : List ℕ) → c + length ss ≤ 12 → All (λ s. s ≤ 3) ss → AreSettings size (state_list c ss)
+AreSettings-states : (size c : ℕ) (ss : List ℕ) → c + length ss ≤ 12 → All (λ s. s ≤ 3) ss → AreSettings size (state_writes c ss)
 AreSettings-states size c [] h low = tt
 AreSettings-states size c (s ∷ ss) h low =
     (one size (ChannelMode c) s (omega arith) tt (omega (arith, low 0 s (omega arith))), AreSettings-states size (c + 1) ss (omega arith) (λ k d l. low (suc k) d (omega arith)))
@@ -53,15 +53,15 @@ AreSettings-all_states size = AreSettings-states size 0 states (lit≤ tt) (all_
 
 AreSettings-loading : (size : ℕ) (panel : List ℕ) → All (λ word. word ≤ twelve_bits) panel → AreSettings size (loading panel)
 AreSettings-loading size panel small =
-    let zero_at = λ (a : ℕ). AreSettings-cell_list size 0 a (0 ∷ []) (lit< tt) (all_at_most twelve_bits (0 ∷ []) refl) in
-    let words = AreSettings-cell_list size 0 1 panel (lit< tt) small in
+    let zero_at = λ (a : ℕ). AreSettings-cell_writes size 0 a (0 ∷ []) (lit< tt) (all_at_most twelve_bits (0 ∷ []) refl) in
+    let words = AreSettings-cell_writes size 0 1 panel (lit< tt) small in
     let registers = AreSettings-registers size 0 0 1 0 0 (lit< tt) (lit≤ tt) (lit≤ tt) (lit≤ tt) (lit< tt) refl in
-    let front = cell_list 0 0 (0 ∷ []) ++ cell_list 0 1 panel in
-    let back = cell_list 0 0o15 (0 ∷ []) in
-    AreSettings-append size (front ++ back) (register_list 0 0 1 0 0) (AreSettings-append size front back (AreSettings-append size (cell_list 0 0 (0 ∷ [])) (cell_list 0 1 panel) (zero_at 0) words) (zero_at 0o15)) registers
+    let front = cell_writes 0 0 (0 ∷ []) ++ cell_writes 0 1 panel in
+    let back = cell_writes 0 0o15 (0 ∷ []) in
+    AreSettings-append size (front ++ back) (register_writes 0 0 1 0 0) (AreSettings-append size front back (AreSettings-append size (cell_writes 0 0 (0 ∷ [])) (cell_writes 0 1 panel) (zero_at 0) words) (zero_at 0o15)) registers
 
-pub AreSettings-deadstart : (size : ℕ) (panel : List ℕ) → All (λ word. word ≤ twelve_bits) panel → AreSettings size (deadstart_pairs panel)
-unfolding deadstart_pairs
+pub AreSettings-deadstart : (size : ℕ) (panel : List ℕ) → All (λ word. word ≤ twelve_bits) panel → AreSettings size (deadstart_write_list panel)
+unfolding deadstart_write_list
 AreSettings-deadstart size panel small =
     let processors = AreSettings-append size (loading panel) (all_waiting 1 9) (AreSettings-loading size panel small) (AreSettings-all_waiting size 1 9 (lit≤ tt)) in
     let channels = AreSettings-append size (loading panel ++ all_waiting 1 9) all_states processors (AreSettings-all_states size) in
@@ -72,32 +72,32 @@ AreSettings-deadstart size panel small =
 places-before : (a b c : Writes Place) → places a ≡ places b → places (a ++ c) ≡ places (b ++ c)
 places-before a b c e = places-append a c ∙ (ap (λ ps. ps ++ places c) e ∙ sym (places-append b c))
 
-places-deadstart : (p q : List ℕ) → length p ≡ length q → places (deadstart_pairs p) ≡ places (deadstart_pairs q)
-unfolding deadstart_pairs
+places-deadstart : (p q : List ℕ) → length p ≡ length q → places (deadstart_write_list p) ≡ places (deadstart_write_list q)
+unfolding deadstart_write_list
 places-deadstart p q e =
-    let front = cell_list 0 0 (0 ∷ []) in
-    let back = cell_list 0 0o15 (0 ∷ []) in
-    let registers = register_list 0 0 1 0 0 in
-    let panels = places-before (front ++ cell_list 0 1 p) (front ++ cell_list 0 1 q) back (ap (λ ps. places front ++ ps) (places-cell_list 0 1 p q e)) in
-    let loaded = places-before (front ++ cell_list 0 1 p ++ back) (front ++ cell_list 0 1 q ++ back) registers panels in
+    let front = cell_writes 0 0 (0 ∷ []) in
+    let back = cell_writes 0 0o15 (0 ∷ []) in
+    let registers = register_writes 0 0 1 0 0 in
+    let panels = places-before (front ++ cell_writes 0 1 p) (front ++ cell_writes 0 1 q) back (ap (λ ps. places front ++ ps) (places-cell_writes 0 1 p q e)) in
+    let loaded = places-before (front ++ cell_writes 0 1 p ++ back) (front ++ cell_writes 0 1 q ++ back) registers panels in
     let processors = places-before (loading p) (loading q) (all_waiting 1 9) loaded in
     let channels = places-before (loading p ++ all_waiting 1 9) (loading q ++ all_waiting 1 9) all_states processors in
     places-before (loading p ++ all_waiting 1 9 ++ all_states) (loading q ++ all_waiting 1 9 ++ all_states) ((Slot, 0) ∷ []) channels
 
-length-blank : length (deadstart_pairs (replicate 12 0)) ≡ 76
-unfolding deadstart_pairs all_waiting all_states
+length-blank : length (deadstart_write_list (replicate 12 0)) ≡ 76
+unfolding deadstart_write_list all_waiting all_states
 length-blank = refl
 
-pub length-deadstart : (panel : List ℕ) → length panel ≡ 12 → length (deadstart_pairs panel) ≡ 76
+pub length-deadstart : (panel : List ℕ) → length panel ≡ 12 → length (deadstart_write_list panel) ≡ 76
 length-deadstart panel e =
-    sym (length-places (deadstart_pairs panel)) ∙ (ap length (places-deadstart panel (replicate 12 0) e) ∙ (length-places (deadstart_pairs (replicate 12 0)) ∙ length-blank))
+    sym (length-places (deadstart_write_list panel)) ∙ (ap length (places-deadstart panel (replicate 12 0) e) ∙ (length-places (deadstart_write_list (replicate 12 0)) ∙ length-blank))
 
-places-stood : (m : Machine) (panel : List ℕ) → length panel ≡ 12 → places (olds m (deadstart_pairs panel)) ≡ places deadstart_places
-places-stood m panel e = places-olds number m (deadstart_pairs panel) ∙ places-deadstart panel (replicate 12 0) e
+places-stood : (m : Machine) (panel : List ℕ) → length panel ≡ 12 → places (old_values m (deadstart_write_list panel)) ≡ places deadstart_places
+places-stood m panel e = places-old_values number m (deadstart_write_list panel) ∙ places-deadstart panel (replicate 12 0) e
 
 -- the old numbers of a dead start, at its places, are its old values
-pub numbered-stood : (m : Machine) (panel : List ℕ) → length panel ≡ 12 → numbered deadstart_places (numbers (olds m (deadstart_pairs panel))) ≡ olds m (deadstart_pairs panel)
-numbered-stood m panel e = numbered-numbers deadstart_places (olds m (deadstart_pairs panel)) (sym (places-stood m panel e))
+pub with_new_numbers-stood : (m : Machine) (panel : List ℕ) → length panel ≡ 12 → with_new_numbers deadstart_places (numbers (old_values m (deadstart_write_list panel))) ≡ old_values m (deadstart_write_list panel)
+with_new_numbers-stood m panel e = with_new_numbers-numbers deadstart_places (old_values m (deadstart_write_list panel)) (sym (places-stood m panel e))
 
 -- ---- its numbers are short: it writes no central word
 
@@ -118,13 +118,13 @@ short-number Slot v s can h = omega (arith, h)
 short-number p v s can h = absurd can
 
 short-places : list_all is_short (places deadstart_places) ≡ true
-unfolding deadstart_pairs all_waiting all_states
+unfolding deadstart_write_list all_waiting all_states
 short-places = refl
 
-short-at : (size : ℕ) (ks : List Kept) → list_all is_short (places (kept_pairs ks)) ≡ true → AreSettings size (kept_pairs ks) → All (λ k. k.number < 2 ^ 32) ks
+short-at : (size : ℕ) (ks : List Write) → list_all is_short (places (write_list ks)) ≡ true → AreSettings size (write_list ks) → All (λ k. k.number < 2 ^ 32) ks
 short-at size [] a s i d l = absurd (omega arith)
-short-at size (k ∷ ks) a s zero d l = short-number k.place k.number (and_parts (is_short k.place) (list_all is_short (places (kept_pairs ks))) a).0 s.0.settable s.0.in_range
-short-at size (k ∷ ks) a s (suc i) d l = short-at size ks (and_parts (is_short k.place) (list_all is_short (places (kept_pairs ks))) a).1 s.1 i d (omega arith)
+short-at size (k ∷ ks) a s zero d l = short-number k.place k.number (and_parts (is_short k.place) (list_all is_short (places (write_list ks))) a).0 s.0.settable s.0.in_range
+short-at size (k ∷ ks) a s (suc i) d l = short-at size ks (and_parts (is_short k.place) (list_all is_short (places (write_list ks))) a).1 s.1 i d (omega arith)
 
-pub short-stood : (size : ℕ) (m : Machine) (panel : List ℕ) (ks : List Kept) → length panel ≡ 12 → kept_pairs ks ≡ olds m (deadstart_pairs panel) → AreSettings size (kept_pairs ks) → All (λ k. k.number < 2 ^ 32) ks
+pub short-stood : (size : ℕ) (m : Machine) (panel : List ℕ) (ks : List Write) → length panel ≡ 12 → write_list ks ≡ old_values m (deadstart_write_list panel) → AreSettings size (write_list ks) → All (λ k. k.number < 2 ^ 32) ks
 short-stood size m panel ks count e s = short-at size ks (rw (e, places-stood m panel count) short-places) s

@@ -3,9 +3,9 @@ use Rattle.std.specs.Prelude.{ℕ, ◌≡◌, ◌≢◌, ◌⊎◌, List, [], �
 use Rattle.std.proofs.Common.{ap, zero, suc, inl, inr, ◌∙◌}
 use Rattle.std.proofs.lemmas.Bool.{cases_eq}
 use Rattle.std.proofs.lemmas.List.{set-set, set_comm, set-get_or}
-use Rattle.pp_machine.specs.Machine.{Machine, ProcessorNumbers, no_processor, number, put, over, olds}
+use Rattle.pp_machine.specs.Machine.{Machine, ProcessorNumbers, no_processor, number, put, over, old_values}
 use Rattle.pp_machine.specs.Writes.{Writes}
-use Rattle.pp_machine.specs.WriteLaws.{Commute, taken-back}
+use Rattle.pp_machine.specs.WriteLaws.{Commute, undone-by-old-values}
 use Rattle.pp_machine.specs.declared.place.Place.{Place}
 use Rattle.pp_machine.specs.declared.place.Place.TheVariants.{Cell, RegA, RegP, RegQ, Phase, ChannelMode, ChannelWord, Clock, Central, FrameWord, Card, CardColumn, ReaderMode, PaperLength, PaperColumn, PrinterMode, PaperSymbol, Slot, WatchEntry}
 
@@ -93,23 +93,23 @@ apart-Phase n k =
     ]
 
 abbrev with_channelmode : Machine → List ℕ → Machine
-with_channelmode s xs = record s { channels = record s.channels { modes = xs } }
+with_channelmode s xs = record s { channels = record s.channels { states = xs } }
 
 apart-ChannelMode : (i j : ℕ) → (ChannelMode i ≡ ChannelMode j) ⊎ Commute put (ChannelMode i) (ChannelMode j)
 apart-ChannelMode i j =
     elim (cases_eq i j) [
       | inl e ↦ inl (ap ChannelMode e)
-      | inr ne ↦ inr (λ s v w. ap (with_channelmode s) (set_comm s.channels.modes i j v w ne))
+      | inr ne ↦ inr (λ s v w. ap (with_channelmode s) (set_comm s.channels.states i j v w ne))
     ]
 
 abbrev with_channelword : Machine → List ℕ → Machine
-with_channelword s xs = record s { channels = record s.channels { words = xs } }
+with_channelword s xs = record s { channels = record s.channels { registers = xs } }
 
 apart-ChannelWord : (i j : ℕ) → (ChannelWord i ≡ ChannelWord j) ⊎ Commute put (ChannelWord i) (ChannelWord j)
 apart-ChannelWord i j =
     elim (cases_eq i j) [
       | inl e ↦ inl (ap ChannelWord e)
-      | inr ne ↦ inr (λ s v w. ap (with_channelword s) (set_comm s.channels.words i j v w ne))
+      | inr ne ↦ inr (λ s v w. ap (with_channelword s) (set_comm s.channels.registers i j v w ne))
     ]
 
 abbrev with_central : Machine → List ℕ → Machine
@@ -200,8 +200,8 @@ again s (RegA n) v w = ap (with_processors s) (changed-again (with_a v) (with_a 
 again s (RegP n) v w = ap (with_processors s) (changed-again (with_p v) (with_p w) (λ x. refl) s.processors n)
 again s (RegQ n) v w = ap (with_processors s) (changed-again (with_q v) (with_q w) (λ x. refl) s.processors n)
 again s (Phase n) v w = ap (with_processors s) (changed-again (with_phase v) (with_phase w) (λ x. refl) s.processors n)
-again s (ChannelMode i) v w = ap (with_channelmode s) (set-set s.channels.modes i v w)
-again s (ChannelWord i) v w = ap (with_channelword s) (set-set s.channels.words i v w)
+again s (ChannelMode i) v w = ap (with_channelmode s) (set-set s.channels.states i v w)
+again s (ChannelWord i) v w = ap (with_channelword s) (set-set s.channels.registers i v w)
 again s (Central i) v w = ap (with_central s) (set-set s.central i v w)
 again s (FrameWord i) v w = ap (with_frameword s) (set-set s.frame i v w)
 again s (PaperSymbol i) v w = ap (with_papersymbol s) (set-set s.printer.symbols i v w)
@@ -216,8 +216,8 @@ own s (RegA n) = ap (with_processors s) (set-get_or s.processors n no_processor)
 own s (RegP n) = ap (with_processors s) (set-get_or s.processors n no_processor)
 own s (RegQ n) = ap (with_processors s) (set-get_or s.processors n no_processor)
 own s (Phase n) = ap (with_processors s) (set-get_or s.processors n no_processor)
-own s (ChannelMode i) = ap (with_channelmode s) (set-get_or s.channels.modes i 0)
-own s (ChannelWord i) = ap (with_channelword s) (set-get_or s.channels.words i 0)
+own s (ChannelMode i) = ap (with_channelmode s) (set-get_or s.channels.states i 0)
+own s (ChannelWord i) = ap (with_channelword s) (set-get_or s.channels.registers i 0)
 own s (Central i) = ap (with_central s) (set-get_or s.central i 0)
 own s (FrameWord i) = ap (with_frameword s) (set-get_or s.frame i 0)
 own s (PaperSymbol i) = ap (with_papersymbol s) (set-get_or s.printer.symbols i 0)
@@ -225,5 +225,5 @@ own s (WatchEntry i) = ap (with_watchentry s) (set-get_or s.watches i 0)
 own s x = refl
 
 -- the old values undo a list of writes
-pub taken_back : (m : Machine) (w : Writes Place) → over (over m w) (olds m w) ≡ m
-taken_back = taken-back Machine Place number put (record { apart = apart; again = again; own = own })
+pub taken_back : (m : Machine) (w : Writes Place) → over (over m w) (old_values m w) ≡ m
+taken_back = undone-by-old-values Machine Place number put (record { apart = apart; again = again; own = own })

@@ -7,12 +7,12 @@ use Rattle.pp_machine.proofs.PrinterLaws.{printer_few}
 use Rattle.pp_machine.proofs.ReaderLaws.{reader_few}
 use Rattle.pp_machine.specs.Printer.{printer_pairs, printer_place}
 use Rattle.pp_machine.specs.Reader.{reader_pairs, reader_place}
-use Rattle.pp_machine.specs.WriteLaws.{over-append, places-append, places-olds}
+use Rattle.pp_machine.specs.WriteLaws.{over-append, places-append, places-old_values}
 use Rattle.pp_machine.specs.Writes.{places}
 use Rattle.pp_step.specs.Step.{pp_pairs}
 use Rattle.pp_step.specs.View.{pp_place}
-use Rattle.pp_rig.specs.Action.{writes, next, overwritten}
-use Rattle.pp_rig.specs.Turn.{turn, turn_list, turn_olds, turn_pairs, rest_pairs, reader_record, printer_record}
+use Rattle.pp_rig.specs.Action.{writes, next, old_values_of}
+use Rattle.pp_rig.specs.Turn.{turn, turn_writes, turn_old_values, turn_pairs, rest_pairs, reader_record, printer_record}
 use Rattle.pp_machine.specs.declared.place.Place.{Place}
 use Rattle.pp_machine.specs.declared.place.Place.TheVariants.{Clock}
 use Rattle.pp_rig.specs.declared.action.Action.{Action}
@@ -21,23 +21,23 @@ use Rattle.pp_rig.specs.declared.rig.TurnRecord.{TurnRecord}
 use Rattle.pp_rig.proofs.MachineStore.{taken_back}
 use Rattle.pp_rig.proofs.WriteLists.{length-renamed}
 
-turn-taken_back : (m : Machine) → over (turn m) (turn_olds m) ≡ m
-unfolding turn turn_olds
+turn-taken_back : (m : Machine) → over (turn m) (turn_old_values m) ≡ m
+unfolding turn turn_old_values
 turn-taken_back m = simp (over-append, taken_back)
 
 -- the old values lead back to the machine before the action
-pub action-taken_back : (m : Machine) (action : Action) → over (next m action) (overwritten m action) ≡ m
+pub action-taken_back : (m : Machine) (action : Action) → over (next m action) (old_values_of m action) ≡ m
 action-taken_back m Turn = turn-taken_back m
 action-taken_back m action = taken_back m (writes m action)
 
-places-turn : (m : Machine) → places (turn_olds m) ≡ places (turn_list m)
-unfolding turn_olds turn_list
-places-turn m = simp (places-append, places-olds)
+places-turn : (m : Machine) → places (turn_old_values m) ≡ places (turn_writes m)
+unfolding turn_old_values turn_writes
+places-turn m = simp (places-append, places-old_values)
 
 -- the old values are at the places of the write list
-pub places-overwritten : (m : Machine) (action : Action) → places (overwritten m action) ≡ places (writes m action)
-places-overwritten m Turn = places-turn m
-places-overwritten m action = places-olds number m (writes m action)
+pub places-old_values_of : (m : Machine) (action : Action) → places (old_values_of m action) ≡ places (writes m action)
+places-old_values_of m Turn = places-turn m
+places-old_values_of m action = places-old_values number m (writes m action)
 
 -- ---- how many places a turn's record has
 

@@ -4,7 +4,7 @@ use Rattle.std.proofs.lemmas.Bool.Decides.{nat_tests}
 use Rattle.std.proofs.Common.{drop, get_or, length, min, ◌≡◌, ◌==◌, true, false, ◌∷◌, ℕ, suc, ◌+◌, ◌-◌, ◌<◌, ◌≤◌, refl, ap, subst, sym, ◌∙◌, arith, List}
 use Rattle.std.specs.Prelude.{Option, Some, None, [], MatchOption}
 use Rattle.pp_machine.specs.Lookup.{lookup}
-use Rattle.pp_rig.specs.Action.{FitsRecord, before, record_tells}
+use Rattle.pp_rig.specs.Action.{FitsRecord, before, record_restores}
 use Rattle.pp_rig.specs.Short.{whole, whole_turn}
 use Rattle.pp_rig.specs.Storage.{are_storage, is_storage}
 use Rattle.pp_rig.specs.Turn.{turn_pairs}
@@ -110,7 +110,7 @@ one_kept capacity kept room = omega (arith, room)
 -- a short undo record has the number before the turn
 pub short-told : (m : Machine) (turn : ShortTurn) (place : Place) → FitsRecord (whole turn) m → (named : Option ℕ) → named ≡ lookup (turn_pairs (whole_turn turn)) place → MatchOption named (number (before (whole turn) m) place ≡ number m place) (λ was. number (before (whole turn) m) place ≡ was)
 short-told m turn place fits named e =
-    subst (λ o. MatchOption o (number (before (whole turn) m) place ≡ number m place) (λ was. number (before (whole turn) m) place ≡ was)) (sym e) (record_tells (whole turn) m place fits)
+    subst (λ o. MatchOption o (number (before (whole turn) m) place ≡ number m place) (λ was. number (before (whole turn) m) place ≡ was)) (sym e) (record_restores (whole turn) m place fits)
 
 -- a turn whose record has no storage changed none
 pub storage-same : (m : Machine) (turn : ShortTurn) (watches : List Watched) → FitsRecord (whole turn) m → are_storage watches ≡ true → ((place : Place) → is_storage place ≡ true → lookup (turn_pairs (whole_turn turn)) place ≡ None) → first_change (before (whole turn) m) m watches ≡ None

@@ -1,7 +1,7 @@
 -- What a turn leaves unchanged.
 use Rattle.std.specs.Prelude.{ℕ, ◌+◌, ◌%◌, ◌≡◌, [], ◌∷◌, Bool, true, false, if◌then◌else◌, ◌==◌, refl}
 use Rattle.std.proofs.Common.{◌∙◌}
-use Rattle.pp_machine.specs.Attached.{Attached, device_list, the_printer, the_reader, view_of}
+use Rattle.pp_machine.specs.Attached.{Attached, device_step_writes, the_printer, the_reader, view_of}
 use Rattle.pp_machine.specs.Device.{device_place}
 use Rattle.pp_machine.specs.Machine.{Machine, put, over}
 use Rattle.pp_machine.specs.Writes.{Writes, renamed}
@@ -14,7 +14,7 @@ use Rattle.pp_machine.proofs.DeviceLaws.{IsAttached, watches-kept}
 use Rattle.pp_machine.proofs.PrinterLaws.{printer-attached}
 use Rattle.pp_machine.proofs.ReaderLaws.{reader-attached}
 use Rattle.pp_rig.specs.Lift.{pp_of}
-use Rattle.pp_rig.specs.Turn.{turn, pp_list, reader_list, printer_list}
+use Rattle.pp_rig.specs.Turn.{turn, pp_step_writes, reader_step_writes, printer_step_writes}
 
 -- a list of writes without a watch entry
 watches-over : {P : Type 0} (name : P → Place) → ((m : Machine) (p : P) (v : ℕ) → (put m (name p) v).watches ≡ m.watches) → (m : Machine) (w : Writes P) → (over m (renamed name w)).watches ≡ m.watches
@@ -26,7 +26,7 @@ keeps-pp n m stepped.A v = refl
 keeps-pp n m p v = refl
 
 -- nor does the list of a device
-keeps-device : {Numbers Own Record : Type 0} (a : Attached Numbers Own Record) → IsAttached a → (m : Machine) → (over m (device_list a m)).watches ≡ m.watches
+keeps-device : {Numbers Own Record : Type 0} (a : Attached Numbers Own Record) → IsAttached a → (m : Machine) → (over m (device_step_writes a m)).watches ≡ m.watches
 keeps-device a laws m = watches-over (device_place a.model (a.channel m.setup)) (watches-kept a laws (a.channel m.setup)) m (a.model.writes (view_of a (a.channel m.setup) m))
 
 keeps-clock : (m m4 : Machine) (last : Bool) (v : ℕ) → (over m4 (if last then (Clock, v) ∷ [] else [])).watches ≡ m4.watches
@@ -37,9 +37,9 @@ keeps-clock m m4 false v = refl
 pub turn-watches : (m : Machine) → (turn m).watches ≡ m.watches
 unfolding turn
 turn-watches m =
-    let m1 = over m (pp_list m) in
-    let m2 = over m1 (reader_list m1) in
-    let m3 = over m2 (printer_list m2) in
+    let m1 = over m (pp_step_writes m) in
+    let m2 = over m1 (reader_step_writes m1) in
+    let m3 = over m2 (printer_step_writes m2) in
     keeps-clock m m3 (m3.slot == 9) ((m3.channels.clock + 1) % 4096)
     ∙ (keeps-device the_printer printer-attached m2
     ∙ (keeps-device the_reader reader-attached m1

@@ -7,59 +7,59 @@ use Rattle.std.proofs.Math.Seq.{get_or-append_seam, drop-append-add}
 use Rattle.std.proofs.lemmas.List.{map-append, length-map, length-append, length-drop, length-set, length-take-le, drop_more, take-append-drop, set_at, length_push}
 use Rattle.std.proofs.lemmas.List.Elements.{All-take, All-drop, All-append}
 use Rattle.std.proofs.lemmas.List.Quantifiers.{all_pairs_remove}
-use Rattle.pp_machine.specs.Machine.{Machine, put, over, olds}
+use Rattle.pp_machine.specs.Machine.{Machine, put, over, old_values}
 use Rattle.pp_machine.specs.Shape.{Has, HasAll, IsShaped}
 use Rattle.pp_machine.specs.declared.place.Place.TheVariants.{WatchEntry}
-use Rattle.pp_rig.specs.Action.{moved_up, unwatch_list}
+use Rattle.pp_rig.specs.Action.{moved_up, unwatch_writes}
 use Rattle.pp_rig.specs.Watches.{AreWatches, watched_at, watched_in, watched_place}
 use Rattle.pp_rig.specs.WatchCodes.{watch_code, watch_entries, first_zero}
 use Rattle.pp_rig.specs.RecordLists.{with_entries, entries_at}
-use Rattle.pp_rig.specs.WriteLists.{entry_list}
+use Rattle.pp_rig.specs.WriteLists.{entry_writes}
 use Rattle.pp_rig.specs.declared.watched.Watched.{Watched}
 use Rattle.pp_rig.specs.declared.watched.Watched.TheVariants.{RegA}
 use Rattle.pp_rig.proofs.WatchCodes.{code-no_zero, AreWatches-entries, length-watched_in}
 
-pub over-entries : (m : Machine) (i : ℕ) (codes : List ℕ) → over m (entry_list i codes) ≡ record m { watches = with_entries m.watches i codes }
+pub over-entries : (m : Machine) (i : ℕ) (codes : List ℕ) → over m (entry_writes i codes) ≡ record m { watches = with_entries m.watches i codes }
 over-entries m i [] = refl
 over-entries m i (code ∷ codes) = ap (λ (n : Machine). put n (WatchEntry i) code) (over-entries m (i + 1) codes)
 
-pub olds-entries : (m : Machine) (i : ℕ) (codes : List ℕ) → olds m (entry_list i codes) ≡ entry_list i (entries_at m.watches i codes)
-olds-entries m i [] = refl
-olds-entries m i (code ∷ codes) = ap (λ w. (WatchEntry i, get_or m.watches i 0) ∷ w) (olds-entries m (i + 1) codes)
+pub old_values-entries : (m : Machine) (i : ℕ) (codes : List ℕ) → old_values m (entry_writes i codes) ≡ entry_writes i (entries_at m.watches i codes)
+old_values-entries m i [] = refl
+old_values-entries m i (code ∷ codes) = ap (λ w. (WatchEntry i, get_or m.watches i 0) ∷ w) (old_values-entries m (i + 1) codes)
 
-pub length-entry_list : (i : ℕ) (codes : List ℕ) → length (entry_list i codes) ≡ length codes
-length-entry_list i [] = refl
-length-entry_list i (code ∷ codes) = ap suc (length-entry_list (i + 1) codes)
+pub length-entry_writes : (i : ℕ) (codes : List ℕ) → length (entry_writes i codes) ≡ length codes
+length-entry_writes i [] = refl
+length-entry_writes i (code ∷ codes) = ap suc (length-entry_writes (i + 1) codes)
 
-pub HasAll-entries : (size i : ℕ) (codes : List ℕ) → i + length codes ≤ 8 → HasAll size (entry_list i codes)
+pub HasAll-entries : (size i : ℕ) (codes : List ℕ) → i + length codes ≤ 8 → HasAll size (entry_writes i codes)
 HasAll-entries size i [] h = tt
 HasAll-entries size i (code ∷ codes) h = (omega arith, HasAll-entries size (i + 1) codes (omega arith))
 
 -- codes that replace those after the first i
-with_entries-split : (front olds codes back : List ℕ) (i : ℕ) → length front ≡ i → length olds ≡ length codes → with_entries (front ++ (olds ++ back)) i codes ≡ front ++ (codes ++ back)
+with_entries-split : (front old_values codes back : List ℕ) (i : ℕ) → length front ≡ i → length old_values ≡ length codes → with_entries (front ++ (old_values ++ back)) i codes ≡ front ++ (codes ++ back)
 with_entries-split front [] [] back i e l = refl
 with_entries-split front [] (code ∷ codes) back i e l = absurd (omega arith)
-with_entries-split front (old ∷ olds) [] back i e l = absurd (omega arith)
-with_entries-split front (old ∷ olds) (code ∷ codes) back i e l =
+with_entries-split front (old ∷ old_values) [] back i e l = absurd (omega arith)
+with_entries-split front (old ∷ old_values) (code ∷ codes) back i e l =
     let longer : length (front ++ old ∷ []) ≡ i + 1 = omega (arith, length_push front old) in
-    let same : length olds ≡ length codes = omega arith in
-    let rest = with_entries-split (front ++ old ∷ []) olds codes back (i + 1) longer same in
-    let moved : (front ++ old ∷ []) ++ (olds ++ back) ≡ front ++ (old ∷ (olds ++ back)) = append_assoc front (old ∷ []) (olds ++ back) in
+    let same : length old_values ≡ length codes = omega arith in
+    let rest = with_entries-split (front ++ old ∷ []) old_values codes back (i + 1) longer same in
+    let moved : (front ++ old ∷ []) ++ (old_values ++ back) ≡ front ++ (old ∷ (old_values ++ back)) = append_assoc front (old ∷ []) (old_values ++ back) in
     let moved_back : (front ++ old ∷ []) ++ (codes ++ back) ≡ front ++ (old ∷ (codes ++ back)) = append_assoc front (old ∷ []) (codes ++ back) in
     ap (λ es. set (with_entries es (i + 1) codes) i code) (sym moved)
     ∙ ap (λ es. set es i code) (rest ∙ moved_back)
     ∙ set_at front old (codes ++ back) code i e
 
-entries_at-split : (front olds codes back : List ℕ) (i : ℕ) → length front ≡ i → length olds ≡ length codes → entries_at (front ++ (olds ++ back)) i codes ≡ olds
+entries_at-split : (front old_values codes back : List ℕ) (i : ℕ) → length front ≡ i → length old_values ≡ length codes → entries_at (front ++ (old_values ++ back)) i codes ≡ old_values
 entries_at-split front [] [] back i e l = refl
 entries_at-split front [] (code ∷ codes) back i e l = absurd (omega arith)
-entries_at-split front (old ∷ olds) [] back i e l = absurd (omega arith)
-entries_at-split front (old ∷ olds) (code ∷ codes) back i e l =
+entries_at-split front (old ∷ old_values) [] back i e l = absurd (omega arith)
+entries_at-split front (old ∷ old_values) (code ∷ codes) back i e l =
     let longer : length (front ++ old ∷ []) ≡ i + 1 = omega (arith, length_push front old) in
-    let same : length olds ≡ length codes = omega arith in
-    let first : get_or (front ++ (old ∷ (olds ++ back))) i 0 ≡ old = rw (← e) (get_or-append_seam front old (olds ++ back) 0) in
-    let moved : (front ++ old ∷ []) ++ (olds ++ back) ≡ front ++ (old ∷ (olds ++ back)) = append_assoc front (old ∷ []) (olds ++ back) in
-    let rest : entries_at (front ++ (old ∷ (olds ++ back))) (i + 1) codes ≡ olds = subst (λ es. entries_at es (i + 1) codes ≡ olds) moved (entries_at-split (front ++ old ∷ []) olds codes back (i + 1) longer same) in
+    let same : length old_values ≡ length codes = omega arith in
+    let first : get_or (front ++ (old ∷ (old_values ++ back))) i 0 ≡ old = rw (← e) (get_or-append_seam front old (old_values ++ back) 0) in
+    let moved : (front ++ old ∷ []) ++ (old_values ++ back) ≡ front ++ (old ∷ (old_values ++ back)) = append_assoc front (old ∷ []) (old_values ++ back) in
+    let rest : entries_at (front ++ (old ∷ (old_values ++ back))) (i + 1) codes ≡ old_values = subst (λ es. entries_at es (i + 1) codes ≡ old_values) moved (entries_at-split (front ++ old ∷ []) old_values codes back (i + 1) longer same) in
     rw (first, rest)
 
 moved_up-codes : (ws : List Watched) (k : ℕ) → moved_up (map watch_code ws ++ replicate k 0) ≡ map watch_code ws ++ 0 ∷ []
@@ -151,18 +151,18 @@ told-remove ws i told = All-append (λ w. watched_at (watch_code w) ≡ w) (take
 
 -- ---- on the machine
 
-pub unwatched : (m : Machine) (w : Watched) (i : ℕ) (entries : List ℕ) → position (λ code. code == watch_code w) m.watches ≡ Some i → entries ≡ with_entries m.watches i (moved_up (drop (i + 1) m.watches)) → record m { watches = entries } ≡ over m (unwatch_list m w)
+pub unwatched : (m : Machine) (w : Watched) (i : ℕ) (entries : List ℕ) → position (λ code. code == watch_code w) m.watches ≡ Some i → entries ≡ with_entries m.watches i (moved_up (drop (i + 1) m.watches)) → record m { watches = entries } ≡ over m (unwatch_writes m w)
 unwatched m w i entries found e = rw (found, e) (sym (over-entries m i (moved_up (drop (i + 1) m.watches))))
 
-pub unwatched-stood : (m : Machine) (w : Watched) (i : ℕ) (codes : List ℕ) → position (λ code. code == watch_code w) m.watches ≡ Some i → codes ≡ entries_at m.watches i (moved_up (drop (i + 1) m.watches)) → entry_list i codes ≡ olds m (unwatch_list m w)
-unwatched-stood m w i codes found e = rw (found, e) (sym (olds-entries m i (moved_up (drop (i + 1) m.watches))))
+pub unwatched-stood : (m : Machine) (w : Watched) (i : ℕ) (codes : List ℕ) → position (λ code. code == watch_code w) m.watches ≡ Some i → codes ≡ entries_at m.watches i (moved_up (drop (i + 1) m.watches)) → entry_writes i codes ≡ old_values m (unwatch_writes m w)
+unwatched-stood m w i codes found e = rw (found, e) (sym (old_values-entries m i (moved_up (drop (i + 1) m.watches))))
 
 pub length-with_entries : (entries : List ℕ) (i : ℕ) (codes : List ℕ) → length (with_entries entries i codes) ≡ length entries
 length-with_entries entries i [] = refl
 length-with_entries entries i (code ∷ codes) = length-set (with_entries entries (i + 1) codes) i code ∙ length-with_entries entries (i + 1) codes
 
 pub IsShaped-watches : (size : ℕ) (m : Machine) (entries : List ℕ) → IsShaped size m → length entries ≡ 8 → IsShaped size (record m { watches = entries })
-IsShaped-watches size m entries s e = record { processors = s.processors; memories = s.memories; modes = s.modes; words = s.words; central = s.central; frame = s.frame; symbols = s.symbols; watches = e }
+IsShaped-watches size m entries s e = record { processors = s.processors; memories = s.memories; states = s.states; registers = s.registers; central = s.central; frame = s.frame; symbols = s.symbols; watches = e }
 
 -- behind the last place there is nothing to move up
 pub moved_up-last : (entries : List ℕ) → moved_up (drop (first_zero entries) entries) ≡ 0 ∷ []

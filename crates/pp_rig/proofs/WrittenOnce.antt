@@ -12,9 +12,9 @@ use Rattle.pp_machine.specs.declared.place.Place.{Place}
 use Rattle.pp_machine.specs.declared.place.Place.TheVariants.{Cell, RegA, RegP, RegQ, Phase, ChannelMode, ChannelWord, Central, FrameWord, PaperSymbol, WatchEntry}
 use Rattle.pp_machine.proofs.Once.{once, each-once}
 use Rattle.pp_rig.specs.Action.{most_places, writes, without_entry, moved_up}
-use Rattle.pp_rig.specs.Deadstart.{all_states, all_waiting, deadstart_list, deadstart_pairs}
+use Rattle.pp_rig.specs.Deadstart.{all_states, all_waiting, deadstart_writes, deadstart_write_list}
 use Rattle.pp_rig.specs.WatchCodes.{watch_code}
-use Rattle.pp_rig.specs.WriteLists.{cell_list, entry_list}
+use Rattle.pp_rig.specs.WriteLists.{cell_writes, entry_writes}
 use Rattle.pp_rig.specs.declared.action.Action.{Action}
 use Rattle.pp_rig.specs.declared.action.Action.TheVariants as action
 
@@ -43,29 +43,29 @@ module _ (name : ℕ → Place) (room : ℕ) (apart : (i j : ℕ) → i < j → 
       (listed-once (i + 1) vs (omega arith))
 
 -- 4096 cells from any address on; cell 0 follows the last
-cell_list-listed : (n a : ℕ) (vs : List ℕ) → cell_list n a vs ≡ listed (λ i. Cell n (i % 4096)) a vs
-cell_list-listed n a [] = refl
-cell_list-listed n a (v ∷ vs) = ap (λ w. (Cell n (a % 4096), v) ∷ w) (cell_list-listed n (a + 1) vs)
+cell_writes-listed : (n a : ℕ) (vs : List ℕ) → cell_writes n a vs ≡ listed (λ i. Cell n (i % 4096)) a vs
+cell_writes-listed n a [] = refl
+cell_writes-listed n a (v ∷ vs) = ap (λ w. (Cell n (a % 4096), v) ∷ w) (cell_writes-listed n (a + 1) vs)
 
 cells_apart : (n i j : ℕ) → i < j → j < i + 4096 → Cell n (i % 4096) ≢ Cell n (j % 4096)
 cells_apart n i j less near same =
     let equal : i % 4096 ≡ j % 4096 = cc in
     absurd (omega (arith, equal))
 
-cells-once : (n a : ℕ) (vs : List ℕ) → length vs ≤ 4096 → EachOnce (cell_list n a vs)
-cells-once n a vs few = rw cell_list-listed (listed-once (λ i. Cell n (i % 4096)) 4096 (cells_apart n) a vs few)
+cells-once : (n a : ℕ) (vs : List ℕ) → length vs ≤ 4096 → EachOnce (cell_writes n a vs)
+cells-once n a vs few = rw cell_writes-listed (listed-once (λ i. Cell n (i % 4096)) 4096 (cells_apart n) a vs few)
 
-entry_list-listed : (i : ℕ) (codes : List ℕ) → entry_list i codes ≡ listed WatchEntry i codes
-entry_list-listed i [] = refl
-entry_list-listed i (code ∷ codes) = ap (λ w. (WatchEntry i, code) ∷ w) (entry_list-listed (i + 1) codes)
+entry_writes-listed : (i : ℕ) (codes : List ℕ) → entry_writes i codes ≡ listed WatchEntry i codes
+entry_writes-listed i [] = refl
+entry_writes-listed i (code ∷ codes) = ap (λ w. (WatchEntry i, code) ∷ w) (entry_writes-listed (i + 1) codes)
 
 entries_apart : (i j : ℕ) → i < j → WatchEntry i ≢ WatchEntry j
 entries_apart i j less same =
     let equal : i ≡ j = cc in
     absurd (omega (arith, equal))
 
-entries-once : (i : ℕ) (codes : List ℕ) → EachOnce (entry_list i codes)
-entries-once i codes = rw entry_list-listed (listed-once WatchEntry (length codes) (λ k l less near. entries_apart k l less) i codes (omega arith))
+entries-once : (i : ℕ) (codes : List ℕ) → EachOnce (entry_writes i codes)
+entries-once i codes = rw entry_writes-listed (listed-once WatchEntry (length codes) (λ k l less near. entries_apart k l less) i codes (omega arith))
 
 without_entry-once : (entries : List ℕ) (found : Option ℕ) → EachOnce (without_entry entries found)
 without_entry-once entries None = λ i j d less within. absurd (omega (arith, within))
@@ -90,17 +90,17 @@ self _ = refl
 each : (w : Writes Place) → once same_place w ≡ true → EachOnce w
 each = each-once same_place self
 
-length-cell_list : (n a : ℕ) (vs : List ℕ) → length (cell_list n a vs) ≡ length vs
-length-cell_list n a [] = refl
-length-cell_list n a (v ∷ vs) = ap suc (length-cell_list n (a + 1) vs)
+length-cell_writes : (n a : ℕ) (vs : List ℕ) → length (cell_writes n a vs) ≡ length vs
+length-cell_writes n a [] = refl
+length-cell_writes n a (v ∷ vs) = ap suc (length-cell_writes n (a + 1) vs)
 
-length-deadstart_pairs : (panel : List ℕ) → length (deadstart_pairs panel) ≡ length panel + 64
-unfolding deadstart_pairs all_waiting all_states
-length-deadstart_pairs panel = simp (length-append, length-cell_list) (omega arith)
+length-deadstart_write_list : (panel : List ℕ) → length (deadstart_write_list panel) ≡ length panel + 64
+unfolding deadstart_write_list all_waiting all_states
+length-deadstart_write_list panel = simp (length-append, length-cell_writes) (omega arith)
 
 -- the panel does not reach the cell behind it
-panel-once : (panel : List ℕ) → length panel ≤ 12 → once same_place (deadstart_pairs panel) ≡ true
-unfolding deadstart_pairs all_waiting all_states
+panel-once : (panel : List ℕ) → length panel ≤ 12 → once same_place (deadstart_write_list panel) ≡ true
+unfolding deadstart_write_list all_waiting all_states
 panel-once [] few = refl
 panel-once (_ ∷ []) few = refl
 panel-once (_ ∷ _ ∷ []) few = refl
@@ -116,15 +116,15 @@ panel-once (_ ∷ _ ∷ _ ∷ _ ∷ _ ∷ _ ∷ _ ∷ _ ∷ _ ∷ _ ∷ _ ∷ []
 panel-once (_ ∷ _ ∷ _ ∷ _ ∷ _ ∷ _ ∷ _ ∷ _ ∷ _ ∷ _ ∷ _ ∷ _ ∷ []) few = refl
 panel-once (_ ∷ _ ∷ _ ∷ _ ∷ _ ∷ _ ∷ _ ∷ _ ∷ _ ∷ _ ∷ _ ∷ _ ∷ _ ∷ rest) few = absurd (omega arith)
 
-deadstart-once : (panel : Option (List ℕ)) → length (deadstart_list panel) ≤ 76 → EachOnce (deadstart_list panel)
+deadstart-once : (panel : Option (List ℕ)) → length (deadstart_writes panel) ≤ 76 → EachOnce (deadstart_writes panel)
 deadstart-once None few = λ i j d less within. absurd (omega (arith, within))
-deadstart-once (Some panel) few = each (deadstart_pairs panel) (panel-once panel (omega (arith, few, length-deadstart_pairs panel)))
+deadstart-once (Some panel) few = each (deadstart_write_list panel) (panel-once panel (omega (arith, few, length-deadstart_write_list panel)))
 
 -- ---- every action
 
 pub action-once : (s : Machine) (done : Action) → done ≢ action.Turn → length (writes s done) ≤ most_places done → EachOnce (writes s done)
 action-once s action.Turn other few = absurd (other refl)
-action-once s (action.SetCells n a values) other few = cells-once n a values (omega (arith, few, length-cell_list n a values))
+action-once s (action.SetCells n a values) other few = cells-once n a values (omega (arith, few, length-cell_writes n a values))
 action-once s (action.SetA n v) other few = each ((RegA n, v) ∷ []) refl
 action-once s (action.SetP n v) other few = each ((RegP n, v) ∷ (Phase n, 0) ∷ []) refl
 action-once s (action.SetQ n v) other few = each ((RegQ n, v) ∷ []) refl

@@ -15,12 +15,12 @@ use Rattle.pp_rig.proofs.Deadstart.{AreSettings-deadstart}
 use Rattle.pp_rig.proofs.Unwatching.{HasAll-entries}
 use Rattle.pp_rig.specs.Action.{moved_up, set_list, without_entry, writes}
 use Rattle.pp_rig.specs.Admitting.{first_fault}
-use Rattle.pp_rig.specs.Deadstart.{deadstart_list, deadstart_pairs}
+use Rattle.pp_rig.specs.Deadstart.{deadstart_writes, deadstart_write_list}
 use Rattle.pp_rig.specs.IsSetup.{IsPanel}
 use Rattle.pp_rig.specs.Lift.{pp_of, printer_of, reader_of}
 use Rattle.pp_rig.specs.MachineLaws.{setup-over}
 use Rattle.pp_rig.specs.Settings.{HasAll-settings}
-use Rattle.pp_rig.specs.Turn.{turn_list, pp_list, reader_list, printer_list}
+use Rattle.pp_rig.specs.Turn.{turn_writes, pp_step_writes, reader_step_writes, printer_step_writes}
 use Rattle.pp_rig.specs.WatchCodes.{watch_code}
 use Rattle.pp_rig.specs.WellFormed.{IsProcessor, IsWellFormed}
 use Rattle.pp_rig.specs.declared.action.Action.{Action}
@@ -28,30 +28,30 @@ use Rattle.pp_rig.specs.declared.action.Action.TheVariants as action
 
 -- ---- a turn
 
-HasAll-clock_list : (size value : ℕ) (last : Bool) → HasAll size (if last then (Clock, value) ∷ [] else [])
-HasAll-clock_list size value true = (tt, tt)
-HasAll-clock_list size value false = tt
+HasAll-clock_writes : (size value : ℕ) (last : Bool) → HasAll size (if last then (Clock, value) ∷ [] else [])
+HasAll-clock_writes size value true = (tt, tt)
+HasAll-clock_writes size value false = tt
 
-HasAll-turn_list : (s : Machine) → IsWellFormed s → HasAll s.setup.central_words (turn_list s)
-unfolding turn_list
-HasAll-turn_list s ok =
+HasAll-turn_writes : (s : Machine) → IsWellFormed s → HasAll s.setup.central_words (turn_writes s)
+unfolding turn_writes
+HasAll-turn_writes s ok =
     let size = s.setup.central_words in
-    let s1 = over s (pp_list s) in
-    let s2 = over s1 (reader_list s1) in
-    let s3 = over s2 (printer_list s2) in
+    let s1 = over s (pp_step_writes s) in
+    let s2 = over s1 (reader_step_writes s1) in
+    let s3 = over s2 (printer_step_writes s2) in
     let here : s.slot < length s.processors = omega (arith, ok.slot, ok.sizes.processors) in
     let stepped : IsProcessor (processor s s.slot) = ok.processors s.slot no_processor here in
     let low : (processor s s.slot).p < 4096 = omega (arith, stepped.p) in
-    let reads : s1.setup.reader_channel < 12 = rw (setup-over s (pp_list s)) ok.setup.reader_channel in
-    let prints : s2.setup.printer_channel < 12 = rw (setup-over s1 (reader_list s1), setup-over s (pp_list s)) ok.setup.printer_channel in
+    let reads : s1.setup.reader_channel < 12 = rw (setup-over s (pp_step_writes s)) ok.setup.reader_channel in
+    let prints : s2.setup.printer_channel < 12 = rw (setup-over s1 (reader_step_writes s1), setup-over s (pp_step_writes s)) ok.setup.printer_channel in
     AllPlaces-append (Has size) _ _
     (AllPlaces-append (Has size) _ _
     (AllPlaces-append (Has size) _ _
-    (AllPlaces-append (Has size) (pp_list s) (reader_list s1)
+    (AllPlaces-append (Has size) (pp_step_writes s) (reader_step_writes s1)
     (HasAll-step size s.slot ok.slot (pp_of s.slot s) low stepped.cells ok.sizes.central)
     (HasAll-reader_writes size s1.setup.reader_channel reads (reader_of s1.setup.reader_channel s1)))
     (HasAll-printer_writes size s2.setup.printer_channel prints (printer_of s2.setup.printer_channel s2)))
-    (HasAll-clock_list size ((s3.channels.clock + 1) % 4096) (s3.slot == 9)))
+    (HasAll-clock_writes size ((s3.channels.clock + 1) % 4096) (s3.slot == 9)))
     (tt, tt)
 
 -- ---- watches
@@ -72,9 +72,9 @@ position_within test entries (Some i) e all = omega (arith, (position-Some test 
 
 -- ---- a dead start
 
-HasAll-deadstart : (size : ℕ) (panel : Option (List ℕ)) → IfSome panel IsPanel → HasAll size (deadstart_list panel)
+HasAll-deadstart : (size : ℕ) (panel : Option (List ℕ)) → IfSome panel IsPanel → HasAll size (deadstart_writes panel)
 HasAll-deadstart size None ok = tt
-HasAll-deadstart size (Some panel) ok = HasAll-settings size (deadstart_pairs panel) (AreSettings-deadstart size panel ok.small)
+HasAll-deadstart size (Some panel) ok = HasAll-settings size (deadstart_write_list panel) (AreSettings-deadstart size panel ok.small)
 
 -- ---- every action
 
@@ -82,7 +82,7 @@ HasAll-set : (s : Machine) (done : Action) → IsSet s done → HasAll s.setup.c
 HasAll-set s done set = HasAll-settings s.setup.central_words (set_list done) set.settings
 
 pub HasAll-action : (s : Machine) (done : Action) → IsWellFormed s → first_fault s done ≡ None → HasAll s.setup.central_words (writes s done)
-HasAll-action s action.Turn ok admitted = HasAll-turn_list s ok
+HasAll-action s action.Turn ok admitted = HasAll-turn_writes s ok
 HasAll-action s (action.Watch w) ok admitted = ((is_watch s w admitted).room, tt)
 HasAll-action s (action.Unwatch w) ok admitted =
     let found = position (λ code. code == watch_code w) s.watches in

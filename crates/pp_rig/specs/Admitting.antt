@@ -28,16 +28,16 @@ is_word_or_none (Some word) = nat_le word twelve_bits
 
 -- whether every number of the action is in its range
 abbrev pub is_in_range : Machine → Action → Bool
-is_in_range m Turn = true
-is_in_range m (SetCells n a values) = nat_lt n processor_count && (nat_lt a cell_count && (nat_lt 0 (length values) && list_all (λ value. nat_le value twelve_bits) values))
-is_in_range m (SetA n v) = nat_lt n processor_count && nat_le v eighteen_bits
-is_in_range m (SetP n v) = nat_lt n processor_count && nat_le v twelve_bits
-is_in_range m (SetQ n v) = nat_lt n processor_count && nat_le v twelve_bits
-is_in_range m (SetWord a v) = nat_lt a m.setup.central_words && nat_lt v past_sixty_bits
-is_in_range m (SetChannel c state word) = nat_lt c channel_count && (nat_lt (state_number state) function && is_word_or_none word)
-is_in_range m (Watch w) = is_watchable m.setup.central_words w
-is_in_range m (Unwatch w) = is_watchable m.setup.central_words w
-is_in_range m Deadstart = true
+is_in_range s Turn = true
+is_in_range s (SetCells n a values) = nat_lt n processor_count && (nat_lt a cell_count && (nat_lt 0 (length values) && list_all (λ value. nat_le value twelve_bits) values))
+is_in_range s (SetA n v) = nat_lt n processor_count && nat_le v eighteen_bits
+is_in_range s (SetP n v) = nat_lt n processor_count && nat_le v twelve_bits
+is_in_range s (SetQ n v) = nat_lt n processor_count && nat_le v twelve_bits
+is_in_range s (SetWord a v) = nat_lt a s.setup.central_words && nat_lt v past_sixty_bits
+is_in_range s (SetChannel c state word) = nat_lt c channel_count && (nat_lt (state_number state) function && is_word_or_none word)
+is_in_range s (Watch w) = is_watchable s.setup.central_words w
+is_in_range s (Unwatch w) = is_watchable s.setup.central_words w
+is_in_range s Deadstart = true
 
 -- a machine without a panel cannot be dead started
 abbrev pub panel_fault : Option (List ℕ) → Option ActionFault
@@ -46,13 +46,13 @@ panel_fault (Some panel) = None
 
 -- why an action whose numbers are in range is not admitted
 abbrev pub state_fault : Machine → Action → Option ActionFault
-state_fault m (Watch w) =
-    if nat_le 8 (length (watches_of m)) then Some WatchesFull
-    else (if is_watched m w then Some AlreadyWatched else None)
-state_fault m (Unwatch w) = if is_watched m w then None else Some NotWatched
-state_fault m Deadstart = panel_fault m.setup.panel
-state_fault m _ = None
+state_fault s (Watch w) =
+    if nat_le 8 (length (watches_of s)) then Some WatchesFull
+    else (if is_watched s w then Some AlreadyWatched else None)
+state_fault s (Unwatch w) = if is_watched s w then None else Some NotWatched
+state_fault s Deadstart = panel_fault s.setup.panel
+state_fault s _ = None
 
 -- why an action is not admitted: the first cause that applies
 unfoldable pub first_fault : Machine → Action → Option ActionFault
-first_fault m action = if is_in_range m action then state_fault m action else Some Range
+first_fault s action = if is_in_range s action then state_fault s action else Some Range

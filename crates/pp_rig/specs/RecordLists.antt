@@ -21,7 +21,7 @@ numbers [] = []
 numbers (pair ∷ w) = pair.1 ∷ numbers w
 
 -- the places of a list with other numbers
-abbrev pub numbered : Writes Place → List ℕ → Writes Place
-numbered [] ns = []
-numbered (pair ∷ w) [] = []
-numbered (pair ∷ w) (n ∷ ns) = (pair.0, n) ∷ numbered w ns
+abbrev pub with_new_numbers : Writes Place → List ℕ → Writes Place
+with_new_numbers [] ns = []
+with_new_numbers (pair ∷ w) [] = []
+with_new_numbers (pair ∷ w) (n ∷ ns) = (pair.0, n) ∷ with_new_numbers w ns

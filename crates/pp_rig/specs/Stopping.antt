@@ -20,7 +20,7 @@ first_change old new (watched ∷ others) =
 
 -- the change that a turn makes at the watched places
 abbrev pub hit_of : Machine → Option Hit
-hit_of m = first_change m (turn m) (watches_of m)
+hit_of s = first_change s (turn s) (watches_of s)
 
 -- one more turn before the rest of a run
 abbrev pub one_turn_more : Stopped → Stopped
@@ -33,8 +33,8 @@ hit_or (Some hit) rest = record { turns = 1; hit = Some hit }
 
 -- a run of at most this many turns, which ends with the first that changes a watched number
 unfoldable pub stopped : ℕ → Machine → Stopped
-stopped zero m = record { turns = 0; hit = None }
-stopped (suc most) m = hit_or (hit_of m) (stopped most (turn m))
+stopped zero s = record { turns = 0; hit = None }
+stopped (suc most) s = hit_or (hit_of s) (stopped most (turn s))
 
 -- after this many turns
 unfoldable pub after_turns : ℕ → SessionValue Machine Action → SessionValue Machine Action
@@ -43,14 +43,14 @@ after_turns (suc turns) v = after_act (after_turns turns v) Turn
 
 -- the machine after this many turns
 abbrev pub turned : ℕ → Machine → Machine
-turned turns m = replay rules m (replicate turns Turn)
+turned turns s = replay rules s (replicate turns Turn)
 
 -- the shortest run, of at most this many turns, whose last turn changed a watched number, or else all the turns
-pub record IsShortest (most : ℕ) (m : Machine) (done : Stopped) : Type 0 where
+pub record IsShortest (most : ℕ) (s : Machine) (done : Stopped) : Type 0 where
   pub within : done.turns ≤ most
   -- no turn before the last changed a watched number
-  pub earlier : (turns : ℕ) → turns + 1 < done.turns → hit_of (turned turns m) ≡ None
+  pub earlier : (turns : ℕ) → turns + 1 < done.turns → hit_of (turned turns s) ≡ None
   -- the last turn made the change
-  pub hit : (hit : Hit) → done.hit ≡ Some hit → (turns : ℕ) × (done.turns ≡ turns + 1) × (hit_of (turned turns m) ≡ Some hit)
+  pub hit : (hit : Hit) → done.hit ≡ Some hit → (turns : ℕ) × (done.turns ≡ turns + 1) × (hit_of (turned turns s) ≡ Some hit)
   -- no turn changed a watched number
-  pub none : done.hit ≡ None → (done.turns ≡ most) × ((turns : ℕ) → turns < most → hit_of (turned turns m) ≡ None)
+  pub none : done.hit ≡ None → (done.turns ≡ most) × ((turns : ℕ) → turns < most → hit_of (turned turns s) ≡ None)

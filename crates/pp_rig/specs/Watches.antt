@@ -38,14 +38,14 @@ watched_in [] = []
 watched_in (code ∷ codes) = if code == 0 then [] else watched_at code ∷ watched_in codes
 
 abbrev pub watches_of : Machine → List Watched
-watches_of m = watched_in m.watches
+watches_of s = watched_in s.watches
 
 -- whether the machine watches the place
 abbrev pub is_watched : Machine → Watched → Bool
-is_watched m watched = list_any (λ code. code == watch_code watched) m.watches
+is_watched s watched = list_any (λ code. code == watch_code watched) s.watches
 
 -- at most eight places, each determined by its code
-pub record AreTold (places : List Watched) : Type 0 where
+pub record HaveCodes (places : List Watched) : Type 0 where
   pub few : length places ≤ 8
   pub told : All (λ watched. watched_at (watch_code watched) ≡ watched) places
 

@@ -22,14 +22,14 @@ pub record IsProcessor (x : ProcessorNumbers) : Type 0 where
 -- the lists have their sizes, each number is in its range, the paper is zero past its length, a card is left if one is
 -- being read, the watch entries are those of distinct places of the machine, followed by zeros, the panel has twelve
 -- words, and reader and printer have data channels of their own
-pub record IsWellFormed (m : Machine) : Type 0 where
-  pub sizes : IsShaped m.setup.central_words m
-  pub processors : All IsProcessor m.processors
-  pub channels : IsChannels m.channels
-  pub central : All (λ word. word < past_sixty_bits) m.central
-  pub frame : IsPackage m.frame
-  pub reader : IsReader m.reader
-  pub printer : IsPrinter m.printer
-  pub slot : m.slot < processor_count
-  pub watches : AreWatches m.setup.central_words m.watches
-  pub setup : IsSetup m.setup
+pub record IsWellFormed (s : Machine) : Type 0 where
+  pub sizes : IsShaped s.setup.central_words s
+  pub processors : All IsProcessor s.processors
+  pub channels : IsChannels s.channels
+  pub central : All (λ word. word < past_sixty_bits) s.central
+  pub frame : IsPackage s.frame
+  pub reader : IsReader s.reader
+  pub printer : IsPrinter s.printer
+  pub slot : s.slot < processor_count
+  pub watches : AreWatches s.setup.central_words s.watches
+  pub setup : IsSetup s.setup

@@ -119,8 +119,8 @@ fn are_storage(machine: &Rig) -> bool
 /// a turn like any other. If n is 0, no turn is performed (this project's choice).
 #[tactic(auto, unfolding(crate::specs::Admitting::first_fault))]
 pub fn run(session: &mut Session<Rig>, n: u32) -> Stopped
-    ensures stopped { result ≡ stopped n session.old.machine }
-    ensures replayed { (v : SessionValue Machine Action) → IsAt rules session.old v →
+    ensures stops { result ≡ stopped n session.old.machine }
+    ensures is_replay { (v : SessionValue Machine Action) → IsAt rules session.old v →
         result ≡ stopped n (replay rules v.start v.standing) }
     ensures at { (v : SessionValue Machine Action) → IsAt rules session.old v →
         IsAt rules session.new (after_turns result.turns v) }

@@ -37,7 +37,7 @@ impl Values {
     /// Returns the words in their order.
     pub fn as_slice(&self) -> &[u16]
         ensures value { result.now ≡ self.now }
-        ensures few { length result.now ≤ 8 }
+        ensures at_most { length result.now ≤ 8 }
     {
         &self.words[..self.count as usize]
     }

@@ -94,19 +94,19 @@ effect-once : (c : Code) (i : InstructionNumbers) (m : PpView) → length m.fram
 effect-once code.Exn i m size = record { holds = exchange-once i.next m.a m.central m.frame size }
 effect-once code.Crd i m size = record { holds = five-once i.d (split60 (slice_index m.central m.a)) }
 effect-once code.Cwd i m size = either same_place (nat_lt m.a (length m.central)) _ _ (record { holds = refl }) (record { holds = refl })
-effect-once code.Ian i m size = either same_place (is_clock i.d) _ _ (record { holds = refl }) (either same_place (is_in Full i.d m.modes) _ _ (record { holds = refl }) (record { holds = refl }))
-effect-once code.Oan i m size = either same_place (is_in Empty i.d m.modes) _ _ (record { holds = refl }) (record { holds = refl })
-effect-once code.Acn i m size = either same_place (is_in Inactive i.d m.modes) _ _ (record { holds = refl }) (record { holds = refl })
-effect-once code.Dcn i m size = either same_place (is_clock i.d) _ _ (record { holds = refl }) (either same_place (is_active i.d m.modes) _ _ (record { holds = refl }) (record { holds = refl }))
-effect-once code.Fan i m size = either same_place (is_in Inactive i.d m.modes) _ _ (record { holds = refl }) (record { holds = refl })
-effect-once code.Fnc i m size = either same_place (is_in Inactive i.d m.modes) _ _ (record { holds = refl }) (record { holds = refl })
+effect-once code.Ian i m size = either same_place (is_clock i.d) _ _ (record { holds = refl }) (either same_place (is_in Full i.d m.states) _ _ (record { holds = refl }) (record { holds = refl }))
+effect-once code.Oan i m size = either same_place (is_in Empty i.d m.states) _ _ (record { holds = refl }) (record { holds = refl })
+effect-once code.Acn i m size = either same_place (is_in Inactive i.d m.states) _ _ (record { holds = refl }) (record { holds = refl })
+effect-once code.Dcn i m size = either same_place (is_clock i.d) _ _ (record { holds = refl }) (either same_place (is_active i.d m.states) _ _ (record { holds = refl }) (record { holds = refl }))
+effect-once code.Fan i m size = either same_place (is_in Inactive i.d m.states) _ _ (record { holds = refl }) (record { holds = refl })
+effect-once code.Fnc i m size = either same_place (is_in Inactive i.d m.states) _ _ (record { holds = refl }) (record { holds = refl })
 effect-once _ i m size = record { holds = refl }
 
 block-once : (c : Code) (d : ℕ) (m : PpView) → IsOnce same_place (block c d m)
 block-once code.Crm d m = either same_place (m.q == 0) _ _ (record { holds = refl }) (record { holds = five-once m.p (split60 (slice_index m.central m.a)) })
 block-once code.Cwm d m = either same_place (m.q == 0) _ _ (record { holds = refl }) (either same_place (nat_lt m.a (length m.central)) _ _ (record { holds = refl }) (record { holds = refl }))
-block-once code.Iam d m = either same_place (m.a == 0) _ _ (record { holds = refl }) (either same_place (is_clock d) _ _ (record { holds = refl }) (either same_place (not (is_active d m.modes)) _ _ (record { holds = refl }) (either same_place (is_in Full d m.modes) _ _ (record { holds = refl }) (record { holds = refl }))))
-block-once code.Oam d m = either same_place (m.a == 0 || not (is_active d m.modes)) _ _ (record { holds = refl }) (either same_place (is_in Empty d m.modes) _ _ (record { holds = refl }) (record { holds = refl }))
+block-once code.Iam d m = either same_place (m.a == 0) _ _ (record { holds = refl }) (either same_place (is_clock d) _ _ (record { holds = refl }) (either same_place (not (is_active d m.states)) _ _ (record { holds = refl }) (either same_place (is_in Full d m.states) _ _ (record { holds = refl }) (record { holds = refl }))))
+block-once code.Oam d m = either same_place (m.a == 0 || not (is_active d m.states)) _ _ (record { holds = refl }) (either same_place (is_in Empty d m.states) _ _ (record { holds = refl }) (record { holds = refl }))
 block-once _ d m = record { holds = refl }
 
 step-once : (m : PpView) → length m.frame ≡ 16 → IsOnce same_place (pp_writes m)

@@ -54,13 +54,13 @@ phase_after Exn i m = inl (leaves-frame 0 (loaded m.a m.central) (word_pairs (le
 phase_after Cwd i m = inl (leaves-either (nat_lt m.a (length m.central)) m ((P, i.next) ∷ (Word m.a, joined_cells i.d m.cells) ∷ []) (jump i.next) refl refl)
 phase_after Ian i m =
     let register = slice_index m.registers i.d in
-    inl (leaves-either (is_clock i.d) m (load i m.clock) (input (is_in Full i.d m.modes) i register) refl (leaves-input (is_in Full i.d m.modes) i register m))
-phase_after Oan i m = inl (leaves-output (is_in Empty i.d m.modes) i Full (lower12 m.a) m)
-phase_after Acn i m = inl (leaves-activity (is_in Inactive i.d m.modes) i Empty m)
+    inl (leaves-either (is_clock i.d) m (load i m.clock) (input (is_in Full i.d m.states) i register) refl (leaves-input (is_in Full i.d m.states) i register m))
+phase_after Oan i m = inl (leaves-output (is_in Empty i.d m.states) i Full (lower12 m.a) m)
+phase_after Acn i m = inl (leaves-activity (is_in Inactive i.d m.states) i Empty m)
 phase_after Dcn i m =
-    inl (leaves-either (is_clock i.d) m (jump i.next) (activity (is_active i.d m.modes) i Inactive) refl (leaves-activity (is_active i.d m.modes) i Inactive m))
-phase_after Fan i m = inl (leaves-output (is_in Inactive i.d m.modes) i Function (lower12 m.a) m)
-phase_after Fnc i m = inl (leaves-output (is_in Inactive i.d m.modes) i Function i.m m)
+    inl (leaves-either (is_clock i.d) m (jump i.next) (activity (is_active i.d m.states) i Inactive) refl (leaves-activity (is_active i.d m.states) i Inactive m))
+phase_after Fan i m = inl (leaves-output (is_in Inactive i.d m.states) i Function (lower12 m.a) m)
+phase_after Fnc i m = inl (leaves-output (is_in Inactive i.d m.states) i Function i.m m)
 phase_after c i m = inl refl
 
 -- if an instruction changes the phase from 0, the new phase is the old word at P

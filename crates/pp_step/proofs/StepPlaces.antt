@@ -51,13 +51,13 @@ first_part : (x y : Bool) → (x && y) ≡ true → x ≡ true
 first_part true y h = refl
 first_part false y h = h
 
-data_channel : (state : ChannelState) (c : ℕ) (modes : List ℕ) → is_in state c modes ≡ true → c < 12
-data_channel state c modes h =
+data_channel : (state : ChannelState) (c : ℕ) (states : List ℕ) → is_in state c states ≡ true → c < 12
+data_channel state c states h =
     let below = first_part (nat_lt c 12) _ h in
     grind (arith, nat_tests, below)
 
-active_channel : (c : ℕ) (modes : List ℕ) → is_clock c ≡ false → is_active c modes ≡ true → c < 12
-active_channel c modes other h = grind (arith, nat_tests, other, h)
+active_channel : (c : ℕ) (states : List ℕ) → is_clock c ≡ false → is_active c states ≡ true → c < 12
+active_channel c states other h = grind (arith, nat_tests, other, h)
 
 module _ (size n : ℕ) (is_processor : n < 10) where
   either : (b : Bool) (x y : Writes PpPlace) → (b ≡ true → Held size n x) → (b ≡ false → Held size n y) → Held size n (if b then x else y)
@@ -75,17 +75,17 @@ module _ (size n : ℕ) (is_processor : n < 10) where
   effect_held code.Cwd i m h words =
       either (nat_lt m.a (length m.central)) _ _ (λ below. (is_processor, (grind (arith, nat_tests, below, words), tt))) (λ past. (is_processor, tt))
   effect_held code.Ian i m h words =
-      either (is_clock i.d) _ _ (λ clock. assumption is_processor) (λ other. either (is_in Full i.d m.modes) _ _ (λ ready. (is_processor, (is_processor, (data_channel Full i.d m.modes ready, tt)))) (λ waits. tt))
+      either (is_clock i.d) _ _ (λ clock. assumption is_processor) (λ other. either (is_in Full i.d m.states) _ _ (λ ready. (is_processor, (is_processor, (data_channel Full i.d m.states ready, tt)))) (λ waits. tt))
   effect_held code.Oan i m h words =
-      either (is_in Empty i.d m.modes) _ _ (λ ready. let c = data_channel Empty i.d m.modes ready in (is_processor, (c, (c, tt)))) (λ waits. tt)
+      either (is_in Empty i.d m.states) _ _ (λ ready. let c = data_channel Empty i.d m.states ready in (is_processor, (c, (c, tt)))) (λ waits. tt)
   effect_held code.Acn i m h words =
-      either (is_in Inactive i.d m.modes) _ _ (λ ready. (is_processor, (data_channel Inactive i.d m.modes ready, tt))) (λ waits. tt)
+      either (is_in Inactive i.d m.states) _ _ (λ ready. (is_processor, (data_channel Inactive i.d m.states ready, tt))) (λ waits. tt)
   effect_held code.Dcn i m h words =
-      either (is_clock i.d) _ _ (λ clock. (is_processor, tt)) (λ other. either (is_active i.d m.modes) _ _ (λ ready. (is_processor, (active_channel i.d m.modes other ready, tt))) (λ waits. tt))
+      either (is_clock i.d) _ _ (λ clock. (is_processor, tt)) (λ other. either (is_active i.d m.states) _ _ (λ ready. (is_processor, (active_channel i.d m.states other ready, tt))) (λ waits. tt))
   effect_held code.Fan i m h words =
-      either (is_in Inactive i.d m.modes) _ _ (λ ready. let c = data_channel Inactive i.d m.modes ready in (is_processor, (c, (c, tt)))) (λ waits. tt)
+      either (is_in Inactive i.d m.states) _ _ (λ ready. let c = data_channel Inactive i.d m.states ready in (is_processor, (c, (c, tt)))) (λ waits. tt)
   effect_held code.Fnc i m h words =
-      either (is_in Inactive i.d m.modes) _ _ (λ ready. let c = data_channel Inactive i.d m.modes ready in (is_processor, (c, (c, tt)))) (λ waits. tt)
+      either (is_in Inactive i.d m.states) _ _ (λ ready. let c = data_channel Inactive i.d m.states ready in (is_processor, (c, (c, tt)))) (λ waits. tt)
   effect_held code.Crm i m h words = (is_processor, (is_processor, (is_processor, ((is_processor, lit< tt), tt))))
   effect_held code.Cwm i m h words = (is_processor, (is_processor, (is_processor, ((is_processor, lit< tt), tt))))
   effect_held code.Iam i m h words = (is_processor, (is_processor, ((is_processor, lit< tt), tt)))
@@ -103,12 +103,12 @@ module _ (size n : ℕ) (is_processor : n < 10) where
   block_held code.Iam d m h words =
       either (m.a == 0) _ _ (λ ended. (is_processor, (is_processor, tt))) (λ moves. either (is_clock d) _ _
       (λ clock. (is_processor, (is_processor, ((is_processor, h), tt))))
-      (λ other. either (not (is_active d m.modes)) _ _
+      (λ other. either (not (is_active d m.states)) _ _
       (λ inactive. (is_processor, (is_processor, ((is_processor, h), tt))))
-      (λ active. either (is_in Full d m.modes) _ _ (λ ready. (is_processor, (is_processor, ((is_processor, h), (data_channel Full d m.modes ready, tt))))) (λ waits. tt))))
+      (λ active. either (is_in Full d m.states) _ _ (λ ready. (is_processor, (is_processor, ((is_processor, h), (data_channel Full d m.states ready, tt))))) (λ waits. tt))))
   block_held code.Oam d m h words =
-      either (m.a == 0 || not (is_active d m.modes)) _ _ (λ ended. (is_processor, (is_processor, tt))) (λ moves. either (is_in Empty d m.modes) _ _
-      (λ ready. let c = data_channel Empty d m.modes ready in (is_processor, (is_processor, (c, (c, tt))))) (λ waits. tt))
+      either (m.a == 0 || not (is_active d m.states)) _ _ (λ ended. (is_processor, (is_processor, tt))) (λ moves. either (is_in Empty d m.states) _ _
+      (λ ready. let c = data_channel Empty d m.states ready in (is_processor, (is_processor, (c, (c, tt))))) (λ waits. tt))
   block_held _ d m h words = tt
 
   step_held : (m : PpView) → m.p < 4096 → All (λ cell. cell ≤ 0o7777) m.cells → length m.central ≡ size → Held size n (pp_writes m)

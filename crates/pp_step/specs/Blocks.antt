@@ -53,10 +53,10 @@ channel_input d s =
     (if is_clock d
     then (P, cell_after s.p 1) ∷ (A, s.a - 1) ∷ (Cell s.p, s.clock) ∷ []
     else
-    (if not (is_active d s.modes)
+    (if not (is_active d s.states)
     then (P, cell_after (slice_index (slice_set s.cells s.p 0) 0) 1) ∷ (Phase, 0) ∷ (Cell s.p, 0) ∷ []
     else
-    (if is_in Full d s.modes
+    (if is_in Full d s.states
     then (P, cell_after s.p 1) ∷ (A, s.a - 1) ∷ (Cell s.p, slice_index s.registers d) ∷ (Mode d, state_number Empty) ∷ []
     else [])))
 
@@ -64,8 +64,8 @@ channel_input d s =
 -- clock, which is always full, takes no word.
 abbrev pub channel_output : ℕ → PpView → Writes PpPlace
 channel_output d s =
-    if s.a == 0 || not (is_active d s.modes) then finish s else
-    (if is_in Empty d s.modes
+    if s.a == 0 || not (is_active d s.states) then finish s else
+    (if is_in Empty d s.states
     then (P, cell_after s.p 1) ∷ (A, s.a - 1) ∷ (Mode d, state_number Full) ∷ (Channel d, slice_index s.cells s.p) ∷ []
     else [])
 

@@ -9,12 +9,12 @@ is_clock c = c == 0o14
 
 -- the data channel c is in a state
 abbrev pub is_in : ChannelState → ℕ → List ℕ → Bool
-is_in state c modes = nat_lt c 0o14 && slice_index modes c == state_number state
+is_in state c states = nat_lt c 0o14 && slice_index states c == state_number state
 
 -- states 1, 2 and 3 are active
 abbrev pub is_active : ℕ → List ℕ → Bool
-is_active c modes = is_clock c || (nat_lt c 0o14 && nat_lt 0 (slice_index modes c))
+is_active c states = is_clock c || (nat_lt c 0o14 && nat_lt 0 (slice_index states c))
 
 -- states 2 and 3 are full: with data, and with a function code
 abbrev pub is_full : ℕ → List ℕ → Bool
-is_full c modes = is_clock c || (nat_lt c 0o14 && nat_lt 1 (slice_index modes c))
+is_full c states = is_clock c || (nat_lt c 0o14 && nat_lt 1 (slice_index states c))

@@ -98,23 +98,23 @@ row Crm = entry 0o61 Constant issue_counted
 row Cwd = entry 0o62 NoAddress (λ i s. cells_to_word i s.a s.cells (length s.central))
 row Cwm = entry 0o63 Constant issue_counted
 -- 64 to 67 jump to m if channel d is active, is inactive, is full, and is not full.
-row Ajm = entry 0o64 Constant (λ i s. test (is_active i.d s.modes) i)
-row Ijm = entry 0o65 Constant (λ i s. test (not (is_active i.d s.modes)) i)
-row Fjm = entry 0o66 Constant (λ i s. test (is_full i.d s.modes) i)
-row Ejm = entry 0o67 Constant (λ i s. test (not (is_full i.d s.modes)) i)
+row Ajm = entry 0o64 Constant (λ i s. test (is_active i.d s.states) i)
+row Ijm = entry 0o65 Constant (λ i s. test (not (is_active i.d s.states)) i)
+row Fjm = entry 0o66 Constant (λ i s. test (is_full i.d s.states) i)
+row Ejm = entry 0o67 Constant (λ i s. test (not (is_full i.d s.states)) i)
 -- 70 moves a full channel's data to A, and 72 puts A's lower twelve bits into an empty channel. 71 and 73 do so for as
 -- many words as A says. The clock's channel supplies the clock and is unchanged.
-row Ian = entry 0o70 NoAddress (λ i s. if is_clock i.d then load i s.clock else input (is_in Full i.d s.modes) i (slice_index s.registers i.d))
+row Ian = entry 0o70 NoAddress (λ i s. if is_clock i.d then load i s.clock else input (is_in Full i.d s.states) i (slice_index s.registers i.d))
 row Iam = entry 0o71 Constant issue
-row Oan = entry 0o72 NoAddress (λ i s. output (is_in Empty i.d s.modes) i Full (lower12 s.a))
+row Oan = entry 0o72 NoAddress (λ i s. output (is_in Empty i.d s.states) i Full (lower12 s.a))
 row Oam = entry 0o73 Constant issue
 -- 74 activates an inactive channel. 75 disconnects an active channel, and only passes on the clock's channel. 76 and 77
 -- send a function code to an inactive channel, from A and from m. The states in which 70 to 77 wait for their channel
 -- are the manual's signals in this project's four states.
-row Acn = entry 0o74 NoAddress (λ i s. activity (is_in Inactive i.d s.modes) i Empty)
-row Dcn = entry 0o75 NoAddress (λ i s. if is_clock i.d then jump i.next else activity (is_active i.d s.modes) i Inactive)
-row Fan = entry 0o76 NoAddress (λ i s. output (is_in Inactive i.d s.modes) i Function (lower12 s.a))
-row Fnc = entry 0o77 Constant (λ i s. output (is_in Inactive i.d s.modes) i Function i.m)
+row Acn = entry 0o74 NoAddress (λ i s. activity (is_in Inactive i.d s.states) i Empty)
+row Dcn = entry 0o75 NoAddress (λ i s. if is_clock i.d then jump i.next else activity (is_active i.d s.states) i Inactive)
+row Fan = entry 0o76 NoAddress (λ i s. output (is_in Inactive i.d s.states) i Function (lower12 s.a))
+row Fnc = entry 0o77 Constant (λ i s. output (is_in Inactive i.d s.states) i Function i.m)
 
 -- the number of a code
 abbrev pub number_of : Code → ℕ

@@ -29,7 +29,7 @@ fn file_name(file: FileKind) -> &'static [u8]
 fn push_line_fault(row: &mut ArrayVec<u8, ROOM>, k: u32, what: &[u8])
     requires { array_vec_len row.old + (45 + length what.now) ≤ ROOM }
     ensures items { row.new.items ≡ row.old.items ++ line_fault k what.now }
-    ensures few { array_vec_len row.new ≤ array_vec_len row.old + (45 + length what.now) }
+    ensures at_most { array_vec_len row.new ≤ array_vec_len row.old + (45 + length what.now) }
 {
     push_text(row, b"LINE ");
     push_text(row, Buffer::new().format(k).as_bytes());
@@ -40,7 +40,7 @@ fn push_line_fault(row: &mut ArrayVec<u8, ROOM>, k: u32, what: &[u8])
 fn push_fault(row: &mut ArrayVec<u8, ROOM>, fault: LoadFault)
     requires { array_vec_len row.old + 60 ≤ ROOM }
     ensures items { row.new.items ≡ row.old.items ++ load_text fault }
-    ensures few { array_vec_len row.new ≤ array_vec_len row.old + 60 }
+    ensures at_most { array_vec_len row.new ≤ array_vec_len row.old + 60 }
 {
     match fault {
         LoadFault::NoMemory => push_text(row, b"NO MEMORY"),
@@ -58,7 +58,7 @@ fn push_fault(row: &mut ArrayVec<u8, ROOM>, fault: LoadFault)
 fn push_trouble(row: &mut ArrayVec<u8, ROOM>, trouble: &Trouble)
     requires { array_vec_len row.old ≡ 0 }
     ensures items { row.new.items ≡ row.old.items ++ text_of trouble.now }
-    ensures few { array_vec_len row.new ≤ 110 }
+    ensures at_most { array_vec_len row.new ≤ 110 }
 {
     match trouble {
         Trouble::Help => push_text(
@@ -93,7 +93,7 @@ impl Trouble {
     /// `Failed` if a call of the sink fails. A proper prefix of the line was then written.
     pub fn put<W: Sink>(&self, out: &mut W) -> Result<(), Failed>
         ensures text { Writes (W.text out.old) (W.text out.new) result (line_of self.now) }
-        ensures counted { Counts (W.failure_count out.old) (W.failure_count out.new) result }
+        ensures counts { Counts (W.failure_count out.old) (W.failure_count out.new) result }
     {
         let mut row = ArrayVec::new();
         push_trouble(&mut row, self);

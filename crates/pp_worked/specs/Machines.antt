@@ -1,7 +1,7 @@
 -- Rows of the whole machine: a number of turns leads from some numbers to others.
 use Rattle.std.specs.Prelude.{ℕ, zero, suc, ◌≡◌, List, Option, replicate}
 use Rattle.pp_machine.specs.CentralSizes.{words_of}
-use Rattle.pp_machine.specs.Machine.{Machine, over, olds}
+use Rattle.pp_machine.specs.Machine.{Machine, over, old_values}
 use Rattle.pp_machine.specs.Writes.{Writes}
 use Rattle.pp_machine.specs.declared.place.Place.{Place}
 use Rattle.pp_rig.specs.Starting.{blank_processor}
@@ -13,7 +13,7 @@ use Rattle.pp_rig.specs.declared.setup.Setup.{Setup}
 abbrev pub blank : List (List ℕ) → Option (List ℕ) → Machine
 blank deck panel = record {
   processors = replicate 0o12 blank_processor;
-  channels = record { modes = replicate 0o14 0; words = replicate 0o14 0; clock = 0 };
+  channels = record { states = replicate 0o14 0; registers = replicate 0o14 0; clock = 0 };
   central = replicate 0o100000 0;
   frame = replicate 0o20 0;
   reader = record { deck = deck; card = 0; column = 0; mode = 0 };
@@ -37,7 +37,7 @@ after (suc turns) m = after turns (turn m)
 
 -- the machine has these numbers
 abbrev pub Shows : Machine → Writes Place → Type 0
-Shows m numbers = olds m numbers ≡ numbers
+Shows m numbers = old_values m numbers ≡ numbers
 
 -- This many turns lead from the machine with the first numbers to a machine with the second.
 abbrev pub Leads : Machine → Writes Place → ℕ → Writes Place → Type 0

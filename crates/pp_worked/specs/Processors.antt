@@ -2,7 +2,7 @@
 use Rattle.std.specs.Prelude.{ℕ, zero, suc, ◌≡◌, ◌∷◌, replicate}
 use Rattle.pp_machine.specs.Writes.{Writes}
 use Rattle.pp_step.specs.Step.{pp_writes}
-use Rattle.pp_step.specs.View.{PpView, PpPlace, P, Cell, over, olds}
+use Rattle.pp_step.specs.View.{PpView, PpPlace, P, Cell, over, old_values}
 
 -- a processor with its 4096 (decimal) cells, inactive channels and a central memory of 2000 words, all 0
 abbrev pub blank : PpView
@@ -12,7 +12,7 @@ blank = record {
   q = 0;
   phase = 0;
   cells = replicate 0o10000 0;
-  modes = replicate 0o14 0;
+  states = replicate 0o14 0;
   registers = replicate 0o14 0;
   clock = 0;
   central = replicate 0o2000 0;
@@ -26,7 +26,7 @@ after (suc n) m = after n (over m (pp_writes m))
 
 -- This many steps lead from the first numbers, with 0 at all other places, to a state with the second.
 abbrev pub Leads : Writes PpPlace → ℕ → Writes PpPlace → Type 0
-Leads before steps later = olds (after steps (over blank before)) later ≡ later
+Leads before steps later = old_values (after steps (over blank before)) later ≡ later
 
 -- One step performs this instruction at 0100. It leads from the first other numbers to the second.
 abbrev pub Performs : ℕ → Writes PpPlace → Writes PpPlace → Type 0

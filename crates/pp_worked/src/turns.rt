@@ -19,7 +19,7 @@ ghost use Rattle.pp_machine.specs.declared.place.Place.TheVariants.{
 };
 ghost use Rattle.pp_machine.specs.Machine.{over};
 ghost use Rattle.pp_rig.specs.Action.{next};
-ghost use Rattle.pp_rig.specs.Deadstart.{deadstart_pairs};
+ghost use Rattle.pp_rig.specs.Deadstart.{deadstart_write_list};
 ghost use Rattle.pp_rig.specs.Starting.{starting};
 ghost use Rattle.pp_rig.specs.declared.action.Action.TheVariants.{Deadstart};
 ghost use Rattle.pp_rig.specs.declared.setup.Setup.{Setup};
@@ -83,10 +83,10 @@ pub fn line_through_a_program()
 
 /// A dead start writes 114 places, for any panel. Processor 00 begins at the panel, and each other one waits to read
 /// 10000 words from its own channel. The clock continues from its number.
-#[tactic(auto, unfolding(pp_step::specs::Step::pp_writes, pp_rig::specs::Turn::turn, pp_rig::specs::Deadstart::deadstart_pairs, pp_rig::specs::Deadstart::all_waiting, pp_rig::specs::Deadstart::all_states))]
+#[tactic(auto, unfolding(pp_step::specs::Step::pp_writes, pp_rig::specs::Turn::turn, pp_rig::specs::Deadstart::deadstart_write_list, pp_rig::specs::Deadstart::all_waiting, pp_rig::specs::Deadstart::all_states))]
 pub fn dead_start()
     ensures places { (a b c d e f g h i j k l : ℕ) →
-        length (deadstart_pairs (a ∷ b ∷ c ∷ d ∷ e ∷ f ∷ g ∷ h ∷ i ∷ j ∷ k ∷ l ∷ [])) ≡ 0o114 }
+        length (deadstart_write_list (a ∷ b ∷ c ∷ d ∷ e ∷ f ∷ g ∷ h ∷ i ∷ j ∷ k ∷ l ∷ [])) ≡ 0o114 }
     ensures first { Shows
         (next (blank [] (Some (0o1405 ∷ 0o3420 ∷ 0o300 ∷ 0 ∷ 0 ∷ 0 ∷ 0 ∷ 0 ∷ 0 ∷ 0 ∷ 0 ∷ 0 ∷ []))) Deadstart)
         ((RegP 0, 1) ∷ (RegA 0, 0) ∷ (Phase 0, 0) ∷ (Cell 0 0, 0) ∷ (Cell 0 1, 0o1405) ∷ (Cell 0 2, 0o3420) ∷

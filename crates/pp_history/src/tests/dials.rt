@@ -45,23 +45,23 @@ impl Reversible for Dials {
 
     ghost admitted = { λ dials set. set.dial < 3 };
 
-    ghost next = { λ dials set. slice_set dials set.dial set.to };
+    ghost after_act = { λ dials set. slice_set dials set.dial set.to };
 
     ghost fits = { λ had dials. (had.dial < 3) × (had.dial < length dials) };
 
-    ghost before = { λ had dials. slice_set dials had.dial had.to };
+    ghost after_undo = { λ had dials. slice_set dials had.dial had.to };
 
     ghost has_place = { λ dials dial. dial < 3 };
 
-    ghost number = { λ dials dial. slice_index dials dial };
+    ghost value_at = { λ dials dial. slice_index dials dial };
 
-    ghost old_number = { λ had dial. if had.dial == dial then Some had.to else None };
+    ghost old_value = { λ had dial. if had.dial == dial then Some had.to else None };
 
     ghost whole = { λ had. had };
 
     ghost keeps_places = { λ had dials dial fits has. has };
 
-    ghost tells_numbers = { λ had dials dial fits has. elim (cases_eq dial had.dial) [
+    ghost restores_numbers = { λ had dials dial fits has. elim (cases_eq dial had.dial) [
       | inl same ↦
           let e : (had.dial == dial) ≡ true = Prim.grind (arith, nat_tests) in
           rw (e, same) (get_or-set_same dials had.dial had.to 0 fits.1)

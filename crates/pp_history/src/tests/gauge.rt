@@ -26,23 +26,23 @@ impl Reversible for Gauge {
 
     ghost admitted = { λ gauge to. ⊤ };
 
-    ghost next = { λ gauge to. record gauge { number = to } };
+    ghost after_act = { λ gauge to. record gauge { number = to } };
 
     ghost fits = { λ old gauge. ⊤ };
 
-    ghost before = { λ old gauge. record gauge { number = old } };
+    ghost after_undo = { λ old gauge. record gauge { number = old } };
 
     ghost has_place = { λ gauge place. ⊤ };
 
-    ghost number = { λ gauge place. gauge.number };
+    ghost value_at = { λ gauge place. gauge.number };
 
-    ghost old_number = { λ old place. Some old };
+    ghost old_value = { λ old place. Some old };
 
     ghost whole = { λ old. old };
 
     ghost keeps_places = { λ old gauge place fits has. has };
 
-    ghost tells_numbers = { λ old gauge place fits has. refl };
+    ghost restores_numbers = { λ old gauge place fits has. refl };
 
     fn admits(&self, _to: &u64) -> bool {
         true

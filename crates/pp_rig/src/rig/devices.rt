@@ -1,7 +1,7 @@
 //! One step of any device of the machine, and its undoing.
 ghost use Rattle.std.specs.Prelude.{◌≡◌, ◌<◌};
 ghost use Rattle.pp_machine.specs.ChannelNumbers.{with_channel};
-ghost use Rattle.pp_machine.specs.Device.{olds_device, over_device, view_on};
+ghost use Rattle.pp_machine.specs.Device.{device_old_values, over_device, view_on};
 
 use pp_machine::{Channels, Device};
 
@@ -11,7 +11,7 @@ pub(super) fn step_device<D: Device>(device: &mut D, channels: &mut Channels, c:
     requires { c < 12 }
     ensures device { let old = view_on c device.old channels.old in device.new ≡ (over_device D.model old (D.model.writes old)).device }
     ensures channels { let old = view_on c device.old channels.old in let new = over_device D.model old (D.model.writes old) in channels.new ≡ with_channel channels.old c new.state new.word }
-    ensures record { let old = view_on c device.old channels.old in D.model.pairs result ≡ olds_device D.model old (D.model.writes old) }
+    ensures old_values { let old = view_on c device.old channels.old in D.model.pairs result ≡ device_old_values D.model old (D.model.writes old) }
     ensures fits { D.model.Fits result (view_on c device.new channels.new) }
 {
     let mut channel = channels.get(c);

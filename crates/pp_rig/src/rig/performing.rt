@@ -1,8 +1,8 @@
 //! Performing an action of any kind.
 ghost use Rattle.std.specs.Prelude.{◌≡◌, ◌≤◌, None, IsSomeAnd, length};
-ghost use Rattle.pp_machine.specs.Kept.{kept_pairs};
+ghost use Rattle.pp_machine.specs.WriteList.{write_list};
 ghost use Rattle.pp_machine.specs.Writes.{places};
-ghost use Rattle.pp_rig.specs.Action.{FitsRecord, before, most_places, next, overwritten, record_pairs, set_list, writes};
+ghost use Rattle.pp_rig.specs.Action.{FitsRecord, before, most_places, next, old_values_of, record_pairs, set_list, writes};
 ghost use Rattle.pp_rig.specs.Admitting.{first_fault};
 
 use super::settings::push_cells;
@@ -11,11 +11,11 @@ use crate::action::Action;
 use crate::lists::list_of;
 use arrayvec::ArrayVec;
 use pp_history::Reversible;
-use pp_machine::{Kept, Place};
+use pp_machine::{Place, Write};
 
 /// Returns the numbers that an action sets, by place.
-fn settings_of(action: &Action) -> ArrayVec<Kept, 8>
-    ensures { kept_pairs result.items ≡ set_list action.now }
+fn settings_of(action: &Action) -> ArrayVec<Write, 8>
+    ensures { write_list result.items ≡ set_list action.now }
 {
     match action {
         Action::SetCells { pp, a, values } => {
@@ -23,25 +23,25 @@ fn settings_of(action: &Action) -> ArrayVec<Kept, 8>
             push_cells(&mut list, *pp, *a, values.as_slice());
             list
         }
-        Action::SetA { pp, v } => list_of(&[Kept::new(Place::RegA { pp: *pp }, u64::from(*v))]),
+        Action::SetA { pp, v } => list_of(&[Write::new(Place::RegA { pp: *pp }, u64::from(*v))]),
         Action::SetP { pp, v } => list_of(&[
-            Kept::new(Place::RegP { pp: *pp }, u64::from(*v)),
-            Kept::new(Place::Phase { pp: *pp }, 0),
+            Write::new(Place::RegP { pp: *pp }, u64::from(*v)),
+            Write::new(Place::Phase { pp: *pp }, 0),
         ]),
-        Action::SetQ { pp, v } => list_of(&[Kept::new(Place::RegQ { pp: *pp }, u64::from(*v))]),
-        Action::SetWord { a, v } => list_of(&[Kept::new(Place::Central { a: *a }, *v)]),
+        Action::SetQ { pp, v } => list_of(&[Write::new(Place::RegQ { pp: *pp }, u64::from(*v))]),
+        Action::SetWord { a, v } => list_of(&[Write::new(Place::Central { a: *a }, *v)]),
         Action::SetChannel {
             c,
             state,
             word: None,
-        } => list_of(&[Kept::new(Place::ChannelMode { c: *c }, *state as u64)]),
+        } => list_of(&[Write::new(Place::ChannelMode { c: *c }, *state as u64)]),
         Action::SetChannel {
             c,
             state,
             word: Some(word),
         } => list_of(&[
-            Kept::new(Place::ChannelMode { c: *c }, *state as u64),
-            Kept::new(Place::ChannelWord { c: *c }, u64::from(*word)),
+            Write::new(Place::ChannelMode { c: *c }, *state as u64),
+            Write::new(Place::ChannelWord { c: *c }, u64::from(*word)),
         ]),
         Action::Turn | Action::Watch(_) | Action::Unwatch(_) | Action::Deadstart => ArrayVec::new(),
     }
@@ -55,10 +55,10 @@ impl Rig {
         requires { first_fault self.old action.now ≡ None }
         ensures next { self.new ≡ next self.old action.now }
         ensures fits { IsSomeAnd back.new (λ left. FitsRecord left self.new) }
-        ensures before { IsSomeAnd back.new (λ left. before left self.new ≡ self.old) }
-        ensures named { IsSomeAnd back.new (λ left. places (record_pairs left) ≡ places (writes self.old action.now)) }
-        ensures stood { IsSomeAnd back.new (λ left. record_pairs left ≡ overwritten self.old action.now) }
-        ensures few { IsSomeAnd back.new (λ left. length (record_pairs left) ≤ most_places action.now) }
+        ensures leads_back { IsSomeAnd back.new (λ left. before left self.new ≡ self.old) }
+        ensures same_places { IsSomeAnd back.new (λ left. places (record_pairs left) ≡ places (writes self.old action.now)) }
+        ensures old_values { IsSomeAnd back.new (λ left. record_pairs left ≡ old_values_of self.old action.now) }
+        ensures at_most { IsSomeAnd back.new (λ left. length (record_pairs left) ≤ most_places action.now) }
     {
         *back = Some(self.act(action));
     }
@@ -67,8 +67,8 @@ impl Rig {
     pub(super) fn perform(&mut self, action: &Action) -> RigRecord
         requires { first_fault self.old action.now ≡ None }
         ensures step { self.new ≡ next self.old action.now }
-        ensures stood { record_pairs result ≡ overwritten self.old action.now }
-        ensures few { length (record_pairs result) ≤ most_places action.now }
+        ensures old_values { record_pairs result ≡ old_values_of self.old action.now }
+        ensures at_most { length (record_pairs result) ≤ most_places action.now }
         ensures fits { FitsRecord result self.new }
     {
         match action {

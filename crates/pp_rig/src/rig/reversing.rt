@@ -6,13 +6,13 @@ ghost use Rattle.pp_rig.specs.WatchCodes.{watch_code};
 ghost use Rattle.pp_machine.specs.Machine.{over};
 ghost use Rattle.pp_rig.specs.Deadstart.{deadstart_places};
 ghost use Rattle.pp_rig.specs.Settings.{AreSettings};
-ghost use Rattle.pp_rig.specs.RecordLists.{numbered};
-ghost use Rattle.pp_rig.specs.WriteLists.{entry_list};
+ghost use Rattle.pp_rig.specs.RecordLists.{with_new_numbers};
+ghost use Rattle.pp_rig.specs.WriteLists.{entry_writes};
 
 use super::deadstart::renumbered;
 use super::{Rig, RigRecord};
 use crate::watched::Watched;
-use pp_machine::{Kept, Place, first_kept};
+use pp_machine::{Place, Write, first_write};
 
 /// Returns whether a place is watch entry n.
 fn is_entry(place: &Place, n: u32) -> bool
@@ -27,7 +27,7 @@ fn is_entry(place: &Place, n: u32) -> bool
 /// Returns the code for a place, if it is one of the watch entries from i on, which have the codes of these places.
 fn first_entry(i: u8, watches: &[Watched], place: &Place) -> Option<u64>
     requires { length watches.now ≤ 8 }
-    ensures { result ≡ lookup (entry_list i (map watch_code watches.now)) place.now }
+    ensures { result ≡ lookup (entry_writes i (map watch_code watches.now)) place.now }
 {
     for (k, watched) in watches.iter().enumerate() {
         if is_entry(place, u32::from(i) + k as u32) {
@@ -41,10 +41,10 @@ fn first_entry(i: u8, watches: &[Watched], place: &Place) -> Option<u64>
 /// not clear stack space for the list.
 #[inline(never)]
 fn restarted_was(numbers: &[u32], place: &Place) -> Option<u64>
-    ensures { result ≡ lookup (numbered deadstart_places numbers.now) place.now }
+    ensures { result ≡ lookup (with_new_numbers deadstart_places numbers.now) place.now }
 {
     let list = renumbered(numbers);
-    first_kept(list.as_slice(), place)
+    first_write(list.as_slice(), place)
 }
 
 impl RigRecord {
@@ -54,9 +54,9 @@ impl RigRecord {
     {
         match self {
             RigRecord::Turn(turn) => turn.was(place),
-            RigRecord::Settings(standing) => first_kept(standing.as_slice(), place),
-            RigRecord::Watched(i) => first_kept(
-                &[Kept::new(Place::WatchEntry { i: *i }, 0)],
+            RigRecord::Settings(standing) => first_write(standing.as_slice(), place),
+            RigRecord::Watched(i) => first_write(
+                &[Write::new(Place::WatchEntry { i: *i }, 0)],
                 place,
             ),
             RigRecord::Unwatched { i, places } => first_entry(*i, places.as_slice(), place),
@@ -83,8 +83,8 @@ impl Rig {
     /// Puts the old values of a dead start back. This is a separate function for the same reason as `restarted_was`.
     #[inline(never)]
     fn undo_restart(&mut self, numbers: &[u32])
-        requires { AreSettings self.old.setup.central_words (numbered deadstart_places numbers.now) }
-        ensures { self.new ≡ over self.old (numbered deadstart_places numbers.now) }
+        requires { AreSettings self.old.setup.central_words (with_new_numbers deadstart_places numbers.now) }
+        ensures { self.new ≡ over self.old (with_new_numbers deadstart_places numbers.now) }
     {
         let list = renumbered(numbers);
         self.put_all(list.as_slice());

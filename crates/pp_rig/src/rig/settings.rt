@@ -1,27 +1,27 @@
 //! Numbers that an action sets at places.
 ghost use Rattle.std.specs.Prelude.{◌≡◌, ◌+◌, ◌<◌, ◌≤◌, ◌++◌, length};
 ghost use Rattle.arrayvec.specs.ArrayVec.{array_vec_len};
-ghost use Rattle.pp_machine.specs.Kept.{kept_pairs};
-ghost use Rattle.pp_machine.specs.Machine.{olds, over, put};
+ghost use Rattle.pp_machine.specs.WriteList.{write_list};
+ghost use Rattle.pp_machine.specs.Machine.{old_values, over, put};
 ghost use Rattle.pp_machine.specs.Shape.{IsShaped};
 ghost use Rattle.pp_rig.specs.Action.{FitsRecord, record_pairs};
 ghost use Rattle.pp_rig.specs.Settings.{AreSettings, IsSetting};
-ghost use Rattle.pp_rig.specs.WriteLists.{cell_list};
+ghost use Rattle.pp_rig.specs.WriteLists.{cell_writes};
 
 use super::{Rig, RigRecord};
 use arrayvec::ArrayVec;
-use pp_machine::{Channel, ChannelState, Kept, Place};
+use pp_machine::{Channel, ChannelState, Place, Write};
 
 /// Appends the settings of values in cells from a on. The first cell of the memory follows the last.
 pub(super) fn push_cells<const N: usize>(
-    list: &mut ArrayVec<Kept, N>,
+    list: &mut ArrayVec<Write, N>,
     pp: u8,
     a: u16,
     values: &[u16],
 )
-    requires few { length values.now ≤ 4096 }
+    requires at_most { length values.now ≤ 4096 }
     requires room { array_vec_len list.old + length values.now ≤ N }
-    ensures items { kept_pairs list.new.items ≡ kept_pairs list.old.items ++ cell_list pp a values.now }
+    ensures items { write_list list.new.items ≡ write_list list.old.items ++ cell_writes pp a values.now }
     ensures len { array_vec_len list.new ≡ array_vec_len list.old + length values.now }
 {
     for (i, value) in values.iter().enumerate() {
@@ -29,7 +29,7 @@ pub(super) fn push_cells<const N: usize>(
             pp,
             a: ((a as usize + i) % 4096) as u16,
         };
-        list.push(Kept::new(place, u64::from(*value)));
+        list.push(Write::new(place, u64::from(*value)));
     }
 }
 
@@ -85,39 +85,39 @@ impl Rig {
     }
 
     /// Returns the places of the list with their present numbers.
-    fn old_values<const N: usize>(&self, list: &[Kept]) -> ArrayVec<Kept, N>
+    fn old_values<const N: usize>(&self, list: &[Write]) -> ArrayVec<Write, N>
         requires room { length list.now ≤ N }
-        requires settings { AreSettings self.now.setup.central_words (kept_pairs list.now) }
-        ensures old_values { kept_pairs result.items ≡ olds self.now (kept_pairs list.now) }
-        ensures settings { AreSettings self.now.setup.central_words (kept_pairs result.items) }
+        requires settings { AreSettings self.now.setup.central_words (write_list list.now) }
+        ensures old_values { write_list result.items ≡ old_values self.now (write_list list.now) }
+        ensures settings { AreSettings self.now.setup.central_words (write_list result.items) }
         ensures len { length result.items ≡ length list.now }
     {
         let mut old_values = ArrayVec::new();
         for pair in list {
-            old_values.push(Kept::new(pair.place, self.number_at(&pair.place)));
+            old_values.push(Write::new(pair.place, self.number_at(&pair.place)));
         }
         old_values
     }
 
     /// Writes the numbers of the list to their places, the last pair first.
-    pub(super) fn put_all(&mut self, list: &[Kept])
-        requires { AreSettings self.old.setup.central_words (kept_pairs list.now) }
-        ensures { self.new ≡ over self.old (kept_pairs list.now) }
+    pub(super) fn put_all(&mut self, list: &[Write])
+        requires { AreSettings self.old.setup.central_words (write_list list.now) }
+        ensures { self.new ≡ over self.old (write_list list.now) }
     {
         for i in (0..list.len()).rev() {
-            let Kept { place, number } = list[i];
+            let Write { place, number } = list[i];
             self.set(place, number);
         }
     }
 
     /// Writes the numbers of the list to their places, and returns the old values.
-    pub(super) fn overwrite<const N: usize>(&mut self, list: &[Kept]) -> ArrayVec<Kept, N>
+    pub(super) fn overwrite<const N: usize>(&mut self, list: &[Write]) -> ArrayVec<Write, N>
         requires room { length list.now ≤ N }
-        requires settings { AreSettings self.old.setup.central_words (kept_pairs list.now) }
-        ensures step { self.new ≡ over self.old (kept_pairs list.now) }
-        ensures old_values { kept_pairs result.items ≡ olds self.old (kept_pairs list.now) }
-        ensures settings { AreSettings self.new.setup.central_words (kept_pairs result.items) }
-        ensures shaped { IsShaped self.new.setup.central_words self.new }
+        requires settings { AreSettings self.old.setup.central_words (write_list list.now) }
+        ensures step { self.new ≡ over self.old (write_list list.now) }
+        ensures old_values { write_list result.items ≡ old_values self.old (write_list list.now) }
+        ensures settings { AreSettings self.new.setup.central_words (write_list result.items) }
+        ensures has_shape { IsShaped self.new.setup.central_words self.new }
         ensures len { length result.items ≡ length list.now }
     {
         let old_values = self.old_values(list);
@@ -127,12 +127,12 @@ impl Rig {
     }
 
     /// Writes the numbers of a short list to their places, and returns the undo record.
-    pub(super) fn overwrite_all(&mut self, list: &[Kept]) -> RigRecord
+    pub(super) fn overwrite_all(&mut self, list: &[Write]) -> RigRecord
         requires room { length list.now ≤ 8 }
-        requires settings { AreSettings self.old.setup.central_words (kept_pairs list.now) }
-        ensures step { self.new ≡ over self.old (kept_pairs list.now) }
-        ensures stood { record_pairs result ≡ olds self.old (kept_pairs list.now) }
-        ensures few { length (record_pairs result) ≤ 8 }
+        requires settings { AreSettings self.old.setup.central_words (write_list list.now) }
+        ensures step { self.new ≡ over self.old (write_list list.now) }
+        ensures old_values { record_pairs result ≡ old_values self.old (write_list list.now) }
+        ensures at_most { length (record_pairs result) ≤ 8 }
         ensures fits { FitsRecord result self.new }
     {
         RigRecord::Settings(self.overwrite(list))

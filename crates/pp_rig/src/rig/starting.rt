@@ -49,9 +49,9 @@ impl Rig {
         requires prints { setup.printer ≤ 0o13 }
         requires cards { All IsCard setup.deck.items }
         requires panel { IfSome setup.panel (λ panel. All (λ word. word ≤ 0o7777) panel) }
-        ensures made { IfOk result (λ rig. rig ≡ starting setup) }
+        ensures returns { IfOk result (λ rig. rig ≡ starting setup) }
         ensures admitted { OnOk result (setup_fault setup ≡ None) }
-        ensures refused { IfErr result (λ fault. fault ≡ unwrap_or (setup_fault setup) SetupFault.NoMemory) }
+        ensures fails { IfErr result (λ fault. fault ≡ unwrap_or (setup_fault setup) SetupFault.NoMemory) }
     {
         if setup.reader == setup.printer {
             return Err(SetupFault::SameChannel);

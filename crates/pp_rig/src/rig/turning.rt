@@ -2,7 +2,7 @@
 ghost use Rattle.std.specs.Prelude.{◌≡◌, ◌<◌, ◌≤◌, true, false, None, [], ◌∷◌, length};
 ghost use Rattle.pp_machine.specs.Attached.{device_pairs, the_printer, the_reader};
 ghost use Rattle.pp_machine.specs.Lookup.{lookup};
-ghost use Rattle.pp_machine.specs.Machine.{olds, over};
+ghost use Rattle.pp_machine.specs.Machine.{old_values, over};
 ghost use Rattle.pp_machine.specs.Printer.{FitsPrinter};
 ghost use Rattle.pp_machine.specs.Reader.{FitsReader};
 ghost use Rattle.pp_machine.specs.Writes.{first_of_two, renamed};
@@ -10,14 +10,16 @@ ghost use Rattle.pp_rig.specs.IsMachine.{IsMachine};
 ghost use Rattle.pp_rig.specs.Lift.{printer_of, reader_of};
 ghost use Rattle.pp_rig.specs.Short.{IsTurned, whole, whole_turn};
 ghost use Rattle.pp_rig.specs.Storage.{is_storage};
-ghost use Rattle.pp_rig.specs.Turn.{AreDevicesStepped, FitsRest, FitsTurn, IsSlotStep, KeepsSlot, clock_list, clock_part, printer_list, printer_part, reader_list, reader_part, rest_of_turn, rest_olds, rest_pairs, slot_list, turn_pairs};
+ghost use Rattle.pp_rig.specs.Turn.{AreDevicesStepped, FitsRest, FitsTurn, IsSlotStep, KeepsSlot, clock_writes, clock_part, printer_step_writes, printer_part, reader_step_writes, reader_part, rest_of_turn, rest_old_values, rest_pairs, slot_writes, turn_pairs};
 ghost use Rattle.pp_step.specs.Pairs.{pairs_as};
 ghost use Rattle.pp_step.specs.Step.{FitsPp, pp_pairs};
 ghost use Rattle.pp_step.specs.View.{pp_place};
 
 use super::devices::{step_device, undo_device};
 use super::{Rig, RigRecord, ShortTurn, TurnRecord, TurnRest};
-use pp_machine::{CentralSize, ChannelState, Kept, Place, PrinterRecord, ReaderRecord, first_kept};
+use pp_machine::{
+    CentralSize, ChannelState, Place, PrinterRecord, ReaderRecord, Write, first_write,
+};
 use pp_step::{ExchangeRecord, PpRecord, StepRecord, Target};
 
 impl TurnRest {
@@ -65,12 +67,12 @@ impl TurnRest {
     fn end_was(&self, place: &Place) -> Option<u64>
         ensures { result ≡ first_of_two (lookup (clock_part self.now.slot self.now.clock) place.now) (lookup ((Place.Slot, self.now.slot) ∷ []) place.now) }
     {
-        let slot = Kept::new(Place::Slot, u64::from(self.slot));
+        let slot = Write::new(Place::Slot, u64::from(self.slot));
         if self.slot == 9 {
-            let clock = Kept::new(Place::Clock, u64::from(self.clock));
-            first_of(first_kept(&[clock], place), first_kept(&[slot], place))
+            let clock = Write::new(Place::Clock, u64::from(self.clock));
+            first_of(first_write(&[clock], place), first_write(&[slot], place))
         } else {
-            first_kept(&[slot], place)
+            first_write(&[slot], place)
         }
     }
 }
@@ -269,12 +271,12 @@ impl Rig {
     /// active.
     #[inline(never)]
     fn step_called_devices(&mut self) -> (ReaderRecord, PrinterRecord)
-        ensures step { let m2 = over self.old (reader_list self.old) in self.new ≡ over m2 (printer_list m2) }
-        ensures reader { device_pairs the_reader self.old.setup.reader_channel result.0 ≡ olds self.old (reader_list self.old) }
-        ensures printer { let m2 = over self.old (reader_list self.old) in device_pairs the_printer self.old.setup.printer_channel result.1 ≡ olds m2 (printer_list m2) }
-        ensures fits_reader { FitsReader result.0 (reader_of self.old.setup.reader_channel (over self.old (reader_list self.old))) }
+        ensures step { let s2 = over self.old (reader_step_writes self.old) in self.new ≡ over s2 (printer_step_writes s2) }
+        ensures reader { device_pairs the_reader self.old.setup.reader_channel result.0 ≡ old_values self.old (reader_step_writes self.old) }
+        ensures printer { let s2 = over self.old (reader_step_writes self.old) in device_pairs the_printer self.old.setup.printer_channel result.1 ≡ old_values s2 (printer_step_writes s2) }
+        ensures fits_reader { FitsReader result.0 (reader_of self.old.setup.reader_channel (over self.old (reader_step_writes self.old))) }
         ensures fits_printer { FitsPrinter result.1 (printer_of self.old.setup.printer_channel self.new) }
-        ensures kept { KeepsSlot self.old self.new }
+        ensures keeps_slot { KeepsSlot self.old self.new }
     {
         let reader = step_device(&mut self.reader, &mut self.channels, self.reader_channel);
         let printer = step_device(&mut self.printer, &mut self.channels, self.printer_channel);
@@ -284,7 +286,7 @@ impl Rig {
     /// Returns whether the channel of a device is active. If none is, the devices do nothing.
     #[inline(always)]
     fn are_devices_called(&self) -> bool
-        ensures { result ≡ false → (reader_list self.now ≡ []) × (printer_list self.now ≡ []) }
+        ensures { result ≡ false → (reader_step_writes self.now ≡ []) × (printer_step_writes self.now ≡ []) }
     {
         self.channels.get(self.reader_channel).state != ChannelState::Inactive
             || self.channels.get(self.printer_channel).state != ChannelState::Inactive
@@ -312,8 +314,8 @@ impl Rig {
         requires printer_channel { back.now.printer_channel ≡ self.old.setup.printer_channel }
         requires printer { FitsPrinter back.now.printer (printer_of back.now.printer_channel self.old) }
         requires reader { FitsReader back.now.reader (reader_of back.now.reader_channel (over self.old (printer_part back.now))) }
-        ensures undone { self.new ≡ over (over self.old (printer_part back.now)) (reader_part back.now) }
-        ensures kept { KeepsSlot self.old self.new }
+        ensures undoes { self.new ≡ over (over self.old (printer_part back.now)) (reader_part back.now) }
+        ensures keeps_slot { KeepsSlot self.old self.new }
     {
         undo_device(
             &mut self.printer,
@@ -332,11 +334,11 @@ impl Rig {
     /// Advances the clock by one in the turn of the last processor. Returns the clock before.
     #[inline(always)]
     fn tick(&mut self) -> u16
-        ensures step { self.new ≡ over self.old (clock_list self.old) }
-        ensures record { clock_part self.old.slot result ≡ olds self.old (clock_list self.old) }
-        ensures back { over self.new (clock_part self.old.slot result) ≡ self.old }
+        ensures step { self.new ≡ over self.old (clock_writes self.old) }
+        ensures old_values { clock_part self.old.slot result ≡ old_values self.old (clock_writes self.old) }
+        ensures leads_back { over self.new (clock_part self.old.slot result) ≡ self.old }
         ensures small { result < 4096 }
-        ensures kept { KeepsSlot self.old self.new }
+        ensures keeps_slot { KeepsSlot self.old self.new }
     {
         let clock = self.channels.clock();
         if self.slot == 9 {
@@ -348,8 +350,8 @@ impl Rig {
     #[inline(always)]
     fn undo_tick(&mut self, slot: u8, clock: u16)
         requires { clock < 4096 }
-        ensures undone { self.new ≡ over self.old (clock_part slot clock) }
-        ensures kept { KeepsSlot self.old self.new }
+        ensures undoes { self.new ≡ over self.old (clock_part slot clock) }
+        ensures keeps_slot { KeepsSlot self.old self.new }
     {
         if slot == 9 {
             self.channels.set_clock(clock);
@@ -358,9 +360,9 @@ impl Rig {
 
     #[inline(always)]
     fn advance(&mut self) -> u8
-        ensures step { self.new ≡ over self.old (slot_list self.old) }
-        ensures back { over self.new ((Place.Slot, result) ∷ []) ≡ self.old }
-        ensures was { result ≡ self.old.slot }
+        ensures step { self.new ≡ over self.old (slot_writes self.old) }
+        ensures leads_back { over self.new ((Place.Slot, result) ∷ []) ≡ self.old }
+        ensures returns { result ≡ self.old.slot }
         ensures small { result < 10 }
         ensures setup { self.new.setup ≡ self.old.setup }
         ensures machine { IsMachine self.new }
@@ -382,7 +384,7 @@ impl Rig {
     #[inline(always)]
     fn finish_turn(&mut self, back: &mut TurnRest)
         ensures step { self.new ≡ rest_of_turn self.old }
-        ensures record { rest_pairs back.new ≡ rest_olds self.old }
+        ensures old_values { rest_pairs back.new ≡ rest_old_values self.old }
         ensures fits { FitsRest back.new self.new }
         ensures slot { back.new.slot ≡ self.old.slot }
         ensures setup { self.new.setup ≡ self.old.setup }
@@ -396,7 +398,7 @@ impl Rig {
     #[inline(always)]
     fn undo_rest(&mut self, back: &TurnRest)
         requires { FitsRest back.now self.old }
-        ensures undone { self.new ≡ over self.old (rest_pairs back.now) }
+        ensures undoes { self.new ≡ over self.old (rest_pairs back.now) }
         ensures setup { self.new.setup ≡ self.old.setup }
     {
         self.set_slot(back.slot);
@@ -418,7 +420,7 @@ impl Rig {
     /// `back`. Returns `false` if the processor would perform an exchange; nothing has changed then.
     #[inline(always)]
     pub(super) fn turn_short(&mut self, back: &mut ShortTurn) -> bool
-        ensures turned { result ≡ true → IsTurned self.old self.new (whole_turn back.new) }
+        ensures turns { result ≡ true → IsTurned self.old self.new (whole_turn back.new) }
         ensures unchanged { result ≡ false → self.new ≡ self.old }
     {
         if !self.step_processor_short(&mut back.pp) {

@@ -1,11 +1,11 @@
 //! The watched places of a machine: which they are, and how they change.
 ghost use Rattle.std.specs.Prelude.{◌≡◌, ◌<◌, ◌+◌, ◌≤◌, [], ◌∷◌, All, false, length, map};
-ghost use Rattle.pp_machine.specs.Machine.{number, olds, over};
+ghost use Rattle.pp_machine.specs.Machine.{number, old_values, over};
 ghost use Rattle.pp_machine.specs.Shape.{Has};
-ghost use Rattle.pp_rig.specs.Action.{FitsRecord, FitsUnwatched, record_pairs, unwatch_list};
+ghost use Rattle.pp_rig.specs.Action.{FitsRecord, FitsUnwatched, record_pairs, unwatch_writes};
 ghost use Rattle.pp_rig.specs.WatchCodes.{first_zero, watch_code};
 ghost use Rattle.pp_rig.specs.Watches.{is_watched, watched_place, watches_of};
-ghost use Rattle.pp_rig.specs.WriteLists.{entry_list};
+ghost use Rattle.pp_rig.specs.WriteLists.{entry_writes};
 
 use super::{Rig, RigRecord};
 use crate::watched::Watched;
@@ -16,8 +16,8 @@ impl Rig {
     /// Returns the watched places in watch order, at most eight.
     pub fn watches(&self) -> &[Watched]
         ensures value { result.now ≡ watches_of self.now }
-        ensures present { All (λ watched. Has self.now.setup.central_words (watched_place watched)) result.now }
-        ensures few { length result.now ≤ 8 }
+        ensures has_places { All (λ watched. Has self.now.setup.central_words (watched_place watched)) result.now }
+        ensures at_most { length result.now ≤ 8 }
     {
         self.watches.places()
     }
@@ -25,7 +25,7 @@ impl Rig {
     /// Returns the places of the machine that are watched, in watch order, in a list of their own.
     pub fn watched_places(&self) -> ArrayVec<Place, 8>
         ensures value { result.items ≡ map watched_place (watches_of self.now) }
-        ensures present { All (λ place. Has self.now.setup.central_words place) result.items }
+        ensures has_places { All (λ place. Has self.now.setup.central_words place) result.items }
     {
         let mut places = ArrayVec::new();
         for watched in self.watches() {
@@ -37,11 +37,11 @@ impl Rig {
     /// Watches one more place.
     pub(super) fn watch(&mut self, watched: Watched) -> RigRecord
         requires room { first_zero self.old.watches < 8 }
-        requires present { Has self.old.setup.central_words (watched_place watched) }
+        requires has_places { Has self.old.setup.central_words (watched_place watched) }
         requires other { is_watched self.old watched ≡ false }
         ensures step { self.new ≡ over self.old ((Place.WatchEntry (first_zero self.old.watches), watch_code watched) ∷ []) }
-        ensures stood { record_pairs result ≡ (Place.WatchEntry (first_zero self.old.watches), 0) ∷ [] }
-        ensures free { number self.old (Place.WatchEntry (first_zero self.old.watches)) ≡ 0 }
+        ensures old_values { record_pairs result ≡ (Place.WatchEntry (first_zero self.old.watches), 0) ∷ [] }
+        ensures is_free { number self.old (Place.WatchEntry (first_zero self.old.watches)) ≡ 0 }
         ensures fits { FitsRecord result self.new }
     {
         let i = self.watches.count();
@@ -51,9 +51,9 @@ impl Rig {
 
     /// Stops watching a place.
     pub(super) fn unwatch(&mut self, watched: Watched) -> RigRecord
-        ensures step { self.new ≡ over self.old (unwatch_list self.old watched) }
-        ensures stood { record_pairs result ≡ olds self.old (unwatch_list self.old watched) }
-        ensures few { length (record_pairs result) ≤ 8 }
+        ensures step { self.new ≡ over self.old (unwatch_writes self.old watched) }
+        ensures old_values { record_pairs result ≡ old_values self.old (unwatch_writes self.old watched) }
+        ensures at_most { length (record_pairs result) ≤ 8 }
         ensures fits { FitsRecord result self.new }
     {
         let Some(i) = self.watches.entry_of(watched) else {
@@ -66,7 +66,7 @@ impl Rig {
     /// Restores the watched places from entry i on, the first of which was removed.
     pub(super) fn rewatch(&mut self, i: u8, places: &[Watched])
         requires { FitsUnwatched i places.now self.old }
-        ensures { self.new ≡ over self.old (entry_list i (map watch_code places.now)) }
+        ensures { self.new ≡ over self.old (entry_writes i (map watch_code places.now)) }
     {
         self.watches.restore(i, places);
     }

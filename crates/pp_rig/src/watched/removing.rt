@@ -12,7 +12,7 @@ use arrayvec::ArrayVec;
 
 /// Returns the places from i on.
 fn places_from(places: &[Watched], i: u8) -> ArrayVec<Watched, 8>
-    requires few { length places.now ≤ 8 }
+    requires at_most { length places.now ≤ 8 }
     requires within { i ≤ length places.now }
     ensures { result.items ≡ drop i places.now }
 {
@@ -34,14 +34,14 @@ impl WatchList {
     /// Removes the place at entry i, and returns it with the places behind it. Those places move up.
     pub fn remove(&mut self, i: u8) -> ArrayVec<Watched, 8>
         requires { i < first_zero self.old }
-        ensures removed { self.new ≡ with_entries self.old i (moved_up (drop (i + 1) self.old)) }
-        ensures stood { map watch_code result.items ≡ entries_at self.old i (moved_up (drop (i + 1) self.old)) }
-        ensures back { with_entries self.new i (map watch_code result.items) ≡ self.old }
+        ensures removes { self.new ≡ with_entries self.old i (moved_up (drop (i + 1) self.old)) }
+        ensures old_values { map watch_code result.items ≡ entries_at self.old i (moved_up (drop (i + 1) self.old)) }
+        ensures leads_back { with_entries self.new i (map watch_code result.items) ≡ self.old }
         ensures places { self.new ≡ watch_entries (remove (watched_in self.old) i) }
         ensures count { first_zero self.new + 1 ≡ i + length result.items }
         ensures within { i ≤ first_zero self.new }
-        ensures few { i + length result.items ≤ 8 }
-        ensures told { All (λ watched. watched_at (watch_code watched) ≡ watched) result.items }
+        ensures at_most { i + length result.items ≤ 8 }
+        ensures has_code { All (λ watched. watched_at (watch_code watched) ≡ watched) result.items }
     {
         let stood = places_from(self.places.as_slice(), i);
         self.places.remove(i as usize);
@@ -51,9 +51,9 @@ impl WatchList {
     /// Puts places back from entry i on. They replace the places there, of which there is one fewer.
     pub fn restore(&mut self, i: u8, places: &[Watched])
         requires count { first_zero self.old + 1 ≡ i + length places.now }
-        requires few { i + length places.now ≤ 8 }
+        requires at_most { i + length places.now ≤ 8 }
         requires within { i ≤ first_zero self.old }
-        requires told { All (λ watched. watched_at (watch_code watched) ≡ watched) places.now }
+        requires has_code { All (λ watched. watched_at (watch_code watched) ≡ watched) places.now }
         ensures { self.new ≡ with_entries self.old i (map watch_code places.now) }
     {
         self.places.truncate(i as usize);

@@ -10,8 +10,8 @@ pub returns-in-Ok-try_get_matches_from-clause-matches : goal.returns-in-Ok-try_g
 returns-in-Ok-try_get_matches_from-clause-matches c =
     given-of_matches _ (map string_bytes c.args.words.now) _ c.in-Ok.ensures c.in-Ok-try_get_matches_from.ensures.matches
 
-pub returns-in-Err-clause-taken : goal.returns-in-Err-clause-taken
-returns-in-Err-clause-taken c = λ taken.
+pub returns-in-Err-clause-takes_words : goal.returns-in-Err-clause-takes_words
+returns-in-Err-clause-takes_words c = λ taken.
     c.fault_of.ensures.memory (c.kind.ensures ∙ c.in-Err.ensures.passes (takes-of_words _ (map string_bytes c.args.words.now) c.in-Ok.ensures taken))
 
 pub returns-in-Ok-try_get_matches_from-clause-faults : goal.returns-in-Ok-try_get_matches_from-clause-faults
@@ -21,4 +21,4 @@ returns-in-Ok-try_get_matches_from-clause-faults c =
 pub returns-in-Err-clause-faults : goal.returns-in-Err-clause-faults
 returns-in-Err-clause-faults c =
     let has = faults-of_words {T = ArgMatches} _ (map string_bytes c.args.words.now) (Err c.in-Err.error) c.in-Ok.ensures c.in-Err.ensures.kinds in
-    c.fault_of.ensures.told (faults_of (map string_bytes c.args.words.now)) (rw c.kind.ensures has)
+    c.fault_of.ensures.names_cause (faults_of (map string_bytes c.args.words.now)) (rw c.kind.ensures has)

@@ -8,9 +8,9 @@ use Rattle.pp_console.proofs.commands.forward.Goals as goal
 pub returns-in-Ok : goal.returns-in-Ok
 unfolding forward_name
 returns-in-Ok g c =
-    performs-answered g.W.Sink c.args.session.now _ c.args.out.now c.write_moved.new.out _ (forward_answer c.args.actions) _ c.write_moved.ensures.text c.write_moved.ensures.counted c.write_moved.ensures.performed
+    performs-answered g.W.Sink c.args.session.now _ c.args.out.now c.write_moved.new.out _ (forward_answer c.args.actions) _ c.write_moved.ensures.text c.write_moved.ensures.counts c.write_moved.ensures.performed
     (λ v at.
     let next = after_forward v c.args.actions in
-    let slot = c.slot.ensures.value ∙ ap (λ m. m.slot) (c.machine.ensures.replayed next (c.in-Ok.ensures.ok v at)) in
+    let slot = c.slot.ensures.value ∙ ap (λ m. m.slot) (c.machine.ensures.is_replay next (c.in-Ok.ensures.moves v at)) in
     let text = ap (moved_text forward_name c.args.actions) slot in
-    (next, forward-enough c.args.actions v (c.in-Ok.ensures.enough v at) ∙ ap (answered next) (sym text), c.in-Ok.ensures.ok v at))
+    (next, forward-enough c.args.actions v (c.in-Ok.ensures.has_enough v at) ∙ ap (answered next) (sym text), c.in-Ok.ensures.moves v at))

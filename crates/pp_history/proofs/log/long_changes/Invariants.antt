@@ -4,7 +4,7 @@ use Rattle.pp_history.proofs.log.long_changes.Given as goal
 
 abbrev pub invariant-loop-place : goal.invariant-loop-place
 invariant-loop-place g l =
-    let found : List g.row.T-Place.Denot → Bool = λ places. changes g.T.Reversible (λ place. g.T.Reversible.number l.machine place) places l.back in
+    let found : List g.row.T-Place.Denot → Bool = λ places. changes g.T.Reversible (λ place. g.T.Reversible.value_at l.machine place) places l.back in
     record {
       rest : found (drop l.place-index l.places) ≡ found l.places;
       counts_up : l.fn.looks.count ≤ l.looks.count;

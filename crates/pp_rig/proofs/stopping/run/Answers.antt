@@ -22,8 +22,8 @@ first_change-requires c = λ e.
     turned-watches c.loop-turns.session.machine c.act.new.self.machine c.act.ensures.machine ∙ c.loop-turns.invariant.watches in
     ap are_storage same ∙ (ap (λ (m : Machine). are_storage (watches_of m)) (sym c.machine.ensures.value) ∙ (sym c.are_storage-is_storage_alone.ensures ∙ e))
 
-pub returns-in-Some-clause-stopped : goal.returns-in-Some-clause-stopped
-returns-in-Some-clause-stopped c =
+pub returns-in-Some-clause-stops : goal.returns-in-Some-clause-stops
+returns-in-Some-clause-stops c =
     let old = c.loop-turns.session in
     let first = c.has_session_value.ensures in
     let v = after_turns c.loop-turns.turns first.0 in
@@ -47,12 +47,12 @@ loop-turns-preserved c =
       watches = turned-watches old.machine c.act.new.self.machine c.act.ensures.machine ∙ c.loop-turns.invariant.watches;
     }
 
-pub returns-clause-stopped : goal.returns-clause-stopped
-returns-clause-stopped c =
+pub returns-clause-stops : goal.returns-clause-stops
+returns-clause-stops c =
     sym (c.loop-turns.invariant.stopped ∙ stopped-end c.args.n c.loop-turns.turns c.loop-turns.session.machine c.loop-turns-test.false c.loop-turns.auto.turns-end)
 
-pub returns-in-Some-clause-replayed : goal.returns-in-Some-clause-replayed
-returns-in-Some-clause-replayed c = λ v at. rw (← machine_at rules c.args.session.now v at) (returns-in-Some-clause-stopped c)
+pub returns-in-Some-clause-is_replay : goal.returns-in-Some-clause-is_replay
+returns-in-Some-clause-is_replay c = λ v at. rw (← machine_at rules c.args.session.now v at) (returns-in-Some-clause-stops c)
 
-pub returns-clause-replayed : goal.returns-clause-replayed
-returns-clause-replayed c = λ v at. rw (← machine_at rules c.args.session.now v at) (returns-clause-stopped c)
+pub returns-clause-is_replay : goal.returns-clause-is_replay
+returns-clause-is_replay c = λ v at. rw (← machine_at rules c.args.session.now v at) (returns-clause-stops c)

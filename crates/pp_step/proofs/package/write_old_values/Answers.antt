@@ -1,18 +1,18 @@
 use Rattle.std.proofs.Common.{arith, sym, ◌∙◌, length, ◌≡◌}
 use Rattle.pp_step.specs.Exchange.{loaded}
 use Rattle.pp_step.specs.View.{pp_view}
-use Rattle.pp_step.proofs.Exchanged.{loaded-kept, olds-swap}
+use Rattle.pp_step.proofs.Exchanged.{loaded-kept, old_values-swap}
 use Rattle.pp_step.proofs.Swapped.{length-loaded}
 use Rattle.pp_step.proofs.package.write_old_values.Goals as goal
 
-pub returns-clause-record : goal.returns-clause-record
-returns-clause-record c = λ cells channels next.
+pub returns-clause-old_values : goal.returns-clause-old_values
+returns-clause-old_values c = λ cells channels next.
     let m = pp_view c.args.pp.now cells channels c.args.central.now c.args.frame.now in
-    let size : length m.frame ≡ 16 = rw c.package-back.ensures.value at c.package-back.ensures.«package».size in
+    let size : length m.frame ≡ 16 = rw c.package-back.ensures.value at c.package-back.ensures.package.size in
     let read = c.read_words.ensures in
     rw (c.package-back.ensures.value, c.size-back.ensures)
-    (sym (olds-swap m next m.a (loaded m.a m.central) m.frame c.read_words.new.words (size ∙ sym (length-loaded m.a m.central)) (read.size ∙ sym size) (λ k h. read.value k (omega (arith, size)))))
+    (sym (old_values-swap m next m.a (loaded m.a m.central) m.frame c.read_words.new.words (size ∙ sym (length-loaded m.a m.central)) (read.size ∙ sym size) (λ k h. read.value k (omega (arith, size)))))
 
-pub returns-clause-loaded : goal.returns-clause-loaded
-returns-clause-loaded c =
+pub returns-clause-loads : goal.returns-clause-loads
+returns-clause-loads c =
     loaded-kept c.args.pp.now.a c.args.central.now c.read_words.new.words c.read_words.ensures.size c.read_words.ensures.value

@@ -1,5 +1,5 @@
 use Rattle.std.proofs.Common.{arith}
-use Rattle.pp_machine.specs.Kept.{kept_pairs-append}
+use Rattle.pp_machine.specs.WriteList.{write_list-append}
 use Rattle.pp_rig.specs.Settings.{IsSetting-at, AreSettings-append}
 use Rattle.pp_rig.proofs.WriteLists.{push-stood}
 use Rattle.pp_rig.proofs.rig.Rig.old_values.Goals as goal
@@ -13,5 +13,5 @@ loop-pair-preserved g c =
     record {
       count = omega arith;
       old_values = push-stood c.args.self.now c.args.list.now c.loop-pair.old_values.items c.push.new.self.items c.loop-pair.pair-index _ (omega arith) c.loop-pair.invariant.old_values (rw (c.new.ensures, c.number_at.ensures.value) at c.push.ensures.items);
-      settings = rw (c.push.ensures.items, kept_pairs-append, c.new.ensures) (AreSettings-append _ _ _ c.loop-pair.invariant.settings (record { has = here.has; settable = here.settable; in_range = c.number_at.ensures.in_range }, tt));
+      settings = rw (c.push.ensures.items, write_list-append, c.new.ensures) (AreSettings-append _ _ _ c.loop-pair.invariant.settings (record { has = here.has; settable = here.settable; in_range = c.number_at.ensures.in_range }, tt));
     }

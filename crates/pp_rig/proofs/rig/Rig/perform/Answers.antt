@@ -4,7 +4,7 @@ use Rattle.pp_rig.proofs.rig.Rig.perform.Goals as goal
 pub watch-requires : goal.watch-requires
 watch-requires c =
     let free = is_watch c.args.self.now c.in-Watch.watched (rw c.in-Watch.is at c.requires) in
-    record { room = free.room; present = free.present; other = free.other }
+    record { room = free.room; has_places = free.present; other = free.other }
 
 pub overwrite_all-requires-clause-settings : goal.overwrite_all-requires-clause-settings
 overwrite_all-requires-clause-settings c =
@@ -16,12 +16,12 @@ returns-in_default-clause-step c =
     let set = is_set c.args.self.now c.args.action.now c.requires c.in_default.not-Turn c.in_default.not-Watch c.in_default.not-Unwatch c.in_default.not-Deadstart in
     rw (c.overwrite_all.ensures.step, c.as_slice.ensures.value, c.settings_of.ensures, set.next)
 
-pub returns-in_default-clause-stood : goal.returns-in_default-clause-stood
-returns-in_default-clause-stood c =
+pub returns-in_default-clause-old_values : goal.returns-in_default-clause-old_values
+returns-in_default-clause-old_values c =
     let set = is_set c.args.self.now c.args.action.now c.requires c.in_default.not-Turn c.in_default.not-Watch c.in_default.not-Unwatch c.in_default.not-Deadstart in
-    rw (c.overwrite_all.ensures.stood, c.as_slice.ensures.value, c.settings_of.ensures, set.old_values)
+    rw (c.overwrite_all.ensures.old_values, c.as_slice.ensures.value, c.settings_of.ensures, set.old_values)
 
-pub returns-in_default-clause-few : goal.returns-in_default-clause-few
-returns-in_default-clause-few c =
+pub returns-in_default-clause-at_most : goal.returns-in_default-clause-at_most
+returns-in_default-clause-at_most c =
     let set = is_set c.args.self.now c.args.action.now c.requires c.in_default.not-Turn c.in_default.not-Watch c.in_default.not-Unwatch c.in_default.not-Deadstart in
-    rw set.most c.overwrite_all.ensures.few
+    rw set.most c.overwrite_all.ensures.at_most

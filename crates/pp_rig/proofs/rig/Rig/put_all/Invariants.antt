@@ -1,7 +1,7 @@
 use Rattle.std.proofs.Common.{◌≡◌, drop}
-use Rattle.pp_machine.specs.Kept.{kept_pairs}
+use Rattle.pp_machine.specs.WriteList.{write_list}
 use Rattle.pp_machine.specs.Machine.{over}
 use Rattle.pp_rig.proofs.rig.Rig.put_all.Given as goal
 
 abbrev pub invariant-loop-i : goal.invariant-loop-i
-invariant-loop-i l = l.self ≡ over l.initial.self (kept_pairs (drop l.i l.list))
+invariant-loop-i l = l.self ≡ over l.initial.self (write_list (drop l.i l.list))

@@ -3,7 +3,7 @@ use Rattle.std.proofs.lemmas.List.{get_or_read}
 use Rattle.pp_machine.specs.Machine.{processor, no_processor}
 use Rattle.pp_step.specs.View.{PpView}
 use Rattle.pp_step.specs.declared.record.PpRecord.TheVariants.{Step}
-use Rattle.pp_rig.specs.Lift.{lent, pp_of}
+use Rattle.pp_rig.specs.Lift.{step_view, pp_of}
 use Rattle.pp_rig.specs.MachineLaws.{has_processor}
 use Rattle.pp_rig.specs.RigView.{machine_of}
 use Rattle.pp_rig.specs.Turn.{IsStep}
@@ -11,7 +11,7 @@ use Rattle.pp_rig.proofs.Stepped.{IsMachine-short, slot-same, slot-stepped}
 use Rattle.pp_rig.proofs.rig.Rig.step_processor_short.Goals as goal
 
 abbrev left : goal.After-self-1 → PpView
-left c = lent c.step_short.new.self c.step_short.new.channels c.step_short.new.central c.self.inside.frame
+left c = step_view c.step_short.new.self c.step_short.new.channels c.step_short.new.central c.self.inside.frame
 
 handed : (c : goal.After-self-1) → c.index_mut.result.now ≡ processor (machine_of c.self.inside) c.self.inside.slot
 handed c =

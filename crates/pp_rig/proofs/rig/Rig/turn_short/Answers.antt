@@ -2,7 +2,7 @@ use Rattle.std.proofs.Common.{refl}
 use Rattle.pp_rig.proofs.Stepped.{turned}
 use Rattle.pp_rig.proofs.rig.Rig.turn_short.Goals as goal
 
-pub returns-clause-turned : goal.returns-clause-turned
-returns-clause-turned c = λ done.
+pub returns-clause-turns : goal.returns-clause-turns
+returns-clause-turns c = λ done.
     let rest = c.finish_turn.ensures in
-    turned _ c.step_processor_short.new.self _ _ (c.if-not-step_processor_short.ensures.step refl) rest.step rest.record rest.fits rest.slot rest.setup rest.machine
+    turned _ c.step_processor_short.new.self _ _ (c.if-not-step_processor_short.ensures.step refl) rest.step rest.old_values rest.fits rest.slot rest.setup rest.machine

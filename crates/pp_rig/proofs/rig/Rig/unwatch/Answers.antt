@@ -4,7 +4,7 @@ use Rattle.std.proofs.lemmas.List.{length-map}
 use Rattle.pp_rig.specs.Action.{moved_up}
 use Rattle.pp_rig.specs.RigView.{machine_of}
 use Rattle.pp_rig.specs.WatchCodes.{watch_code}
-use Rattle.pp_rig.proofs.Unwatching.{unwatched, unwatched-stood, length-entry_list, length-with_entries, HasAll-entries, IsShaped-watches, AreWatches-removed}
+use Rattle.pp_rig.proofs.Unwatching.{unwatched, unwatched-stood, length-entry_writes, length-with_entries, HasAll-entries, IsShaped-watches, AreWatches-removed}
 use Rattle.pp_rig.proofs.WatchCodes.{words_of-few}
 use Rattle.pp_rig.proofs.rig.Rig.unwatch.Goals as goal
 
@@ -12,7 +12,7 @@ found : (c : goal.After-remove-places) → position (λ code. code == watch_code
 found c = sym c.entry_of.ensures.value ∙ c.in-Some.is
 
 eight : (c : goal.After-remove-places) → length c.remove-places.new.self ≡ 8
-eight c = rw c.remove-places.ensures.removed (length-with_entries c.self.inside.watches c.in-Some.i (moved_up (drop (c.in-Some.i + 1) c.self.inside.watches)) ∙ c.self.invariant.shaped.watches)
+eight c = rw c.remove-places.ensures.removes (length-with_entries c.self.inside.watches c.in-Some.i (moved_up (drop (c.in-Some.i + 1) c.self.inside.watches)) ∙ c.self.invariant.shaped.watches)
 
 pub invariant_of-self : goal.invariant_of-self
 invariant_of-self c =
@@ -26,27 +26,27 @@ invariant_of-self c =
 
 pub returns-clause-step : goal.returns-clause-step
 returns-clause-step c =
-    rw (← c.self.view_is) (unwatched (machine_of c.self.inside) c.args.watched c.in-Some.i c.remove-places.new.self (found c) c.remove-places.ensures.removed)
+    rw (← c.self.view_is) (unwatched (machine_of c.self.inside) c.args.watched c.in-Some.i c.remove-places.new.self (found c) c.remove-places.ensures.removes)
 
-pub returns-clause-stood : goal.returns-clause-stood
-returns-clause-stood c =
-    rw (← c.self.view_is) (unwatched-stood (machine_of c.self.inside) c.args.watched c.in-Some.i _ (found c) c.remove-places.ensures.stood)
+pub returns-clause-old_values : goal.returns-clause-old_values
+returns-clause-old_values c =
+    rw (← c.self.view_is) (unwatched-stood (machine_of c.self.inside) c.args.watched c.in-Some.i _ (found c) c.remove-places.ensures.old_values)
 
-pub returns-clause-few : goal.returns-clause-few
-returns-clause-few c =
-    rw (length-entry_list, length-map) (omega (arith, c.remove-places.ensures.few))
+pub returns-clause-at_most : goal.returns-clause-at_most
+returns-clause-at_most c =
+    rw (length-entry_writes, length-map) (omega (arith, c.remove-places.ensures.at_most))
 
 pub returns-clause-fits : goal.returns-clause-fits
 returns-clause-fits c =
-    let few = c.remove-places.ensures.few in
+    let few = c.remove-places.ensures.at_most in
     let codes : c.in-Some.i + length (map watch_code c.remove-places.result.items) ≤ 8 = rw length-map few in
     record {
       part = record {
         count = c.remove-places.ensures.count;
         within = c.remove-places.ensures.within;
         few = few;
-        told = c.remove-places.ensures.told;
-        back = rw c.remove-places.ensures.back c.self.invariant.watches;
+        told = c.remove-places.ensures.has_code;
+        back = rw c.remove-places.ensures.leads_back c.self.invariant.watches;
       };
       shaped = IsShaped-watches _ (machine_of c.self.inside) c.remove-places.new.self c.self.invariant.shaped (eight c);
       places = HasAll-entries _ c.in-Some.i _ codes;

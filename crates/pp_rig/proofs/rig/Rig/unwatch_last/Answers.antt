@@ -23,11 +23,11 @@ remove-requires c =
 
 pub invariant_of-self : goal.invariant_of-self
 invariant_of-self c = record {
-  shaped = IsShaped-watches _ (machine_of c.self.inside) c.remove.new.self c.self.invariant.shaped (rw c.remove.ensures.removed (length-with_entries c.self.inside.watches c.args.i (moved_up (drop (c.args.i + 1) c.self.inside.watches)) ∙ c.self.invariant.shaped.watches));
+  shaped = IsShaped-watches _ (machine_of c.self.inside) c.remove.new.self c.self.invariant.shaped (rw c.remove.ensures.removes (length-with_entries c.self.inside.watches c.args.i (moved_up (drop (c.args.i + 1) c.self.inside.watches)) ∙ c.self.invariant.shaped.watches));
   slot = c.self.invariant.slot;
   setup = c.self.invariant.setup;
   watches = rw c.remove.ensures.places (AreWatches-removed _ c.self.inside.watches c.args.i (words_of-few c.self.inside.central_size) c.self.invariant.watches (below c));
 }
 
 pub returns : goal.returns
-returns c = rw (← c.self.view_is, c.remove.ensures.removed, last c) refl
+returns c = rw (← c.self.view_is, c.remove.ensures.removes, last c) refl

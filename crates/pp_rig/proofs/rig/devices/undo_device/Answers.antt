@@ -12,10 +12,10 @@ pub returns-clause-device : goal.returns-clause-device
 returns-clause-device g c =
     let d = g.D.Device.model in
     let seen = view-handed c.args.c c.args.channels.now c.args.device.now c.get-channel.result c.get-channel.ensures.state c.get-channel.ensures.word in
-    view-device c.args.c c.args.channels.now _ c.undo.new.channel _ (c.undo.ensures.undone ∙ ap (λ old. over_device d old (d.pairs c.args.back)) seen)
+    view-device c.args.c c.args.channels.now _ c.undo.new.channel _ (c.undo.ensures.undoes ∙ ap (λ old. over_device d old (d.pairs c.args.back)) seen)
 
 pub returns-clause-channels : goal.returns-clause-channels
 returns-clause-channels g c =
     let d = g.D.Device.model in
     let seen = view-handed c.args.c c.args.channels.now c.args.device.now c.get-channel.result c.get-channel.ensures.state c.get-channel.ensures.word in
-    c.set.ensures ∙ view-channels c.args.c c.args.channels.now _ c.undo.new.channel _ (c.undo.ensures.undone ∙ ap (λ old. over_device d old (d.pairs c.args.back)) seen)
+    c.set.ensures ∙ view-channels c.args.c c.args.channels.now _ c.undo.new.channel _ (c.undo.ensures.undoes ∙ ap (λ old. over_device d old (d.pairs c.args.back)) seen)

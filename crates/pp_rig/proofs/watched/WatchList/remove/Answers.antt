@@ -31,16 +31,16 @@ below c = rw (← c.self.view_is, first_zero-entries) at c.requires
 stood : (c : goal.After-remove) → c.places_from-stood.result.items ≡ drop c.args.i c.self.inside.places.items
 stood c = rw (c.places_from-stood.ensures, c.as_slice.ensures.value)
 
-pub returns-clause-removed : goal.returns-clause-removed
-returns-clause-removed c =
+pub returns-clause-removes : goal.returns-clause-removes
+returns-clause-removes c =
     rw (← c.self.view_is, c.remove.ensures.items) (removed-at c.self.inside.places.items c.args.i (below c) c.self.invariant.few)
 
-pub returns-clause-stood : goal.returns-clause-stood
-returns-clause-stood c =
+pub returns-clause-old_values : goal.returns-clause-old_values
+returns-clause-old_values c =
     rw (← c.self.view_is, stood c) (stood-at c.self.inside.places.items c.args.i (below c) c.self.invariant.few)
 
-pub returns-clause-back : goal.returns-clause-back
-returns-clause-back c =
+pub returns-clause-leads_back : goal.returns-clause-leads_back
+returns-clause-leads_back c =
     rw (← c.self.view_is, c.remove.ensures.items, stood c) (back-at c.self.inside.places.items c.args.i (below c) c.self.invariant.few)
 
 pub returns-clause-places : goal.returns-clause-places
@@ -57,9 +57,9 @@ returns-clause-within c =
     let count = length-remove c.self.inside.places.items c.args.i (below c) in
     rw (c.remove.ensures.items, first_zero-entries) (omega (arith, count, below c))
 
-pub returns-clause-few : goal.returns-clause-few
-returns-clause-few c =
+pub returns-clause-at_most : goal.returns-clause-at_most
+returns-clause-at_most c =
     rw (stood c, length-drop) (omega (arith, below c, c.self.invariant.few))
 
-pub returns-clause-told : goal.returns-clause-told
-returns-clause-told c = rw (stood c) (All-drop (λ w. watched_at (watch_code w) ≡ w) c.args.i c.self.inside.places.items c.self.invariant.told)
+pub returns-clause-has_code : goal.returns-clause-has_code
+returns-clause-has_code c = rw (stood c) (All-drop (λ w. watched_at (watch_code w) ≡ w) c.args.i c.self.inside.places.items c.self.invariant.told)

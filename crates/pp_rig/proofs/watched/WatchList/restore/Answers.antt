@@ -7,4 +7,4 @@ returns c =
     let ws = c.self.inside.places.items in
     let within = rw (← c.self.view_is, first_zero-entries) at c.requires.within in
     let count = rw (← c.self.view_is, first_zero-entries) at c.requires.count in
-    rw (← c.self.view_is, c.append.ensures.items, c.truncate.ensures.items) (restored-at ws c.args.places.now c.args.i within count c.requires.few)
+    rw (← c.self.view_is, c.append.ensures.items, c.truncate.ensures.items) (restored-at ws c.args.places.now c.args.i within count c.requires.at_most)

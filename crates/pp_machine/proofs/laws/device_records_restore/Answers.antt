@@ -4,7 +4,7 @@ use Rattle.pp_machine.specs.Reader.{reader_pairs, reader_place}
 use Rattle.pp_machine.specs.Writes.{renamed}
 use Rattle.pp_machine.proofs.PrinterLaws.{HasAll-printer}
 use Rattle.pp_machine.proofs.ReaderLaws.{HasAll-reader}
-use Rattle.pp_machine.proofs.laws.device_records_tell.Goals as goal
+use Rattle.pp_machine.proofs.laws.device_records_restore.Goals as goal
 
 pub returns-clause-reader : goal.returns-clause-reader
 returns-clause-reader c = λ m k back place shaped small.

@@ -3,7 +3,7 @@ use Rattle.pp_machine.specs.Writes.{renamed}
 use Rattle.pp_step.specs.PpPlaces.{HasAll-pp}
 use Rattle.pp_step.specs.Step.{pp_pairs}
 use Rattle.pp_step.specs.View.{pp_place}
-use Rattle.pp_step.proofs.laws.records_tell.Goals as goal
+use Rattle.pp_step.proofs.laws.records_restore.Goals as goal
 
 pub returns : goal.returns
 returns c = λ m n back place shaped small fits.
