@@ -11,7 +11,7 @@ mod steps;
 use crate::progress::Summary;
 use crate::serving::serve;
 use pp_history::Session;
-use pp_lines::{Feed, Tray};
+use pp_lines::{Feed, IoFault, Tray};
 use pp_machine::CentralSize;
 use pp_rig::{Rig, Setup};
 use std::alloc::Global;
@@ -86,10 +86,11 @@ fn panel_of(with: With) -> Option<[u16; 12]>
 }
 
 /// Returns a session of a new machine with the reader on channel 12 and the printer on channel 13. Its
-/// undo history holds `capacity` actions.
-pub(crate) fn session_of(alloc: Global, with: With, capacity: u32) -> Result<Session<Rig>, Fail>
-    requires { (1 ≤ capacity) × (capacity ≤ 10000) }
-{
+/// undo history holds `capacity` actions, 1 to 10000 (decimal).
+pub(crate) fn session_of(alloc: Global, with: With, capacity: u32) -> Result<Session<Rig>, Fail> {
+    if capacity < 1 || capacity > 10000 {
+        return Err("capacity".into());
+    }
     let setup = Setup {
         central: if with == With::LittleMemory {
             CentralSize::K32
@@ -105,42 +106,79 @@ pub(crate) fn session_of(alloc: Global, with: With, capacity: u32) -> Result<Ses
     Ok(Session::new(alloc, machine, capacity).map_err(|_| "no session")?)
 }
 
-/// Runs a script in a session, in pieces of the given length, and compares the text written and the
-/// summary with those expected.
-fn answers_in_pieces(
-    rt: &impl Abort,
-    mut session: Session<Rig>,
-    piece: usize,
+/// Performs a script that is read in pieces of the given length.
+fn served(
+    session: &mut Session<Rig>,
     script: &[u8],
-    expected: &[u8],
-    summary: Summary,
-)
+    piece: usize,
+    out: &mut Tray,
+) -> Result<Summary, IoFault>
     requires { 0 < piece }
 {
-    let mut out = Tray::new(piece);
-    let told = serve(&mut session, &mut Feed::new(script, piece), &mut out);
-    assert!(rt; out.text() == expected);
-    assert_eq!(rt; told, Ok(summary));
+    serve(session, &mut Feed::new(script, piece), out)
 }
 
-/// Runs a script in a new session with the given capacity, byte by byte and at once, and compares the
-/// text written and the summary with those expected.
-fn answers(
+/// A script, and its answers on a new machine.
+#[derive(Drop)]
+struct Case<'a> {
+    with: With,
+    capacity: u32,
+    script: &'a [u8],
+    answers: &'a [u8],
+    summary: Summary,
+}
+
+/// Performs the script of a case, read and written in pieces of the given length, and compares what it
+/// writes and its summary.
+fn compare_in_pieces(rt: &impl Abort, alloc: Global, case: &Case, piece: usize) -> Result<(), Fail>
+    requires { 0 < piece }
+{
+    let mut session = session_of(alloc, case.with, case.capacity)?;
+    let mut out = Tray::new(piece);
+    let summary = served(&mut session, case.script, piece, &mut out);
+    assert!(rt; out.text() == case.answers);
+    assert_eq!(rt; summary, Ok(case.summary));
+    Ok(())
+}
+
+/// Performs the script of a case byte by byte, and at once.
+fn compare(rt: &impl Abort, alloc: Global, case: &Case) -> Result<(), Fail> {
+    compare_in_pieces(rt, alloc, case, 1)?;
+    compare_in_pieces(rt, alloc, case, 4096)
+}
+
+/// Performs a session on a new machine, and compares it. A line after `> ` is of the script, and the
+/// lines after it are its answer.
+fn follows(
     rt: &impl Abort,
     alloc: Global,
     with: With,
     capacity: u32,
-    script: &[u8],
-    expected: &[u8],
-    lines: u32,
-    refused: u32,
-) -> Result<(), Fail>
-    requires { (1 ≤ capacity) × (capacity ≤ 10000) }
-{
-    let summary = Summary { lines, refused };
-    let session = session_of(alloc, with, capacity)?;
-    answers_in_pieces(rt, session, 1, script, expected, summary);
-    let session = session_of(alloc, with, capacity)?;
-    answers_in_pieces(rt, session, 4096, script, expected, summary);
-    Ok(())
+    session: &str,
+) -> Result<(), Fail> {
+    let mut script = String::new(alloc);
+    let mut answers = String::new(alloc);
+    let mut summary = Summary {
+        lines: 0,
+        refused: 0,
+    };
+    for line in session.lines() {
+        if let Some(command) = line.strip_prefix("> ") {
+            writeln!(script, "{command}")?;
+            summary.lines = summary.lines.saturating_add(1);
+        } else {
+            writeln!(answers, "{line}")?;
+            if line.starts_with("ERR") {
+                summary.refused = summary.refused.saturating_add(1);
+            }
+        }
+    }
+    let case = Case {
+        with,
+        capacity,
+        script: script.as_bytes(),
+        answers: answers.as_bytes(),
+        summary,
+    };
+    compare(rt, alloc, &case)
 }

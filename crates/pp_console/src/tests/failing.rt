@@ -1,7 +1,7 @@
 //! Devices that fail, and input without end.
 ghost use Rattle.std.specs.Prelude.{◌<◌};
 
-use super::{With, session_of};
+use super::{With, served, session_of};
 use crate::progress::Summary;
 use crate::serving::serve;
 use pp_history::{Reversible, Session};
@@ -107,11 +107,7 @@ fn fails_at_each_take(
     requires { 0 < piece }
 {
     let script = joined_lines(alloc, exchanges)?;
-    let calls = (script.len() / piece).saturating_add(if script.len() % piece == 0 {
-        1
-    } else {
-        2
-    });
+    let calls = script.len().div_ceil(piece).saturating_add(1);
     let mut taken = 0usize;
     for call in 1..calls.saturating_add(1) {
         let (text, kept) = finished_within(alloc, exchanges, taken)?;
@@ -146,8 +142,7 @@ fn fails_at_each_put(
         for part in answer.chunks(piece) {
             let mut session = session_of(alloc, With::LittleMemory, 100)?;
             let mut out = Tray::failing(piece, call);
-            let mut source = Feed::new(script.as_slice(), 4096);
-            let result = serve(&mut session, &mut source, &mut out);
+            let result = served(&mut session, script.as_slice(), 4096, &mut out);
             assert_eq!(rt; result, Err(IoFault::WriteFailed), "at call {call}");
             assert!(rt; out.text() == text.as_slice(), "at call {call}");
             assert_eq!(rt; session.kept(), *kept, "at call {call}");
@@ -157,21 +152,16 @@ fn fails_at_each_put(
     }
     let mut session = session_of(alloc, With::LittleMemory, 100)?;
     let mut out = Tray::failing(piece, call);
-    assert!(rt;
-        serve(
-            &mut session,
-            &mut Feed::new(script.as_slice(), 4096),
-            &mut out
-        )
-        .is_ok()
-    );
+    assert!(rt; served(&mut session, script.as_slice(), 4096, &mut out).is_ok());
     assert!(rt; out.text() == text.as_slice());
     Ok(())
 }
 
+const SCRIPTS: [&[Exchange]; 3] = [&LOAD, &CHANGE, &REFUSED];
+
 #[test]
 fn source_fails_at_each_call(rt: HostRuntime) -> Result<(), Fail> {
-    for exchanges in [LOAD.as_slice(), CHANGE.as_slice(), REFUSED.as_slice()] {
+    for exchanges in SCRIPTS {
         fails_at_each_take(&rt, rt.alloc(), exchanges, 1)?;
         fails_at_each_take(&rt, rt.alloc(), exchanges, 4096)?;
     }
@@ -180,7 +170,7 @@ fn source_fails_at_each_call(rt: HostRuntime) -> Result<(), Fail> {
 
 #[test]
 fn sink_fails_at_each_call(rt: HostRuntime) -> Result<(), Fail> {
-    for exchanges in [LOAD.as_slice(), CHANGE.as_slice(), REFUSED.as_slice()] {
+    for exchanges in SCRIPTS {
         fails_at_each_put(&rt, rt.alloc(), exchanges, 1)?;
         fails_at_each_put(&rt, rt.alloc(), exchanges, 4096)?;
     }
@@ -211,15 +201,11 @@ fn unfinished_line_waits_for_the_end(rt: HostRuntime) -> Result<(), Fail> {
         Err(IoFault::ReadFailed)
     );
     assert_eq!(rt; session.kept(), 1);
-    let mut source = Feed::new(b"BACK", 100);
-    let summary = serve(&mut session, &mut source, &mut out);
-    assert_eq!(rt;
-        summary,
-        Ok(Summary {
-            lines: 1,
-            refused: 0
-        })
-    );
+    let summary = Summary {
+        lines: 1,
+        refused: 0,
+    };
+    assert_eq!(rt; served(&mut session, b"BACK", 100, &mut out), Ok(summary));
     assert_eq!(rt; session.kept(), 0);
     Ok(())
 }
@@ -229,21 +215,20 @@ fn unfinished_line_waits_for_the_end(rt: HostRuntime) -> Result<(), Fail> {
 fn command_stands_without_its_answer(rt: HostRuntime) -> Result<(), Fail> {
     let mut session = session_of(rt.alloc(), With::LittleMemory, 100)?;
     let mut out = Tray::failing(1, 5);
-    let mut source = Feed::new(b"SET A 0 5\nSET A 0 6\nSET A 0 7\n", 100);
-    assert_eq!(rt;
-        serve(&mut session, &mut source, &mut out),
-        Err(IoFault::WriteFailed)
+    let result = served(
+        &mut session,
+        b"SET A 0 5\nSET A 0 6\nSET A 0 7\n",
+        100,
+        &mut out,
     );
+    assert_eq!(rt; result, Err(IoFault::WriteFailed));
     assert!(rt; out.text() == b"OK\nO".as_slice());
     assert_eq!(rt; session.kept(), 2);
     assert_eq!(rt; a_of(&session), 6);
 
     let mut out = Tray::failing(100, 1);
-    let mut source = Feed::new(b"SET A 0 7", 100);
-    assert_eq!(rt;
-        serve(&mut session, &mut source, &mut out),
-        Err(IoFault::WriteFailed)
-    );
+    let result = served(&mut session, b"SET A 0 7", 100, &mut out);
+    assert_eq!(rt; result, Err(IoFault::WriteFailed));
     assert_eq!(rt; session.kept(), 3);
     assert_eq!(rt; a_of(&session), 7);
     Ok(())
@@ -254,34 +239,23 @@ fn command_stands_without_its_answer(rt: HostRuntime) -> Result<(), Fail> {
 fn lines_are_limited(rt: HostRuntime) -> Result<(), Fail> {
     let mut session = session_of(rt.alloc(), With::LittleMemory, 1)?;
     let mut out = Tray::new(100);
-    let endless = serve(
-        &mut session,
-        &mut Endless {
-            byte: b'\n',
-            log: Log::new(),
-        },
-        &mut out,
-    );
-    assert_eq!(rt; endless, Err(IoFault::LineLimit));
-    let mut bytes = vec![in rt.alloc(); b'\n'; 1_000_000]?;
-    let summary = serve(
-        &mut session,
-        &mut Feed::new(bytes.as_slice(), 4096),
-        &mut out,
-    );
+    let mut endless = Endless {
+        byte: b'\n',
+        log: Log::new(),
+    };
     assert_eq!(rt;
-        summary,
-        Ok(Summary {
-            lines: 1_000_000,
-            refused: 0
-        })
+        serve(&mut session, &mut endless, &mut out),
+        Err(IoFault::LineLimit)
     );
-    bytes.push(b'X').map_err(|_| "memory")?;
-    let over = serve(
-        &mut session,
-        &mut Feed::new(bytes.as_slice(), 4096),
-        &mut out,
-    );
+    let mut script = vec![in rt.alloc(); b'\n'; 1_000_000]?;
+    let summary = Summary {
+        lines: 1_000_000,
+        refused: 0,
+    };
+    let whole = served(&mut session, script.as_slice(), 4096, &mut out);
+    assert_eq!(rt; whole, Ok(summary));
+    script.push(b'X').map_err(|_| "memory")?;
+    let over = served(&mut session, script.as_slice(), 4096, &mut out);
     assert_eq!(rt; over, Err(IoFault::LineLimit));
     assert_eq!(rt; out.text().len(), 0);
     assert_eq!(rt; session.kept(), 0);
@@ -292,38 +266,22 @@ fn lines_are_limited(rt: HostRuntime) -> Result<(), Fail> {
 #[test]
 fn answers_come_before_limits(rt: HostRuntime) -> Result<(), Fail> {
     let mut session = session_of(rt.alloc(), With::LittleMemory, 1)?;
-    let mut bytes = vec![in rt.alloc(); b'\n'; 999_999]?;
-    bytes.extend_from_slice(b"GO\nX")?;
-    let mut source = Feed::new(bytes.as_slice(), 4096);
-    let result = serve(&mut session, &mut source, &mut Tray::failing(100, 1));
+    let mut script = vec![in rt.alloc(); b'\n'; 999_999]?;
+    script.extend_from_slice(b"GO\nX")?;
+    let mut out = Tray::failing(100, 1);
+    let result = served(&mut session, script.as_slice(), 4096, &mut out);
     assert_eq!(rt; result, Err(IoFault::WriteFailed));
     let mut out = Tray::new(100);
-    let mut source = Feed::new(bytes.as_slice(), 4096);
-    assert_eq!(rt;
-        serve(&mut session, &mut source, &mut out),
-        Err(IoFault::LineLimit)
-    );
+    let result = served(&mut session, script.as_slice(), 4096, &mut out);
+    assert_eq!(rt; result, Err(IoFault::LineLimit));
     assert!(rt; out.text() == b"ERR 01 NOT A COMMAND\n".as_slice());
     Ok(())
 }
 
 /// The status of a run that ended without a fault shows whether a line was rejected.
 #[test]
-fn status_tells_of_refused_lines(rt: HostRuntime) {
-    assert_eq!(rt;
-        Summary {
-            lines: 6,
-            refused: 0
-        }
-        .status(),
-        0
-    );
-    assert_eq!(rt;
-        Summary {
-            lines: 7,
-            refused: 1
-        }
-        .status(),
-        1
-    );
+fn status_shows_rejected_lines(rt: HostRuntime) {
+    for (lines, refused, status) in [(6, 0, 0), (7, 1, 1)] {
+        assert_eq!(rt; Summary { lines, refused }.status(), status);
+    }
 }
