@@ -1,4 +1,4 @@
--- A list of `Kept` pairs as a write list.
+-- A list of `Write` values as a write list.
 use Rattle.std.specs.Prelude.{List, [], ◌∷◌, ◌++◌, ◌≡◌, refl}
 use Rattle.std.proofs.Common.{ap}
 use Rattle.pp_machine.specs.Writes.{Writes}
