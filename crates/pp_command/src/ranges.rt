@@ -1,7 +1,6 @@
 //! The ranges of a line and those of a machine.
-ghost use Rattle.std.specs.Prelude.{◌≡◌, ◌≤◌, true};
-ghost use Rattle.pp_command.specs.Ranges.{CanBeAsked, IsActionInRange, IsWithin};
-ghost use Rattle.pp_machine.specs.Machine.{Machine};
+ghost use Rattle.std.specs.Prelude.{◌≡◌, ◌≤◌, ℕ, true};
+ghost use Rattle.pp_command.specs.Ranges.{CanBeAsked, IsActionInRange, IsWithin, most_central_words};
 ghost use Rattle.pp_rig.specs.Admitting.{is_in_range};
 ghost use Rattle.pp_rig.specs.declared.action.Action.{Action};
 
@@ -10,10 +9,9 @@ ghost use Rattle.pp_rig.specs.declared.action.Action.{Action};
 /// the central word that the action names. A line can ask for every action that a machine admits, except a turn and
 /// the setting of more than eight cells. A machine admits no action on a central word that it does not have.
 pub fn ranges_agree()
-    ensures admitted { (m : Machine) (action : Action) → IsActionInRange action →
-        IsWithin m.setup.central_words action → is_in_range m action ≡ true }
-    ensures asked { (m : Machine) (action : Action) → m.setup.central_words ≤ 0o400000 → CanBeAsked action →
-        is_in_range m action ≡ true → IsActionInRange action }
-    ensures within { (m : Machine) (action : Action) → is_in_range m action ≡ true →
-        IsWithin m.setup.central_words action }
+    ensures admitted { (size : ℕ) (action : Action) → IsActionInRange action → IsWithin size action →
+        is_in_range size action ≡ true }
+    ensures asked { (size : ℕ) (action : Action) → size ≤ most_central_words → CanBeAsked action →
+        is_in_range size action ≡ true → IsActionInRange action }
+    ensures within { (size : ℕ) (action : Action) → is_in_range size action ≡ true → IsWithin size action }
 {}

@@ -45,7 +45,7 @@ fn cell_values(text: &[u8]) -> Result<Values, LineFault>
 }
 
 /// Parses `SET M n a v ..`.
-#[tactic(auto, unfolding(crate::specs::CommandLine::set_cells))]
+#[tactic(auto, unfolding(crate::specs::CommandLine::set_cells), using(crate::proofs::Agreeing::are_words))]
 fn set_cells(text: &[u8]) -> Result<Request, LineFault>
     ensures value { result ≡ spec.set_cells (words text.now) }
     ensures in_range { IfOk result IsInRange }

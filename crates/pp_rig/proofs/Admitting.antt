@@ -32,9 +32,9 @@ at_most a b h = grind (arith, nat_tests)
 pub all_at_most : (most : ℕ) (values : List ℕ) → list_all (λ value. nat_le value most) values ≡ true → All (λ v. v ≤ most) values
 all_at_most most values h = (Decides-by_and (λ v. nat_le v most) (λ v. v ≤ most) (list_all (λ v. nat_le v most)) (λ v. (at_most v most, λ l. grind (arith, nat_tests))) refl (λ _ _. refl) values).0 h
 
-in_range : (m : Machine) (action : Action) → first_fault m action ≡ None → is_in_range m action ≡ true
+in_range : (m : Machine) (action : Action) → first_fault m action ≡ None → is_in_range m.setup.central_words action ≡ true
 unfolding first_fault
-in_range m action h = elim (is_in_range m action) as (λ b. (if b then state_fault m action else Some Range) ≡ None → b ≡ true) [ true ↦ λ e. refl | false ↦ λ e. absurd (cc) ] h
+in_range m action h = elim (is_in_range m.setup.central_words action) as (λ b. (if b then state_fault m action else Some Range) ≡ None → b ≡ true) [ true ↦ λ e. refl | false ↦ λ e. absurd (cc) ] h
 
 no_state_fault : (m : Machine) (action : Action) → first_fault m action ≡ None → state_fault m action ≡ None
 unfolding first_fault
@@ -62,7 +62,7 @@ settings-cells size n a values h =
     let u = and_parts (nat_lt a cell_count) (some && small) t.1 in
     AreSettings-cell_writes size n a values (less n processor_count t.0) (all_at_most twelve_bits values (and_parts some small u.1).1)
 
-settings-channel : (m : Machine) (c : ℕ) (state : ChannelState) (word : Option ℕ) → is_in_range m (SetChannel c state word) ≡ true → AreSettings m.setup.central_words (set_list (SetChannel c state word))
+settings-channel : (m : Machine) (c : ℕ) (state : ChannelState) (word : Option ℕ) → is_in_range m.setup.central_words (SetChannel c state word) ≡ true → AreSettings m.setup.central_words (set_list (SetChannel c state word))
 settings-channel m c state None h =
     let t = and_parts (nat_lt c channel_count) (nat_lt (state_number state) 3 && true) h in
     let u = and_parts (nat_lt (state_number state) 3) true t.1 in

@@ -26,18 +26,18 @@ abbrev pub is_word_or_none : Option ℕ → Bool
 is_word_or_none None = true
 is_word_or_none (Some word) = nat_le word twelve_bits
 
--- whether every number of the action is in its range
-abbrev pub is_in_range : Machine → Action → Bool
-is_in_range s Turn = true
-is_in_range s (SetCells n a values) = nat_lt n processor_count && (nat_lt a cell_count && (nat_lt 0 (length values) && list_all (λ value. nat_le value twelve_bits) values))
-is_in_range s (SetA n v) = nat_lt n processor_count && nat_le v eighteen_bits
-is_in_range s (SetP n v) = nat_lt n processor_count && nat_le v twelve_bits
-is_in_range s (SetQ n v) = nat_lt n processor_count && nat_le v twelve_bits
-is_in_range s (SetWord a v) = nat_lt a s.setup.central_words && nat_lt v past_sixty_bits
-is_in_range s (SetChannel c state word) = nat_lt c channel_count && (nat_lt (state_number state) function && is_word_or_none word)
-is_in_range s (Watch w) = is_watchable s.setup.central_words w
-is_in_range s (Unwatch w) = is_watchable s.setup.central_words w
-is_in_range s Deadstart = true
+-- whether every number of the action is in its range, in a machine with this many central words
+abbrev pub is_in_range : ℕ → Action → Bool
+is_in_range size Turn = true
+is_in_range size (SetCells n a values) = nat_lt n processor_count && (nat_lt a cell_count && (nat_lt 0 (length values) && list_all (λ value. nat_le value twelve_bits) values))
+is_in_range size (SetA n v) = nat_lt n processor_count && nat_le v eighteen_bits
+is_in_range size (SetP n v) = nat_lt n processor_count && nat_le v twelve_bits
+is_in_range size (SetQ n v) = nat_lt n processor_count && nat_le v twelve_bits
+is_in_range size (SetWord a v) = nat_lt a size && nat_lt v past_sixty_bits
+is_in_range size (SetChannel c state word) = nat_lt c channel_count && (nat_lt (state_number state) function && is_word_or_none word)
+is_in_range size (Watch w) = is_watchable size w
+is_in_range size (Unwatch w) = is_watchable size w
+is_in_range size Deadstart = true
 
 -- a machine without a panel cannot be dead started
 abbrev pub panel_fault : Option (List ℕ) → Option ActionFault
@@ -55,4 +55,4 @@ state_fault s _ = None
 
 -- why an action is not admitted: the first cause that applies
 unfoldable pub first_fault : Machine → Action → Option ActionFault
-first_fault s action = if is_in_range s action then state_fault s action else Some Range
+first_fault s action = if is_in_range s.setup.central_words action then state_fault s action else Some Range

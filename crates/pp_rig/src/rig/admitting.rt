@@ -44,7 +44,7 @@ fn may_be_set(state: ChannelState) -> bool
 impl Rig {
     /// Returns whether each number of the action is in its range.
     fn has_range(&self, action: &Action) -> bool
-        ensures { result ≡ is_in_range self.now action.now }
+        ensures { result ≡ is_in_range self.now.setup.central_words action.now }
     {
         match action {
             Action::Turn | Action::Deadstart => true,
