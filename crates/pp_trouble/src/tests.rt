@@ -1,6 +1,7 @@
 //! The line and the exit status of each trouble.
 
 use super::*;
+use crate::trouble::FileKind::{Deck, Panel, Script};
 use pp_arguments::ArgFault;
 use pp_files::LoadFault;
 use pp_lines::{IoFault, Tray};
@@ -51,9 +52,9 @@ fn faults_before_the_first_line_have_status_2(rt: HostRuntime) -> Result<(), Fai
         (Trouble::from(SetupFault::SameChannel), "SAME CHANNEL"),
         (Trouble::from(SetupFault::DeckTooLong), "DECK TOO LONG"),
         (Trouble::from(SetupFault::NoMemory), "NO MEMORY"),
-        (Trouble::CannotOpen(FileKind::Deck), "CANNOT OPEN DECK"),
-        (Trouble::CannotOpen(FileKind::Panel), "CANNOT OPEN PANEL"),
-        (Trouble::CannotOpen(FileKind::Script), "CANNOT OPEN SCRIPT"),
+        (Trouble::CannotOpen(Deck), "CANNOT OPEN DECK"),
+        (Trouble::CannotOpen(Panel), "CANNOT OPEN PANEL"),
+        (Trouble::CannotOpen(Script), "CANNOT OPEN SCRIPT"),
     ] {
         let line = format!(in rt.alloc(); "pp6600: {text}")?;
         check(&rt, rt.alloc(), trouble, line.as_str(), 2)?;
@@ -63,62 +64,37 @@ fn faults_before_the_first_line_have_status_2(rt: HostRuntime) -> Result<(), Fai
 
 #[test]
 fn faults_of_input_and_output_have_status_3(rt: HostRuntime) -> Result<(), Fail> {
-    check(
-        &rt,
-        rt.alloc(),
-        Trouble::from(IoFault::ReadFailed),
-        "pp6600: READ FAILED",
-        3,
-    )?;
-    check(
-        &rt,
-        rt.alloc(),
-        Trouble::from(IoFault::WriteFailed),
-        "pp6600: WRITE FAILED",
-        3,
-    )?;
-    check(
-        &rt,
-        rt.alloc(),
-        Trouble::from(IoFault::LineLimit),
-        "pp6600: LINE LIMIT",
-        3,
-    )
+    for (trouble, line) in [
+        (Trouble::from(IoFault::ReadFailed), "pp6600: READ FAILED"),
+        (Trouble::from(IoFault::WriteFailed), "pp6600: WRITE FAILED"),
+        (Trouble::from(IoFault::LineLimit), "pp6600: LINE LIMIT"),
+        (
+            Trouble::load(Deck, LoadFault::ReadFailed),
+            "pp6600: READ FAILED",
+        ),
+    ] {
+        check(&rt, rt.alloc(), trouble, line, 3)?;
+    }
+    Ok(())
 }
 
 #[test]
 fn each_fault_of_a_file_names_it(rt: HostRuntime) -> Result<(), Fail> {
     for (file, fault, text) in [
-        (FileKind::Deck, LoadFault::FileTooLong, "DECK FILE TOO LONG"),
+        (Deck, LoadFault::FileTooLong, "DECK FILE TOO LONG"),
+        (Panel, LoadFault::FileTooLong, "PANEL FILE TOO LONG"),
+        (Deck, LoadFault::LineTooLong(1), "DECK LINE 1 TOO LONG"),
+        (Deck, LoadFault::NotOctal(12), "DECK LINE 12 NOT OCTAL"),
+        (Panel, LoadFault::TooLarge(3), "PANEL LINE 3 TOO LARGE"),
         (
-            FileKind::Panel,
-            LoadFault::FileTooLong,
-            "PANEL FILE TOO LONG",
-        ),
-        (
-            FileKind::Deck,
-            LoadFault::LineTooLong(1),
-            "DECK LINE 1 TOO LONG",
-        ),
-        (
-            FileKind::Deck,
-            LoadFault::NotOctal(12),
-            "DECK LINE 12 NOT OCTAL",
-        ),
-        (
-            FileKind::Panel,
-            LoadFault::TooLarge(3),
-            "PANEL LINE 3 TOO LARGE",
-        ),
-        (
-            FileKind::Deck,
+            Deck,
             LoadFault::TooManyWords(1_048_576),
             "DECK LINE 1048576 TOO MANY WORDS",
         ),
-        (FileKind::Panel, LoadFault::PanelCount, "PANEL PANEL COUNT"),
-        (FileKind::Panel, LoadFault::NoMemory, "NO MEMORY"),
+        (Panel, LoadFault::PanelCount, "PANEL PANEL COUNT"),
+        (Panel, LoadFault::NoMemory, "NO MEMORY"),
     ] {
-        assert!(rt; file != FileKind::Script);
+        assert!(rt; file != Script);
         let line = format!(in rt.alloc(); "pp6600: {text}")?;
         check(
             &rt,
@@ -128,11 +104,5 @@ fn each_fault_of_a_file_names_it(rt: HostRuntime) -> Result<(), Fail> {
             2,
         )?;
     }
-    check(
-        &rt,
-        rt.alloc(),
-        Trouble::load(FileKind::Deck, LoadFault::ReadFailed),
-        "pp6600: READ FAILED",
-        3,
-    )
+    Ok(())
 }
