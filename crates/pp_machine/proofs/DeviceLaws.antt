@@ -1,5 +1,6 @@
 -- What holds of every device, from the laws of its own numbers.
-use Rattle.std.proofs.Common.{ℕ, ◌≡◌, ◌≢◌, ◌<◌, ◌∙◌, Bool, true, false, if◌then◌else◌, ◌⊎◌, inl, inr, ap, refl, sym, List, get_or, length, set}
+use Rattle.std.specs.Cmp.Derive.{both_true}
+use Rattle.std.proofs.Common.{eq-eqb, ℕ, ◌≡◌, ◌≢◌, ◌<◌, ◌∙◌, Bool, true, false, if◌then◌else◌, ◌⊎◌, inl, inr, ap, refl, sym, List, get_or, length, set}
 use Rattle.std.specs.List.{AllPairs}
 use Rattle.std.proofs.lemmas.List.{get_or-set_same, set-set, set-get_or}
 use Rattle.pp_machine.specs.Attached.{Attached, of_device, view_of, with_view}
@@ -12,7 +13,7 @@ use Rattle.pp_machine.specs.WriteLaws.{AllPlaces-renamed, Commute, IsStore, old_
 use Rattle.pp_machine.specs.Writes.{AllPlaces, Writes, places, renamed}
 use Rattle.pp_machine.specs.declared.channel.Channel.{Channel}
 use Rattle.pp_machine.specs.declared.place.Place.{Place}
-use Rattle.pp_machine.specs.declared.place.Place.TheVariants.{ChannelMode, ChannelWord}
+use Rattle.pp_machine.specs.declared.place.Place.TheVariants.{ChannelMode, ChannelWord, Slot}
 use Rattle.pp_machine.proofs.Once.{each-once, once}
 
 -- ---- single writes, and how the old values undo a step
@@ -65,18 +66,19 @@ module _ {Numbers : Type 0} (c : ℕ) (channels : ChannelNumbers) (n : Numbers) 
 
 -- ---- write lists that write no place twice, and only places that the machine has
 
-abbrev pub same_at : {Own : Type 0} → (Own → Own → Bool) → DevicePlace Own → DevicePlace Own → Bool
-same_at same (AtOwn x) (AtOwn y) = same x y
-same_at same AtState AtState = true
-same_at same AtWord AtWord = true
-same_at same _ _ = false
+same-self : (p : Place) → same_place p p ≡ true
+same-self Slot = refl
+same-self _ = search (eq-eqb, both_true)
 
-module _ {Own : Type 0} (same : Own → Own → Bool) (name : Own → Place) (size c : ℕ) where
+module _ {Own : Type 0} (name : Own → Place) (size c : ℕ) where
+  abbrev same_at : DevicePlace Own → DevicePlace Own → Bool
+  same_at x y = same_place (place_at name c x) (place_at name c y)
+
   pub record IsSound (w : Writes (DevicePlace Own)) : Type 0 where
-    pub single : once (same_at same) w ≡ true
+    pub single : once same_at w ≡ true
     pub has : AllPlaces (λ x. Has size (place_at name c x)) w
 
-  pub sound : (w : Writes (DevicePlace Own)) → once (same_at same) w ≡ true → AllPlaces (λ x. Has size (place_at name c x)) w → IsSound w
+  pub sound : (w : Writes (DevicePlace Own)) → once same_at w ≡ true → AllPlaces (λ x. Has size (place_at name c x)) w → IsSound w
   sound w single has = record { single = single; has = has }
 
   pub sound-if : (b : Bool) (x y : Writes (DevicePlace Own)) → (b ≡ true → IsSound x) → IsSound y → IsSound (if b then x else y)
@@ -86,14 +88,8 @@ module _ {Own : Type 0} (same : Own → Own → Bool) (name : Own → Place) (si
   pub sound-has : (w : Writes (DevicePlace Own)) → IsSound w → HasAll size (renamed (place_at name c) w)
   sound-has w h = AllPlaces-renamed (place_at name c) (Has size) w h.has
 
-  module _ (self : (x : Own) → same x x ≡ true) where
-    self-at : (x : DevicePlace Own) → same_at same x x ≡ true
-    self-at (AtOwn x) = self x
-    self-at AtState = refl
-    self-at AtWord = refl
-
-    pub sound-once : (w : Writes (DevicePlace Own)) → IsSound w → AllPairs (λ one other. one ≢ other) (places w)
-    sound-once w h = each-once (same_at same) self-at w h.single
+  pub sound-once : (w : Writes (DevicePlace Own)) → IsSound w → AllPairs (λ one other. one ≢ other) (places w)
+  sound-once w h = each-once same_at (λ x. same-self (place_at name c x)) w h.single
 
 -- ---- a device in the machine
 
@@ -114,7 +110,7 @@ pub record IsAttached {Numbers Own Record : Type 0} (a : Attached Numbers Own Re
   pub channels : (m : Machine) (n : Numbers) → (a.replace m n).channels ≡ m.channels
   pub apart : (m : Machine) (n : Numbers) (channels : ChannelNumbers) → with_channels (a.replace m n) channels ≡ a.replace (with_channels m channels) n
   pub watches : (m : Machine) (n : Numbers) → (a.replace m n).watches ≡ m.watches
-  pub own_alone : (x : Own) (p : Place) → of_device p ≡ false → same_place (a.model.name x) p ≡ false
+  pub devices : (x : Own) → of_device (a.model.name x) ≡ true
 
 module _ {Numbers Own Record : Type 0} (a : Attached Numbers Own Record) (laws : IsAttached a) (m : Machine) (c : ℕ) where
   -- a change of the channels, beside the device
@@ -161,13 +157,11 @@ module _ {Numbers Own Record : Type 0} (a : Attached Numbers Own Record) (laws :
       ap (λ x. a.replace (with_channels m channels) x) device
       ∙ (ap (λ x. a.replace (with_channels m x) (over_device a.model (view_of a c m) w).device) shared ∙ lifted (over_device a.model (view_of a c m) w) w refl)
 
-not_a_mode : (c : ℕ) (p : Place) → of_device p ≡ false → same_place (ChannelMode c) p ≡ false
-not_a_mode c (ChannelMode k) e = cc
-not_a_mode c p e = refl
-
-not_a_word : (c : ℕ) (p : Place) → of_device p ≡ false → same_place (ChannelWord c) p ≡ false
-not_a_word c (ChannelWord k) e = cc
-not_a_word c p e = refl
+-- a device's place and one that no device has
+not_shared : (q p : Place) → of_device q ≡ true → of_device p ≡ false → same_place q p ≡ false
+not_shared Slot Slot h k = absurd (cc)
+not_shared _ Slot h k = cc
+not_shared _ _ h k = cc
 
 module _ {Numbers Own Record : Type 0} (a : Attached Numbers Own Record) (laws : IsAttached a) where
   -- the device writes no watch entry
@@ -180,6 +174,6 @@ module _ {Numbers Own Record : Type 0} (a : Attached Numbers Own Record) (laws :
 
   -- a place that no device has
   pub not_at : (c : ℕ) (p : Place) → of_device p ≡ false → (x : DevicePlace Own) → same_place (device_place a.model c x) p ≡ false
-  not_at c p e (AtOwn x) = laws.own_alone x p e
-  not_at c p e AtState = not_a_mode c p e
-  not_at c p e AtWord = not_a_word c p e
+  not_at c p e (AtOwn x) = not_shared (a.model.name x) p (laws.devices x) e
+  not_at c p e AtState = not_shared (ChannelMode c) p refl e
+  not_at c p e AtWord = not_shared (ChannelWord c) p refl e
