@@ -1,16 +1,11 @@
 -- The laws of the card reader.
-use Rattle.std.proofs.Common.{ℕ, ◌≡◌, ◌≢◌, ◌≤◌, ◌<◌, ◌==◌, nat_lt, Bool, true, false, if◌then◌else◌, length, lit≤, refl, arith, []}
+use Rattle.std.proofs.Common.{ℕ, ◌≡◌, ◌≢◌, ◌≤◌, ◌<◌, length, lit≤, refl, arith}
 use Rattle.std.specs.List.{AllPairs}
-use Rattle.pp_machine.specs.Attached.{of_device, the_reader}
-use Rattle.pp_machine.specs.ChannelNumbers.{empty, function}
-use Rattle.pp_machine.specs.Lookup.{same_place}
-use Rattle.pp_machine.specs.Reader.{ReaderOwn, ReaderPlace, ReaderView, Card, Column, Mode, name_own, function_writes, input_writes, reader_old_values, reader_model, reader_pairs, reader_place, reader_writes}
-use Rattle.pp_machine.specs.ReaderNumbers.{reader_mode_number}
+use Rattle.pp_machine.specs.Attached.{the_reader}
+use Rattle.pp_machine.specs.Device.{device_old_values}
+use Rattle.pp_machine.specs.Reader.{ReaderPlace, ReaderView, Card, Column, Mode, name_own, reader_model, reader_pairs, reader_place, reader_writes}
 use Rattle.pp_machine.specs.Shape.{HasAll}
 use Rattle.pp_machine.specs.Writes.{Writes, places, renamed}
-use Rattle.pp_machine.specs.declared.place.Place.{Place}
-use Rattle.pp_machine.specs.declared.place.Place.TheVariants as place
-use Rattle.pp_machine.specs.declared.reader.ReaderMode.TheVariants.{Reading, Status, Sent}
 use Rattle.pp_machine.specs.declared.reader.ReaderRecord.{ReaderRecord}
 use Rattle.pp_machine.specs.declared.reader.ReaderRecord.TheVariants as back
 use Rattle.pp_machine.proofs.DeviceLaws.{IsAttached, IsSound, old_places, sound, sound-has, sound-if, sound-once}
@@ -28,7 +23,7 @@ reader-attached = record {
 
 -- ---- the record of a step
 
-pub reader_names : (r : ReaderRecord) (s : ReaderView) (w : Writes ReaderPlace) → reader_pairs r ≡ reader_old_values s w → places (reader_pairs r) ≡ places w
+pub reader_names : (r : ReaderRecord) (s : ReaderView) (w : Writes ReaderPlace) → reader_pairs r ≡ device_old_values reader_model s w → places (reader_pairs r) ≡ places w
 reader_names r s w named = old_places reader_model s w (reader_pairs r) named
 
 pub reader_few : (r : ReaderRecord) → length (reader_pairs r) ≤ 4

@@ -1,5 +1,5 @@
 -- A device as the machine sees it: numbers of its own, and the state and register of its channel.
-use Rattle.std.specs.Prelude.{ℕ, get_or}
+use Rattle.std.specs.Prelude.{ℕ, ◌≡◌, get_or}
 use Rattle.pp_machine.specs.ChannelNumbers.{ChannelNumbers, state_number}
 use Rattle.pp_machine.specs.Writes.{Writes, over_by, old_values_by}
 use Rattle.pp_machine.specs.declared.channel.Channel.{Channel}
@@ -60,3 +60,9 @@ device_old_values d = old_values_by (number_at d.number)
 
 abbrev pub device_place : {Numbers Own Record : Type 0} → DeviceModel Numbers Own Record → ℕ → DevicePlace Own → Place
 device_place d = place_at d.name
+
+-- A step by a write list leads from one view to another: the record has the old values, and can be undone.
+pub record IsStep {Numbers Own Record : Type 0} (d : DeviceModel Numbers Own Record) (w : Writes (DevicePlace Own)) (old new : DeviceView Numbers) (r : Record) : Type 0 where
+  pub step : new ≡ over_device d old w
+  pub old_values : d.pairs r ≡ device_old_values d old w
+  pub fits : d.Fits r new
