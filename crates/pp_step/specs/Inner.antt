@@ -1,13 +1,7 @@
 -- For the contracts of inner functions only: no definition of a step, and no contract of a public call, needs these.
 use Rattle.std.specs.Prelude.{ℕ, Bool, nat_lt, ◌-◌, ◌%◌, List, [], ◌∷◌, ◌+◌, ◌≡◌, slice_index, slice_set}
 use Rattle.pp_machine.specs.declared.pp.Pp.{Pp}
-use Rattle.pp_step.specs.Pairs.{Fits}
 use Rattle.pp_step.specs.Words.{cell_after, central_after}
-use Rattle.pp_step.specs.declared.record.StepRecord.{StepRecord}
-
--- a record fits a machine with central memory of any size
-pub record FitsAnySize (r : StepRecord) : Type 0 where
-  pub fits : (size : ℕ) → Fits size r
 
 -- a processor has these numbers
 abbrev pub HasRegisters : Pp → ℕ → ℕ → ℕ → ℕ → Type 0

@@ -2,6 +2,7 @@ use Rattle.std.proofs.Common.{sym, ◌∙◌}
 use Rattle.pp_step.specs.Exchange.{loaded}
 use Rattle.pp_step.specs.Step.{pp_pairs}
 use Rattle.pp_step.specs.View.{pp_view}
+use Rattle.pp_step.proofs.FewPlaces.{few_exchanged}
 use Rattle.pp_step.proofs.Exchanged.{over-swap}
 use Rattle.pp_step.proofs.Swapped.{length-loaded}
 use Rattle.pp_step.proofs.package.exchange_into.Goals as goal
@@ -15,3 +16,7 @@ returns-clause-step c = λ cells channels.
 pub returns-clause-old_values : goal.returns-clause-old_values
 unfolding pp_pairs
 returns-clause-old_values c = λ cells channels. c.write_old_values.ensures.old_values cells channels c.args.next
+
+pub returns-clause-at_most : goal.returns-clause-at_most
+unfolding pp_pairs
+returns-clause-at_most c = few_exchanged _ _ c.write_old_values.ensures.fits

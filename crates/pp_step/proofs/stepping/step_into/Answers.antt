@@ -1,5 +1,4 @@
 use Rattle.std.proofs.Common.{rules}
-use Rattle.pp_step.proofs.FewPlaces.{few_places}
 use Rattle.pp_step.proofs.Store.{leads_back}
 use Rattle.pp_step.proofs.stepping.step_into.Goals as goal
 
@@ -12,6 +11,3 @@ returns-else-step_short-clause-old_values c = search rules
 pub returns-else-step_short-clause-leads_back : goal.returns-else-step_short-clause-leads_back
 returns-else-step_short-clause-leads_back c =
     leads_back _ _ _ _ (returns-else-step_short-clause-step c) (returns-else-step_short-clause-old_values c)
-
-pub returns-else-step_short-clause-at_most : goal.returns-else-step_short-clause-at_most
-returns-else-step_short-clause-at_most c = few_places _ c.exchange_into.new.back c.exchange_into.ensures.fits

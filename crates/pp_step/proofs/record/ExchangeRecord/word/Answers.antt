@@ -1,9 +1,0 @@
-use Rattle.std.proofs.Common.{sym, ◌∙◌}
-use Rattle.pp_machine.specs.CentralSizes.{words_of}
-use Rattle.pp_step.proofs.ExchangeLookup.{word_lookup}
-use Rattle.pp_step.proofs.record.ExchangeRecord.word.Goals as goal
-
-pub returns : goal.returns
-returns c =
-    let x = c.args.self.now in
-    c.word_at.ensures ∙ sym (word_lookup (words_of x.size) x.central x.registers x.words c.args.at)
