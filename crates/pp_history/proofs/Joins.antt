@@ -3,7 +3,8 @@ use Rattle.std.proofs.Common.{reverse, add-one, Option, Some, None, slice_get, �
 use Rattle.std.proofs.lemmas.List.{length-map, reverse-append, length-reverse, take-set, drop-set, length-set, length-drop, take_all}
 use Rattle.std.proofs.lemmas.Grind.{common_steps}
 use Rattle.std.proofs.lemmas.Option.{slice_get_within}
-use Rattle.std.specs.Prelude.{IsSomeAnd}
+use Rattle.std.specs.Prelude.{IsSomeAnd, IfSome, IsNone, ◌↔◌}
+use Rattle.std.specs.Option.{option_and_then, option_map}
 use Rattle.circular_buffer.specs.Buffer.{Buffer, buffer}
 use Rattle.circular_buffer.proofs.Places.{slice_get-some}
 use Rattle.pp_history.specs.LogValue.{log_of}
@@ -59,12 +60,13 @@ module _ {A S : Type 0} where
       }
 
 module _ {S R : Type 0} (whole : S → R) where
-  -- the newest long undo record
-  long_at : (n : ℕ) (longs : List (Option R)) (back : R) → record_of whole None (drop n longs) ≡ Some back → slice_get longs n ≡ Some (Some back)
-  long_at zero [] back is = cc
-  long_at zero (first ∷ longs) back is = ap Some is
-  long_at (suc n) [] back is = cc
-  long_at (suc n) (first ∷ longs) back is = long_at n longs back is
+  -- the long undo record behind n others
+  pub long_record : (n : ℕ) (short : Option S) (longs : List (Option R)) → short ≡ None → option_and_then (λ long. long) (slice_get longs n) ≡ record_of whole short (drop n longs)
+  long_record n (Some short) longs none = cc
+  long_record zero None [] none = refl
+  long_record zero None (first ∷ longs) none = refl
+  long_record (suc n) None [] none = refl
+  long_record (suc n) None (first ∷ longs) none = long_record n None longs refl
 
   left_capacity : (short : Option S) (back : R) (old new : Buffer (Option R)) → IsLeft whole short back old new → new.capacity ≡ old.capacity
   left_capacity (Some short) back old new left = ap (λ b. b.capacity) left.1
@@ -121,11 +123,14 @@ module _ {A S R : Type 0} (whole : S → R) where
         records = rw add-one (split ∙ newest.2);
       }
 
-  -- an entry without a short undo record has the newest long one
-  pub long-here : (n m : ℕ) (entries : List (Entry A S)) (longs : List (Option R)) (entry : Entry A S) → n + length (joined whole (drop n entries) (drop m longs)) ≡ length entries → slice_get entries n ≡ Some entry → entry.1 ≡ None → (at : NewestAt n entries (drop m longs) entry) × (slice_get longs m ≡ Some (Some at.back))
-  long-here n m entries longs entry kept found none =
-      let at = newest-at n entries (drop m longs) entry kept found in
-      (at, long_at whole m longs at.back (sym (ap (λ short. record_of whole short (drop m longs)) none) ∙ at.is))
+  -- the undo record of the newest entry is handed out
+  pub newest-out : {X : Type 0} (f : X → R) (n : ℕ) (entries : List (Entry A S)) (longs : List (Option R)) (entry : Entry A S) (result : Option X) → NewestAt n entries longs entry → option_map f result ≡ record_of whole entry.1 longs →
+      IfSome result (λ back. (newest : A × R) × (slice_get (joined whole (drop n entries) longs) 0 ≡ Some newest) × (newest.1 ≡ f back)) × (IsNone result ↔ (length (joined whole (drop n entries) longs) ≡ 0))
+  newest-out f n entries longs entry None at is = let none = is ∙ at.is in cc
+  newest-out f n entries longs entry (Some back) at is =
+      let both = is ∙ at.is in
+      let same : at.back ≡ f back = cc in
+      (((entry.0, at.back), at.first, same), (λ none. cc, λ none. absurd (omega (arith, none, slice_get_within (joined whole (drop n entries) longs) 0 (entry.0, at.back) at.first))))
 
 module _ {A S R : Type 0} (whole : S → R) where
   -- a log with one more action

@@ -1,14 +1,16 @@
 //! The newest actions with their undo records: one list, held in two rings.
 
-ghost use Rattle.std.specs.Prelude.{◌≡◌, ◌∷◌, [], take, drop, slice_get, slice_set, Some, None, Option, ℕ, List, ◌+◌, ◌-◌, ◌<◌, ◌≤◌, length, IfOk, IsSomeAnd, MatchOption, IfSome, ◌*◌};
+ghost use Rattle.std.specs.Prelude.{◌≡◌, ◌∷◌, [], take, drop, slice_get, slice_set, Some, None, Option, ℕ, List, ◌+◌, ◌-◌, ◌<◌, ◌≤◌, length, IfOk, IsSomeAnd, MatchOption, IfSome, IsNone, ◌↔◌, ◌*◌};
 ghost use Rattle.circular_buffer.specs.Buffer.{buffer};
 ghost use Rattle.std.specs.List.{All};
 ghost use Rattle.pp_history.specs.Joining.{Entry, IsLeft, longs_behind, record_of};
 ghost use Rattle.pp_history.specs.LogValue.{LogValue};
 ghost use Rattle.pp_history.specs.Search.{changes, first_changing, differs_from};
+ghost use Rattle.pp_history.specs.UndoRecord.{whole_record};
+ghost use Rattle.std.specs.Option.{option_map};
 
 use crate::looks::Looks;
-use crate::reversible::Reversible;
+use crate::reversible::{Reversible, UndoRecord};
 use circular_buffer::HeapCircularBuffer;
 use std::alloc::{AllocError, Global};
 use std::marker::Model;
@@ -114,34 +116,13 @@ impl<T: Reversible> Log<T> {
         perform_again(machine, &mut self.entries, &mut self.longs, self.ahead);
     }
 
-    /// Returns the newest undo record, if there is one and it is short.
+    /// Returns the newest undo record, or `None` if there is none.
     #[inline(always)]
-    pub(crate) fn newest_short(&self) -> Option<&T::Short>
-        ensures { IfSome result (λ short. (newest : T.Action × T.Record) × (slice_get self.now.records 0 ≡ Some newest) × (newest.1 ≡ T.whole short.now)) }
+    pub(crate) fn newest(&self) -> Option<UndoRecord<T>>
+        ensures some { IfSome result (λ back. (newest : T.Action × T.Record) × (slice_get self.now.records 0 ≡ Some newest) × (newest.1 ≡ whole_record T.whole back)) }
+        ensures none { IsNone result ↔ (length self.now.records ≡ 0) }
     {
-        let Some(newest) = self.entries.get(self.ahead) else {
-            return None;
-        };
-        match &newest.1 {
-            Some(short) => Some(short),
-            None => None,
-        }
-    }
-
-    /// Returns the old number of the place, or `None` if the newest undo record does not have that place or there is
-    /// none.
-    #[inline(always)]
-    pub(crate) fn newest_old_value(&self, place: &T::Place) -> Option<u64>
-        ensures value { (newest : T.Action × T.Record) → slice_get self.now.records 0 ≡ Some newest → result ≡ T.old_value newest.1 place.now }
-        ensures none_kept { length self.now.records ≡ 0 → result ≡ None }
-    {
-        match self.entries.get(self.ahead) {
-            Some(newest) => match &newest.1 {
-                Some(short) => T::was_short(short, place),
-                None => newest_long_old_value::<T>(&self.longs, place),
-            },
-            None => None,
-        }
+        undo_record(self.entries.get(self.ahead)?, &self.longs, 0)
     }
 
     /// Returns the position, counted from 1, of the first undo record that has another number for one of the places
@@ -162,18 +143,35 @@ impl<T: Reversible> Log<T> {
         let mut long = 0;
         for k in 0..self.kept() {
             let entry = self.entries.get(self.ahead + k as usize).unwrap();
-            if let Some(short) = &entry.1 {
-                if short_changes(machine, short, places, looks) {
-                    return Some(k + 1);
-                }
-                continue;
-            }
-            if long_changes(machine, &self.longs, long, places, looks) {
+            let back = undo_record(entry, &self.longs, long).unwrap();
+            if is_changed(machine, &back, places, looks) {
                 return Some(k + 1);
             }
-            long += 1;
+            match &entry.1 {
+                Some(_) => {}
+                None => long += 1,
+            }
         }
         None
+    }
+}
+
+/// Returns the undo record of an entry: its short one, or else the long one behind `long` others.
+#[inline(always)]
+#[tactic(auto, using(crate::proofs::Joins::long_record))]
+fn undo_record<'a, T: Reversible>(
+    entry: &'a (T::Action, Option<T::Short>),
+    longs: &'a HeapCircularBuffer<Option<T::Record>>,
+    long: usize,
+) -> Option<UndoRecord<'a, T>>
+    ensures { option_map (whole_record T.whole) result ≡ record_of T.whole entry.now.1 (drop long longs.now.items) }
+{
+    match &entry.1 {
+        Some(short) => Some(UndoRecord::Short(short)),
+        None => match longs.get(long)? {
+            Some(back) => Some(UndoRecord::Long(back)),
+            None => None,
+        },
     }
 }
 
@@ -197,70 +195,26 @@ fn is_other<T: Reversible>(
     }
 }
 
-/// Returns whether one of the places has another number in a short undo record than in the machine.
+/// Returns whether one of the places has another number in an undo record than in the machine.
 #[inline(always)]
-fn short_changes<T: Reversible>(
+fn is_changed<T: Reversible>(
     machine: &T,
-    back: &T::Short,
+    back: &UndoRecord<T>,
     places: &[T::Place],
     looks: &mut Looks,
 ) -> bool
     requires { All (λ place. T.has_place machine.now place) places.now }
-    ensures value { result ≡ changes T.Reversible (λ place. T.value_at machine.now place) places.now (T.whole back.now) }
+    ensures value { result ≡ changes T.Reversible (λ place. T.value_at machine.now place) places.now (whole_record T.whole back.now) }
     ensures counts_up { looks.old.count ≤ looks.new.count }
     ensures cost { looks.new.count ≤ looks.old.count + length places.now }
     ensures looks_at_each { 1 ≤ length places.now → looks.old.count + 1 ≤ looks.new.count }
 {
     for place in places {
-        if is_other(machine, place, T::was_short(back, place), looks) {
+        if is_other(machine, place, back.was(place), looks) {
             return true;
         }
     }
     false
-}
-
-/// Returns whether one of the places has another number in the long undo record behind `long` others than in the
-/// machine.
-#[inline(never)]
-fn long_changes<T: Reversible>(
-    machine: &T,
-    longs: &HeapCircularBuffer<Option<T::Record>>,
-    long: usize,
-    places: &[T::Place],
-    looks: &mut Looks,
-) -> bool
-    requires { All (λ place. T.has_place machine.now place) places.now }
-    ensures value { (back : T.Record) → slice_get longs.now.items long ≡ Some (Some back) →
-        result ≡ changes T.Reversible (λ place. T.value_at machine.now place) places.now back }
-    ensures counts_up { looks.old.count ≤ looks.new.count }
-    ensures cost { looks.new.count ≤ looks.old.count + length places.now }
-    ensures looks_at_each { (back : T.Record) → slice_get longs.now.items long ≡ Some (Some back) →
-        1 ≤ length places.now → looks.old.count + 1 ≤ looks.new.count }
-{
-    let Some(Some(back)) = longs.get(long) else {
-        return false;
-    };
-    for place in places {
-        if is_other(machine, place, T::was(back, place), looks) {
-            return true;
-        }
-    }
-    false
-}
-
-/// Returns the old number of the place in the newest long undo record, or `None` if the record does not have that
-/// place.
-#[inline(never)]
-fn newest_long_old_value<T: Reversible>(
-    longs: &HeapCircularBuffer<Option<T::Record>>,
-    place: &T::Place,
-) -> Option<u64>
-    ensures { (back : T.Record) → slice_get longs.now.items 0 ≡ Some (Some back) → result ≡ T.old_value back place.now }
-{
-    match longs.get(0) {
-        Some(Some(back)) => T::was(back, place),
-        _ => None,
-    }
 }
 
 /// Discards the first n items.

@@ -15,3 +15,8 @@ fn session_of<T: Reversible>(alloc: Global, machine: T, capacity: u32) -> Result
 {
     Ok(Session::new(alloc, machine, capacity).map_err(|_| "no memory")?)
 }
+
+/// Returns the number that a place had before the newest action.
+fn before_newest<T: Reversible>(session: &Session<T>, place: &T::Place) -> Option<u64> {
+    session.newest()?.was(place)
+}

@@ -1,13 +1,14 @@
 -- Runs, one turn after another.
 use Rattle.std.proofs.lemmas.Bool.{and_parts}
 use Rattle.std.proofs.lemmas.Bool.Decides.{nat_tests}
-use Rattle.std.proofs.Common.{drop, get_or, length, min, ◌≡◌, ◌==◌, true, false, ◌∷◌, ℕ, suc, ◌+◌, ◌-◌, ◌<◌, ◌≤◌, refl, ap, subst, sym, ◌∙◌, arith, List}
+use Rattle.std.proofs.Common.{drop, get_or, length, ◌≡◌, ◌==◌, true, false, ◌∷◌, ℕ, suc, ◌+◌, ◌-◌, ◌<◌, ◌≤◌, refl, ap, subst, sym, ◌∙◌, arith, List}
 use Rattle.std.specs.Prelude.{Option, Some, None, [], MatchOption}
 use Rattle.pp_machine.specs.Lookup.{lookup}
-use Rattle.pp_rig.specs.Action.{FitsRecord, before, record_restores}
+use Rattle.pp_rig.specs.Action.{FitsRecord, before, record_pairs, record_restores}
 use Rattle.pp_rig.specs.Short.{whole, whole_turn}
 use Rattle.pp_rig.specs.Storage.{are_storage, is_storage}
 use Rattle.pp_rig.specs.Turn.{turn_pairs}
+use Rattle.pp_rig.specs.declared.rig.RigRecord.{RigRecord}
 use Rattle.pp_rig.specs.declared.rig.ShortTurn.{ShortTurn}
 use Rattle.pp_history.specs.SessionValue.{SessionValue, after_act}
 use Rattle.pp_machine.specs.Machine.{Machine, number}
@@ -84,7 +85,7 @@ hit-found old new before {found} turned same seen =
     sym (after ∙ ap (first_change old (turn old)) watched)
 
 -- the search for a change, at watched place i
-module _ (old new machine : Machine) (watches seen : List Watched) (i : ℕ) (place : Place) (same_machine : machine ≡ new) (same_watches : seen ≡ watches) (at_place : place ≡ watched_place (get_or seen i (Cell 0 0))) (within : i < length seen) (before : first_change old new watches ≡ first_change old new (drop i watches)) where
+module _ (old new : Machine) (watches seen : List Watched) (i : ℕ) (place : Place) (same_watches : seen ≡ watches) (at_place : place ≡ watched_place (get_or seen i (Cell 0 0))) (within : i < length seen) (before : first_change old new watches ≡ first_change old new (drop i watches)) where
   to_next : first_change old new watches ≡ first_change old new (get_or seen i (Cell 0 0) ∷ drop (i + 1) watches)
   to_next =
       before ∙ (ap (λ w. first_change old new (drop i w)) (sym same_watches)
@@ -98,25 +99,22 @@ module _ (old new machine : Machine) (watches seen : List Watched) (i : ℕ) (pl
       to_next ∙ rw equal refl
 
   -- the number at the place is another
-  pub first-hit : (was now : ℕ) → number old place ≡ was → now ≡ number machine place → (now == was) ≡ false → first_change old new watches ≡ Some (record { place = get_or seen i (Cell 0 0); was = was; now = now })
+  pub first-hit : (was now : ℕ) → number old place ≡ was → now ≡ number new place → (now == was) ≡ false → first_change old new watches ≡ Some (record { place = get_or seen i (Cell 0 0); was = was; now = now })
   first-hit was now at_old at_new other =
       let was_here : number old (watched_place (get_or seen i (Cell 0 0))) ≡ was = rw (← at_place) at_old in
-      let now_here : number new (watched_place (get_or seen i (Cell 0 0))) ≡ now = rw (← at_place, ← same_machine) (sym at_new) in
+      let now_here : number new (watched_place (get_or seen i (Cell 0 0))) ≡ now = rw (← at_place) (sym at_new) in
       to_next ∙ rw (was_here, now_here, other) refl
 
-pub one_kept : (capacity kept : ℕ) → 1 ≤ capacity → 1 ≤ min capacity (kept + 1)
-one_kept capacity kept room = omega (arith, room)
-
--- a short undo record has the number before the turn
-pub short-told : (m : Machine) (turn : ShortTurn) (place : Place) → FitsRecord (whole turn) m → (named : Option ℕ) → named ≡ lookup (turn_pairs (whole_turn turn)) place → MatchOption named (number (before (whole turn) m) place ≡ number m place) (λ was. number (before (whole turn) m) place ≡ was)
-short-told m turn place fits named e =
-    subst (λ o. MatchOption o (number (before (whole turn) m) place ≡ number m place) (λ was. number (before (whole turn) m) place ≡ was)) (sym e) (record_restores (whole turn) m place fits)
+-- an undo record has the number before its action
+pub record-told : (m : Machine) (back : RigRecord) (place : Place) → FitsRecord back m → (named : Option ℕ) → named ≡ lookup (record_pairs back) place → MatchOption named (number (before back m) place ≡ number m place) (λ was. number (before back m) place ≡ was)
+record-told m back place fits named e =
+    subst (λ o. MatchOption o (number (before back m) place ≡ number m place) (λ was. number (before back m) place ≡ was)) (sym e) (record_restores back m place fits)
 
 -- a turn whose record has no storage changed none
 pub storage-same : (m : Machine) (turn : ShortTurn) (watches : List Watched) → FitsRecord (whole turn) m → are_storage watches ≡ true → ((place : Place) → is_storage place ≡ true → lookup (turn_pairs (whole_turn turn)) place ≡ None) → first_change (before (whole turn) m) m watches ≡ None
 storage-same m turn [] fits e none = refl
 storage-same m turn (w ∷ ws) fits e none =
     let both = and_parts (is_storage (watched_place w)) (are_storage ws) e in
-    let same : number (before (whole turn) m) (watched_place w) ≡ number m (watched_place w) = short-told m turn (watched_place w) fits None (sym (none (watched_place w) both.0)) in
+    let same : number (before (whole turn) m) (watched_place w) ≡ number m (watched_place w) = record-told m (whole turn) (watched_place w) fits None (sym (none (watched_place w) both.0)) in
     let equal : (number m (watched_place w) == number (before (whole turn) m) (watched_place w)) ≡ true = grind (arith, nat_tests, same) in
     rw equal (storage-same m turn ws fits both.1 none)

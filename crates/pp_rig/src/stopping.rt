@@ -1,6 +1,7 @@
 //! Runs of turns that stop at the first change of a watched number.
 ghost use Rattle.std.specs.Prelude.{◌≡◌, true};
 ghost use Rattle.pp_history.specs.SessionValue.{SessionValue, IsAt, after_act, replay};
+ghost use Rattle.pp_history.specs.UndoRecord.{whole_record};
 ghost use Rattle.pp_machine.specs.Machine.{Machine};
 ghost use Rattle.pp_rig.specs.Action.{FitsRecord, before};
 ghost use Rattle.pp_rig.specs.Rules.{rules};
@@ -10,9 +11,9 @@ ghost use Rattle.pp_rig.specs.Stopping.{first_change, stopped, after_turns};
 ghost use Rattle.pp_rig.specs.Watches.{watches_of};
 
 use crate::action::Action;
-use crate::rig::{Rig, ShortTurn};
+use crate::rig::Rig;
 use crate::watched::Watched;
-use pp_history::{Reversible, Session};
+use pp_history::{Reversible, Session, UndoRecord};
 
 /// A change of a watched number in one turn.
 #[derive(Clone, Copy, Debug, PartialEq, Eq, Drop)]
@@ -34,46 +35,21 @@ pub struct Stopped {
     pub hit: Option<Hit>,
 }
 
-/// Returns the first watched place, in watch order, whose number the newest action, a turn with a long undo record,
-/// changed.
-#[inline(never)]
-fn first_change_at_length(session: &Session<Rig>) -> Option<Hit>
-    ensures { (v : SessionValue Machine Action) → IsAt rules session.now (after_act v Action.Turn) →
-        result ≡ first_change (replay rules v.start v.standing) session.now.machine (watches_of session.now.machine) }
+/// Returns the first watched place, in watch order, whose number an action with this undo record changed.
+#[inline(always)]
+fn change_of(machine: &Rig, back: &UndoRecord<Rig>) -> Option<Hit>
+    requires { FitsRecord (whole_record whole back.now) machine.now }
+    ensures { result ≡ first_change (before (whole_record whole back.now) machine.now) machine.now (watches_of machine.now) }
 {
-    let machine = session.machine();
     let watches = machine.watches();
     for i in 0..watches.len() {
         let place = watches[i].place();
-        if let Some(was) = session.newest_old_value(&place) {
+        if let Some(was) = back.was(&place) {
             let now = machine.value(&place);
             if now != was {
                 return Some(Hit {
                     place: watches[i],
                     was,
-                    now,
-                });
-            }
-        }
-    }
-    None
-}
-
-/// Returns the first watched place, in watch order, whose number a turn with this short undo record changed.
-#[inline(always)]
-fn change_of(machine: &Rig, turn: &ShortTurn) -> Option<Hit>
-    requires { FitsRecord (whole turn.now) machine.now }
-    ensures { result ≡ first_change (before (whole turn.now) machine.now) machine.now (watches_of machine.now) }
-{
-    let watches = machine.watches();
-    for i in 0..watches.len() {
-        let watched = watches[i].place();
-        if let Some(old) = turn.was(&watched) {
-            let now = machine.value(&watched);
-            if now != old {
-                return Some(Hit {
-                    place: watches[i],
-                    was: old,
                     now,
                 });
             }
@@ -94,16 +70,13 @@ fn first_change(session: &Session<Rig>, is_storage_alone: bool) -> Option<Hit>
     if machine.watches().is_empty() {
         return None;
     }
-    match session.newest_short() {
-        Some(turn) => {
-            if is_storage_alone && turn.wrote_registers_alone() {
-                None
-            } else {
-                change_of(machine, turn)
-            }
+    let back = session.newest()?;
+    if let UndoRecord::Short(turn) = &back {
+        if is_storage_alone && turn.wrote_registers_alone() {
+            return None;
         }
-        None => first_change_at_length(session),
     }
+    change_of(machine, &back)
 }
 
 /// Returns whether each watched place is a cell, a central word or the register of a data channel.

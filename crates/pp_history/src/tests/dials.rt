@@ -1,7 +1,7 @@
 //! Sessions of three dials: a machine with one kind of undo record, and with only the required methods.
 
 use super::super::*;
-use super::session_of;
+use super::{before_newest, session_of};
 use std::marker::Model;
 use std::test::Fail;
 
@@ -202,10 +202,10 @@ fn names_the_number_before_the_newest_action(rt: HostRuntime) -> Result<(), Fail
     let mut session = session_of(rt.alloc(), three_dials(), 2)?;
     session.act(Set { dial: 1, to: 3 });
     session.act(Set { dial: 1, to: 4 });
-    assert_eq!(rt; session.newest_old_value(&1), Some(3));
-    assert_eq!(rt; session.newest_old_value(&0), None);
+    assert_eq!(rt; before_newest(&session, &1), Some(3));
+    assert_eq!(rt; before_newest(&session, &0), None);
     assert_eq!(rt; session.back(1), Ok(()));
-    assert_eq!(rt; session.newest_old_value(&1), Some(0));
+    assert_eq!(rt; before_newest(&session, &1), Some(0));
     Ok(())
 }
 

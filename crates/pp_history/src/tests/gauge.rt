@@ -2,7 +2,7 @@
 //! record without moving it.
 
 use super::super::*;
-use super::session_of;
+use super::{before_newest, session_of};
 use std::test::Fail;
 
 /// One number, which can be set.
@@ -145,16 +145,16 @@ fn keeps_short_and_long_records_in_order(rt: HostRuntime) -> Result<(), Fail> {
     for to in [5, 300, 301, 6, 7, 1000, 8, 1001, 9] {
         session.act(to);
     }
-    assert_eq!(rt; session.newest_old_value(&()), Some(1001));
+    assert_eq!(rt; before_newest(&session, &()), Some(1001));
     for number in [1001, 8, 1000] {
         assert_eq!(rt; session.back(1), Ok(()));
         assert_eq!(rt; session.machine().number, number);
     }
     assert_eq!(rt; session.back(1), Err(BackFault::TooFew { kept: 0 }));
-    assert_eq!(rt; session.newest_old_value(&()), None);
+    assert_eq!(rt; before_newest(&session, &()), None);
     assert_eq!(rt; session.forward(2), Ok(()));
     assert_eq!(rt; session.machine().number, 1001);
-    assert_eq!(rt; session.newest_old_value(&()), Some(8));
+    assert_eq!(rt; before_newest(&session, &()), Some(8));
     session.act(2000);
     session.act(10);
     assert_eq!(rt; session.back(3), Ok(()));

@@ -1,4 +1,5 @@
 use Rattle.std.proofs.Common.{◌≡◌, drop}
+use Rattle.pp_history.specs.UndoRecord.{whole_record}
 use Rattle.pp_rig.specs.Action.{before}
 use Rattle.pp_rig.specs.Short.{whole}
 use Rattle.pp_rig.specs.Stopping.{first_change}
@@ -7,4 +8,5 @@ use Rattle.pp_rig.proofs.stopping.change_of.Given as goal
 
 abbrev pub invariant-loop-i : goal.invariant-loop-i
 invariant-loop-i l =
-    first_change (before (whole l.turn) l.machine) l.machine (watches_of l.machine) ≡ first_change (before (whole l.turn) l.machine) l.machine (drop l.i (watches_of l.machine))
+    let old = before (whole_record whole l.back) l.machine in
+    first_change old l.machine (watches_of l.machine) ≡ first_change old l.machine (drop l.i (watches_of l.machine))

@@ -1,51 +1,46 @@
-use Rattle.std.proofs.Common.{◌≡◌, ◌+◌, drop, sym, ◌∙◌, ap, arith, rules, add-one}
-use Rattle.std.specs.Option.{option_copied}
-use Rattle.pp_history.specs.Joining.{longs_behind, record_of}
-use Rattle.pp_history.proofs.Joins.{long-here, drop-one}
+use Rattle.std.proofs.Common.{◌≡◌, ◌+◌, ◌≤◌, ◌∙◌, Some, None, Option, ap, arith, drop, refl, rules, sym, add-one}
+use Rattle.std.specs.Option.{IsSome, option_copied, option_map}
+use Rattle.pp_history.specs.Joining.{longs_behind}
+use Rattle.pp_history.specs.UndoRecord.{whole_record}
+use Rattle.pp_history.proofs.Joins.{newest-at, drop-one}
 use Rattle.pp_history.proofs.Search.{found-here, pass-on}
 use Rattle.pp_history.proofs.log.Log.find_change.Goals as goal
+use Rattle.pp_history.proofs.log.Log.find_change.Goals.{in-Some, in-None}
 
-pub returns-then-short_changes-clause-value : goal.returns-then-short_changes-clause-value
-returns-then-short_changes-clause-value g c =
-    let found = sym c.get.ensures ∙ ap option_copied c.unwrap-entry.ensures in
-    let is = ap (λ short. record_of g.T.Reversible.whole short (drop c.loop-k.long c.self.inside.longs.items)) c.in-Some.is in
-    sym (found-here g.T.Reversible c.loop-k.invariant.passed found is (sym c.short_changes.ensures.value ∙ c.if-short_changes.true))
+-- an entry has an undo record
+some-mapped : {X Y : Type 0} (f : X → Y) (o : Option X) (y : Y) → option_map f o ≡ Some y → IsSome o
+some-mapped f None y e = cc
+some-mapped f (Some x) y e = refl
 
-pub loop-k-preserved-in-Some : goal.loop-k-preserved-in-Some
-loop-k-preserved-in-Some g c =
+pub unwrap-back-requires : goal.unwrap-back-requires
+unwrap-back-requires g c =
     let found = sym c.get.ensures ∙ ap option_copied c.unwrap-entry.ensures in
-    let is = ap (λ short. record_of g.T.Reversible.whole short (drop c.loop-k.long c.self.inside.longs.items)) c.in-Some.is in
-    let behind = sym (ap (λ short. longs_behind short (drop c.loop-k.long c.self.inside.longs.items)) c.in-Some.is) in
-    record {
-      passed = pass-on g.T.Reversible c.loop-k.invariant.passed found is (sym c.short_changes.ensures.value ∙ c.if-short_changes.false) _ _ (omega arith) behind;
-      few = omega arith;
-      counts_up = search rules;
-      cost = search rules;
-      looks_at_each = search rules;
-    }
+    let at = newest-at g.T.Reversible.whole _ _ _ c.unwrap-entry.result.now c.loop-k.invariant.passed.kept found in
+    some-mapped (whole_record g.T.Reversible.whole) c.undo_record.result at.back (c.undo_record.ensures ∙ at.is)
 
-pub returns-then-long_changes-clause-value : goal.returns-then-long_changes-clause-value
-returns-then-long_changes-clause-value g c =
+pub returns-then-is_changed-clause-value : goal.returns-then-is_changed-clause-value
+returns-then-is_changed-clause-value g c =
     let found = sym c.get.ensures ∙ ap option_copied c.unwrap-entry.ensures in
-    let here = long-here g.T.Reversible.whole (c.self.inside.ahead + c.loop-k.k) c.loop-k.long c.self.inside.entries.items c.self.inside.longs.items c.unwrap-entry.result.now c.loop-k.invariant.passed.kept found c.in_default.is in
-    sym (found-here g.T.Reversible c.loop-k.invariant.passed found here.0.is (sym (c.long_changes.ensures.value here.0.back here.1) ∙ c.if-long_changes.true))
-
-pub returns-then-long_changes-clause-looks_at_each : goal.returns-then-long_changes-clause-looks_at_each
-returns-then-long_changes-clause-looks_at_each g c = λ some.
-    let found = sym c.get.ensures ∙ ap option_copied c.unwrap-entry.ensures in
-    let here = long-here g.T.Reversible.whole (c.self.inside.ahead + c.loop-k.k) c.loop-k.long c.self.inside.entries.items c.self.inside.longs.items c.unwrap-entry.result.now c.loop-k.invariant.passed.kept found c.in_default.is in
-    omega (arith, c.loop-k.invariant.looks_at_each some, c.long_changes.ensures.looks_at_each here.0.back here.1 some)
+    let is = sym c.undo_record.ensures ∙ ap (option_map (whole_record g.T.Reversible.whole)) c.unwrap-back.ensures in
+    sym (found-here g.T.Reversible c.loop-k.invariant.passed found is (sym c.is_changed.ensures.value ∙ c.if-is_changed.true))
 
 pub loop-k-preserved : goal.loop-k-preserved
 loop-k-preserved g c =
     let found = sym c.get.ensures ∙ ap option_copied c.unwrap-entry.ensures in
-    let here = long-here g.T.Reversible.whole (c.self.inside.ahead + c.loop-k.k) c.loop-k.long c.self.inside.entries.items c.self.inside.longs.items c.unwrap-entry.result.now c.loop-k.invariant.passed.kept found c.in_default.is in
-    let behind : drop (c.loop-k.long + 1) c.self.inside.longs.items ≡ longs_behind c.unwrap-entry.result.now.1 (drop c.loop-k.long c.self.inside.longs.items) =
-    rw add-one (sym (drop-one c.loop-k.long c.self.inside.longs.items)) ∙ sym (ap (λ short. longs_behind short (drop c.loop-k.long c.self.inside.longs.items)) c.in_default.is) in
+    let is = sym c.undo_record.ensures ∙ ap (option_map (whole_record g.T.Reversible.whole)) c.unwrap-back.ensures in
+    let longs = c.self.inside.longs.items in
+    let long : (drop c.match-entry.long longs ≡ longs_behind c.unwrap-entry.result.now.1 (drop c.loop-k.long longs)) × (c.match-entry.long ≤ c.loop-k.long + 1) =
+    elim c.match-entry.branch [
+      | in-Some w ↦ (ap (λ n. drop n longs) w.long-is ∙ sym (ap (λ short. longs_behind short (drop c.loop-k.long longs)) w.in-Some.is), omega (arith, w.long-is))
+      | in-None w ↦ (
+        ap (λ n. drop n longs) w.long-is ∙ rw add-one (sym (drop-one c.loop-k.long longs)) ∙ sym (ap (λ short. longs_behind short (drop c.loop-k.long longs)) w.in-None.is),
+        omega (arith, w.long-is),
+      )
+    ] in
     record {
-      passed = pass-on g.T.Reversible c.loop-k.invariant.passed found here.0.is (sym (c.long_changes.ensures.value here.0.back here.1) ∙ c.if-long_changes.false) _ _ (omega arith) behind;
-      few = omega arith;
+      passed = pass-on g.T.Reversible c.loop-k.invariant.passed found is (sym c.is_changed.ensures.value ∙ c.if-is_changed.false) _ _ (omega arith) long.0;
+      few = omega (arith, long.1);
       counts_up = search rules;
       cost = search rules;
-      looks_at_each = λ some. omega (arith, c.loop-k.invariant.looks_at_each some, c.long_changes.ensures.looks_at_each here.0.back here.1 some);
+      looks_at_each = search rules;
     }
