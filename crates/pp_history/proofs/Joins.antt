@@ -1,5 +1,5 @@
 -- Two rings hold one list of undo records, and continue to hold it.
-use Rattle.std.proofs.Common.{reverse, add-one, Option, Some, None, slice_get, ◌≡◌, ℕ, zero, suc, ◌+◌, ◌-◌, ◌<◌, ◌≤◌, List, [], ◌∷◌, ◌++◌, length, map, take, drop, set, refl, sym, ◌∙◌, ap, subst, arith, length-take}
+use Rattle.std.proofs.Common.{reverse, add-one, sub-one, Option, Some, None, slice_get, ◌≡◌, ℕ, zero, suc, ◌+◌, ◌-◌, ◌<◌, ◌≤◌, List, [], ◌∷◌, ◌++◌, length, map, take, drop, set, refl, sym, ◌∙◌, ap, subst, arith, length-take}
 use Rattle.std.proofs.lemmas.List.{length-map, reverse-append, length-reverse, take-set, drop-set, length-set, length-drop, take_all}
 use Rattle.std.proofs.lemmas.Grind.{common_steps}
 use Rattle.std.proofs.lemmas.Option.{slice_get_within}
@@ -25,9 +25,9 @@ take-one n [] x found = cc
 take-one zero (y ∷ ys) x found = let same : y ≡ x = cc in ap (λ z. z ∷ []) same
 take-one (suc n) (y ∷ ys) x found = ap (λ zs. y ∷ zs) (take-one n ys x found)
 
-pub set_first : {X : Type 0} (capacity : ℕ) (old new : X) (xs : List X) → 1 ≤ capacity → set (take capacity (old ∷ xs)) 0 new ≡ take capacity (new ∷ xs)
-set_first zero old new xs some = absurd (omega arith)
-set_first (suc n) old new xs some = refl
+front : {X : Type 0} (n : ℕ) (x : X) (xs : List X) → 1 ≤ n → (take 1 (take n (x ∷ xs)) ≡ x ∷ []) × (drop 1 (take n (x ∷ xs)) ≡ take (n - 1) xs)
+front zero x xs some = absurd (omega arith)
+front (suc n) x xs some = (refl, rw sub-one refl)
 
 module _ {A S : Type 0} where
   -- the actions of the first n entries, in reverse order
@@ -72,33 +72,36 @@ module _ {S R : Type 0} (whole : S → R) where
   left_capacity (Some short) back old new left = ap (λ b. b.capacity) left.1
   left_capacity None back old new left = ap (λ b. b.capacity) left
 
-  pub first_long : (longs : List (Option R)) (long : Option R) → slice_get longs 0 ≡ Some long → record_of whole None longs ≡ long
-  first_long [] long found = cc
-  first_long (first ∷ longs) long found = cc
-
   pub long_and : (longs : List (Option R)) (Holds : R → Type 0) → IsSomeAnd (record_of whole None longs) Holds → (back : R) × (slice_get longs 0 ≡ Some (Some back)) × Holds back
   long_and [] Holds h = absurd h
   long_and (None ∷ longs) Holds h = absurd h
   long_and (Some back ∷ longs) Holds h = (back, refl, h)
 
 module _ {A S R : Type 0} (whole : S → R) where
-  -- for the newest n entries the newest n long undo records are enough
-  joined_take : (n m : ℕ) (entries : List (Entry A S)) (longs : List (Option R)) → n ≤ m → joined whole (take n entries) (take m longs) ≡ take n (joined whole entries longs)
-  joined_take zero m entries longs few = refl
-  joined_take (suc n) m [] longs few = refl
-  joined_take (suc n) m ((action, Some short) ∷ older) longs few = ap (λ records. (action, whole short) ∷ records) (joined_take n m older longs (omega arith))
-  joined_take (suc n) zero ((action, None) ∷ older) longs few = absurd (omega arith)
-  joined_take (suc n) (suc m) ((action, None) ∷ older) [] few = refl
-  joined_take (suc n) (suc m) ((action, None) ∷ older) (None ∷ longs) few = refl
-  joined_take (suc n) (suc m) ((action, None) ∷ older) (Some back ∷ longs) few = ap (λ records. (action, back) ∷ records) (joined_take n m older longs (omega arith))
+  -- the undo records of the newest n entries
+  joined_take : (n : ℕ) (entries : List (Entry A S)) (longs : List (Option R)) → joined whole (take n entries) longs ≡ take n (joined whole entries longs)
+  joined_take zero entries longs = refl
+  joined_take (suc n) [] longs = refl
+  joined_take (suc n) ((action, Some short) ∷ older) longs = ap (λ records. (action, whole short) ∷ records) (joined_take n older longs)
+  joined_take (suc n) ((action, None) ∷ older) [] = refl
+  joined_take (suc n) ((action, None) ∷ older) (None ∷ longs) = refl
+  joined_take (suc n) ((action, None) ∷ older) (Some back ∷ longs) = ap (λ records. (action, back) ∷ records) (joined_take n older longs)
 
-  -- one more entry, with the undo record that its action leaves; the oldest is discarded
-  joined_left : (action : A) (short : Option S) (back : R) (old new : Buffer (Option R)) (older : List (Entry A S)) → IsLeft whole short back old new → joined whole (take old.capacity ((action, short) ∷ older)) new.items ≡ take old.capacity ((action, back) ∷ joined whole older old.items)
-  joined_left action None back old new older left = rw left (joined_take old.capacity old.capacity ((action, None) ∷ older) (Some back ∷ old.items) (omega arith))
-  joined_left action (Some short) back old new older left =
-      let all : take (old.capacity + length old.items) old.items ≡ old.items = take_all (old.capacity + length old.items) old.items (omega arith) in
-      let taken = joined_take old.capacity (old.capacity + length old.items) ((action, Some short) ∷ older) old.items (omega arith) in
-      rw (left.1, left.0) (rw all at taken)
+  -- n long undo records are enough for n entries
+  joined_enough : (n : ℕ) (entries : List (Entry A S)) (longs : List (Option R)) → length entries ≤ n → joined whole entries (take n longs) ≡ joined whole entries longs
+  joined_enough n [] longs few = refl
+  joined_enough n ((action, Some short) ∷ older) longs few = ap (λ records. (action, whole short) ∷ records) (joined_enough n older longs (omega arith))
+  joined_enough zero ((action, None) ∷ older) longs few = absurd (omega arith)
+  joined_enough (suc n) ((action, None) ∷ older) [] few = refl
+  joined_enough (suc n) ((action, None) ∷ older) (None ∷ longs) few = refl
+  joined_enough (suc n) ((action, None) ∷ older) (Some back ∷ longs) few = ap (λ records. (action, back) ∷ records) (joined_enough n older longs (omega arith))
+
+  -- one more entry, with the undo record that its action leaves
+  joined_left : (action : A) (short : Option S) (back : R) (old new : Buffer (Option R)) (older : List (Entry A S)) → IsLeft whole short back old new → length older < old.capacity → joined whole ((action, short) ∷ older) new.items ≡ (action, back) ∷ joined whole older old.items
+  joined_left action (Some short) back old new older left few = rw (left.1, left.0) refl
+  joined_left action None back old new older left few =
+      let some : old.capacity ≡ suc (old.capacity - 1) = omega arith in
+      rw (left, some) (ap (λ records. (action, back) ∷ records) (joined_enough (old.capacity - 1) older old.items (omega arith)))
 
   -- the undo record of the entry behind n others, and the records of the older ones
   pub record NewestAt (n : ℕ) (entries : List (Entry A S)) (longs : List (Option R)) (entry : Entry A S) : Type 0 where
@@ -133,24 +136,23 @@ module _ {A S R : Type 0} (whole : S → R) where
       (((entry.0, at.back), at.first, same), (λ none. cc, λ none. absurd (omega (arith, none, slice_get_within (joined whole (drop n entries) longs) 0 (entry.0, at.back) at.first))))
 
 module _ {A S R : Type 0} (whole : S → R) where
-  -- a log with one more action
-  module _ (entries entries' : Buffer (Entry A S)) (old new : Buffer (Option R)) (ahead : ℕ) (action : A) (short : Option S) (back : R)
-      (log : IsLog whole entries old ahead)
-      (kept : entries' ≡ buffer (take entries.capacity ((action, short) ∷ drop ahead entries.items)) entries.capacity)
-      (left : IsLeft whole short back old new) where
-    performed_records : joined whole entries'.items new.items ≡ take entries.capacity ((action, back) ∷ joined whole (drop ahead entries.items) old.items)
-    performed_records = rw (kept, ← log.same_room) (joined_left whole action short back old new (drop ahead entries.items) left)
+  -- a log with one more action, ahead of the others
+  module _ (entries entries' : Buffer (Entry A S)) (longs : Buffer (Option R)) (ahead : ℕ) (newest : Entry A S)
+      (log : IsLog whole entries longs ahead)
+      (pushed : entries' ≡ buffer (take entries.capacity (newest ∷ drop ahead entries.items)) entries.capacity) where
+    left_records : joined whole (drop 1 entries'.items) longs.items ≡ take (entries.capacity - 1) (joined whole (drop ahead entries.items) longs.items)
+    left_records = rw (pushed, (front entries.capacity newest (drop ahead entries.items) log.some_room).1) (joined_take whole (entries.capacity - 1) (drop ahead entries.items) longs.items)
 
-    pub performed_value : log_value whole entries' new 0 ≡ log_of (take entries.capacity ((action, back) ∷ joined whole (drop ahead entries.items) old.items)) [] entries.capacity
-    performed_value = rw performed_records (ap (λ (b : Buffer (Entry A S)). log_of (take entries.capacity ((action, back) ∷ joined whole (drop ahead entries.items) old.items)) [] b.capacity) kept)
+    pub ahead_value : log_value whole entries' longs 1 ≡ log_of (take (entries.capacity - 1) (joined whole (drop ahead entries.items) longs.items)) (newest.0 ∷ []) entries.capacity
+    ahead_value = rw (left_records, pushed, (front entries.capacity newest (drop ahead entries.items) log.some_room).0) refl
 
-    pub performed_log : IsLog whole entries' new 0
-    performed_log = record {
-      some_room = rw kept log.some_room;
-      bounded = rw kept log.bounded;
-      same_room = rw kept (left_capacity whole short back old new left ∙ log.same_room);
-      full = rw kept (grind (arith, common_steps));
-      kept = rw (performed_records, kept) (grind (arith, common_steps, log.kept, length-drop));
+    pub ahead_log : IsLog whole entries' longs 1
+    ahead_log = record {
+      some_room = rw pushed log.some_room;
+      bounded = rw pushed log.bounded;
+      same_room = rw pushed log.same_room;
+      full = rw pushed (grind (arith, common_steps));
+      kept = rw (left_records, pushed) (grind (arith, common_steps, log.kept, log.some_room, length-drop));
     }
 
   -- a log whose newest action was undone
@@ -183,11 +185,7 @@ module _ {A S R : Type 0} (whole : S → R) where
     again_records =
         let within : n < length entries.items = slice_get_within entries.items n entry found in
         let split : drop n (set entries.items n (entry.0, short)) ≡ (entry.0, short) ∷ drop ahead entries.items = rw more (drop-set entries.items n (entry.0, short) within) in
-        let entries_fit : take old.capacity ((entry.0, short) ∷ drop ahead entries.items) ≡ (entry.0, short) ∷ drop ahead entries.items =
-        take_all old.capacity ((entry.0, short) ∷ drop ahead entries.items) (omega (arith, log.full, log.same_room, length-drop ahead entries.items)) in
-        let records_fit : take old.capacity ((entry.0, back) ∷ joined whole (drop ahead entries.items) old.items) ≡ (entry.0, back) ∷ joined whole (drop ahead entries.items) old.items =
-        take_all old.capacity ((entry.0, back) ∷ joined whole (drop ahead entries.items) old.items) (omega (arith, log.full, log.same_room, log.kept)) in
-        rw (kept, split) (rw (entries_fit, records_fit) at (joined_left whole entry.0 short back old new (drop ahead entries.items) left))
+        rw (kept, split) (joined_left whole entry.0 short back old new (drop ahead entries.items) left (omega (arith, log.full, log.same_room, log.kept, more, within, length-drop ahead entries.items)))
 
     pub again_value : log_value whole entries' new n ≡ log_of ((entry.0, back) ∷ joined whole (drop ahead entries.items) old.items) (drop 1 (ahead_of ahead entries.items)) entries.capacity
     again_value =

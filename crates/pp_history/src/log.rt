@@ -4,7 +4,7 @@ ghost use Rattle.std.specs.Prelude.{◌≡◌, ◌∷◌, [], take, drop, slice_
 ghost use Rattle.circular_buffer.specs.Buffer.{buffer};
 ghost use Rattle.std.specs.List.{All};
 ghost use Rattle.pp_history.specs.Joining.{Entry, IsLeft, longs_behind, record_of};
-ghost use Rattle.pp_history.specs.LogValue.{LogValue};
+ghost use Rattle.pp_history.specs.LogValue.{IsPerformed, IsUndone, LogValue, log_of};
 ghost use Rattle.pp_history.specs.Search.{changes, first_changing, differs_from};
 ghost use Rattle.pp_history.specs.UndoRecord.{whole_record};
 ghost use Rattle.std.specs.Option.{option_map};
@@ -76,18 +76,14 @@ impl<T: Reversible> Log<T> {
         self.ahead as u32
     }
 
-    /// Performs an action that the machine admits, and keeps it in front of the others. If the log is full, the oldest
-    /// action is discarded. The actions ahead are discarded too.
+    /// Puts an action ahead, which is then the only one ahead. If the log is full, the oldest action is discarded.
     #[inline(always)]
-    pub(crate) fn perform(&mut self, machine: &mut T, action: T::Action)
-        requires { T.admitted machine.old action }
-        ensures machine { machine.new ≡ T.after_act machine.old action }
-        ensures kept { (back : T.Record) × (T.fits back machine.new) × (T.after_undo back machine.new ≡ machine.old)
-            × (self.new ≡ record { records = take self.old.capacity ((action, back) ∷ self.old.records); ahead = []; capacity = self.old.capacity }) }
+    pub(crate) fn put_ahead(&mut self, action: T::Action)
+        ensures { self.new ≡ log_of (take (self.old.capacity - 1) self.old.records) (action ∷ []) self.old.capacity }
     {
         forget(&mut self.entries, self.ahead);
-        self.ahead = 0;
-        perform(machine, &mut self.entries, &mut self.longs, action);
+        push(&mut self.entries, (action, T::spare()));
+        self.ahead = 1;
     }
 
     /// Undoes the newest action.
@@ -95,9 +91,7 @@ impl<T: Reversible> Log<T> {
     pub(crate) fn take_back(&mut self, machine: &mut T)
         requires some { 0 < length self.old.records }
         requires fits { (newest : T.Action × T.Record) → slice_get self.old.records 0 ≡ Some newest → T.fits newest.1 machine.old }
-        ensures { (newest : T.Action × T.Record) × (slice_get self.old.records 0 ≡ Some newest)
-            × (machine.new ≡ T.after_undo newest.1 machine.old)
-            × (self.new ≡ record { records = drop 1 self.old.records; ahead = newest.0 ∷ self.old.ahead; capacity = self.old.capacity }) }
+        ensures { IsUndone T.Reversible machine.old machine.new self.old self.new }
     {
         take_back(machine, &self.entries, &mut self.longs, self.ahead);
         self.ahead += 1;
@@ -108,9 +102,7 @@ impl<T: Reversible> Log<T> {
     pub(crate) fn perform_again(&mut self, machine: &mut T)
         requires some { 0 < length self.old.ahead }
         requires admitted { (action : T.Action) → slice_get self.old.ahead 0 ≡ Some action → T.admitted machine.old action }
-        ensures { (action : T.Action) × (back : T.Record) × (slice_get self.old.ahead 0 ≡ Some action)
-            × (machine.new ≡ T.after_act machine.old action) × (T.fits back machine.new) × (T.after_undo back machine.new ≡ machine.old)
-            × (self.new ≡ record { records = (action, back) ∷ self.old.records; ahead = drop 1 self.old.ahead; capacity = self.old.capacity }) }
+        ensures { IsPerformed T.Reversible machine.old machine.new self.old self.new }
     {
         self.ahead -= 1;
         perform_again(machine, &mut self.entries, &mut self.longs, self.ahead);
@@ -278,30 +270,6 @@ fn act<T: Reversible>(
     }
     *back = None;
     act_at_length(machine, action, longs);
-}
-
-/// Performs an action that the machine admits, and keeps it in front of the others. If the ring is full, the oldest
-/// action is discarded.
-#[inline(always)]
-fn perform<T: Reversible>(
-    machine: &mut T,
-    entries: &mut HeapCircularBuffer<(T::Action, Option<T::Short>)>,
-    longs: &mut HeapCircularBuffer<Option<T::Record>>,
-    action: T::Action,
-)
-    requires admitted { T.admitted machine.old action }
-    requires room { 1 ≤ entries.old.capacity }
-    requires long_room { 1 ≤ longs.old.capacity }
-    ensures machine { machine.new ≡ T.after_act machine.old action }
-    ensures kept { (short : Option T.Short) × (back : T.Record)
-        × (entries.new ≡ buffer (take entries.old.capacity ((action, short) ∷ entries.old.items)) entries.old.capacity)
-        × IsLeft T.whole short back longs.old longs.new
-        × T.fits back machine.new × (T.after_undo back machine.new ≡ machine.old) }
-{
-    push(entries, (action, T::spare()));
-    if let Some(newest) = entries.get_mut(0) {
-        act(machine, &newest.0, &mut newest.1, longs);
-    }
 }
 
 /// Performs the action of an entry again. The machine must admit it.
