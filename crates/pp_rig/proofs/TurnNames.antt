@@ -1,20 +1,17 @@
 -- Which parts of a turn's record may have a place.
-use Rattle.std.proofs.Common.{ℕ, Bool, true, false, ◌≡◌, ◌==◌, [], ◌∷◌, Option, Some, None, if◌then◌else◌, refl, ap, ◌∙◌}
-use Rattle.pp_machine.proofs.DeviceLaws.{IsAttached, not_at}
-use Rattle.pp_machine.proofs.PrinterLaws.{printer-attached}
-use Rattle.pp_machine.proofs.ReaderLaws.{reader-attached}
-use Rattle.pp_machine.specs.Attached.{Attached, device_pairs, of_device, the_printer, the_reader}
-use Rattle.pp_machine.specs.Device.{device_place}
+use Rattle.std.proofs.Common.{ℕ, Bool, true, false, ◌≡◌, ◌==◌, [], ◌∷◌, ◌++◌, Option, Some, None, if◌then◌else◌, refl, ap, ◌∙◌}
+use Rattle.pp_machine.specs.Attached.{of_device}
 use Rattle.pp_machine.specs.Lookup.{lookup, same_place}
 use Rattle.pp_machine.specs.WriteLaws.{lookup-append}
 use Rattle.pp_machine.specs.Writes.{Writes, first_of_two, renamed}
 use Rattle.pp_machine.specs.declared.place.Place.{Place}
 use Rattle.pp_machine.specs.declared.place.Place.TheVariants.{Cell, RegA, RegP, RegQ, Phase, ChannelMode, ChannelWord, Clock, Central, FrameWord, Slot, WatchEntry}
-use Rattle.pp_rig.specs.Turn.{clock_part, printer_part, printer_record, reader_part, reader_record, rest_pairs, turn_pairs}
+use Rattle.pp_rig.specs.Turn.{devices_part, end_part, rest_pairs, turn_pairs}
 use Rattle.pp_rig.specs.declared.rig.TurnRecord.{TurnRecord}
 use Rattle.pp_rig.specs.Short.{whole_turn}
 use Rattle.pp_rig.specs.Storage.{is_storage}
 use Rattle.pp_rig.specs.declared.rig.ShortTurn.{ShortTurn}
+use Rattle.pp_rig.proofs.Devices.{none_if, not_by_devices}
 use Rattle.pp_rig.specs.declared.rig.TurnRest.{TurnRest}
 use Rattle.pp_step.specs.Pairs.{pairs, target_pairs, writes_p, written}
 use Rattle.pp_step.specs.declared.record.StepRecord.{StepRecord}
@@ -31,27 +28,17 @@ use Rattle.pp_step.specs.View as view
 not_by_processor : (n : ℕ) (ws : Writes PpPlace) (p : Place) → seen_by n p ≡ None → lookup (renamed (pp_place n) ws) p ≡ None
 not_by_processor n ws p unseen = lookup-seen n ws p ∙ ap (lookup_seen ws) unseen
 
--- a list of other places does not have a place
-not_among : {P : Type 0} (name : P → Place) (ws : Writes P) (p : Place) → ((x : P) → same_place (name x) p ≡ false) → lookup (renamed name ws) p ≡ None
-not_among name [] p other = refl
-not_among name (w ∷ ws) p other = rw (other w.0) (not_among name ws p other)
-
--- nor does a device's record
-not_by_device : {Numbers Own Record : Type 0} (a : Attached Numbers Own Record) → IsAttached a → (c : ℕ) (r : Record) (p : Place) → of_device p ≡ false → lookup (device_pairs a c r) p ≡ None
-not_by_device a laws c r p e = not_among (device_place a.model c) (a.model.pairs r) p (not_at a laws c p e)
-
 -- ---- the parts that are looked up
 
 abbrev by_processor : TurnRecord → Place → Option ℕ
 by_processor r p = lookup (renamed (pp_place r.rest.slot) (pp_pairs r.pp)) p
 
 abbrev by_devices : TurnRecord → Place → Option ℕ
-by_devices r p = first_of_two (lookup (reader_part r.rest) p) (lookup (printer_part r.rest) p)
+by_devices r p = lookup (devices_part r.rest) p
 
-not_by_devices : (r : TurnRecord) (p : Place) → of_device p ≡ false → by_devices r p ≡ None
-not_by_devices r p e =
-    rw (not_by_device the_reader reader-attached r.rest.reader_channel (reader_record r.rest) p e, not_by_device the_printer printer-attached r.rest.printer_channel (printer_record r.rest) p e)
-    refl
+-- the old values of the turn's end: the clock and the slot
+abbrev by_end : TurnRecord → Place → Option ℕ
+by_end r p = lookup (end_part r.rest) p
 
 -- the lookup of a processor's own place: the record is of one processor
 abbrev by_own : TurnRecord → ℕ → Place → Option ℕ
@@ -66,7 +53,7 @@ told r (RegQ n) = by_own r n (RegQ n)
 told r (Phase n) = by_own r n (Phase n)
 told r (Central a) = by_processor r (Central a)
 told r (FrameWord i) = by_processor r (FrameWord i)
-told r Clock = lookup (clock_part r.rest.slot r.rest.clock) Clock
+told r Clock = by_end r Clock
 told r Slot = Some r.rest.slot
 told r (WatchEntry i) = None
 told r (ChannelMode c) = first_of_two (by_processor r (ChannelMode c)) (by_devices r (ChannelMode c))
@@ -77,25 +64,21 @@ first_alone : (o : Option ℕ) → first_of_two o None ≡ o
 first_alone None = refl
 first_alone (Some v) = refl
 
-first_again : (o p q : Option ℕ) → first_of_two o (first_of_two p q) ≡ first_of_two (first_of_two o p) q
-first_again None p q = refl
-first_again (Some v) p q = refl
-
--- the old values of the turn's end: the clock and the slot
-abbrev by_end : TurnRecord → Place → Option ℕ
-by_end r p = first_of_two (lookup (clock_part r.rest.slot r.rest.clock) p) (lookup ((Slot, r.rest.slot) ∷ []) p)
-
 -- the first pair for a place in a turn's record
 pub lookup_parts : (r : TurnRecord) (p : Place) → lookup (turn_pairs r) p ≡ first_of_two (by_processor r p) (first_of_two (by_devices r p) (by_end r p))
 unfolding turn_pairs rest_pairs
-lookup_parts r p = simp lookup-append (ap (first_of_two (by_processor r p)) (first_again (lookup (reader_part r.rest) p) (lookup (printer_part r.rest) p) (by_end r p)))
+lookup_parts r p = simp lookup-append
 
-no_clock : (last : Bool) (v : ℕ) (p : Place) → same_place Clock p ≡ false → lookup (if last then (Clock, v) ∷ [] else []) p ≡ None
-no_clock true v p e = rw e refl
-no_clock false v p e = refl
+past_clock : (last : Bool) (v : ℕ) (w : Writes Place) (p : Place) → same_place Clock p ≡ false → lookup ((if last then (Clock, v) ∷ [] else []) ++ w) p ≡ lookup w p
+past_clock true v w p e = rw e refl
+past_clock false v w p e = refl
+
+-- a place other than the clock
+slot_alone : (r : TurnRecord) (p : Place) → same_place Clock p ≡ false → by_end r p ≡ lookup ((Slot, r.rest.slot) ∷ []) p
+slot_alone r p clock = past_clock (r.rest.slot == 9) r.rest.clock ((Slot, r.rest.slot) ∷ []) p clock
 
 not_at_end : (r : TurnRecord) (p : Place) → same_place Clock p ≡ false → same_place Slot p ≡ false → by_end r p ≡ None
-not_at_end r p clock slot = rw (no_clock (r.rest.slot == 9) r.rest.clock p clock, slot) refl
+not_at_end r p clock slot = slot_alone r p clock ∙ rw slot refl
 
 -- a place of a channel
 shared : (r : TurnRecord) (p : Place) → same_place Clock p ≡ false → same_place Slot p ≡ false → lookup (turn_pairs r) p ≡ first_of_two (by_processor r p) (by_devices r p)
@@ -103,7 +86,7 @@ shared r p clock slot = lookup_parts r p ∙ rw (not_at_end r p clock slot, firs
 
 -- a place that no device has
 processor_alone : (r : TurnRecord) (p : Place) → of_device p ≡ false → same_place Clock p ≡ false → same_place Slot p ≡ false → lookup (turn_pairs r) p ≡ by_processor r p
-processor_alone r p device clock slot = shared r p clock slot ∙ rw (not_by_devices r p device) (first_alone (by_processor r p))
+processor_alone r p device clock slot = shared r p clock slot ∙ rw (not_by_devices r.rest p device) (first_alone (by_processor r p))
 
 own_if : (b : Bool) (ws : Writes PpPlace) (x : PpPlace) (o : Option ℕ) → o ≡ lookup_seen ws (if b then Some x else None) → o ≡ (if b then o else None)
 own_if true ws x o e = refl
@@ -121,7 +104,7 @@ devices_alone r p unseen clock slot = shared r p clock slot ∙ rw (not_by_proce
 
 -- a place of neither: the clock, the slot or a watch entry
 neither : (r : TurnRecord) (p : Place) → seen_by r.rest.slot p ≡ None → of_device p ≡ false → lookup (turn_pairs r) p ≡ by_end r p
-neither r p unseen device = lookup_parts r p ∙ rw (not_by_processor r.rest.slot (pp_pairs r.pp) p unseen, not_by_devices r p device) refl
+neither r p unseen device = lookup_parts r p ∙ rw (not_by_processor r.rest.slot (pp_pairs r.pp) p unseen, not_by_devices r.rest p device) refl
 
 -- the first pair for a place in a turn's record, by the kind of the place
 pub lookup_told : (r : TurnRecord) (p : Place) → lookup (turn_pairs r) p ≡ told r p
@@ -134,9 +117,9 @@ lookup_told r (Central a) = processor_alone r (Central a) refl refl refl
 lookup_told r (FrameWord i) = processor_alone r (FrameWord i) refl refl refl
 lookup_told r (ChannelMode c) = shared r (ChannelMode c) refl refl
 lookup_told r (ChannelWord c) = shared r (ChannelWord c) refl refl
-lookup_told r Clock = neither r Clock refl refl ∙ first_alone (lookup (clock_part r.rest.slot r.rest.clock) Clock)
-lookup_told r Slot = neither r Slot refl refl ∙ rw (no_clock (r.rest.slot == 9) r.rest.clock Slot refl) refl
-lookup_told r (WatchEntry i) = neither r (WatchEntry i) refl refl ∙ rw (no_clock (r.rest.slot == 9) r.rest.clock (WatchEntry i) refl) refl
+lookup_told r Clock = neither r Clock refl refl
+lookup_told r Slot = neither r Slot refl refl ∙ slot_alone r Slot refl
+lookup_told r (WatchEntry i) = neither r (WatchEntry i) refl refl ∙ slot_alone r (WatchEntry i) refl
 lookup_told r p = devices_alone r p refl refl refl
 
 -- ---- a turn that wrote only registers, the clock and the slot
@@ -158,12 +141,8 @@ not_by_step : (slot : ℕ) (r : StepRecord) (p : Place) → lookup_seen (pairs r
 unfolding pp_pairs
 not_by_step slot r p none = lookup-seen slot (pairs r) p ∙ none
 
-idle : (r : TurnRest) (p : Place) → r.are_devices_called ≡ false → first_of_two (lookup (reader_part r) p) (lookup (printer_part r) p) ≡ None
+idle : (r : TurnRest) (p : Place) → r.are_devices_called ≡ false → lookup (devices_part r) p ≡ None
 idle r p e = rw e refl
-
-none_if : (b : Bool) (o : Option ℕ) → o ≡ None → (if b then o else None) ≡ None
-none_if true o e = e
-none_if false o e = refl
 
 -- so the turn's record has no cell, no central word and no register of a channel
 pub no_storage : (r : ShortTurn) → target_pairs r.pp ≡ [] → r.rest.are_devices_called ≡ false → (p : Place) → is_storage p ≡ true → lookup (turn_pairs (whole_turn r)) p ≡ None

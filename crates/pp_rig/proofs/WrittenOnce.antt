@@ -12,7 +12,7 @@ use Rattle.pp_machine.specs.declared.place.Place.{Place}
 use Rattle.pp_machine.specs.declared.place.Place.TheVariants.{Cell, RegA, RegP, RegQ, Phase, ChannelMode, ChannelWord, Central, FrameWord, PaperSymbol, WatchEntry}
 use Rattle.pp_machine.proofs.Once.{once, each-once}
 use Rattle.pp_rig.specs.Action.{most_places, writes, without_entry, moved_up}
-use Rattle.pp_rig.specs.Deadstart.{all_states, all_waiting, deadstart_writes, deadstart_write_list}
+use Rattle.pp_rig.specs.Deadstart.{all_states, all_waiting, deadstart_place_count, deadstart_writes, deadstart_write_list}
 use Rattle.pp_rig.specs.WatchCodes.{watch_code}
 use Rattle.pp_rig.specs.WriteLists.{cell_writes, entry_writes}
 use Rattle.pp_rig.specs.declared.action.Action.{Action}
@@ -116,7 +116,7 @@ panel-once (_ ∷ _ ∷ _ ∷ _ ∷ _ ∷ _ ∷ _ ∷ _ ∷ _ ∷ _ ∷ _ ∷ []
 panel-once (_ ∷ _ ∷ _ ∷ _ ∷ _ ∷ _ ∷ _ ∷ _ ∷ _ ∷ _ ∷ _ ∷ _ ∷ []) few = refl
 panel-once (_ ∷ _ ∷ _ ∷ _ ∷ _ ∷ _ ∷ _ ∷ _ ∷ _ ∷ _ ∷ _ ∷ _ ∷ _ ∷ rest) few = absurd (omega arith)
 
-deadstart-once : (panel : Option (List ℕ)) → length (deadstart_writes panel) ≤ 76 → EachOnce (deadstart_writes panel)
+deadstart-once : (panel : Option (List ℕ)) → length (deadstart_writes panel) ≤ deadstart_place_count → EachOnce (deadstart_writes panel)
 deadstart-once None few = λ i j d less within. absurd (omega (arith, within))
 deadstart-once (Some panel) few = each (deadstart_write_list panel) (panel-once panel (omega (arith, few, length-deadstart_write_list panel)))
 

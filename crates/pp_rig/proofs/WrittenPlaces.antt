@@ -3,24 +3,24 @@ use Rattle.std.proofs.Common.{◌≡◌, ℕ, ◌+◌, ◌%◌, ◌<◌, ◌≤�
 use Rattle.std.specs.Prelude.{Option, Some, None, IfSome}
 use Rattle.std.proofs.lemmas.Bool.Decides.{eqb_tells}
 use Rattle.std.proofs.lemmas.List.Quantifiers.{position-Some}
-use Rattle.pp_machine.proofs.PrinterLaws.{HasAll-printer_writes}
-use Rattle.pp_machine.proofs.ReaderLaws.{HasAll-reader_writes}
 use Rattle.pp_machine.specs.Machine.{Machine, no_processor, over, processor}
-use Rattle.pp_machine.specs.Shape.{Has, HasAll}
-use Rattle.pp_machine.specs.WriteLaws.{AllPlaces-append}
+use Rattle.pp_machine.specs.Shape.{HasAll}
 use Rattle.pp_machine.specs.declared.place.Place.TheVariants.{Clock}
 use Rattle.pp_step.proofs.StepPlaces.{HasAll-step}
 use Rattle.pp_rig.proofs.Admitting.{IsSet, is_set, is_watch}
 use Rattle.pp_rig.proofs.Deadstart.{AreSettings-deadstart}
+use Rattle.pp_rig.proofs.Devices.{HasAll-devices}
+use Rattle.pp_rig.proofs.Parts.{HasAll-parts, each-append}
 use Rattle.pp_rig.proofs.Unwatching.{HasAll-entries}
 use Rattle.pp_rig.specs.Action.{moved_up, set_list, without_entry, writes}
 use Rattle.pp_rig.specs.Admitting.{first_fault}
 use Rattle.pp_rig.specs.Deadstart.{deadstart_writes, deadstart_write_list}
 use Rattle.pp_rig.specs.IsSetup.{IsPanel}
-use Rattle.pp_rig.specs.Lift.{pp_of, printer_of, reader_of}
+use Rattle.pp_rig.specs.Lift.{pp_of}
 use Rattle.pp_rig.specs.MachineLaws.{setup-over}
 use Rattle.pp_rig.specs.Settings.{HasAll-settings}
-use Rattle.pp_rig.specs.Turn.{turn_writes, pp_step_writes, reader_step_writes, printer_step_writes}
+use Rattle.pp_rig.specs.Parts.{after_parts}
+use Rattle.pp_rig.specs.Turn.{device_parts, end_parts, pp_step_writes, turn_parts, turn_writes}
 use Rattle.pp_rig.specs.WatchCodes.{watch_code}
 use Rattle.pp_rig.specs.WellFormed.{IsProcessor, IsWellFormed}
 use Rattle.pp_rig.specs.declared.action.Action.{Action}
@@ -37,22 +37,15 @@ unfolding turn_writes
 HasAll-turn_writes s ok =
     let size = s.setup.central_words in
     let s1 = over s (pp_step_writes s) in
-    let s2 = over s1 (reader_step_writes s1) in
-    let s3 = over s2 (printer_step_writes s2) in
+    let s3 = after_parts device_parts s1 in
     let here : s.slot < length s.processors = omega (arith, ok.slot, ok.sizes.processors) in
     let stepped : IsProcessor (processor s s.slot) = ok.processors s.slot no_processor here in
     let low : (processor s s.slot).p < 4096 = omega (arith, stepped.p) in
-    let reads : s1.setup.reader_channel < 12 = rw (setup-over s (pp_step_writes s)) ok.setup.reader_channel in
-    let prints : s2.setup.printer_channel < 12 = rw (setup-over s1 (reader_step_writes s1), setup-over s (pp_step_writes s)) ok.setup.printer_channel in
-    AllPlaces-append (Has size) _ _
-    (AllPlaces-append (Has size) _ _
-    (AllPlaces-append (Has size) _ _
-    (AllPlaces-append (Has size) (pp_step_writes s) (reader_step_writes s1)
-    (HasAll-step size s.slot ok.slot (pp_of s.slot s) low stepped.cells ok.sizes.central)
-    (HasAll-reader_writes size s1.setup.reader_channel reads (reader_of s1.setup.reader_channel s1)))
-    (HasAll-printer_writes size s2.setup.printer_channel prints (printer_of s2.setup.printer_channel s2)))
-    (HasAll-clock_writes size ((s3.channels.clock + 1) % 4096) (s3.slot == 9)))
-    (tt, tt)
+    HasAll-parts size turn_parts s (
+      HasAll-step size s.slot ok.slot (pp_of s.slot s) low stepped.cells ok.sizes.central,
+      each-append (λ part m. HasAll size (part m)) device_parts end_parts s1 (HasAll-devices size s1 (rw (setup-over s (pp_step_writes s)) ok.setup))
+          (HasAll-clock_writes size ((s3.channels.clock + 1) % 4096) (s3.slot == 9), ((tt, tt), tt)),
+    )
 
 -- ---- watches
 

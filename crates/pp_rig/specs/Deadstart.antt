@@ -36,3 +36,6 @@ deadstart_writes (Some panel) = deadstart_write_list panel
 -- the same places, for any panel
 abbrev pub deadstart_places : Writes Place
 deadstart_places = deadstart_write_list (replicate 12 0)
+
+abbrev pub deadstart_place_count : ℕ
+deadstart_place_count = 76

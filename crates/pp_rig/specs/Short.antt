@@ -2,7 +2,7 @@
 use Rattle.std.specs.Prelude.{◌≡◌, ◌≤◌, length}
 use Rattle.pp_machine.specs.Machine.{Machine}
 use Rattle.pp_rig.specs.Action.{FitsRecord}
-use Rattle.pp_rig.specs.Turn.{turn, turn_old_values, turn_pairs}
+use Rattle.pp_rig.specs.Turn.{most_turn_places, turn, turn_old_values, turn_pairs}
 use Rattle.pp_step.specs.declared.record.PpRecord.TheVariants.{Step}
 use Rattle.pp_rig.specs.declared.rig.TurnRecord.{TurnRecord}
 use Rattle.pp_rig.specs.declared.rig.ShortTurn.{ShortTurn}
@@ -21,4 +21,4 @@ pub record IsTurned (old new : Machine) (back : TurnRecord) : Type 0 where
   pub step : new ≡ turn old
   pub old_values : turn_pairs back ≡ turn_old_values old
   pub fits : FitsRecord (kept.Turn back) new
-  pub few : length (turn_pairs back) ≤ 44
+  pub few : length (turn_pairs back) ≤ most_turn_places

@@ -22,7 +22,7 @@ pub fn taken_back()
 
 /// BACK W goes back to the latest change of a watched number. Storing the same number again is not a change, and a
 /// change whose record is no longer in the undo history does not count.
-#[tactic(auto, unfolding(pp_step::specs::Step::pp_writes, pp_rig::specs::Turn::turn))]
+#[tactic(auto, unfolding(pp_step::specs::Step::pp_writes, pp_rig::specs::Turn::turn_writes))]
 pub fn latest_change()
     ensures store { back_w
         (session 0o100 (SetA 0 5 ∷ SetCells 0 0o100 (0o3450 ∷ []) ∷ SetP 0 0o100 ∷ Turn ∷ Turn ∷ Turn ∷ []))
@@ -42,7 +42,7 @@ pub fn latest_change()
 
 /// A run of turns ends with the first one that changes a watched number. The program 1405 2400 3450 stores its five in
 /// the third turn of processor 00, which is turn 25 in all.
-#[tactic(auto, unfolding(pp_step::specs::Step::pp_writes, pp_rig::specs::Turn::turn, pp_rig::specs::Stopping::stopped))]
+#[tactic(auto, unfolding(pp_step::specs::Step::pp_writes, pp_rig::specs::Turn::turn_writes, pp_rig::specs::Stopping::stopped))]
 pub fn first_change()
     ensures turns { (stopped 0o30 storing).turns ≡ 0o25 }
     ensures hit { (stopped 0o30 storing).hit ≡ Some (seen_to_change (WatchedCell 0 0o50) 0 5) }

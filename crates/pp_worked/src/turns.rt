@@ -32,7 +32,7 @@ pub fn starts_blank()
 {}
 
 /// The ten processors step in turn, 00 to 11 and then 00 again.
-#[tactic(auto, unfolding(pp_step::specs::Step::pp_writes, pp_rig::specs::Turn::turn))]
+#[tactic(auto, unfolding(pp_step::specs::Step::pp_writes, pp_rig::specs::Turn::turn_writes))]
 pub fn turns_of_the_barrel()
     ensures one { Leads (blank [] None) ((RegP 0, 0o200) ∷ (Cell 0 0o200, 0o300) ∷ []) 1
         ((RegP 0, 0o200) ∷ (RegP 1, 0) ∷ (Slot, 1) ∷ []) }
@@ -43,7 +43,7 @@ pub fn turns_of_the_barrel()
 {}
 
 /// The clock increases by 1 only in the turn of slot 11, after the step of its processor. 7777 is followed by 0000.
-#[tactic(auto, unfolding(pp_step::specs::Step::pp_writes, pp_rig::specs::Turn::turn))]
+#[tactic(auto, unfolding(pp_step::specs::Step::pp_writes, pp_rig::specs::Turn::turn_writes))]
 pub fn clock_ticks()
     ensures round_the_end { Leads (blank [] None) ((Slot, 0o11) ∷ (Clock, 0o7777) ∷ []) 1 ((Slot, 0) ∷ (Clock, 0) ∷ []) }
     ensures not_before { Leads (blank [] None) ((Slot, 0o10) ∷ (Clock, 0o7777) ∷ []) 1
@@ -61,7 +61,7 @@ pub fn clock_ticks()
 
 /// 7712 0001 7412 7012 starts the reader, activates its channel and reads a column. The reader steps after the
 /// processor in the same turn, and so the next column is in the channel at once.
-#[tactic(auto, unfolding(pp_step::specs::Step::pp_writes, pp_rig::specs::Turn::turn))]
+#[tactic(auto, unfolding(pp_step::specs::Step::pp_writes, pp_rig::specs::Turn::turn_writes))]
 pub fn card_through_a_program()
     ensures column { Leads (blank (card (0o1234 ∷ 0o4321 ∷ []) ∷ []) None)
         ((RegP 0, 0o100) ∷ (Cell 0 0o100, 0o7712) ∷ (Cell 0 0o101, 1) ∷ (Cell 0 0o102, 0o7412) ∷ (Cell 0 0o103, 0o7012) ∷ [])
@@ -71,7 +71,7 @@ pub fn card_through_a_program()
 {}
 
 /// 7713 0001 7413 7213 7513 7713 0003 prints a line of two symbols and ends it.
-#[tactic(auto, unfolding(pp_step::specs::Step::pp_writes, pp_rig::specs::Turn::turn))]
+#[tactic(auto, unfolding(pp_step::specs::Step::pp_writes, pp_rig::specs::Turn::turn_writes))]
 pub fn line_through_a_program()
     ensures line { Leads (blank [] None)
         ((RegA 0, 0o0102) ∷ (RegP 0, 0o100) ∷ (Cell 0 0o100, 0o7713) ∷ (Cell 0 0o101, 1) ∷ (Cell 0 0o102, 0o7413) ∷
@@ -83,7 +83,7 @@ pub fn line_through_a_program()
 
 /// A dead start writes 114 places, for any panel. Processor 00 begins at the panel, and each other one waits to read
 /// 10000 words from its own channel. The clock continues from its number.
-#[tactic(auto, unfolding(pp_step::specs::Step::pp_writes, pp_rig::specs::Turn::turn, pp_rig::specs::Deadstart::deadstart_write_list, pp_rig::specs::Deadstart::all_waiting, pp_rig::specs::Deadstart::all_states))]
+#[tactic(auto, unfolding(pp_step::specs::Step::pp_writes, pp_rig::specs::Turn::turn_writes, pp_rig::specs::Deadstart::deadstart_write_list, pp_rig::specs::Deadstart::all_waiting, pp_rig::specs::Deadstart::all_states))]
 pub fn dead_start()
     ensures places { (a b c d e f g h i j k l : ℕ) →
         length (deadstart_write_list (a ∷ b ∷ c ∷ d ∷ e ∷ f ∷ g ∷ h ∷ i ∷ j ∷ k ∷ l ∷ [])) ≡ 0o114 }

@@ -4,7 +4,7 @@ ghost use Rattle.arrayvec.specs.ArrayVec.{array_vec_len};
 ghost use Rattle.pp_machine.specs.WriteList.{write_list};
 ghost use Rattle.pp_machine.specs.Machine.{old_values, over};
 ghost use Rattle.pp_rig.specs.Action.{FitsRecord, record_pairs};
-ghost use Rattle.pp_rig.specs.Deadstart.{all_states, all_waiting, deadstart_writes, deadstart_write_list, deadstart_places, states, waiting};
+ghost use Rattle.pp_rig.specs.Deadstart.{all_states, all_waiting, deadstart_writes, deadstart_write_list, deadstart_place_count, deadstart_places, states, waiting};
 ghost use Rattle.pp_rig.specs.RecordLists.{with_new_numbers, numbers};
 ghost use Rattle.pp_rig.specs.WriteLists.{register_writes, state_writes};
 
@@ -119,7 +119,7 @@ impl Rig {
     pub(super) fn deadstart(&mut self) -> RigRecord
         ensures step { self.new ≡ over self.old (deadstart_writes self.old.setup.panel) }
         ensures old_values { record_pairs result ≡ old_values self.old (deadstart_writes self.old.setup.panel) }
-        ensures at_most { length (record_pairs result) ≤ 76 }
+        ensures at_most { length (record_pairs result) ≤ deadstart_place_count }
         ensures fits { FitsRecord result self.new }
     {
         let Some(panel) = self.panel else {

@@ -1,5 +1,5 @@
 //! Performing an action of any kind.
-ghost use Rattle.std.specs.Prelude.{◌≡◌, ◌≤◌, None, IsSomeAnd, length};
+ghost use Rattle.std.specs.Prelude.{◌≡◌, ◌≤◌, None, IsPermutation, IsSomeAnd, length};
 ghost use Rattle.pp_machine.specs.WriteList.{write_list};
 ghost use Rattle.pp_machine.specs.Writes.{places};
 ghost use Rattle.pp_rig.specs.Action.{FitsRecord, before, most_places, next, old_values_of, record_pairs, set_list, writes};
@@ -56,7 +56,7 @@ impl Rig {
         ensures next { self.new ≡ next self.old action.now }
         ensures fits { IsSomeAnd back.new (λ left. FitsRecord left self.new) }
         ensures leads_back { IsSomeAnd back.new (λ left. before left self.new ≡ self.old) }
-        ensures same_places { IsSomeAnd back.new (λ left. places (record_pairs left) ≡ places (writes self.old action.now)) }
+        ensures same_places { IsSomeAnd back.new (λ left. IsPermutation (places (record_pairs left)) (places (writes self.old action.now))) }
         ensures old_values { IsSomeAnd back.new (λ left. record_pairs left ≡ old_values_of self.old action.now) }
         ensures at_most { IsSomeAnd back.new (λ left. length (record_pairs left) ≤ most_places action.now) }
     {

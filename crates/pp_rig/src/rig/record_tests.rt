@@ -26,11 +26,13 @@ fn made_anew(back: RigRecord) -> RigRecord
                 rest: TurnRest {
                     slot,
                     are_devices_called,
-                    reader_channel,
-                    printer_channel,
                     clock,
-                    reader,
-                    printer,
+                    devices: DeviceRecords {
+                        reader_channel,
+                        printer_channel,
+                        reader,
+                        printer,
+                    },
                 },
             },
         ) => RigRecord::Turn(TurnRecord {
@@ -38,11 +40,13 @@ fn made_anew(back: RigRecord) -> RigRecord
             rest: TurnRest {
                 slot,
                 are_devices_called,
-                reader_channel,
-                printer_channel,
                 clock,
-                reader,
-                printer,
+                devices: DeviceRecords {
+                    reader_channel,
+                    printer_channel,
+                    reader,
+                    printer,
+                },
             },
         }),
         RigRecord::Settings(standing) => RigRecord::Settings(list_of(standing.as_slice())),

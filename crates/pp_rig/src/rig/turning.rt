@@ -1,22 +1,19 @@
 //! One turn of the barrel, and its undoing.
 ghost use Rattle.std.specs.Prelude.{◌≡◌, ◌<◌, ◌≤◌, true, false, None, [], ◌∷◌, length};
-ghost use Rattle.pp_machine.specs.Attached.{device_pairs, the_printer, the_reader};
 ghost use Rattle.pp_machine.specs.Lookup.{lookup};
 ghost use Rattle.pp_machine.specs.Machine.{old_values, over};
-ghost use Rattle.pp_machine.specs.Printer.{FitsPrinter};
-ghost use Rattle.pp_machine.specs.Reader.{FitsReader};
 ghost use Rattle.pp_machine.specs.Writes.{first_of_two, renamed};
 ghost use Rattle.pp_rig.specs.IsMachine.{IsMachine};
-ghost use Rattle.pp_rig.specs.Lift.{printer_of, reader_of};
+ghost use Rattle.pp_rig.specs.Parts.{AreIdle, ArePerformed};
 ghost use Rattle.pp_rig.specs.Short.{IsTurned, whole, whole_turn};
 ghost use Rattle.pp_rig.specs.Storage.{is_storage};
-ghost use Rattle.pp_rig.specs.Turn.{AreDevicesStepped, FitsRest, FitsTurn, IsSlotStep, KeepsSlot, clock_writes, clock_part, printer_step_writes, printer_part, reader_step_writes, reader_part, rest_of_turn, rest_old_values, rest_pairs, slot_writes, turn_pairs};
+ghost use Rattle.pp_rig.specs.Turn.{AreDevicesStepped, FitsDevices, FitsRest, FitsTurn, IsSlotStep, KeepsSlot, clock_part, clock_writes, device_pairs_of, device_parts, devices_part, end_part, rest_of_turn, rest_pairs, slot_writes, turn_pairs};
 ghost use Rattle.pp_step.specs.Pairs.{pairs_as};
 ghost use Rattle.pp_step.specs.Step.{FitsPp, pp_pairs};
 ghost use Rattle.pp_step.specs.View.{pp_place};
 
 use super::devices::{step_device, undo_device};
-use super::{Rig, RigRecord, ShortTurn, TurnRecord, TurnRest};
+use super::{DeviceRecords, Rig, RigRecord, ShortTurn, TurnRecord, TurnRest};
 use pp_machine::{
     CentralSize, ChannelState, Place, PrinterRecord, ReaderRecord, Write, first_write,
 };
@@ -29,32 +26,36 @@ impl TurnRest {
         TurnRest {
             slot: 0,
             are_devices_called: false,
-            reader_channel: 0,
-            printer_channel: 0,
             clock: 0,
-            reader: ReaderRecord::Nothing,
-            printer: PrinterRecord::Nothing,
+            devices: DeviceRecords {
+                reader_channel: 0,
+                printer_channel: 0,
+                reader: ReaderRecord::Nothing,
+                printer: PrinterRecord::Nothing,
+            },
         }
     }
 
     /// Returns the old number of a place, or `None` if no device overwrote it. This is a separate function, so other
     /// lookups need not save the registers that it needs.
     #[inline(never)]
+    #[tactic(auto, using(crate::proofs::Devices::lookup_devices))]
     fn device_was(&self, place: &Place) -> Option<u64>
-        ensures { result ≡ first_of_two (lookup (reader_part self.now) place.now) (lookup (printer_part self.now) place.now) }
+        ensures { result ≡ lookup (devices_part self.now) place.now }
     {
         if !self.are_devices_called {
             return None;
         }
-        let reader = self.reader.was(self.reader_channel, place);
-        let printer = self.printer.was(self.printer_channel, place);
+        let devices = &self.devices;
+        let reader = devices.reader.was(devices.reader_channel, place);
+        let printer = devices.printer.was(devices.printer_channel, place);
         first_of(reader, printer)
     }
 
     /// Returns the clock before the turn, or `None` if the record does not have it.
     #[inline(always)]
     fn clock_was(&self) -> Option<u64>
-        ensures { result ≡ lookup (clock_part self.now.slot self.now.clock) Place.Clock }
+        ensures { result ≡ lookup (end_part self.now) Place.Clock }
     {
         if self.slot == 9 {
             Some(u64::from(self.clock))
@@ -65,12 +66,12 @@ impl TurnRest {
 
     /// Returns the old number of the clock or of the slot, or `None` if the record does not have that place.
     fn end_was(&self, place: &Place) -> Option<u64>
-        ensures { result ≡ first_of_two (lookup (clock_part self.now.slot self.now.clock) place.now) (lookup ((Place.Slot, self.now.slot) ∷ []) place.now) }
+        ensures { result ≡ lookup (end_part self.now) place.now }
     {
         let slot = Write::new(Place::Slot, u64::from(self.slot));
         if self.slot == 9 {
             let clock = Write::new(Place::Clock, u64::from(self.clock));
-            first_of(first_write(&[clock], place), first_write(&[slot], place))
+            first_write(&[clock, slot], place)
         } else {
             first_write(&[slot], place)
         }
@@ -95,7 +96,7 @@ impl TurnRecord {
 
     /// Returns the old number of a place, or `None` if the record does not have that place. A place of another
     /// processor is not looked up.
-    #[tactic(auto, using(crate::proofs::TurnNames::lookup_told, crate::proofs::TurnNames::lookup_parts))]
+    #[tactic(auto, using(crate::proofs::TurnNames::lookup_told))]
     pub(super) fn was(&self, place: &Place) -> Option<u64>
         ensures { result ≡ lookup (turn_pairs self.now) place.now }
     {
@@ -267,26 +268,30 @@ impl Rig {
         self.processors[slot as usize].undo_short(back, &mut self.channels, &mut self.central);
     }
 
-    /// Steps the reader and the printer. This is a separate function because in most turns no channel of a device is
-    /// active.
+    /// Steps the devices. This is a separate function because in most turns no channel of a device is active.
     #[inline(never)]
-    fn step_called_devices(&mut self) -> (ReaderRecord, PrinterRecord)
-        ensures step { let s2 = over self.old (reader_step_writes self.old) in self.new ≡ over s2 (printer_step_writes s2) }
-        ensures reader { device_pairs the_reader self.old.setup.reader_channel result.0 ≡ old_values self.old (reader_step_writes self.old) }
-        ensures printer { let s2 = over self.old (reader_step_writes self.old) in device_pairs the_printer self.old.setup.printer_channel result.1 ≡ old_values s2 (printer_step_writes s2) }
-        ensures fits_reader { FitsReader result.0 (reader_of self.old.setup.reader_channel (over self.old (reader_step_writes self.old))) }
-        ensures fits_printer { FitsPrinter result.1 (printer_of self.old.setup.printer_channel self.new) }
-        ensures keeps_slot { KeepsSlot self.old self.new }
+    fn step_called_devices(&mut self, back: &mut TurnRest)
+        ensures { AreDevicesStepped self.old self.new back.new }
     {
-        let reader = step_device(&mut self.reader, &mut self.channels, self.reader_channel);
-        let printer = step_device(&mut self.printer, &mut self.channels, self.printer_channel);
-        (reader, printer)
+        back.are_devices_called = true;
+        back.devices.reader_channel = self.reader_channel;
+        back.devices.printer_channel = self.printer_channel;
+        back.devices.reader = step_device(
+            &mut self.reader,
+            &mut self.channels,
+            self.reader_channel,
+        );
+        back.devices.printer = step_device(
+            &mut self.printer,
+            &mut self.channels,
+            self.printer_channel,
+        );
     }
 
     /// Returns whether the channel of a device is active. If none is, the devices do nothing.
     #[inline(always)]
     fn are_devices_called(&self) -> bool
-        ensures { result ≡ false → (reader_step_writes self.now ≡ []) × (printer_step_writes self.now ≡ []) }
+        ensures { result ≡ false → AreIdle device_parts self.now }
     {
         self.channels.get(self.reader_channel).state != ChannelState::Inactive
             || self.channels.get(self.printer_channel).state != ChannelState::Inactive
@@ -297,24 +302,17 @@ impl Rig {
     fn step_devices(&mut self, back: &mut TurnRest)
         ensures { AreDevicesStepped self.old self.new back.new }
     {
-        back.reader_channel = self.reader_channel;
-        back.printer_channel = self.printer_channel;
-        back.are_devices_called = self.are_devices_called();
-        if back.are_devices_called {
-            let (reader, printer) = self.step_called_devices();
-            back.reader = reader;
-            back.printer = printer;
+        if self.are_devices_called() {
+            self.step_called_devices(back);
+        } else {
+            back.are_devices_called = false;
         }
     }
 
     #[inline(never)]
-    fn undo_devices(&mut self, back: &TurnRest)
-        requires called { back.now.are_devices_called ≡ true }
-        requires reader_channel { back.now.reader_channel ≡ self.old.setup.reader_channel }
-        requires printer_channel { back.now.printer_channel ≡ self.old.setup.printer_channel }
-        requires printer { FitsPrinter back.now.printer (printer_of back.now.printer_channel self.old) }
-        requires reader { FitsReader back.now.reader (reader_of back.now.reader_channel (over self.old (printer_part back.now))) }
-        ensures undoes { self.new ≡ over (over self.old (printer_part back.now)) (reader_part back.now) }
+    fn undo_devices(&mut self, back: &DeviceRecords)
+        requires { FitsDevices back.now self.old }
+        ensures undoes { self.new ≡ over self.old (device_pairs_of back.now) }
         ensures keeps_slot { KeepsSlot self.old self.new }
     {
         undo_device(
@@ -336,7 +334,6 @@ impl Rig {
     fn tick(&mut self) -> u16
         ensures step { self.new ≡ over self.old (clock_writes self.old) }
         ensures old_values { clock_part self.old.slot result ≡ old_values self.old (clock_writes self.old) }
-        ensures leads_back { over self.new (clock_part self.old.slot result) ≡ self.old }
         ensures small { result < 4096 }
         ensures keeps_slot { KeepsSlot self.old self.new }
     {
@@ -348,20 +345,8 @@ impl Rig {
     }
 
     #[inline(always)]
-    fn undo_tick(&mut self, slot: u8, clock: u16)
-        requires { clock < 4096 }
-        ensures undoes { self.new ≡ over self.old (clock_part slot clock) }
-        ensures keeps_slot { KeepsSlot self.old self.new }
-    {
-        if slot == 9 {
-            self.channels.set_clock(clock);
-        }
-    }
-
-    #[inline(always)]
     fn advance(&mut self) -> u8
         ensures step { self.new ≡ over self.old (slot_writes self.old) }
-        ensures leads_back { over self.new ((Place.Slot, result) ∷ []) ≡ self.old }
         ensures returns { result ≡ self.old.slot }
         ensures small { result < 10 }
         ensures setup { self.new.setup ≡ self.old.setup }
@@ -372,19 +357,10 @@ impl Rig {
         slot
     }
 
-    #[inline(always)]
-    fn set_slot(&mut self, slot: u8)
-        requires { slot < 10 }
-        ensures { self.new ≡ record self.old { slot = slot } }
-    {
-        self.slot = slot;
-    }
-
     /// Performs the part of a turn after the processor's step.
     #[inline(always)]
     fn finish_turn(&mut self, back: &mut TurnRest)
-        ensures step { self.new ≡ rest_of_turn self.old }
-        ensures old_values { rest_pairs back.new ≡ rest_old_values self.old }
+        ensures performed { ArePerformed rest_of_turn self.old self.new (rest_pairs back.new) }
         ensures fits { FitsRest back.new self.new }
         ensures slot { back.new.slot ≡ self.old.slot }
         ensures setup { self.new.setup ≡ self.old.setup }
@@ -396,15 +372,27 @@ impl Rig {
     }
 
     #[inline(always)]
+    fn undo_end(&mut self, back: &TurnRest)
+        requires slot { back.now.slot < 10 }
+        requires clock { back.now.clock < 4096 }
+        ensures undoes { self.new ≡ over self.old (end_part back.now) }
+        ensures setup { self.new.setup ≡ self.old.setup }
+    {
+        self.slot = back.slot;
+        if back.slot == 9 {
+            self.channels.set_clock(back.clock);
+        }
+    }
+
+    #[inline(always)]
     fn undo_rest(&mut self, back: &TurnRest)
         requires { FitsRest back.now self.old }
         ensures undoes { self.new ≡ over self.old (rest_pairs back.now) }
         ensures setup { self.new.setup ≡ self.old.setup }
     {
-        self.set_slot(back.slot);
-        self.undo_tick(back.slot, back.clock);
+        self.undo_end(back);
         if back.are_devices_called {
-            self.undo_devices(back);
+            self.undo_devices(&back.devices);
         }
     }
 

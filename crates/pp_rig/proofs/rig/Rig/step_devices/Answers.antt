@@ -1,14 +1,11 @@
-use Rattle.std.proofs.Common.{ap}
-use Rattle.pp_machine.specs.Machine.{Machine}
-use Rattle.pp_rig.proofs.Stepped.{devices-called, devices-idle}
+use Rattle.std.proofs.Common.{false, true, ◌≡◌, refl}
+use Rattle.pp_rig.specs.Turn.{device_parts}
+use Rattle.pp_rig.proofs.Parts.{none-performed}
 use Rattle.pp_rig.proofs.rig.Rig.step_devices.Goals as goal
 
-pub returns-then-back : goal.returns-then-back
-returns-then-back c =
-    let both = c.step_called_devices-reader.ensures in
-    devices-called _ _ _ c.if-back.true (ap (λ (m : Machine). m.setup.reader_channel) c.self.view_is) (ap (λ (m : Machine). m.setup.printer_channel) c.self.view_is) both.step both.reader both.printer both.fits_reader both.fits_printer both.keeps_slot
-
-pub returns-else-back : goal.returns-else-back
-returns-else-back c =
-    let none = c.are_devices_called-back.ensures c.if-back.false in
-    devices-idle _ _ c.if-back.false (ap (λ (m : Machine). m.setup.reader_channel) c.self.view_is) (ap (λ (m : Machine). m.setup.printer_channel) c.self.view_is) none.0 none.1
+pub returns-else-are_devices_called : goal.returns-else-are_devices_called
+returns-else-are_devices_called c = record {
+  performed = none-performed device_parts c.args.self.now (c.are_devices_called.ensures c.if-are_devices_called.false);
+  fits = λ called. absurd (let apart : false ≡ true = called in cc);
+  kept = record { slot = refl; setup = refl };
+}

@@ -5,4 +5,4 @@ use Rattle.pp_rig.proofs.rig.Rig.turn_short.Goals as goal
 pub returns-clause-turns : goal.returns-clause-turns
 returns-clause-turns c = λ done.
     let rest = c.finish_turn.ensures in
-    turned _ c.step_processor_short.new.self _ _ (c.if-not-step_processor_short.ensures.step refl) rest.step rest.old_values rest.fits rest.slot rest.setup rest.machine
+    turned _ c.step_processor_short.new.self _ _ (c.if-not-step_processor_short.ensures.step refl) rest.performed rest.fits rest.slot rest.setup rest.machine

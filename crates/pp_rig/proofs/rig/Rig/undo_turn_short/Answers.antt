@@ -1,5 +1,5 @@
 use Rattle.pp_rig.specs.Short.{whole_turn}
-use Rattle.pp_rig.specs.TurnLaws.{turn-undone}
+use Rattle.pp_rig.proofs.Stepped.{turn-undone}
 use Rattle.pp_rig.proofs.rig.Rig.undo_turn_short.Goals as goal
 
 pub returns : goal.returns

@@ -1,6 +1,6 @@
-use Rattle.std.proofs.Common.{◌≡◌, ◌∙◌, ap, arith, subst, sym}
+use Rattle.std.proofs.Common.{◌∙◌, ap, arith}
 use Rattle.pp_machine.proofs.DeviceLaws.{view-channels, view-device, view-handed, view-put_back}
-use Rattle.pp_machine.specs.Device.{DeviceView, device_view, device_old_values, over_device, view_on}
+use Rattle.pp_machine.specs.Device.{device_old_values, over_device}
 use Rattle.pp_rig.proofs.rig.devices.step_device.Goals as goal
 
 pub returns-clause-device : goal.returns-clause-device

@@ -1,6 +1,6 @@
-use Rattle.std.proofs.Common.{◌≡◌, ◌∙◌, ap, subst, sym}
+use Rattle.std.proofs.Common.{◌∙◌, ap, subst, sym}
 use Rattle.pp_machine.proofs.DeviceLaws.{view-channels, view-device, view-handed}
-use Rattle.pp_machine.specs.Device.{DeviceView, device_view, over_device, view_on}
+use Rattle.pp_machine.specs.Device.{over_device}
 use Rattle.pp_rig.proofs.rig.devices.undo_device.Goals as goal
 
 pub undo-requires : goal.undo-requires
