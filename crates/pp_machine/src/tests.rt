@@ -1,7 +1,15 @@
 //! Each constructor once, and the parts that no clause compares with the manual.
 
-use crate::{Central, CentralSize, Frame, Memory12};
+ghost use Rattle.std.specs.Prelude.{◌≤◌};
+
+use crate::{Central, CentralSize, Channel, ChannelState, Frame, Memory12};
 use std::test::Fail;
+
+pub fn channel(state: ChannelState, word: u16) -> Channel
+    requires { word ≤ 0o7777 }
+{
+    Channel { state, word }
+}
 
 #[test]
 fn memories_are_made(rt: HostRuntime) -> Result<(), Fail> {

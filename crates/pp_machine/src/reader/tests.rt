@@ -1,11 +1,17 @@
 //! Worked steps of the card reader and its channel.
 
-ghost use Rattle.std.specs.Prelude.{◌≡◌, ◌≤◌, All, IfOk};
+ghost use Rattle.std.specs.Prelude.{◌≡◌, All, IfOk};
 ghost use Rattle.pp_machine.specs.ReaderNumbers.{IsCard};
 
+use super::ReaderMode::{Idle, Reading, Sent};
+use super::ReaderRecord::{
+    CardEnded, ColumnSent, Nothing, Skipped, Started, StatusCalled, StatusEnded, StatusSent,
+};
 use super::{Reader, ReaderMode, ReaderRecord};
-use crate::channel::{Channel, ChannelState};
+use crate::channel::Channel;
+use crate::channel::ChannelState::{Empty, Full, Function, Inactive};
 use crate::fault::MakeFault;
+use crate::tests::channel;
 use std::alloc::{AllocError, Global};
 use std::process::Abort;
 use std::test::Fail;
@@ -36,75 +42,52 @@ fn one_card(alloc: Global) -> Result<Reader, Fail> {
     Ok(Reader::new(deck_of(alloc, 1)?)?)
 }
 
-fn channel(state: ChannelState, word: u16) -> Channel
-    requires { word ≤ 0o7777 }
-{
-    Channel { state, word }
+/// Returns the reader's card, column and mode.
+fn numbers(reader: &Reader) -> (u32, u32, ReaderMode) {
+    (reader.card(), reader.column(), reader.mode())
 }
 
-/// Returns the record, rebuilt from its fields alone.
-fn rebuilt(back: ReaderRecord) -> ReaderRecord
+/// Returns the expected record, if it is the one that a step returned.
+fn expected(rt: &impl Abort, back: ReaderRecord, record: ReaderRecord) -> ReaderRecord
     ensures { result ≡ back }
 {
-    match back {
-        ReaderRecord::Nothing => ReaderRecord::Nothing,
-        ReaderRecord::Started { mode } => ReaderRecord::Started { mode },
-        ReaderRecord::Skipped { card, column, mode } => {
-            ReaderRecord::Skipped { card, column, mode }
-        }
-        ReaderRecord::StatusCalled { mode } => ReaderRecord::StatusCalled { mode },
-        ReaderRecord::ColumnSent { word, column } => ReaderRecord::ColumnSent { word, column },
-        ReaderRecord::CardEnded { card } => ReaderRecord::CardEnded { card },
-        ReaderRecord::StatusSent { word } => ReaderRecord::StatusSent { word },
-        ReaderRecord::StatusEnded => ReaderRecord::StatusEnded,
-    }
+    assert_eq!(rt; back, record);
+    record
 }
 
-/// Makes a step, undoes it by its rebuilt record and makes it again. Checks that the record has the
-/// expected numbers.
-fn step(rt: &impl Abort, reader: &mut Reader, channel: &mut Channel, record: ReaderRecord) {
-    let card = reader.card();
-    let column = reader.column();
-    let mode = reader.mode();
-    let before = *channel;
-    let back = reader.step(channel);
-    reader.undo(rebuilt(back), channel);
-    assert_eq!(rt; reader.card(), card);
-    assert_eq!(rt; reader.column(), column);
-    assert_eq!(rt; reader.mode(), mode);
-    assert_eq!(rt; *channel, before);
-    assert_eq!(rt; reader.step(channel), record);
+/// Makes a step, undoes it by the expected record and makes it again. Checks the record.
+fn step(rt: &impl Abort, reader: &mut Reader, line: &mut Channel, record: ReaderRecord) {
+    let (before, earlier) = (*line, numbers(reader));
+    let back = reader.step(line);
+    reader.undo(expected(rt, back, record), line);
+    assert_eq!(rt; numbers(reader), earlier);
+    assert_eq!(rt; *line, before);
+    assert_eq!(rt; reader.step(line), record);
 }
 
 #[test]
 fn reads_one_card(rt: HostRuntime) -> Result<(), Fail> {
     let mut reader = one_card(rt.alloc())?;
     assert_eq!(rt; reader.cards(), 1);
-    let mut line = channel(ChannelState::Function, 1);
-    let mode = ReaderMode::Idle;
-    step(&rt, &mut reader, &mut line, ReaderRecord::Started { mode });
-    assert_eq!(rt; line, channel(ChannelState::Inactive, 1));
-    assert_eq!(rt; reader.mode(), ReaderMode::Reading);
+    let mut line = channel(Function, 1);
+    step(&rt, &mut reader, &mut line, Started { mode: Idle });
+    assert_eq!(rt; line, channel(Inactive, 1));
+    assert_eq!(rt; numbers(&reader), (0, 0, Reading));
 
-    line.state = ChannelState::Empty;
-    let first = ReaderRecord::ColumnSent { word: 1, column: 0 };
+    line.state = Empty;
+    let first = ColumnSent { word: 1, column: 0 };
     step(&rt, &mut reader, &mut line, first);
-    assert_eq!(rt; line, channel(ChannelState::Full, 1));
-    assert_eq!(rt; reader.column(), 1);
+    assert_eq!(rt; line, channel(Full, 1));
+    assert_eq!(rt; numbers(&reader), (0, 1, Reading));
 
-    step(&rt, &mut reader, &mut line, ReaderRecord::Nothing);
+    step(&rt, &mut reader, &mut line, Nothing);
 
-    line = channel(ChannelState::Function, 1);
-    let skipped = ReaderRecord::Skipped {
-        card: 0,
-        column: 1,
-        mode: ReaderMode::Reading,
-    };
+    line = channel(Function, 1);
+    let (card, column, mode) = (0, 1, Reading);
+    let skipped = Skipped { card, column, mode };
     step(&rt, &mut reader, &mut line, skipped);
-    assert_eq!(rt; line, channel(ChannelState::Inactive, 1));
-    assert_eq!(rt; reader.card(), 1);
-    assert_eq!(rt; reader.column(), 0);
-    assert_eq!(rt; reader.mode(), ReaderMode::Idle);
+    assert_eq!(rt; line, channel(Inactive, 1));
+    assert_eq!(rt; numbers(&reader), (1, 0, Idle));
     Ok(())
 }
 
@@ -112,65 +95,50 @@ fn reads_one_card(rt: HostRuntime) -> Result<(), Fail> {
 fn tells_that_no_card_is_left(rt: HostRuntime) -> Result<(), Fail> {
     let mut reader = Reader::new(deck_of(rt.alloc(), 0)?)?;
     assert_eq!(rt; reader.cards(), 0);
-    let mut line = channel(ChannelState::Function, 2);
-    let mode = ReaderMode::Idle;
-    step(
-        &rt,
-        &mut reader,
-        &mut line,
-        ReaderRecord::StatusCalled { mode },
-    );
-    assert_eq!(rt; line, channel(ChannelState::Inactive, 2));
+    let mut line = channel(Function, 2);
+    let called = StatusCalled { mode: Idle };
+    step(&rt, &mut reader, &mut line, called);
+    assert_eq!(rt; line, channel(Inactive, 2));
 
-    line.state = ChannelState::Empty;
-    step(
-        &rt,
-        &mut reader,
-        &mut line,
-        ReaderRecord::StatusSent { word: 2 },
-    );
-    assert_eq!(rt; line, channel(ChannelState::Full, 1));
-    assert_eq!(rt; reader.mode(), ReaderMode::Sent);
+    line.state = Empty;
+    let sent = StatusSent { word: 2 };
+    step(&rt, &mut reader, &mut line, sent);
+    assert_eq!(rt; line, channel(Full, 1));
+    assert_eq!(rt; reader.mode(), Sent);
 
-    line.state = ChannelState::Empty;
-    step(&rt, &mut reader, &mut line, ReaderRecord::StatusEnded);
-    assert_eq!(rt; line, channel(ChannelState::Inactive, 1));
-    assert_eq!(rt; reader.mode(), ReaderMode::Idle);
+    line.state = Empty;
+    step(&rt, &mut reader, &mut line, StatusEnded);
+    assert_eq!(rt; line, channel(Inactive, 1));
+    assert_eq!(rt; reader.mode(), Idle);
     Ok(())
 }
 
 #[test]
 fn ends_a_card_after_its_last_column(rt: HostRuntime) -> Result<(), Fail> {
     let mut reader = one_card(rt.alloc())?;
-    let mut line = channel(ChannelState::Function, 1);
+    let mut line = channel(Function, 1);
     let _ = reader.step(&mut line);
     for _column in 0..80 {
-        line.state = ChannelState::Empty;
+        line.state = Empty;
         let _ = reader.step(&mut line);
-        assert_eq!(rt; line.state, ChannelState::Full);
+        assert_eq!(rt; line.state, Full);
     }
     assert_eq!(rt; reader.column(), 80);
-    line.state = ChannelState::Empty;
-    step(
-        &rt,
-        &mut reader,
-        &mut line,
-        ReaderRecord::CardEnded { card: 0 },
-    );
-    assert_eq!(rt; line.state, ChannelState::Inactive);
-    assert_eq!(rt; reader.card(), 1);
-    assert_eq!(rt; reader.column(), 0);
-    assert_eq!(rt; reader.mode(), ReaderMode::Idle);
+    line.state = Empty;
+    let ended = CardEnded { card: 0 };
+    step(&rt, &mut reader, &mut line, ended);
+    assert_eq!(rt; line.state, Inactive);
+    assert_eq!(rt; numbers(&reader), (1, 0, Idle));
     Ok(())
 }
 
 #[test]
 fn leaves_other_functions_alone(rt: HostRuntime) -> Result<(), Fail> {
     let mut reader = one_card(rt.alloc())?;
-    let mut line = channel(ChannelState::Function, 4);
-    step(&rt, &mut reader, &mut line, ReaderRecord::Nothing);
-    assert_eq!(rt; line, channel(ChannelState::Function, 4));
-    assert_eq!(rt; reader.mode(), ReaderMode::Idle);
+    let mut line = channel(Function, 4);
+    step(&rt, &mut reader, &mut line, Nothing);
+    assert_eq!(rt; line, channel(Function, 4));
+    assert_eq!(rt; reader.mode(), Idle);
     Ok(())
 }
 
