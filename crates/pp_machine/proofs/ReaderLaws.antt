@@ -44,5 +44,5 @@ module _ (size c : ℕ) (small : c < 12) where
   pub HasAll-reader_writes : (s : ReaderView) → HasAll size (renamed (reader_place c) (reader_writes s))
   HasAll-reader_writes s = sound-has name_own size c (reader_writes s) (sound-step s)
 
-pub reader-each-once : (s : ReaderView) → AllPairs (λ one other. one ≢ other) (places (reader_writes s))
-reader-each-once s = sound-once name_own 0 0 (reader_writes s) (sound-step 0 0 (omega arith) s)
+pub reader_distinct : (s : ReaderView) → AllPairs (λ one other. one ≢ other) (places (reader_writes s))
+reader_distinct s = sound-once name_own 0 0 (reader_writes s) (sound-step 0 0 (omega arith) s)

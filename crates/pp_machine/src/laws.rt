@@ -28,6 +28,7 @@ pub fn device_records_restore()
 {}
 
 /// No step of a device writes a place twice.
+#[tactic(auto, using(crate::proofs::ReaderLaws::reader_distinct, crate::proofs::PrinterLaws::printer_distinct))]
 pub fn device_writes_are_distinct()
     ensures reader { (s : ReaderView) → AllPairs (λ one other. one ≢ other) (places (reader_writes s)) }
     ensures printer { (s : PrinterView) → AllPairs (λ one other. one ≢ other) (places (printer_writes s)) }
