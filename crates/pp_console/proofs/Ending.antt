@@ -70,12 +70,6 @@ Stops-interrupted LineLimit session text origin bytes left p =
 Stops-interrupted WriteFailed session text origin bytes left p =
     (p.0, p.1, p.2, inl p.3, p.4)
 
--- the failure count of a source that did not fail
-pub reads_after-kept : (fault : IoFault) (count : ℕ) → IsNoReadFault fault → reads_after fault count ≡ count
-reads_after-kept ReadFailed count p = absurd p
-reads_after-kept LineLimit count p = refl
-reads_after-kept WriteFailed count p = refl
-
 -- a result that holds at any end of input holds at this one
 pub told-at : {T E : Type 0} (result : Result T E) (left : Option (List ℕ)) (P : T → Type 0) (Q : E → Option (List ℕ) → Type 0) → IsAtEnd left →
     MatchResult result P (λ fault. (left : Option (List ℕ)) → IsAtEnd left → Q fault left) → MatchResult result P (λ fault. Q fault left)

@@ -52,15 +52,6 @@ paper-uncut symbols e =
     let none = feed-none (map character symbols) (first-end symbols ∙ e) in
     rw (none, unfinished-text [] (map character symbols) none) refl
 
--- no symbols after the last line end
-pub rest-nothing : (symbols : List ℕ) → length symbols ≡ 0 → rest_text symbols ≡ []
-rest-nothing [] none = refl
-rest-nothing (symbol ∷ symbols) none = absurd (omega arith)
-
-pub rest-something : (symbols : List ℕ) → 0 < length symbols → rest_text symbols ≡ marked (codes "/") (map character symbols)
-rest-something [] some = absurd (omega arith)
-rest-something (symbol ∷ symbols) some = append-nil (marked (codes "/") (map character (symbol ∷ symbols)))
-
 -- the characters of a piece, and those after it
 pub characters-piece : (symbols : List ℕ) (n : ℕ) (piece later text : List ℕ) → piece ≡ take n symbols → later ≡ drop n symbols → text ≡ map character piece →
     map character symbols ≡ text ++ map character later

@@ -1,5 +1,5 @@
 -- Pieces that are read one after the other.
-use Rattle.std.proofs.Common.{◌≡◌, ◌∙◌, ℕ, ◌+◌, ◌-◌, ◌<◌, List, [], ◌∷◌, ◌++◌, length, take, drop, get_or, refl, sym, ap, arith, append_assoc}
+use Rattle.std.proofs.Common.{◌≡◌, ◌∙◌, ℕ, ◌+◌, ◌<◌, List, [], ◌∷◌, ◌++◌, length, take, drop, get_or, refl, sym, ap, arith, append_assoc}
 use Rattle.std.specs.Prelude.{Option, None, Some}
 use Rattle.std.specs.Io.KnownBytes.{Consumes, Keeps, IsAtEnd}
 use Rattle.pp_lines.specs.Device.{all_bytes}
@@ -25,22 +25,6 @@ Consumes-keeps (Some x) None third a p q = absurd p
 Consumes-keeps (Some x) (Some y) None a p q = absurd q
 Consumes-keeps (Some x) (Some y) (Some z) a p q = p ∙ ap (λ rest. a ++ rest) (sym q)
 
--- the remaining bytes of a source with known bytes
-pub still : (first second : Option (List ℕ)) (taken bytes : List ℕ) → Consumes first second taken → first ≡ Some bytes → (later : List ℕ) × (bytes ≡ taken ++ later) × (second ≡ Some later)
-still None second taken bytes p e = cc
-still (Some x) None taken bytes p e = absurd p
-still (Some x) (Some y) taken bytes p e =
-    let same : x ≡ bytes = cc in
-    (y, sym same ∙ p, refl)
-
--- at the end of input all known bytes were read
-pub taken-all : (first second : Option (List ℕ)) (taken bytes : List ℕ) → Consumes first second taken → IsAtEnd second → first ≡ Some bytes → taken ≡ bytes
-taken-all None second taken bytes p end e = cc
-taken-all (Some x) None taken bytes p end e = absurd p
-taken-all (Some x) (Some y) taken bytes p end e =
-    let all : x ≡ taken ++ [] = rw end at p in
-    sym (append-nil taken) ∙ sym all ∙ cc
-
 -- the remaining bytes, of which there are none at the end of input
 pub unread : (first second : Option (List ℕ)) (taken : List ℕ) → Consumes first second taken → (later : List ℕ) × (all_bytes first taken ≡ taken ++ later) × (IsAtEnd second → later ≡ [])
 unread None second taken p = ([], sym (append-nil taken), λ end. refl)
@@ -52,10 +36,6 @@ pub all-read : (first second : Option (List ℕ)) (taken : List ℕ) → Consume
 all-read first second taken p end =
     let rest = unread first second taken p in
     rest.1 ∙ ap (λ later. taken ++ later) (rest.2 end) ∙ append-nil taken
-
--- the first `count` bytes of a piece
-pub slice_to : (count : ℕ) (piece : List ℕ) → take (count - 0) piece ≡ take count piece
-slice_to count piece = grind arith
 
 -- the bytes of a piece before, at and after an index
 pub piece_at : (bytes piece : List ℕ) (i : ℕ) → i < length piece → ((bytes ++ take i piece) ++ get_or piece i 0 ∷ []) ++ drop (i + 1) piece ≡ bytes ++ piece

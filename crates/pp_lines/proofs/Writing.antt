@@ -1,8 +1,8 @@
 -- Texts that are written one after the other.
-use Rattle.std.proofs.Common.{◌≡◌, ◌∙◌, ℕ, ◌+◌, ◌-◌, ◌<◌, List, [], ◌++◌, length, take, drop, refl, sym, ap, append_assoc, arith, length-drop, length-append}
+use Rattle.std.proofs.Common.{◌≡◌, ◌∙◌, ℕ, ◌+◌, ◌-◌, List, [], ◌++◌, length, take, drop, sym, ap, append_assoc, arith, length-append}
 use Rattle.std.specs.Prelude.{Option, None, Some}
 use Rattle.std.specs.Io.KnownBytes.{Appends, Keeps}
-use Rattle.std.proofs.lemmas.List.{take-append-drop, append-nil}
+use Rattle.std.proofs.lemmas.List.{append-nil}
 use Rattle.std.proofs.lemmas.Grind.{common_steps}
 use Rattle.std.proofs.Math.Seq.{take-add}
 use Rattle.pp_lines.specs.Output.{AppendsPrefix}
@@ -41,19 +41,9 @@ Appends-further first second third done more text p q =
     let piece = rw slice_from at q in
     Appends-same first third (take done text ++ take more (drop done text)) (take (done + more) text) (sym (take-add done more text)) (Appends-again first second third _ _ p piece)
 
--- the sink failed before the end of the text
-pub AppendsPrefix-at : (first second third : Option (List ℕ)) (done : ℕ) (text : List ℕ) → done < length text →
-    Appends first second (take done text) → Keeps second third → AppendsPrefix first third text
-AppendsPrefix-at first second third done text within p q =
-    (take done text, drop done text, Appends-keeps first second third _ p q, sym (take-append-drop done text), simp length-drop (omega arith))
-
 -- a prefix of the whole text was written, and this is left
 abbrev pub Remains : Option (List ℕ) → Option (List ℕ) → List ℕ → List ℕ → Type 0
 Remains old new whole left = (front : List ℕ) × Appends old new front × (whole ≡ front ++ left)
-
--- before the first piece all of the text is left
-pub Remains-all : (known : Option (List ℕ)) (whole : List ℕ) → Remains known known whole whole
-Remains-all known whole = ([], Appends-nothing known, refl)
 
 -- one more piece was written
 pub Remains-next : (first second third : Option (List ℕ)) (whole piece left : List ℕ) →
