@@ -1,23 +1,24 @@
 -- The exchange of the frame with sixteen central words.
-use Rattle.std.specs.Prelude.{ℕ, List, [], ◌∷◌, ◌++◌, ◌+◌, nat_lt, if◌then◌else◌, map, length, slice_index}
+use Rattle.std.specs.Prelude.{ℕ, Bool, true, List, [], ◌∷◌, ◌++◌, ◌+◌, nat_lt, if◌then◌else◌, map, length, slice_index}
 use Rattle.std.specs.List.{range_with_len}
 use Rattle.pp_machine.specs.Frame.{frame_word}
 use Rattle.pp_machine.specs.Writes.{Writes}
 use Rattle.pp_step.specs.View.{PpPlace, P, Word, FrameWord}
 use Rattle.pp_step.specs.Words.{central_after}
 
+-- numbers for the places from place i on, as far as they are there
+abbrev pub pairs_from : (ℕ → PpPlace) → (ℕ → Bool) → ℕ → List ℕ → Writes PpPlace
+pairs_from place is_there i [] = []
+pairs_from place is_there i (w ∷ ws) =
+    if is_there i then (place i, w) ∷ pairs_from place is_there (i + 1) ws else pairs_from place is_there (i + 1) ws
+
 -- numbers for the frame words from i on
 abbrev pub frame_pairs : ℕ → List ℕ → Writes PpPlace
-frame_pairs i [] = []
-frame_pairs i (w ∷ ws) = (FrameWord i, w) ∷ frame_pairs (i + 1) ws
+frame_pairs = pairs_from FrameWord (λ i. true)
 
 -- numbers for the central words from i words behind a on; a word past the size is not written
 abbrev pub word_pairs : ℕ → ℕ → ℕ → List ℕ → Writes PpPlace
-word_pairs size a i [] = []
-word_pairs size a i (w ∷ ws) =
-    if nat_lt (central_after a i) size
-    then (Word (central_after a i), w) ∷ word_pairs size a (i + 1) ws
-    else word_pairs size a (i + 1) ws
+word_pairs size a = pairs_from (λ i. Word (central_after a i)) (λ i. nat_lt (central_after a i) size)
 
 -- the new frame word i: the central word i words behind a, which is zero past the size; word 0 loses the bits in the
 -- place of B0
