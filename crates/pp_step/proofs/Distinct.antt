@@ -59,31 +59,31 @@ exchange-once next a words frame size =
     (λ k. none (λ i. Word (central_after a i)) (λ i. nat_lt (central_after a i) (length words)) 0 frame (FrameWord k) (λ j low high. refl))
     (words-once (length words) a frame (omega (arith, size))))
 
-effect-once : (c : Code) (i : InstructionNumbers) (m : PpView) → length m.frame ≡ 16 → IsOnce same_place (effect c i m)
-effect-once code.Exn i m size = record { holds = exchange-once i.next m.a m.central m.frame size }
-effect-once code.Crd i m size = record { holds = five-once i.d (split60 (slice_index m.central m.a)) }
-effect-once code.Cwd i m size = either same_place (nat_lt m.a (length m.central)) _ _ (record { holds = refl }) (record { holds = refl })
-effect-once code.Ian i m size = either same_place (is_clock i.d) _ _ (record { holds = refl }) (either same_place (is_in Full i.d m.states) _ _ (record { holds = refl }) (record { holds = refl }))
-effect-once code.Oan i m size = either same_place (is_in Empty i.d m.states) _ _ (record { holds = refl }) (record { holds = refl })
-effect-once code.Acn i m size = either same_place (is_in Inactive i.d m.states) _ _ (record { holds = refl }) (record { holds = refl })
-effect-once code.Dcn i m size = either same_place (is_clock i.d) _ _ (record { holds = refl }) (either same_place (is_active i.d m.states) _ _ (record { holds = refl }) (record { holds = refl }))
-effect-once code.Fan i m size = either same_place (is_in Inactive i.d m.states) _ _ (record { holds = refl }) (record { holds = refl })
-effect-once code.Fnc i m size = either same_place (is_in Inactive i.d m.states) _ _ (record { holds = refl }) (record { holds = refl })
-effect-once _ i m size = record { holds = refl }
+effect-once : (c : Code) (i : InstructionNumbers) (s : PpView) → length s.frame ≡ 16 → IsOnce same_place (effect c i s)
+effect-once code.Exn i s size = record { holds = exchange-once i.next s.a s.central s.frame size }
+effect-once code.Crd i s size = record { holds = five-once i.d (split60 (slice_index s.central s.a)) }
+effect-once code.Cwd i s size = either same_place (nat_lt s.a (length s.central)) _ _ (record { holds = refl }) (record { holds = refl })
+effect-once code.Ian i s size = either same_place (is_clock i.d) _ _ (record { holds = refl }) (either same_place (is_in Full i.d s.states) _ _ (record { holds = refl }) (record { holds = refl }))
+effect-once code.Oan i s size = either same_place (is_in Empty i.d s.states) _ _ (record { holds = refl }) (record { holds = refl })
+effect-once code.Acn i s size = either same_place (is_in Inactive i.d s.states) _ _ (record { holds = refl }) (record { holds = refl })
+effect-once code.Dcn i s size = either same_place (is_clock i.d) _ _ (record { holds = refl }) (either same_place (is_active i.d s.states) _ _ (record { holds = refl }) (record { holds = refl }))
+effect-once code.Fan i s size = either same_place (is_in Inactive i.d s.states) _ _ (record { holds = refl }) (record { holds = refl })
+effect-once code.Fnc i s size = either same_place (is_in Inactive i.d s.states) _ _ (record { holds = refl }) (record { holds = refl })
+effect-once _ i s size = record { holds = refl }
 
-block-once : (c : Code) (d : ℕ) (m : PpView) → IsOnce same_place (block c d m)
-block-once code.Crm d m = either same_place (m.q == 0) _ _ (record { holds = refl }) (record { holds = five-once m.p (split60 (slice_index m.central m.a)) })
-block-once code.Cwm d m = either same_place (m.q == 0) _ _ (record { holds = refl }) (either same_place (nat_lt m.a (length m.central)) _ _ (record { holds = refl }) (record { holds = refl }))
-block-once code.Iam d m = either same_place (m.a == 0) _ _ (record { holds = refl }) (either same_place (is_clock d) _ _ (record { holds = refl }) (either same_place (not (is_active d m.states)) _ _ (record { holds = refl }) (either same_place (is_in Full d m.states) _ _ (record { holds = refl }) (record { holds = refl }))))
-block-once code.Oam d m = either same_place (m.a == 0 || not (is_active d m.states)) _ _ (record { holds = refl }) (either same_place (is_in Empty d m.states) _ _ (record { holds = refl }) (record { holds = refl }))
-block-once _ d m = record { holds = refl }
+block-once : (c : Code) (d : ℕ) (s : PpView) → IsOnce same_place (block c d s)
+block-once code.Crm d s = either same_place (s.q == 0) _ _ (record { holds = refl }) (record { holds = five-once s.p (split60 (slice_index s.central s.a)) })
+block-once code.Cwm d s = either same_place (s.q == 0) _ _ (record { holds = refl }) (either same_place (nat_lt s.a (length s.central)) _ _ (record { holds = refl }) (record { holds = refl }))
+block-once code.Iam d s = either same_place (s.a == 0) _ _ (record { holds = refl }) (either same_place (is_clock d) _ _ (record { holds = refl }) (either same_place (not (is_active d s.states)) _ _ (record { holds = refl }) (either same_place (is_in Full d s.states) _ _ (record { holds = refl }) (record { holds = refl }))))
+block-once code.Oam d s = either same_place (s.a == 0 || not (is_active d s.states)) _ _ (record { holds = refl }) (either same_place (is_in Empty d s.states) _ _ (record { holds = refl }) (record { holds = refl }))
+block-once _ d s = record { holds = refl }
 
-step-once : (m : PpView) → length m.frame ≡ 16 → IsOnce same_place (pp_writes m)
+step-once : (s : PpView) → length s.frame ≡ 16 → IsOnce same_place (pp_writes s)
 unfolding pp_writes
-step-once m size =
-    either same_place (m.phase == 0) _ _
-    (effect-once (instruction_at m.p m.cells).code (instruction_at m.p m.cells) m size)
-    (block-once (code_of (m.phase / 0o100)) (m.phase % 0o100) m)
+step-once s size =
+    either same_place (s.phase == 0) _ _
+    (effect-once (instruction_at s.p s.cells).code (instruction_at s.p s.cells) s size)
+    (block-once (code_of (s.phase / 0o100)) (s.phase % 0o100) s)
 
-pub step-each-once : (m : PpView) → length m.frame ≡ 16 → AllPairs (λ one other. one ≢ other) (places (pp_writes m))
-step-each-once m size = each-once same_place self (pp_writes m) (step-once m size).holds
+pub step-each-once : (s : PpView) → length s.frame ≡ 16 → AllPairs (λ one other. one ≢ other) (places (pp_writes s))
+step-each-once s size = each-once same_place self (pp_writes s) (step-once s size).holds

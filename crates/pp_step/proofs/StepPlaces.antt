@@ -64,63 +64,63 @@ module _ (size n : ℕ) (is_processor : n < 10) where
   either = AllPlaces-if (λ x. Has size (pp_place n x))
 
   -- outside a block transfer
-  effect_held : (c : Code) (i : InstructionNumbers) (m : PpView) → i.address < 4096 → length m.central ≡ size → Held size n (effect c i m)
-  effect_held code.Exn i m h words = (
+  effect_held : (c : Code) (i : InstructionNumbers) (s : PpView) → i.address < 4096 → length s.central ≡ size → Held size n (effect c i s)
+  effect_held code.Exn i s h words = (
     is_processor,
-    AllPlaces-append (λ x. Has size (pp_place n x)) (frame_pairs 0 (loaded m.a m.central)) (word_pairs (length m.central) m.a 0 m.frame)
-        (frame_held size n is_processor 0 (loaded m.a m.central) (omega (arith, length-loaded m.a m.central)))
-        (rw words (words_held size n is_processor m.a 0 m.frame)),
+    AllPlaces-append (λ x. Has size (pp_place n x)) (frame_pairs 0 (loaded s.a s.central)) (word_pairs (length s.central) s.a 0 s.frame)
+        (frame_held size n is_processor 0 (loaded s.a s.central) (omega (arith, length-loaded s.a s.central)))
+        (rw words (words_held size n is_processor s.a 0 s.frame)),
   )
-  effect_held code.Crd i m h words = (is_processor, five_held size n is_processor i.d (split60 (slice_index m.central m.a)))
-  effect_held code.Cwd i m h words =
-      either (nat_lt m.a (length m.central)) _ _ (λ below. (is_processor, (grind (arith, nat_tests, below, words), tt))) (λ past. (is_processor, tt))
-  effect_held code.Ian i m h words =
-      either (is_clock i.d) _ _ (λ clock. assumption is_processor) (λ other. either (is_in Full i.d m.states) _ _ (λ ready. (is_processor, (is_processor, (data_channel Full i.d m.states ready, tt)))) (λ waits. tt))
-  effect_held code.Oan i m h words =
-      either (is_in Empty i.d m.states) _ _ (λ ready. let c = data_channel Empty i.d m.states ready in (is_processor, (c, (c, tt)))) (λ waits. tt)
-  effect_held code.Acn i m h words =
-      either (is_in Inactive i.d m.states) _ _ (λ ready. (is_processor, (data_channel Inactive i.d m.states ready, tt))) (λ waits. tt)
-  effect_held code.Dcn i m h words =
-      either (is_clock i.d) _ _ (λ clock. (is_processor, tt)) (λ other. either (is_active i.d m.states) _ _ (λ ready. (is_processor, (active_channel i.d m.states other ready, tt))) (λ waits. tt))
-  effect_held code.Fan i m h words =
-      either (is_in Inactive i.d m.states) _ _ (λ ready. let c = data_channel Inactive i.d m.states ready in (is_processor, (c, (c, tt)))) (λ waits. tt)
-  effect_held code.Fnc i m h words =
-      either (is_in Inactive i.d m.states) _ _ (λ ready. let c = data_channel Inactive i.d m.states ready in (is_processor, (c, (c, tt)))) (λ waits. tt)
-  effect_held code.Crm i m h words = (is_processor, (is_processor, (is_processor, ((is_processor, lit< tt), tt))))
-  effect_held code.Cwm i m h words = (is_processor, (is_processor, (is_processor, ((is_processor, lit< tt), tt))))
-  effect_held code.Iam i m h words = (is_processor, (is_processor, ((is_processor, lit< tt), tt)))
-  effect_held code.Oam i m h words = (is_processor, (is_processor, ((is_processor, lit< tt), tt)))
-  effect_held _ i m h words = assumption is_processor
+  effect_held code.Crd i s h words = (is_processor, five_held size n is_processor i.d (split60 (slice_index s.central s.a)))
+  effect_held code.Cwd i s h words =
+      either (nat_lt s.a (length s.central)) _ _ (λ below. (is_processor, (grind (arith, nat_tests, below, words), tt))) (λ past. (is_processor, tt))
+  effect_held code.Ian i s h words =
+      either (is_clock i.d) _ _ (λ clock. assumption is_processor) (λ other. either (is_in Full i.d s.states) _ _ (λ ready. (is_processor, (is_processor, (data_channel Full i.d s.states ready, tt)))) (λ waits. tt))
+  effect_held code.Oan i s h words =
+      either (is_in Empty i.d s.states) _ _ (λ ready. let c = data_channel Empty i.d s.states ready in (is_processor, (c, (c, tt)))) (λ waits. tt)
+  effect_held code.Acn i s h words =
+      either (is_in Inactive i.d s.states) _ _ (λ ready. (is_processor, (data_channel Inactive i.d s.states ready, tt))) (λ waits. tt)
+  effect_held code.Dcn i s h words =
+      either (is_clock i.d) _ _ (λ clock. (is_processor, tt)) (λ other. either (is_active i.d s.states) _ _ (λ ready. (is_processor, (active_channel i.d s.states other ready, tt))) (λ waits. tt))
+  effect_held code.Fan i s h words =
+      either (is_in Inactive i.d s.states) _ _ (λ ready. let c = data_channel Inactive i.d s.states ready in (is_processor, (c, (c, tt)))) (λ waits. tt)
+  effect_held code.Fnc i s h words =
+      either (is_in Inactive i.d s.states) _ _ (λ ready. let c = data_channel Inactive i.d s.states ready in (is_processor, (c, (c, tt)))) (λ waits. tt)
+  effect_held code.Crm i s h words = (is_processor, (is_processor, (is_processor, ((is_processor, lit< tt), tt))))
+  effect_held code.Cwm i s h words = (is_processor, (is_processor, (is_processor, ((is_processor, lit< tt), tt))))
+  effect_held code.Iam i s h words = (is_processor, (is_processor, ((is_processor, lit< tt), tt)))
+  effect_held code.Oam i s h words = (is_processor, (is_processor, ((is_processor, lit< tt), tt)))
+  effect_held _ i s h words = assumption is_processor
 
   -- in a block transfer
-  block_held : (c : Code) (d : ℕ) (m : PpView) → m.p < 4096 → length m.central ≡ size → Held size n (block c d m)
-  block_held code.Crm d m h words =
-      either (m.q == 0) _ _ (λ ended. (is_processor, (is_processor, tt))) (λ moves. (is_processor, (is_processor, (is_processor, five_held size n is_processor m.p (split60 (slice_index m.central m.a))))))
-  block_held code.Cwm d m h words =
-      either (m.q == 0) _ _ (λ ended. (is_processor, (is_processor, tt))) (λ moves. either (nat_lt m.a (length m.central)) _ _
+  block_held : (c : Code) (d : ℕ) (s : PpView) → s.p < 4096 → length s.central ≡ size → Held size n (block c d s)
+  block_held code.Crm d s h words =
+      either (s.q == 0) _ _ (λ ended. (is_processor, (is_processor, tt))) (λ moves. (is_processor, (is_processor, (is_processor, five_held size n is_processor s.p (split60 (slice_index s.central s.a))))))
+  block_held code.Cwm d s h words =
+      either (s.q == 0) _ _ (λ ended. (is_processor, (is_processor, tt))) (λ moves. either (nat_lt s.a (length s.central)) _ _
       (λ below. (is_processor, (is_processor, (is_processor, (grind (arith, nat_tests, below, words), tt)))))
       (λ past. (is_processor, (is_processor, (is_processor, tt)))))
-  block_held code.Iam d m h words =
-      either (m.a == 0) _ _ (λ ended. (is_processor, (is_processor, tt))) (λ moves. either (is_clock d) _ _
+  block_held code.Iam d s h words =
+      either (s.a == 0) _ _ (λ ended. (is_processor, (is_processor, tt))) (λ moves. either (is_clock d) _ _
       (λ clock. (is_processor, (is_processor, ((is_processor, h), tt))))
-      (λ other. either (not (is_active d m.states)) _ _
+      (λ other. either (not (is_active d s.states)) _ _
       (λ inactive. (is_processor, (is_processor, ((is_processor, h), tt))))
-      (λ active. either (is_in Full d m.states) _ _ (λ ready. (is_processor, (is_processor, ((is_processor, h), (data_channel Full d m.states ready, tt))))) (λ waits. tt))))
-  block_held code.Oam d m h words =
-      either (m.a == 0 || not (is_active d m.states)) _ _ (λ ended. (is_processor, (is_processor, tt))) (λ moves. either (is_in Empty d m.states) _ _
-      (λ ready. let c = data_channel Empty d m.states ready in (is_processor, (is_processor, (c, (c, tt))))) (λ waits. tt))
-  block_held _ d m h words = tt
+      (λ active. either (is_in Full d s.states) _ _ (λ ready. (is_processor, (is_processor, ((is_processor, h), (data_channel Full d s.states ready, tt))))) (λ waits. tt))))
+  block_held code.Oam d s h words =
+      either (s.a == 0 || not (is_active d s.states)) _ _ (λ ended. (is_processor, (is_processor, tt))) (λ moves. either (is_in Empty d s.states) _ _
+      (λ ready. let c = data_channel Empty d s.states ready in (is_processor, (is_processor, (c, (c, tt))))) (λ waits. tt))
+  block_held _ d s h words = tt
 
-  step_held : (m : PpView) → m.p < 4096 → All (λ cell. cell ≤ 0o7777) m.cells → length m.central ≡ size → Held size n (pp_writes m)
+  step_held : (s : PpView) → s.p < 4096 → All (λ cell. cell ≤ 0o7777) s.cells → length s.central ≡ size → Held size n (pp_writes s)
   unfolding pp_writes
-  step_held m low small words =
-      let first = slice_index m.cells m.p in
+  step_held s low small words =
+      let first = slice_index s.cells s.p in
       let few : first % 0o100 < 64 = omega arith in
-      let address = address_in (row (code_of (first / 0o100))).mode (first % 0o100) _ m.cells few (cell_in m.cells _ small) small in
-      either (m.phase == 0) _ _
-      (λ outside. effect_held (code_of (first / 0o100)) (instruction_at m.p m.cells) m address words)
-      (λ inside. block_held (code_of (m.phase / 0o100)) (m.phase % 0o100) m low words)
+      let address = address_in (row (code_of (first / 0o100))).mode (first % 0o100) _ s.cells few (cell_in s.cells _ small) small in
+      either (s.phase == 0) _ _
+      (λ outside. effect_held (code_of (first / 0o100)) (instruction_at s.p s.cells) s address words)
+      (λ inside. block_held (code_of (s.phase / 0o100)) (s.phase % 0o100) s low words)
 
   -- the places of a step's write list, as places of the machine
-  pub HasAll-step : (m : PpView) → m.p < 4096 → All (λ cell. cell ≤ 0o7777) m.cells → length m.central ≡ size → HasAll size (renamed (pp_place n) (pp_writes m))
-  HasAll-step m low small words = AllPlaces-renamed (pp_place n) (Has size) (pp_writes m) (step_held m low small words)
+  pub HasAll-step : (s : PpView) → s.p < 4096 → All (λ cell. cell ≤ 0o7777) s.cells → length s.central ≡ size → HasAll size (renamed (pp_place n) (pp_writes s))
+  HasAll-step s low small words = AllPlaces-renamed (pp_place n) (Has size) (pp_writes s) (step_held s low small words)

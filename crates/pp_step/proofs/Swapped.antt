@@ -36,14 +36,14 @@ stored-at a k (suc j) words (w ∷ ws) few below within =
     ∙ ap (λ n. slice_index (stored_over a (k + 1) words ws) (central_after a n)) next
     ∙ later
 
-pub frame-exchange : (m : PpView) (next i : ℕ) → length m.frame ≡ 16 → i < 16 → number (over m (exchange next m.a m.central m.frame)) (FrameWord i) ≡ frame_word i (number m (Word (central_after m.a i)))
-frame-exchange m next i size below =
-    ap (λ s. number s (FrameWord i)) (over-swap m next m.a (loaded m.a m.central) m.frame (size ∙ sym (length-loaded m.a m.central)))
-    ∙ loaded-at m.a m.central i below
+pub frame-exchange : (s : PpView) (next i : ℕ) → length s.frame ≡ 16 → i < 16 → number (over s (exchange next s.a s.central s.frame)) (FrameWord i) ≡ frame_word i (number s (Word (central_after s.a i)))
+frame-exchange s next i size below =
+    ap (λ v. number v (FrameWord i)) (over-swap s next s.a (loaded s.a s.central) s.frame (size ∙ sym (length-loaded s.a s.central)))
+    ∙ loaded-at s.a s.central i below
 
-pub central-exchange : (m : PpView) (next i : ℕ) → length m.frame ≡ 16 → i < 16 → central_after m.a i < length m.central → number (over m (exchange next m.a m.central m.frame)) (Word (central_after m.a i)) ≡ number m (FrameWord i)
-central-exchange m next i size below within =
+pub central-exchange : (s : PpView) (next i : ℕ) → length s.frame ≡ 16 → i < 16 → central_after s.a i < length s.central → number (over s (exchange next s.a s.central s.frame)) (Word (central_after s.a i)) ≡ number s (FrameWord i)
+central-exchange s next i size below within =
     let here : 0 + i ≡ i = zero-add i in
-    let at = stored-at m.a 0 i m.central m.frame (omega (arith, size)) (omega (arith, size)) (subst (λ n. central_after m.a n < length m.central) (sym here) within) in
-    ap (λ s. number s (Word (central_after m.a i))) (over-swap m next m.a (loaded m.a m.central) m.frame (size ∙ sym (length-loaded m.a m.central)))
-    ∙ subst (λ n. slice_index (stored_over m.a 0 m.central m.frame) (central_after m.a n) ≡ slice_index m.frame i) here at
+    let at = stored-at s.a 0 i s.central s.frame (omega (arith, size)) (omega (arith, size)) (subst (λ n. central_after s.a n < length s.central) (sym here) within) in
+    ap (λ v. number v (Word (central_after s.a i))) (over-swap s next s.a (loaded s.a s.central) s.frame (size ∙ sym (length-loaded s.a s.central)))
+    ∙ subst (λ n. slice_index (stored_over s.a 0 s.central s.frame) (central_after s.a n) ≡ slice_index s.frame i) here at

@@ -9,9 +9,9 @@ use Rattle.pp_step.proofs.package.exchange_into.Goals as goal
 
 pub returns-clause-step : goal.returns-clause-step
 returns-clause-step c = λ cells channels.
-    let m = pp_view c.args.pp.now cells channels c.args.central.now c.args.frame.now in
+    let s = pp_view c.args.pp.now cells channels c.args.central.now c.args.frame.now in
     rw (c.load.ensures.after, c.write_old_values.ensures.loads, c.store_over.ensures.after, c.write_old_values.ensures.registers)
-    (sym (over-swap m c.args.next m.a (loaded m.a m.central) m.frame (c.load.ensures.size ∙ sym (length-loaded m.a m.central))))
+    (sym (over-swap s c.args.next s.a (loaded s.a s.central) s.frame (c.load.ensures.size ∙ sym (length-loaded s.a s.central))))
 
 pub returns-clause-old_values : goal.returns-clause-old_values
 unfolding pp_pairs

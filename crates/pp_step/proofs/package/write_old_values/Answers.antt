@@ -7,11 +7,11 @@ use Rattle.pp_step.proofs.package.write_old_values.Goals as goal
 
 pub returns-clause-old_values : goal.returns-clause-old_values
 returns-clause-old_values c = λ cells channels next.
-    let m = pp_view c.args.pp.now cells channels c.args.central.now c.args.frame.now in
-    let size : length m.frame ≡ 16 = rw c.package-back.ensures.value at c.package-back.ensures.package.size in
+    let s = pp_view c.args.pp.now cells channels c.args.central.now c.args.frame.now in
+    let size : length s.frame ≡ 16 = rw c.package-back.ensures.value at c.package-back.ensures.package.size in
     let read = c.read_words.ensures in
     rw (c.package-back.ensures.value, c.size-back.ensures)
-    (sym (old_values-swap m next m.a (loaded m.a m.central) m.frame c.read_words.new.words (size ∙ sym (length-loaded m.a m.central)) (read.size ∙ sym size) (λ k h. read.value k (omega (arith, size)))))
+    (sym (old_values-swap s next s.a (loaded s.a s.central) s.frame c.read_words.new.words (size ∙ sym (length-loaded s.a s.central)) (read.size ∙ sym size) (λ k h. read.value k (omega (arith, size)))))
 
 pub returns-clause-loads : goal.returns-clause-loads
 returns-clause-loads c =
