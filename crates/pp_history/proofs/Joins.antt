@@ -1,12 +1,11 @@
 -- Two rings hold one list of undo records, and continue to hold it.
-use Rattle.std.proofs.Common.{reverse, add-one, sub-one, Option, Some, None, slice_get, ◌≡◌, ℕ, zero, suc, ◌+◌, ◌-◌, ◌<◌, ◌≤◌, List, [], ◌∷◌, ◌++◌, length, map, take, drop, set, refl, sym, ◌∙◌, ap, subst, arith, length-take}
-use Rattle.std.proofs.lemmas.List.{length-map, reverse-append, length-reverse, take-set, drop-set, length-set, length-drop, take_all}
+use Rattle.std.proofs.Common.{reverse, add-one, sub-one, Option, Some, None, slice_get, ◌≡◌, ℕ, zero, suc, ◌+◌, ◌-◌, ◌<◌, ◌≤◌, List, [], ◌∷◌, ◌++◌, length, map, take, drop, set, refl, ◌∙◌, ap, arith}
+use Rattle.std.proofs.lemmas.List.{reverse-append, take-set, drop-set, length-set, length-drop}
 use Rattle.std.proofs.lemmas.Grind.{common_steps}
 use Rattle.std.proofs.lemmas.Option.{slice_get_within}
 use Rattle.std.specs.Prelude.{IsSomeAnd, IfSome, IsNone, ◌↔◌}
 use Rattle.std.specs.Option.{option_and_then, option_map}
 use Rattle.circular_buffer.specs.Buffer.{Buffer, buffer}
-use Rattle.circular_buffer.proofs.Places.{slice_get-some}
 use Rattle.pp_history.specs.LogValue.{log_of}
 use Rattle.pp_history.specs.Joining.{Entry, IsLog, IsLeft, with_record, record_of, longs_behind, joined, log_value}
 
@@ -40,24 +39,10 @@ module _ {A S : Type 0} where
       rw add-one (ap (λ taken. map (λ e. e.0) (reverse taken)) (take-one n items entry found) ∙ ap (map (λ e. e.0)) (reverse-append (take n items) (entry ∷ [])))
 
   -- the next action to perform again is that of the last entry ahead
-  pub record NextAt (ahead : ℕ) (items : List (Entry A S)) : Type 0 where
-    pub more : ahead ≡ ahead - 1 + 1
-    pub entry : Entry A S
-    pub at : slice_get items (ahead - 1) ≡ Some entry
-    pub first : (next : Entry A S) → slice_get items (ahead - 1) ≡ Some next → slice_get (ahead_of ahead items) 0 ≡ Some next.0
-
-  pub next-at : (ahead : ℕ) (items : List (Entry A S)) → ahead ≤ length items → 0 < length (ahead_of ahead items) → NextAt ahead items
-  next-at ahead items within some =
-      let size : length (ahead_of ahead items) ≡ ahead =
-      length-map (reverse (take ahead items)) (λ entry. entry.0) ∙ length-reverse (take ahead items) ∙ grind (arith, common_steps, length-take) in
-      let more : ahead ≡ ahead - 1 + 1 = omega arith in
-      let next = slice_get-some items (ahead - 1) (omega arith) in
-      record {
-        more = more;
-        entry = next.0;
-        at = next.1;
-        first = λ next found. subst (λ n. slice_get (ahead_of n items) 0 ≡ Some next.0) (sym more) (ap (λ (actions : List A). slice_get actions 0) (ahead_more (ahead - 1) items next found));
-      }
+  pub next-first : (ahead : ℕ) (items : List (Entry A S)) (entry : Entry A S) → 0 < length (ahead_of ahead items) → slice_get items (ahead - 1) ≡ Some entry → (ahead ≡ ahead - 1 + 1) × (slice_get (ahead_of ahead items) 0 ≡ Some entry.0)
+  next-first zero items entry some found = absurd (omega arith)
+  next-first (suc n) items entry some found =
+      (omega arith, rw (← add-one) (ap (λ (actions : List A). slice_get actions 0) (ahead_more n items entry (rw sub-one at found))))
 
 module _ {S R : Type 0} (whole : S → R) where
   -- the long undo record behind n others
@@ -176,27 +161,26 @@ module _ {A S R : Type 0} (whole : S → R) where
     }
 
   -- a log whose first action ahead was performed again
-  module _ (entries entries' : Buffer (Entry A S)) (old new : Buffer (Option R)) (ahead n : ℕ) (more : ahead ≡ n + 1) (entry : Entry A S) (short : Option S) (back : R)
+  module _ (entries : Buffer (Entry A S)) (old new : Buffer (Option R)) (ahead n : ℕ) (more : ahead ≡ n + 1) (entry : Entry A S) (short : Option S) (back : R)
       (log : IsLog whole entries old ahead)
       (found : slice_get entries.items n ≡ Some entry)
-      (kept : entries' ≡ buffer (set entries.items n (entry.0, short)) entries.capacity)
       (left : IsLeft whole short back old new) where
-    again_records : joined whole (drop n entries'.items) new.items ≡ (entry.0, back) ∷ joined whole (drop ahead entries.items) old.items
+    again_records : joined whole (drop n (set entries.items n (entry.0, short))) new.items ≡ (entry.0, back) ∷ joined whole (drop ahead entries.items) old.items
     again_records =
         let within : n < length entries.items = slice_get_within entries.items n entry found in
         let split : drop n (set entries.items n (entry.0, short)) ≡ (entry.0, short) ∷ drop ahead entries.items = rw more (drop-set entries.items n (entry.0, short) within) in
-        rw (kept, split) (joined_left whole entry.0 short back old new (drop ahead entries.items) left (omega (arith, log.full, log.same_room, log.kept, more, within, length-drop ahead entries.items)))
+        rw split (joined_left whole entry.0 short back old new (drop ahead entries.items) left (omega (arith, log.full, log.same_room, log.kept, more, within, length-drop ahead entries.items)))
 
-    pub again_value : log_value whole entries' new n ≡ log_of ((entry.0, back) ∷ joined whole (drop ahead entries.items) old.items) (drop 1 (ahead_of ahead entries.items)) entries.capacity
+    pub again_value : log_value whole (buffer (set entries.items n (entry.0, short)) entries.capacity) new n ≡ log_of ((entry.0, back) ∷ joined whole (drop ahead entries.items) old.items) (drop 1 (ahead_of ahead entries.items)) entries.capacity
     again_value =
         let later : drop 1 (ahead_of ahead entries.items) ≡ ahead_of n entries.items = rw more (ap (λ (actions : List A). drop 1 actions) (ahead_more n entries.items entry found)) in
-        rw (again_records, later, kept, take-set entries.items n (entry.0, short)) refl
+        rw (again_records, later, take-set entries.items n (entry.0, short)) refl
 
-    pub again_log : IsLog whole entries' new n
+    pub again_log : IsLog whole (buffer (set entries.items n (entry.0, short)) entries.capacity) new n
     again_log = record {
-      some_room = rw kept log.some_room;
-      bounded = rw kept log.bounded;
-      same_room = rw kept (left_capacity whole short back old new left ∙ log.same_room);
-      full = rw kept (omega (arith, log.full, length-set entries.items n (entry.0, short)));
-      kept = rw (again_records, kept) (omega (arith, log.kept, more, length-set entries.items n (entry.0, short)));
+      some_room = log.some_room;
+      bounded = log.bounded;
+      same_room = left_capacity whole short back old new left ∙ log.same_room;
+      full = omega (arith, log.full, length-set entries.items n (entry.0, short));
+      kept = rw again_records (omega (arith, log.kept, more, length-set entries.items n (entry.0, short)));
     }

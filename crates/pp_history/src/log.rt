@@ -93,7 +93,8 @@ impl<T: Reversible> Log<T> {
         requires fits { (newest : T.Action × T.Record) → slice_get self.old.records 0 ≡ Some newest → T.fits newest.1 machine.old }
         ensures { IsUndone T.Reversible machine.old machine.new self.old self.new }
     {
-        take_back(machine, &self.entries, &mut self.longs, self.ahead);
+        let entry = self.entries.get(self.ahead).unwrap();
+        undo(machine, &entry.1, &mut self.longs);
         self.ahead += 1;
     }
 
@@ -105,7 +106,8 @@ impl<T: Reversible> Log<T> {
         ensures { IsPerformed T.Reversible machine.old machine.new self.old self.new }
     {
         self.ahead -= 1;
-        perform_again(machine, &mut self.entries, &mut self.longs, self.ahead);
+        let entry = self.entries.get_mut(self.ahead).unwrap();
+        act(machine, &entry.0, &mut entry.1, &mut self.longs);
     }
 
     /// Returns the newest undo record, or `None` if there is none.
@@ -272,54 +274,26 @@ fn act<T: Reversible>(
     act_at_length(machine, action, longs);
 }
 
-/// Performs the action of an entry again. The machine must admit it.
+/// Undoes an action by its undo record: its short one, or else the newest long one, which is discarded.
 #[inline(always)]
-fn perform_again<T: Reversible>(
+fn undo<T: Reversible>(
     machine: &mut T,
-    entries: &mut HeapCircularBuffer<(T::Action, Option<T::Short>)>,
+    back: &Option<T::Short>,
     longs: &mut HeapCircularBuffer<Option<T::Record>>,
-    at: usize,
 )
-    requires within { at < length entries.old.items }
-    requires long_room { 1 ≤ longs.old.capacity }
-    requires admitted { (entry : Entry T.Action T.Short) → slice_get entries.old.items at ≡ Some entry → T.admitted machine.old entry.0 }
-    ensures { (entry : Entry T.Action T.Short) → slice_get entries.old.items at ≡ Some entry → (short : Option T.Short) × (back : T.Record)
-        × (machine.new ≡ T.after_act machine.old entry.0)
-        × (entries.new ≡ buffer (slice_set entries.old.items at (entry.0, short)) entries.old.capacity)
-        × IsLeft T.whole short back longs.old longs.new
-        × T.fits back machine.new × (T.after_undo back machine.new ≡ machine.old) }
+    requires { IsSomeAnd (record_of T.whole back.now longs.old.items) (λ back. T.fits back machine.old) }
+    ensures machine { IsSomeAnd (record_of T.whole back.now longs.old.items) (λ back. machine.new ≡ T.after_undo back machine.old) }
+    ensures longs { longs.new ≡ buffer (longs_behind back.now longs.old.items) longs.old.capacity }
 {
-    if let Some(entry) = entries.get_mut(at) {
-        act(machine, &entry.0, &mut entry.1, longs);
-    }
-}
-
-/// Undoes the action of an entry by its undo record: its short one, or else the newest long one, which is discarded.
-#[inline(always)]
-fn take_back<T: Reversible>(
-    machine: &mut T,
-    entries: &HeapCircularBuffer<(T::Action, Option<T::Short>)>,
-    longs: &mut HeapCircularBuffer<Option<T::Record>>,
-    at: usize,
-)
-    requires within { at < length entries.now.items }
-    requires fits { (entry : Entry T.Action T.Short) → slice_get entries.now.items at ≡ Some entry →
-        IsSomeAnd (record_of T.whole entry.1 longs.old.items) (λ back. T.fits back machine.old) }
-    ensures { (entry : Entry T.Action T.Short) → slice_get entries.now.items at ≡ Some entry →
-        IsSomeAnd (record_of T.whole entry.1 longs.old.items) (λ back. machine.new ≡ T.after_undo back machine.old)
-        × (longs.new ≡ buffer (longs_behind entry.1 longs.old.items) longs.old.capacity) }
-{
-    if let Some(entry) = entries.get(at) {
-        match &entry.1 {
-            Some(short) => machine.undo_short(short),
-            None => take_back_at_length(machine, longs),
-        }
+    match back {
+        Some(short) => machine.undo_short(short),
+        None => undo_at_length(machine, longs),
     }
 }
 
 /// Undoes an action by the newest long undo record, which is discarded.
 #[inline(never)]
-fn take_back_at_length<T: Reversible>(
+fn undo_at_length<T: Reversible>(
     machine: &mut T,
     longs: &mut HeapCircularBuffer<Option<T::Record>>,
 )

@@ -1,21 +1,25 @@
-use Rattle.std.proofs.Common.{◌-◌, arith}
-use Rattle.pp_history.proofs.Joins.{next-at, again_value, again_log}
+use Rattle.std.proofs.Common.{◌-◌, ◌∙◌, ap, sym}
+use Rattle.std.specs.Option.{option_copied_mut}
+use Rattle.pp_history.proofs.Joins.{next-first, again_value, again_log}
 use Rattle.pp_history.proofs.log.Log.perform_again.Goals as goal
 
-pub perform_again-requires-clause-admitted : goal.perform_again-requires-clause-admitted
-perform_again-requires-clause-admitted g c = λ entry found.
-    let next = next-at c.self.inside.ahead c.self.inside.entries.items (omega (arith, c.self.invariant.kept)) (rw (← c.self.view_is) at c.requires.some) in
+pub act-requires-clause-admitted : goal.act-requires-clause-admitted
+act-requires-clause-admitted g c =
+    let found = sym c.get_mut.ensures.value ∙ ap option_copied_mut c.unwrap-entry.ensures in
+    let next = next-first c.self.inside.ahead c.self.inside.entries.items c.unwrap-entry.result.now (rw (← c.self.view_is) at c.requires.some) found in
     let admitted = rw (← c.self.view_is) at c.requires.admitted in
-    admitted entry.0 (next.first entry found)
+    admitted c.unwrap-entry.result.now.0 next.1
 
 pub invariant_of-self : goal.invariant_of-self
 invariant_of-self g c =
-    let next = next-at c.self.inside.ahead c.self.inside.entries.items (omega (arith, c.self.invariant.kept)) (rw (← c.self.view_is) at c.requires.some) in
-    let done = c.perform_again.ensures next.entry next.at in
-    again_log g.T.Reversible.whole c.self.inside.entries c.perform_again.new.entries c.self.inside.longs c.perform_again.new.longs c.self.inside.ahead (c.self.inside.ahead - 1) next.more next.entry done.0 done.1 c.self.invariant next.at done.3 done.4
+    let found = sym c.get_mut.ensures.value ∙ ap option_copied_mut c.unwrap-entry.ensures in
+    let next = next-first c.self.inside.ahead c.self.inside.entries.items c.unwrap-entry.result.now (rw (← c.self.view_is) at c.requires.some) found in
+    let left = c.act.ensures.left in
+    again_log g.T.Reversible.whole c.self.inside.entries c.self.inside.longs c.act.new.longs c.self.inside.ahead (c.self.inside.ahead - 1) next.0 c.unwrap-entry.result.now c.act.new.back left.0 c.self.invariant found left.3
 
 pub returns : goal.returns
 returns g c =
-    let next = next-at c.self.inside.ahead c.self.inside.entries.items (omega (arith, c.self.invariant.kept)) (rw (← c.self.view_is) at c.requires.some) in
-    let done = c.perform_again.ensures next.entry next.at in
-    rw (← c.self.view_is) (next.entry.0, done.1, next.first next.entry next.at, done.2, done.5, done.6, again_value g.T.Reversible.whole c.self.inside.entries c.perform_again.new.entries c.self.inside.longs c.perform_again.new.longs c.self.inside.ahead (c.self.inside.ahead - 1) next.more next.entry done.0 done.1 c.self.invariant next.at done.3 done.4)
+    let found = sym c.get_mut.ensures.value ∙ ap option_copied_mut c.unwrap-entry.ensures in
+    let next = next-first c.self.inside.ahead c.self.inside.entries.items c.unwrap-entry.result.now (rw (← c.self.view_is) at c.requires.some) found in
+    let left = c.act.ensures.left in
+    rw (← c.self.view_is) (c.unwrap-entry.result.now.0, left.0, next.1, c.act.ensures.next, left.1, left.2, again_value g.T.Reversible.whole c.self.inside.entries c.self.inside.longs c.act.new.longs c.self.inside.ahead (c.self.inside.ahead - 1) next.0 c.unwrap-entry.result.now c.act.new.back left.0 c.self.invariant found left.3)

@@ -1,4 +1,3 @@
-use Rattle.std.proofs.Common.{None}
 use Rattle.pp_history.proofs.Joins.{ahead_value, ahead_log}
 use Rattle.pp_history.proofs.log.Log.put_ahead.Goals as goal
 
