@@ -1,8 +1,9 @@
 -- Two rings hold one list of undo records, and continue to hold it.
-use Rattle.std.proofs.Common.{reverse, add-one, sub-one, Option, Some, None, slice_get, ◌≡◌, ℕ, zero, suc, ◌+◌, ◌-◌, ◌<◌, ◌≤◌, List, [], ◌∷◌, ◌++◌, length, map, take, drop, set, refl, ◌∙◌, ap, arith}
+use Rattle.std.proofs.Common.{reverse, add-one, sub-one, Option, Some, None, slice_get, ◌≡◌, ℕ, zero, suc, ◌+◌, ◌-◌, ◌<◌, ◌≤◌, List, [], ◌∷◌, ◌++◌, length, map, take, drop, set, refl, ◌∙◌, ap, arith, drop-cons}
 use Rattle.std.proofs.lemmas.List.{reverse-append, take-set, drop-set, length-set, length-drop}
 use Rattle.std.proofs.lemmas.Grind.{common_steps}
-use Rattle.std.proofs.lemmas.Option.{slice_get_within}
+use Rattle.std.proofs.Math.Seq.{take-suc}
+use Rattle.std.proofs.lemmas.Option.{get_or_from_slice_get, slice_get_within}
 use Rattle.std.specs.Prelude.{IsSomeAnd, IfSome, IsNone, ◌↔◌}
 use Rattle.std.specs.Option.{option_and_then, option_map}
 use Rattle.circular_buffer.specs.Buffer.{Buffer, buffer}
@@ -10,19 +11,10 @@ use Rattle.pp_history.specs.LogValue.{log_of}
 use Rattle.pp_history.specs.Joining.{Entry, IsLog, IsLeft, with_record, record_of, longs_behind, joined, log_value}
 
 pub drop-at : {X : Type 0} (n : ℕ) (xs : List X) (x : X) → slice_get xs n ≡ Some x → drop n xs ≡ x ∷ drop (suc n) xs
-drop-at n [] x found = cc
-drop-at zero (y ∷ ys) x found = let same : y ≡ x = cc in ap (λ z. z ∷ ys) same
-drop-at (suc n) (y ∷ ys) x found = drop-at n ys x found
-
-pub drop-one : {X : Type 0} (n : ℕ) (xs : List X) → drop 1 (drop n xs) ≡ drop (suc n) xs
-drop-one zero xs = refl
-drop-one (suc n) [] = refl
-drop-one (suc n) (x ∷ xs) = drop-one n xs
+drop-at n xs x found = drop-cons xs n x (slice_get_within xs n x found) ∙ ap (λ z. z ∷ drop (suc n) xs) (get_or_from_slice_get xs n x x found)
 
 pub take-one : {X : Type 0} (n : ℕ) (xs : List X) (x : X) → slice_get xs n ≡ Some x → take (suc n) xs ≡ take n xs ++ x ∷ []
-take-one n [] x found = cc
-take-one zero (y ∷ ys) x found = let same : y ≡ x = cc in ap (λ z. z ∷ []) same
-take-one (suc n) (y ∷ ys) x found = ap (λ zs. y ∷ zs) (take-one n ys x found)
+take-one n xs x found = take-suc xs n x (slice_get_within xs n x found) ∙ ap (λ z. take n xs ++ z ∷ []) (get_or_from_slice_get xs n x x found)
 
 front : {X : Type 0} (n : ℕ) (x : X) (xs : List X) → 1 ≤ n → (take 1 (take n (x ∷ xs)) ≡ x ∷ []) × (drop 1 (take n (x ∷ xs)) ≡ take (n - 1) xs)
 front zero x xs some = absurd (omega arith)

@@ -293,10 +293,7 @@ fn undo<T: Reversible>(
 
 /// Undoes an action by the newest long undo record, which is discarded.
 #[inline(never)]
-fn undo_at_length<T: Reversible>(
-    machine: &mut T,
-    longs: &mut HeapCircularBuffer<Option<T::Record>>,
-)
+fn undo_at_length<T: Reversible>(machine: &mut T, longs: &mut HeapCircularBuffer<Option<T::Record>>)
     requires { (back : T.Record) × (slice_get longs.old.items 0 ≡ Some (Some back)) × T.fits back machine.old }
     ensures machine { (back : T.Record) → slice_get longs.old.items 0 ≡ Some (Some back) → machine.new ≡ T.after_undo back machine.old }
     ensures longs { longs.new ≡ buffer (drop 1 longs.old.items) longs.old.capacity }

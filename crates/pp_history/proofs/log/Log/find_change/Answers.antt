@@ -1,8 +1,9 @@
 use Rattle.std.proofs.Common.{◌≡◌, ◌+◌, ◌≤◌, ◌∙◌, Some, None, Option, ap, arith, drop, refl, rules, sym, add-one}
 use Rattle.std.specs.Option.{IsSome, option_copied, option_map}
+use Rattle.std.proofs.lemmas.List.{drop-drop}
 use Rattle.pp_history.specs.Joining.{longs_behind}
 use Rattle.pp_history.specs.UndoRecord.{whole_record}
-use Rattle.pp_history.proofs.Joins.{newest-at, drop-one}
+use Rattle.pp_history.proofs.Joins.{newest-at}
 use Rattle.pp_history.proofs.Search.{found-here, pass-on}
 use Rattle.pp_history.proofs.log.Log.find_change.Goals as goal
 use Rattle.pp_history.proofs.log.Log.find_change.Goals.{in-Some, in-None}
@@ -33,7 +34,7 @@ loop-k-preserved g c =
     elim c.match-entry.branch [
       | in-Some w ↦ (ap (λ n. drop n longs) w.long-is ∙ sym (ap (λ short. longs_behind short (drop c.loop-k.long longs)) w.in-Some.is), omega (arith, w.long-is))
       | in-None w ↦ (
-        ap (λ n. drop n longs) w.long-is ∙ rw add-one (sym (drop-one c.loop-k.long longs)) ∙ sym (ap (λ short. longs_behind short (drop c.loop-k.long longs)) w.in-None.is),
+        ap (λ n. drop n longs) w.long-is ∙ sym (drop-drop 1 c.loop-k.long longs) ∙ sym (ap (λ short. longs_behind short (drop c.loop-k.long longs)) w.in-None.is),
         omega (arith, w.long-is),
       )
     ] in
