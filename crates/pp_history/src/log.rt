@@ -300,8 +300,6 @@ fn undo_at_length<T: Reversible>(machine: &mut T, longs: &mut HeapCircularBuffer
 {
     if let Some(newest) = longs.get_mut(0) {
         machine.undo_from(newest);
-    }
-    if longs.len() > 0 {
         forget(longs, 1);
     }
 }
