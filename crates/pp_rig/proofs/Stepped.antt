@@ -1,12 +1,13 @@
 -- The parts of a turn: what each does to the machine, and what its undo record then has.
-use Rattle.std.proofs.Common.{ℕ, Bool, true, false, [], ◌∷◌, ◌<◌, ◌≡◌, ◌==◌, ◌∙◌, if◌then◌else◌, refl, ap, subst, sym}
-use Rattle.pp_machine.specs.Machine.{Machine}
-use Rattle.pp_machine.specs.Writes.{renamed}
+use Rattle.std.proofs.Common.{ℕ, Bool, true, false, [], ◌∷◌, ◌<◌, ◌≡◌, ◌==◌, ◌∙◌, if◌then◌else◌, refl, ap, get_or, subst, sym}
+use Rattle.std.proofs.lemmas.List.{get_or_read}
+use Rattle.pp_machine.specs.Machine.{Machine, ProcessorNumbers, no_processor}
+use Rattle.pp_machine.specs.Writes.{Writes, renamed}
 use Rattle.pp_step.specs.Step.{pp_pairs, pp_writes, FitsPp}
-use Rattle.pp_step.specs.View.{PpView, pp_place}
+use Rattle.pp_step.specs.View.{PpPlace, PpView, over as over_pp, pp_place}
 use Rattle.pp_step.specs.declared.record.PpRecord.{PpRecord}
 use Rattle.pp_rig.specs.IsMachine.{IsMachine}
-use Rattle.pp_rig.specs.Lift.{pp_of, with_pp}
+use Rattle.pp_rig.specs.Lift.{pp_of, step_view, with_pp}
 use Rattle.pp_rig.specs.LiftLaws.{step-pp, record-pp}
 use Rattle.pp_rig.specs.MachineLaws.{has_processor, IsMachine-with_pp, setup-over}
 use Rattle.pp_machine.specs.Machine.{over, old_values}
@@ -24,26 +25,44 @@ use Rattle.pp_rig.proofs.Devices.{HasAll-device_pairs}
 use Rattle.pp_rig.proofs.Overwritten.{few-turn}
 use Rattle.pp_rig.proofs.Parts.{both-performed, led_back, one-performed, over-parts}
 
-pub IsMachine-stepped : (m : Machine) (new : PpView) (back : PpRecord) → IsMachine m → IsStep (pp_of m.slot m) new back → IsMachine (with_pp m m.slot new)
-IsMachine-stepped m new back ok e = IsMachine-with_pp m m.slot new (pp_writes (pp_of m.slot m)) ok ok.slot e.step
+-- processor n, as it is read from the list, and as it is put back
+module _ (m : Machine) (n : ℕ) (x : ProcessorNumbers) (ok : IsMachine m) (in_slot : n < 10) (read : x ≡ get_or m.processors n x) where
+  seen : step_view x m.channels m.central m.frame ≡ pp_of n m
+  seen = ap (λ y. step_view y m.channels m.central m.frame) (get_or_read m.processors n x (has_processor m n ok in_slot) read no_processor)
 
-pub slot-stepped : (m : Machine) (new : PpView) (back : PpRecord) → IsMachine m → IsStep (pp_of m.slot m) new back → IsSlotStep m (with_pp m m.slot new) back
-slot-stepped m new back ok e = record {
-  step = step-pp m m.slot (has_processor m m.slot ok ok.slot) new (pp_writes (pp_of m.slot m)) e.step;
-  old_values = ap (renamed (pp_place m.slot)) e.old_values ∙ record-pp m m.slot (pp_writes (pp_of m.slot m));
-  fits = subst (λ n. FitsPp n back) (IsMachine-stepped m new back ok e).shaped.central e.fits;
-  few = e.few;
-  kept = record { slot = refl; setup = refl };
-}
+  module _ (part : PpView) (w : Writes PpPlace) (e : part ≡ over_pp (step_view x m.channels m.central m.frame) w) where
+    pub IsMachine-over : IsMachine (with_pp m n part)
+    IsMachine-over = IsMachine-with_pp m n part w ok in_slot (e ∙ ap (λ s. over_pp s w) seen)
 
--- a processor that is unchanged
-pub slot-same : (m : Machine) (new : PpView) → IsMachine m → new ≡ pp_of m.slot m → with_pp m m.slot new ≡ m
-slot-same m new ok same = step-pp m m.slot (has_processor m m.slot ok ok.slot) new [] same
+    pub slot-over : with_pp m n part ≡ over m (renamed (pp_place n) w)
+    slot-over = step-pp m n (has_processor m n ok in_slot) part w (e ∙ ap (λ s. over_pp s w) seen)
 
--- a step that is performed, or that changes nothing
-pub IsMachine-short : (done : Bool) (m : Machine) (new : PpView) (back : PpRecord) → IsMachine m → (done ≡ true → IsStep (pp_of m.slot m) new back) → (done ≡ false → new ≡ pp_of m.slot m) → IsMachine (with_pp m m.slot new)
-IsMachine-short true m new back ok step same = IsMachine-stepped m new back ok (step refl)
-IsMachine-short false m new back ok step same = subst IsMachine (sym (slot-same m new ok (same refl))) ok
+-- its step
+module _ (m : Machine) (x : ProcessorNumbers) (new : PpView) (back : PpRecord) (ok : IsMachine m) (read : x ≡ get_or m.processors m.slot x) where
+  abbrev stepped : Type 0
+  stepped = IsStep (step_view x m.channels m.central m.frame) new back
+
+  pub IsMachine-stepped : stepped → IsMachine (with_pp m m.slot new)
+  IsMachine-stepped e = IsMachine-over m m.slot x ok ok.slot read new (pp_writes (step_view x m.channels m.central m.frame)) e.step
+
+  pub slot-stepped : stepped → IsSlotStep m (with_pp m m.slot new) back
+  slot-stepped e =
+    let here = subst (λ s. IsStep s new back) (seen m m.slot x ok ok.slot read) e in
+    record {
+      step = step-pp m m.slot (has_processor m m.slot ok ok.slot) new (pp_writes (pp_of m.slot m)) here.step;
+      old_values = ap (renamed (pp_place m.slot)) here.old_values ∙ record-pp m m.slot (pp_writes (pp_of m.slot m));
+      fits = subst (λ n. FitsPp n back) (IsMachine-stepped e).shaped.central e.fits;
+      few = e.few;
+      kept = record { slot = refl; setup = refl };
+    }
+
+  -- a step that is performed, or that changes nothing
+  pub slot-same : new ≡ step_view x m.channels m.central m.frame → with_pp m m.slot new ≡ m
+  slot-same = slot-over m m.slot x ok ok.slot read new []
+
+  pub IsMachine-short : (done : Bool) → (done ≡ true → stepped) → (done ≡ false → new ≡ step_view x m.channels m.central m.frame) → IsMachine (with_pp m m.slot new)
+  IsMachine-short true step same = IsMachine-stepped (step refl)
+  IsMachine-short false step same = subst IsMachine (sym (slot-same (same refl))) ok
 
 -- ---- the rest of a turn: devices, clock and slot
 
