@@ -47,14 +47,14 @@ module _ (m : Machine) (x : ProcessorNumbers) (new : PpView) (back : PpRecord) (
 
   pub slot-stepped : stepped → IsSlotStep m (with_pp m m.slot new) back
   slot-stepped e =
-    let here = subst (λ s. IsStep s new back) (seen m m.slot x ok ok.slot read) e in
-    record {
-      step = step-pp m m.slot (has_processor m m.slot ok ok.slot) new (pp_writes (pp_of m.slot m)) here.step;
-      old_values = ap (renamed (pp_place m.slot)) here.old_values ∙ record-pp m m.slot (pp_writes (pp_of m.slot m));
-      fits = subst (λ n. FitsPp n back) (IsMachine-stepped e).shaped.central e.fits;
-      few = e.few;
-      kept = record { slot = refl; setup = refl };
-    }
+      let here = subst (λ s. IsStep s new back) (seen m m.slot x ok ok.slot read) e in
+      record {
+        step = step-pp m m.slot (has_processor m m.slot ok ok.slot) new (pp_writes (pp_of m.slot m)) here.step;
+        old_values = ap (renamed (pp_place m.slot)) here.old_values ∙ record-pp m m.slot (pp_writes (pp_of m.slot m));
+        fits = subst (λ n. FitsPp n back) (IsMachine-stepped e).shaped.central e.fits;
+        few = e.few;
+        kept = record { slot = refl; setup = refl };
+      }
 
   -- a step that is performed, or that changes nothing
   pub slot-same : new ≡ step_view x m.channels m.central m.frame → with_pp m m.slot new ≡ m

@@ -276,16 +276,9 @@ impl Rig {
         back.are_devices_called = true;
         back.devices.reader_channel = self.reader_channel;
         back.devices.printer_channel = self.printer_channel;
-        back.devices.reader = step_device(
-            &mut self.reader,
-            &mut self.channels,
-            self.reader_channel,
-        );
-        back.devices.printer = step_device(
-            &mut self.printer,
-            &mut self.channels,
-            self.printer_channel,
-        );
+        let channels = &mut self.channels;
+        back.devices.reader = step_device(&mut self.reader, channels, self.reader_channel);
+        back.devices.printer = step_device(&mut self.printer, channels, self.printer_channel);
     }
 
     /// Returns whether the channel of a device is active. If none is, the devices do nothing.
@@ -315,18 +308,14 @@ impl Rig {
         ensures undoes { self.new ≡ over self.old (device_pairs_of back.now) }
         ensures keeps_slot { KeepsSlot self.old self.new }
     {
+        let channels = &mut self.channels;
         undo_device(
             &mut self.printer,
-            &mut self.channels,
+            channels,
             self.printer_channel,
             back.printer,
         );
-        undo_device(
-            &mut self.reader,
-            &mut self.channels,
-            self.reader_channel,
-            back.reader,
-        );
+        undo_device(&mut self.reader, channels, self.reader_channel, back.reader);
     }
 
     /// Advances the clock by one in the turn of the last processor. Returns the clock before.
