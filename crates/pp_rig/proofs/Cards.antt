@@ -1,6 +1,5 @@
 -- Decks of identical cards.
-use Rattle.std.specs.Prelude.{ℕ, ◌≡◌, ◌<◌, ◌≤◌, All, List, replicate}
-use Rattle.std.proofs.Common.{arith}
+use Rattle.std.proofs.Common.{arith, ℕ, ◌≡◌, ◌<◌, ◌≤◌, All, List, replicate}
 use Rattle.std.proofs.lemmas.List.Elements.{All-replicate}
 use Rattle.pp_machine.specs.ReaderNumbers.{IsCard}
 

@@ -1,7 +1,6 @@
 -- What a dead start writes fits the machine, and has a known length.
-use Rattle.std.specs.Prelude.{ℕ, ◌≡◌, ◌+◌, ◌/◌, ◌<◌, ◌≤◌, ◌^◌, ◌==◌, ◌||◌, IsTrue, Bool, true, false, All, List, [], ◌∷◌, ◌++◌, length, replicate, refl}
 use Rattle.std.specs.List.{list_all}
-use Rattle.std.proofs.Common.{arith, zero, suc, lit<, lit≤, ap, sym, ◌∙◌}
+use Rattle.std.proofs.Common.{arith, zero, suc, lit<, lit≤, ap, sym, ◌∙◌, ℕ, ◌≡◌, ◌+◌, ◌/◌, ◌<◌, ◌≤◌, ◌^◌, ◌==◌, ◌||◌, IsTrue, Bool, true, false, All, List, [], ◌∷◌, ◌++◌, length, replicate, refl}
 use Rattle.std.proofs.lemmas.Bool.{and_parts}
 use Rattle.pp_machine.specs.WriteList.{write_list}
 use Rattle.pp_machine.specs.Machine.{Machine, number, old_values}
@@ -13,13 +12,14 @@ use Rattle.pp_machine.specs.declared.place.Write.{Write}
 use Rattle.pp_machine.specs.declared.place.Place.{Place}
 use Rattle.pp_machine.specs.declared.place.Place.TheVariants.{Cell, RegA, RegP, RegQ, Phase, ChannelMode, ChannelWord, Central, Slot}
 use Rattle.pp_rig.specs.CellLaws.{AreSettings-cell_writes}
-use Rattle.pp_rig.specs.Deadstart.{loading, waiting, all_waiting, all_states, states, deadstart_write_list, deadstart_places}
+use Rattle.pp_rig.specs.Deadstart.{loading, waiting, all_waiting, all_states, states, deadstart_write_list, deadstart_place_count, deadstart_places}
 use Rattle.pp_rig.specs.Ranges.{IsInRange, twelve_bits, eighteen_bits}
 use Rattle.pp_rig.specs.Settings.{IsSetting, IsSettable, AreSettings, AreSettings-append}
 use Rattle.pp_rig.specs.RecordLists.{numbers, with_new_numbers}
 use Rattle.pp_rig.specs.WriteLists.{cell_writes, register_writes, state_writes}
 use Rattle.pp_rig.proofs.Admitting.{all_at_most}
-use Rattle.pp_rig.proofs.WriteLists.{places-cell_writes, length-places, with_new_numbers-numbers}
+use Rattle.std.proofs.lemmas.List.{length-append}
+use Rattle.pp_rig.proofs.WriteLists.{places-cell_writes, with_new_numbers-numbers}
 
 one : (size : ℕ) (p : Place) (v : ℕ) → Has size p → IsSettable p → IsInRange p v → IsSetting size p v
 one size p v has settable in_range = record { has = has; settable = settable; in_range = in_range }
@@ -84,13 +84,16 @@ places-deadstart p q e =
     let channels = places-before (loading p ++ all_waiting 1 9) (loading q ++ all_waiting 1 9) all_states processors in
     places-before (loading p ++ all_waiting 1 9 ++ all_states) (loading q ++ all_waiting 1 9 ++ all_states) ((Slot, 0) ∷ []) channels
 
-length-blank : length (deadstart_write_list (replicate 12 0)) ≡ 76
-unfolding deadstart_write_list all_waiting all_states
-length-blank = refl
+pub length-cell_writes : (n a : ℕ) (vs : List ℕ) → length (cell_writes n a vs) ≡ length vs
+length-cell_writes n a [] = refl
+length-cell_writes n a (v ∷ vs) = ap suc (length-cell_writes n (a + 1) vs)
 
-pub length-deadstart : (panel : List ℕ) → length panel ≡ 12 → length (deadstart_write_list panel) ≡ 76
-length-deadstart panel e =
-    sym (length-places (deadstart_write_list panel)) ∙ (ap length (places-deadstart panel (replicate 12 0) e) ∙ (length-places (deadstart_write_list (replicate 12 0)) ∙ length-blank))
+pub length-deadstart_write_list : (panel : List ℕ) → length (deadstart_write_list panel) ≡ length panel + 64
+unfolding deadstart_write_list all_waiting all_states
+length-deadstart_write_list panel = simp (length-append, length-cell_writes) (omega arith)
+
+pub length-deadstart : (panel : List ℕ) → length panel ≡ 12 → length (deadstart_write_list panel) ≡ deadstart_place_count
+length-deadstart panel e = omega (arith, length-deadstart_write_list panel)
 
 places-stood : (m : Machine) (panel : List ℕ) → length panel ≡ 12 → places (old_values m (deadstart_write_list panel)) ≡ places deadstart_places
 places-stood m panel e = places-old_values number m (deadstart_write_list panel) ∙ places-deadstart panel (replicate 12 0) e

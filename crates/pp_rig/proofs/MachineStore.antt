@@ -1,6 +1,5 @@
 -- Single writes to the machine: how they behave, and how the old values undo any list of writes.
-use Rattle.std.specs.Prelude.{ℕ, ◌≡◌, ◌≢◌, ◌⊎◌, List, [], ◌∷◌, get_or, set, refl}
-use Rattle.std.proofs.Common.{ap, zero, suc, inl, inr, ◌∙◌}
+use Rattle.std.proofs.Common.{ap, zero, suc, inl, inr, ◌∙◌, ℕ, ◌≡◌, ◌≢◌, ◌⊎◌, List, [], ◌∷◌, get_or, set, refl}
 use Rattle.std.proofs.lemmas.Bool.{cases_eq}
 use Rattle.std.proofs.lemmas.List.{set-set, set_comm, set-get_or}
 use Rattle.pp_machine.specs.Machine.{Machine, ProcessorNumbers, no_processor, number, put, over, old_values}

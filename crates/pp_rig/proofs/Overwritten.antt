@@ -1,6 +1,5 @@
 -- The old values of an action lead back, and are at the places that it writes.
-use Rattle.std.specs.Prelude.{ℕ, Bool, true, false, ◌≡◌, ◌==◌, ◌≤◌, [], ◌∷◌, if◌then◌else◌, length}
-use Rattle.std.proofs.Common.{arith, IsPermutation}
+use Rattle.std.proofs.Common.{arith, IsPermutation, ℕ, Bool, true, false, ◌≡◌, ◌==◌, ◌≤◌, [], ◌∷◌, if◌then◌else◌, length}
 use Rattle.std.proofs.lemmas.List.{length-append}
 use Rattle.std.proofs.lemmas.List.Sorted.{IsPermutation-refl}
 use Rattle.pp_machine.specs.Machine.{Machine, number, over}

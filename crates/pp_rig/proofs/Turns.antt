@@ -1,6 +1,5 @@
 -- What a turn leaves unchanged.
-use Rattle.std.specs.Prelude.{ℕ, ◌+◌, ◌%◌, ◌≡◌, [], ◌∷◌, Bool, true, false, if◌then◌else◌, ◌==◌, refl}
-use Rattle.std.proofs.Common.{ap, ◌∙◌}
+use Rattle.std.proofs.Common.{ap, ◌∙◌, ℕ, ◌+◌, ◌%◌, ◌≡◌, [], ◌∷◌, Bool, true, false, if◌then◌else◌, ◌==◌, refl}
 use Rattle.pp_machine.specs.Machine.{Machine, put, over}
 use Rattle.pp_machine.specs.declared.place.Place.TheVariants.{Clock}
 use Rattle.pp_step.specs.View.{PpPlace, pp_place}

@@ -1,7 +1,6 @@
 -- Watched places and their codes.
-use Rattle.std.specs.Prelude.{ℕ, ◌+◌, ◌-◌, ◌*◌, ◌<◌, ◌==◌, ◌≢◌, All, ◌≤◌, ◌≡◌, ◌||◌, Bool, false, eqb, cond, position, Some, None, get_or, set, List, [], ◌∷◌, ◌++◌, length, map, replicate, refl}
 use Rattle.std.specs.List.{list_any, position_from, AllPairs}
-use Rattle.std.proofs.Common.{arith, zero, suc, sym, ap, subst, append_assoc, add-one, ◌∙◌, ⊎_elim}
+use Rattle.std.proofs.Common.{arith, zero, suc, sym, ap, subst, append_assoc, add-one, ◌∙◌, ⊎_elim, ℕ, ◌+◌, ◌-◌, ◌*◌, ◌<◌, ◌==◌, ◌≢◌, All, ◌≤◌, ◌≡◌, ◌||◌, Bool, false, eqb, cond, position, Some, None, get_or, set, List, [], ◌∷◌, ◌++◌, length, map, replicate, refl}
 use Rattle.std.proofs.lemmas.Bool.Decides.{eqb_tells}
 use Rattle.std.proofs.lemmas.Iterator.Adapters.{position_from-zero}
 use Rattle.std.proofs.lemmas.Bool.{false≢true, eq-eqb}

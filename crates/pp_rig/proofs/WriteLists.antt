@@ -1,6 +1,5 @@
 -- Places and numbers of write lists.
-use Rattle.std.specs.Prelude.{ℕ, ◌≡◌, ◌+◌, ◌-◌, ◌<◌, ◌≤◌, false, Option, List, [], ◌∷◌, ◌++◌, drop, take, get_or, length, map, refl}
-use Rattle.std.proofs.Common.{arith, suc, ap, ◌∙◌, sym, append_assoc}
+use Rattle.std.proofs.Common.{arith, suc, ap, ◌∙◌, sym, append_assoc, ℕ, ◌≡◌, ◌+◌, ◌-◌, ◌<◌, ◌≤◌, false, Option, List, [], ◌∷◌, ◌++◌, drop, take, get_or, length, map, refl}
 use Rattle.std.proofs.lemmas.List.{append-nil, drop_all, drop_more, take_more}
 use Rattle.pp_machine.specs.WriteList.{write_list, write_list-append}
 use Rattle.pp_machine.specs.Lookup.{lookup, same_place}
@@ -19,10 +18,6 @@ use Rattle.pp_rig.specs.WriteLists.{cell_writes, state_writes, entry_writes}
 pub length-old_values : (m : Machine) (w : Writes Place) → length (old_values m w) ≡ length w
 length-old_values m [] = refl
 length-old_values m (pair ∷ w) = ap suc (length-old_values m w)
-
-pub length-places : (w : Writes Place) → length (places w) ≡ length w
-length-places [] = refl
-length-places (pair ∷ w) = ap suc (length-places w)
 
 pub length-renamed : {P : Type 0} (name : P → Place) (w : Writes P) → length (renamed name w) ≡ length w
 length-renamed name [] = refl

@@ -1,6 +1,5 @@
 -- No action other than a turn writes a place twice.
-use Rattle.std.proofs.Common.{◌≡◌, ◌≢◌, ℕ, ◌+◌, ◌%◌, ◌<◌, ◌≤◌, ◌==◌, List, [], ◌∷◌, drop, length, true, zero, suc, refl, ap, arith}
-use Rattle.std.specs.Prelude.{Option, Some, None, position}
+use Rattle.std.proofs.Common.{◌≡◌, ◌≢◌, ℕ, ◌+◌, ◌%◌, ◌<◌, ◌≤◌, ◌==◌, List, [], ◌∷◌, drop, length, true, zero, suc, refl, ap, arith, Option, Some, None, position}
 use Rattle.std.specs.List.{All, AllPairs}
 use Rattle.std.proofs.lemmas.Bool.{eq-eqb}
 use Rattle.std.proofs.lemmas.List.{length-append}
@@ -11,6 +10,7 @@ use Rattle.pp_machine.specs.Writes.{Writes, places}
 use Rattle.pp_machine.specs.declared.place.Place.{Place}
 use Rattle.pp_machine.specs.declared.place.Place.TheVariants.{Cell, RegA, RegP, RegQ, Phase, ChannelMode, ChannelWord, Central, FrameWord, PaperSymbol, WatchEntry}
 use Rattle.pp_machine.proofs.Once.{once, each-once}
+use Rattle.pp_rig.proofs.Deadstart.{length-cell_writes, length-deadstart_write_list}
 use Rattle.pp_rig.specs.Action.{most_places, writes, without_entry, moved_up}
 use Rattle.pp_rig.specs.Deadstart.{all_states, all_waiting, deadstart_place_count, deadstart_writes, deadstart_write_list}
 use Rattle.pp_rig.specs.WatchCodes.{watch_code}
@@ -89,14 +89,6 @@ self _ = refl
 
 each : (w : Writes Place) → once same_place w ≡ true → EachOnce w
 each = each-once same_place self
-
-length-cell_writes : (n a : ℕ) (vs : List ℕ) → length (cell_writes n a vs) ≡ length vs
-length-cell_writes n a [] = refl
-length-cell_writes n a (v ∷ vs) = ap suc (length-cell_writes n (a + 1) vs)
-
-length-deadstart_write_list : (panel : List ℕ) → length (deadstart_write_list panel) ≡ length panel + 64
-unfolding deadstart_write_list all_waiting all_states
-length-deadstart_write_list panel = simp (length-append, length-cell_writes) (omega arith)
 
 -- the panel does not reach the cell behind it
 panel-once : (panel : List ℕ) → length panel ≤ 12 → once same_place (deadstart_write_list panel) ≡ true

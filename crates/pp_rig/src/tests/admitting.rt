@@ -113,43 +113,36 @@ fn ranges_of_watched_places(rt: HostRuntime) -> Result<(), Fail> {
     check_ranges(&rt, rt.alloc(), &pairs)
 }
 
+/// Checks that a machine rejects each action for the cause beside it.
+fn check_causes(rt: &impl Abort, rig: &Rig, rows: &[(Action, ActionFault)]) {
+    for (action, cause) in rows {
+        assert!(rt; rig.check(action) == Err(*cause));
+    }
+}
+
 #[test]
 fn causes_in_their_order(rt: HostRuntime) -> Result<(), Fail> {
     let mut session = make(rt.alloc())?;
     let first = Watched::Register { c: 0 };
-    assert_eq!(rt;
-        session.machine().check(&Action::Unwatch(first)),
-        Err(ActionFault::NotWatched)
-    );
-    assert_eq!(rt;
-        session
-            .machine()
-            .check(&Action::Unwatch(Watched::Register { c: 0o15 })),
-        Err(ActionFault::Range)
-    );
-    assert_eq!(rt;
-        session.machine().check(&Action::Deadstart),
-        Err(ActionFault::NoPanel)
-    );
+    let beyond = Watched::Register { c: 0o15 };
+    let rows = [
+        (Action::Unwatch(first), ActionFault::NotWatched),
+        (Action::Unwatch(beyond), ActionFault::Range),
+        (Action::Deadstart, ActionFault::NoPanel),
+    ];
+    check_causes(&rt, session.machine(), &rows);
     act(&rt, &mut session, Action::Watch(first));
-    assert_eq!(rt;
-        session.machine().check(&Action::Watch(first)),
-        Err(ActionFault::AlreadyWatched)
-    );
+    let rows = [(Action::Watch(first), ActionFault::AlreadyWatched)];
+    check_causes(&rt, session.machine(), &rows);
     for c in 1..8u8 {
         act(&rt, &mut session, Action::Watch(Watched::Register { c }));
     }
     assert_eq!(rt; session.machine().watches().len(), 8);
-    assert_eq!(rt;
-        session.machine().check(&Action::Watch(first)),
-        Err(ActionFault::WatchesFull)
-    );
-    assert_eq!(rt;
-        session
-            .machine()
-            .check(&Action::Watch(Watched::Register { c: 0o15 })),
-        Err(ActionFault::Range)
-    );
+    let rows = [
+        (Action::Watch(first), ActionFault::WatchesFull),
+        (Action::Watch(beyond), ActionFault::Range),
+    ];
+    check_causes(&rt, session.machine(), &rows);
     assert_eq!(rt; session.machine().check(&Action::Unwatch(first)), Ok(()));
     Ok(())
 }

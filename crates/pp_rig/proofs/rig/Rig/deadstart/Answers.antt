@@ -1,5 +1,4 @@
-use Rattle.std.specs.Prelude.{◌≡◌, Some}
-use Rattle.std.proofs.Common.{arith, lit<}
+use Rattle.std.proofs.Common.{arith, lit<, ◌≡◌, Some}
 use Rattle.pp_machine.specs.WriteList.{write_list}
 use Rattle.pp_machine.specs.Machine.{old_values}
 use Rattle.pp_rig.specs.Deadstart.{deadstart_write_list, deadstart_places}

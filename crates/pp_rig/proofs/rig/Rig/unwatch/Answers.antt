@@ -1,5 +1,4 @@
-use Rattle.std.specs.Prelude.{◌≡◌, ◌==◌, ◌≤◌, ◌+◌, Some, drop, length, map, position}
-use Rattle.std.proofs.Common.{arith, sym, ◌∙◌}
+use Rattle.std.proofs.Common.{arith, sym, ◌∙◌, ◌≡◌, ◌==◌, ◌≤◌, ◌+◌, Some, drop, length, map, position}
 use Rattle.std.proofs.lemmas.List.{length-map}
 use Rattle.pp_rig.specs.Action.{moved_up}
 use Rattle.pp_rig.specs.RigView.{machine_of}

@@ -1,5 +1,4 @@
-use Rattle.std.specs.Prelude.{ℕ, ◌≡◌, ◌==◌, ◌<◌, List, Option, length, position}
-use Rattle.std.proofs.Common.{arith, sym, ◌∙◌}
+use Rattle.std.proofs.Common.{arith, sym, ◌∙◌, ℕ, ◌≡◌, ◌==◌, ◌<◌, List, Option, length, position}
 use Rattle.std.proofs.lemmas.List.Quantifiers.{position-Some}
 use Rattle.pp_rig.specs.WatchCodes.{watch_code, watch_entries}
 use Rattle.pp_rig.specs.declared.watched.Watched.{Watched}

@@ -1,5 +1,4 @@
-use Rattle.std.specs.Prelude.{◌==◌}
-use Rattle.std.proofs.Common.{sym}
+use Rattle.std.proofs.Common.{sym, ◌==◌}
 use Rattle.pp_rig.specs.WatchCodes.{watch_code}
 use Rattle.pp_rig.proofs.WatchCodes.{any-entries, zero-no_code}
 use Rattle.pp_rig.proofs.watched.WatchList.is_watched.Goals as goal
