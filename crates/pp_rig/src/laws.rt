@@ -5,9 +5,11 @@ ghost use Rattle.pp_history.specs.SessionValue.{SessionValue};
 ghost use Rattle.pp_machine.specs.Machine.{Machine};
 ghost use Rattle.pp_machine.specs.Shape.{HasAll};
 ghost use Rattle.pp_machine.specs.Writes.{places};
-ghost use Rattle.pp_rig.specs.Action.{most_places, writes};
+ghost use Rattle.pp_rig.specs.Action.{most_places, next, writes};
 ghost use Rattle.pp_rig.specs.Admitting.{first_fault};
+ghost use Rattle.pp_rig.specs.Parts.{after_parts};
 ghost use Rattle.pp_rig.specs.Stopping.{stopped, after_turns, IsShortest};
+ghost use Rattle.pp_rig.specs.Turn.{turn_parts};
 ghost use Rattle.pp_rig.specs.WellFormed.{IsWellFormed};
 ghost use Rattle.pp_rig.specs.declared.action.Action.TheVariants.{Turn};
 
@@ -37,4 +39,11 @@ pub fn actions_write_each_place_once()
 pub fn actions_write_places_of_the_machine()
     ensures { (s : Machine) (action : Action) → IsWellFormed s → first_fault s action ≡ None →
         HasAll s.setup.central_words (writes s action) }
+{}
+
+/// A turn performs its parts one after another, each on the machine that the parts before it left: the step of the
+/// processor in the slot, the steps of the reader and of the printer, the clock and the slot (the manual, peripheral
+/// processors; the devices are this project's own).
+pub fn turns_perform_their_parts()
+    ensures { (s : Machine) → next s Turn ≡ after_parts turn_parts s }
 {}

@@ -1,0 +1,6 @@
+use Rattle.pp_rig.proofs.Parts.{over-parts}
+use Rattle.pp_rig.specs.Turn.{turn_parts}
+use Rattle.pp_rig.proofs.laws.turns_perform_their_parts.Goals as goal
+
+pub returns : goal.returns
+returns c = over-parts turn_parts
