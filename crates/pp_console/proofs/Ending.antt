@@ -11,8 +11,8 @@ use Rattle.pp_console.specs.declared.progress.Summary.{Summary}
 use Rattle.pp_console.specs.declared.progress.TheConstants.{KEPT, LINE_LIMIT, BYTE_LIMIT}
 use Rattle.pp_console.specs.Commands.{State}
 use Rattle.pp_console.specs.Script.{run}
-use Rattle.pp_console.specs.Serving.{Origin, Performed, Serves, Stops, reads_after}
-use Rattle.pp_console.specs.ServingSteps.{Stands, Interrupts, IsNoReadFault}
+use Rattle.pp_console.specs.Serving.{Origin, Performed, Serves, Stops}
+use Rattle.pp_console.specs.ServingSteps.{Stands, Interrupts}
 use Rattle.pp_console.proofs.Standing.{Stands-within}
 
 -- a fault among some bytes is a fault among these bytes and more

@@ -1,8 +1,8 @@
 -- The lines of the paper, one after another.
-use Rattle.std.proofs.Common.{◌≡◌, ◌∙◌, ℕ, ◌-◌, ◌<◌, cond, eqb, Bool, true, false, List, [], ◌∷◌, ◌++◌, length, take, drop, refl, sym, ap, arith, append_assoc}
+use Rattle.std.proofs.Common.{◌≡◌, ◌∙◌, ℕ, ◌-◌, cond, eqb, Bool, true, false, List, [], ◌∷◌, ◌++◌, length, take, drop, refl, sym, ap, append_assoc}
 use Rattle.std.specs.Prelude.{None, Some, ◌==◌, map, position, codes}
 use Rattle.std.specs.List.{position_or_len, flat_map}
-use Rattle.std.proofs.lemmas.List.{append-nil, drop-map, length-map, map-append, take-append-drop, take-map}
+use Rattle.std.proofs.lemmas.List.{drop-map, length-map, map-append, take-append-drop, take-map}
 use Rattle.pp_lines.proofs.OpenTexts.{feed-cut, feed-none, unfinished-text}
 use Rattle.pp_lines.specs.Lines.{extend_first, finished, unfinished, last_line}
 use Rattle.pp_console.specs.DisplayCode.{character}
