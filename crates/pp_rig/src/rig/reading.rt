@@ -69,10 +69,10 @@ impl Rig {
     {
         match *place {
             Place::Cell { pp, a } => u64::from(self.processors[pp as usize].cell(a)),
-            Place::RegA { pp } => u64::from(self.processors[pp as usize].a()),
-            Place::RegP { pp } => u64::from(self.processors[pp as usize].p()),
-            Place::RegQ { pp } => u64::from(self.processors[pp as usize].q()),
-            Place::Phase { pp } => u64::from(self.processors[pp as usize].phase()),
+            Place::RegA { pp } => u64::from(self.processors[pp as usize].pp.a),
+            Place::RegP { pp } => u64::from(self.processors[pp as usize].pp.p),
+            Place::RegQ { pp } => u64::from(self.processors[pp as usize].pp.q),
+            Place::Phase { pp } => u64::from(self.processors[pp as usize].pp.phase),
             Place::ChannelMode { c } => self.channels.get(c).state as u64,
             Place::ChannelWord { c } => u64::from(self.channels.get(c).word),
             Place::Clock => u64::from(self.channels.clock()),

@@ -48,10 +48,10 @@ impl Rig {
     {
         match place {
             Place::Cell { pp, a } => self.processors[pp as usize].set_cell(a, value as u16),
-            Place::RegA { pp } => self.processors[pp as usize].set_a(value as u32),
-            Place::RegP { pp } => self.processors[pp as usize].set_p(value as u16),
-            Place::RegQ { pp } => self.processors[pp as usize].set_q(value as u16),
-            Place::Phase { pp } => self.processors[pp as usize].set_phase(value as u16),
+            Place::RegA { pp } => self.processors[pp as usize].pp.a = value as u32,
+            Place::RegP { pp } => self.processors[pp as usize].pp.p = value as u16,
+            Place::RegQ { pp } => self.processors[pp as usize].pp.q = value as u16,
+            Place::Phase { pp } => self.processors[pp as usize].pp.phase = value as u16,
             Place::Central { a } => self.central.set(a, value),
             Place::Slot => self.slot = value as u8,
             Place::ChannelMode { c } => self.set_state(c, value),
