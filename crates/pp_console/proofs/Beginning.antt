@@ -1,6 +1,5 @@
 -- The start of a script.
-use Rattle.std.proofs.Common.{◌≡◌, ℕ, List, [], take, arith}
-use Rattle.std.specs.Prelude.{Option}
+use Rattle.std.proofs.Common.{◌≡◌, ℕ, List, [], take, arith, Option}
 use Rattle.std.proofs.lemmas.Grind.{common_steps}
 use Rattle.pp_history.specs.SessionValue.{IsAt}
 use Rattle.pp_lines.specs.Lines.{finished_within}

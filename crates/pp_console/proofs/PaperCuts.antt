@@ -1,6 +1,5 @@
 -- The lines of the paper, one after another.
-use Rattle.std.proofs.Common.{◌≡◌, ◌∙◌, ℕ, ◌-◌, cond, eqb, Bool, true, false, List, [], ◌∷◌, ◌++◌, length, take, drop, refl, sym, ap, append_assoc}
-use Rattle.std.specs.Prelude.{None, Some, ◌==◌, map, position, codes}
+use Rattle.std.proofs.Common.{◌≡◌, ◌∙◌, ℕ, ◌-◌, cond, eqb, Bool, true, false, List, [], ◌∷◌, ◌++◌, length, take, drop, refl, sym, ap, append_assoc, None, Some, ◌==◌, map, position, codes}
 use Rattle.std.specs.List.{position_or_len, flat_map}
 use Rattle.std.proofs.lemmas.List.{drop-map, length-map, map-append, take-append-drop, take-map}
 use Rattle.pp_lines.proofs.OpenTexts.{feed-cut, feed-none, unfinished-text}

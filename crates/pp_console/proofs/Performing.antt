@@ -1,6 +1,5 @@
 -- The answers to commands, by the results of the session's calls.
-use Rattle.std.proofs.Common.{◌≡◌, ℕ, ◌<◌, ◌≤◌, length, List, [], ◌∷◌, refl, arith, Bool, true, false, ap, sym, ◌∙◌}
-use Rattle.std.specs.Prelude.{Some, None, Result, IfOk, nat_lt, not, map}
+use Rattle.std.proofs.Common.{◌≡◌, ℕ, ◌<◌, ◌≤◌, length, List, [], ◌∷◌, refl, arith, Bool, true, false, ap, sym, ◌∙◌, Some, None, Result, IfOk, nat_lt, not, map}
 use Rattle.std.proofs.lemmas.Bool.Decides.{nat_tests}
 use Rattle.std.proofs.lemmas.Result.{IfOk-weaker}
 use Rattle.pp_history.specs.SessionValue.{after_back, after_forward}

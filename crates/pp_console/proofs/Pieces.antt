@@ -1,6 +1,5 @@
 -- Bytes that are read in pieces, up to the limits.
-use Rattle.std.proofs.Common.{◌≡◌, ◌∙◌, ℕ, ◌+◌, ◌-◌, ◌<◌, ◌≤◌, List, [], ◌∷◌, ◌++◌, length, take, drop, refl, sym, ap, arith, inl, inr, append_assoc, length-append, length-take, length-drop}
-use Rattle.std.specs.Prelude.{Option}
+use Rattle.std.proofs.Common.{◌≡◌, ◌∙◌, ℕ, ◌+◌, ◌-◌, ◌<◌, ◌≤◌, List, [], ◌∷◌, ◌++◌, length, take, drop, refl, sym, ap, arith, inl, inr, append_assoc, length-append, length-take, length-drop, Option}
 use Rattle.std.proofs.lemmas.List.{take-append-drop}
 use Rattle.pp_lines.specs.declared.fault.IoFault.{IoFault}
 use Rattle.pp_lines.specs.declared.fault.IoFault.TheVariants.{LineLimit}

@@ -1,6 +1,5 @@
 -- The progress of a script after more bytes.
-use Rattle.std.proofs.Common.{◌≡◌, ◌∙◌, ℕ, ◌+◌, ◌-◌, ◌<◌, List, [], ◌∷◌, ◌++◌, length, ap, arith, length-append}
-use Rattle.std.specs.Prelude.{Option}
+use Rattle.std.proofs.Common.{◌≡◌, ◌∙◌, ℕ, ◌+◌, ◌-◌, ◌<◌, List, [], ◌∷◌, ◌++◌, length, ap, arith, length-append, Option}
 use Rattle.pp_lines.specs.Lines.{finished, unfinished, finished_within, IsWithin, IsPrefixOf}
 use Rattle.pp_lines.proofs.LineCuts.{finished-feed}
 use Rattle.pp_lines.proofs.OpenTexts.{finished-text}

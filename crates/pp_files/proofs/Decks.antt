@@ -1,6 +1,5 @@
 -- From the rows of a file to a deck or a panel.
-use Rattle.std.proofs.Common.{◌≡◌, ◌∙◌, ℕ, List, map, sym, ap, inl, inr}
-use Rattle.std.specs.Prelude.{Result, Ok, Err, MatchResult}
+use Rattle.std.proofs.Common.{◌≡◌, ◌∙◌, ℕ, List, map, sym, ap, inl, inr, Result, Ok, Err, MatchResult}
 use Rattle.std.specs.List.{concat}
 use Rattle.pp_files.specs.declared.fault.LoadFault.{LoadFault}
 use Rattle.pp_files.specs.Rows.{Row}

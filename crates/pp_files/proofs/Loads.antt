@@ -1,6 +1,5 @@
 -- The progress of a file, and the faults that are reported.
-use Rattle.std.proofs.Common.{◌≡◌, ◌∙◌, ℕ, ◌+◌, ◌<◌, ◌≤◌, eqb, false, List, [], ◌∷◌, ◌++◌, length, take, refl, sym, ap, arith, rules, inl, inr, length-append, append_assoc}
-use Rattle.std.specs.Prelude.{Option, Result, Ok, Err, MatchResult, ◌⊎◌}
+use Rattle.std.proofs.Common.{◌≡◌, ◌∙◌, ℕ, ◌+◌, ◌<◌, ◌≤◌, eqb, false, List, [], ◌∷◌, ◌++◌, length, take, refl, sym, ap, arith, rules, inl, inr, length-append, append_assoc, Option, Result, Ok, Err, MatchResult, ◌⊎◌}
 use Rattle.std.specs.Io.KnownBytes.{Consumes, IsAtEnd}
 use Rattle.std.proofs.lemmas.List.{append-nil}
 use Rattle.pp_files.specs.declared.fault.LoadFault.{LoadFault}

@@ -1,10 +1,9 @@
 -- Two rings hold one list of undo records, and continue to hold it.
-use Rattle.std.proofs.Common.{reverse, add-one, sub-one, Option, Some, None, slice_get, ◌≡◌, ℕ, zero, suc, ◌+◌, ◌-◌, ◌<◌, ◌≤◌, List, [], ◌∷◌, ◌++◌, length, map, take, drop, set, refl, ◌∙◌, ap, arith, drop-cons}
+use Rattle.std.proofs.Common.{reverse, add-one, sub-one, Option, Some, None, slice_get, ◌≡◌, ℕ, zero, suc, ◌+◌, ◌-◌, ◌<◌, ◌≤◌, List, [], ◌∷◌, ◌++◌, length, map, take, drop, set, refl, ◌∙◌, ap, arith, drop-cons, IsSomeAnd, IfSome, IsNone, ◌↔◌}
 use Rattle.std.proofs.lemmas.List.{reverse-append, take-set, drop-set, length-set, length-drop}
 use Rattle.std.proofs.lemmas.Grind.{common_steps}
 use Rattle.std.proofs.Math.Seq.{take-suc}
 use Rattle.std.proofs.lemmas.Option.{get_or_from_slice_get, slice_get_within}
-use Rattle.std.specs.Prelude.{IsSomeAnd, IfSome, IsNone, ◌↔◌}
 use Rattle.std.specs.Option.{option_and_then, option_map}
 use Rattle.circular_buffer.specs.Buffer.{Buffer, buffer}
 use Rattle.pp_history.specs.LogValue.{log_of}

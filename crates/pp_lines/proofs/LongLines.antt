@@ -1,6 +1,5 @@
 -- For a line that is too long, a kept prefix is as good as the whole line.
-use Rattle.std.proofs.Common.{◌≡◌, ◌∙◌, ℕ, ◌+◌, ◌-◌, ◌<◌, ◌≤◌, cond, eqb, Bool, true, false, List, length, take, refl, sym, ap, arith, length-take, ltb-true, ltb-false}
-use Rattle.std.specs.Prelude.{nat_lt, slice_index}
+use Rattle.std.proofs.Common.{◌≡◌, ◌∙◌, ℕ, ◌+◌, ◌-◌, ◌<◌, ◌≤◌, cond, eqb, Bool, true, false, List, length, take, refl, sym, ap, arith, length-take, ltb-true, ltb-false, nat_lt, slice_index}
 use Rattle.std.proofs.lemmas.List.{take_all}
 use Rattle.pp_lines.specs.Lines.{without_return}
 

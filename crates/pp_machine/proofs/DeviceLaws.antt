@@ -4,11 +4,8 @@ use Rattle.std.proofs.Common.{eq-eqb, ℕ, ◌≡◌, ◌≢◌, ◌<◌, ◌∙
 use Rattle.std.specs.List.{AllPairs}
 use Rattle.std.proofs.lemmas.List.{get_or-set_same, set-set, set-get_or}
 use Rattle.pp_machine.specs.Attached.{Attached, of_device, view_of, with_view}
-use Rattle.pp_machine.specs.ChannelNumbers.{ChannelNumbers, state_number, with_channel}
+use Rattle.pp_machine.specs.Prelude.{Machine, over, old_values, number, put, Has, HasAll, same_place, ChannelNumbers, state_number, with_channel}
 use Rattle.pp_machine.specs.Device.{DeviceModel, DevicePlace, DeviceView, AtOwn, AtState, AtWord, device_place, device_view, number_at, device_old_values, over_device, place_at, put_at, view_on}
-use Rattle.pp_machine.specs.Lookup.{same_place}
-use Rattle.pp_machine.specs.Machine.{Machine, number, old_values, over, put}
-use Rattle.pp_machine.specs.Shape.{Has, HasAll}
 use Rattle.pp_machine.specs.WriteLaws.{AllPlaces-renamed, Commute, IsStore, old_values-renamed, over-renamed, places-old_values, undone-by-old-values}
 use Rattle.pp_machine.specs.Writes.{AllPlaces, Writes, places, renamed}
 use Rattle.pp_machine.specs.declared.channel.Channel.{Channel}

@@ -1,6 +1,5 @@
 -- Write lists in which no place occurs twice.
-use Rattle.std.proofs.Common.{◌≡◌, ◌≢◌, ◌∙◌, ℕ, zero, suc, ◌&&◌, Bool, true, false, if◌then◌else◌, [], ◌∷◌, Some, None, sym, ap, subst, refl, arith}
-use Rattle.std.specs.Prelude.{Option}
+use Rattle.std.proofs.Common.{◌≡◌, ◌≢◌, ◌∙◌, ℕ, zero, suc, ◌&&◌, Bool, true, false, if◌then◌else◌, [], ◌∷◌, Some, None, sym, ap, subst, refl, arith, Option}
 use Rattle.std.specs.List.{All, AllPairs}
 use Rattle.std.proofs.lemmas.Bool.{false≢true}
 use Rattle.std.proofs.lemmas.List.Kept.{AllPairs-cons}

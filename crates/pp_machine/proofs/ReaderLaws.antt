@@ -4,8 +4,7 @@ use Rattle.std.specs.List.{AllPairs}
 use Rattle.pp_machine.specs.Attached.{the_reader}
 use Rattle.pp_machine.specs.Device.{device_old_values}
 use Rattle.pp_machine.specs.Reader.{ReaderPlace, ReaderView, Card, Column, Mode, name_own, reader_model, reader_pairs, reader_place, reader_writes}
-use Rattle.pp_machine.specs.Shape.{HasAll}
-use Rattle.pp_machine.specs.Writes.{Writes, places, renamed}
+use Rattle.pp_machine.specs.Prelude.{Writes, renamed, places, HasAll}
 use Rattle.pp_machine.specs.declared.reader.ReaderRecord.{ReaderRecord}
 use Rattle.pp_machine.specs.declared.reader.ReaderRecord.TheVariants as back
 use Rattle.pp_machine.proofs.DeviceLaws.{IsAttached, IsSound, old_places, sound, sound-has, sound-if, sound-once}

@@ -1,8 +1,7 @@
 -- A machine is its numbers: two machines with the same shape, setup and deck that have the same number at each place are equal.
 use Rattle.std.proofs.Common.{◌≡◌, ◌∙◌, ℕ, ◌<◌, List, length, get_or, sym}
 use Rattle.std.proofs.lemmas.List.{ext_get_or}
-use Rattle.pp_machine.specs.Machine.{Machine, ProcessorNumbers, no_processor, number, processor}
-use Rattle.pp_machine.specs.Shape.{Has, IsShaped}
+use Rattle.pp_machine.specs.Prelude.{Machine, ProcessorNumbers, number, processor, no_processor, Has, IsShaped}
 use Rattle.pp_machine.specs.declared.place.Place.{Place}
 use Rattle.pp_machine.specs.declared.place.Place.TheVariants.{Cell, RegA, RegP, RegQ, Phase, ChannelMode, ChannelWord, Clock, Central, FrameWord, Card, CardColumn, ReaderMode, PaperLength, PaperColumn, PrinterMode, PaperSymbol, Slot, WatchEntry}
 

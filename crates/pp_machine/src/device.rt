@@ -1,8 +1,7 @@
 //! What the machine asks of a device.
 ghost use Rattle.std.specs.Prelude.{◌≡◌};
 ghost use Rattle.pp_machine.specs.Device.{DeviceModel, device_place, device_view, device_old_values, over_device};
-ghost use Rattle.pp_machine.specs.Lookup.{lookup};
-ghost use Rattle.pp_machine.specs.Writes.{renamed};
+ghost use Rattle.pp_machine.specs.Prelude.{renamed, lookup};
 
 use crate::channel::Channel;
 use crate::place::Place;

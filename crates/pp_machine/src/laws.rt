@@ -3,12 +3,9 @@
 
 ghost use Rattle.std.specs.Prelude.{◌≡◌, ◌≢◌, ◌<◌, ℕ, unwrap_or};
 ghost use Rattle.std.specs.List.{AllPairs};
-ghost use Rattle.pp_machine.specs.Lookup.{lookup};
-ghost use Rattle.pp_machine.specs.Machine.{Machine, number, over};
+ghost use Rattle.pp_machine.specs.Prelude.{Machine, over, number, Writes, renamed, places, Has, HasAll, IsShaped, lookup};
 ghost use Rattle.pp_machine.specs.Printer.{PrinterView, FitsPrinter, printer_pairs, printer_place, printer_writes};
 ghost use Rattle.pp_machine.specs.Reader.{ReaderView, reader_pairs, reader_place, reader_writes};
-ghost use Rattle.pp_machine.specs.Shape.{Has, HasAll, IsShaped};
-ghost use Rattle.pp_machine.specs.Writes.{Writes, places, renamed};
 
 use crate::place::Place;
 use crate::printer::PrinterRecord;

@@ -3,9 +3,7 @@ use Rattle.std.specs.List.{list_all}
 use Rattle.std.proofs.Common.{arith, ⊎_elim, ℕ, ◌≡◌, ◌≢◌, ◌<◌, ◌≤◌, ◌&&◌, nat_lt, nat_le, Bool, true, false, List, All, length, Option, Some, None, if◌then◌else◌, refl}
 use Rattle.std.proofs.lemmas.Bool.{and_parts}
 use Rattle.std.proofs.lemmas.Bool.Decides.{eqb_tells, nat_tests, Decides-by_and, Decides-ltb}
-use Rattle.pp_machine.specs.ChannelNumbers.{state_number}
-use Rattle.pp_machine.specs.Machine.{Machine, over, old_values}
-use Rattle.pp_machine.specs.Shape.{Has}
+use Rattle.pp_machine.specs.Prelude.{Machine, over, old_values, Has, state_number}
 use Rattle.pp_machine.specs.declared.channel.ChannelState.{ChannelState}
 use Rattle.pp_rig.specs.Action.{next, old_values_of, most_places, set_list}
 use Rattle.pp_rig.specs.Admitting.{first_fault, state_fault, is_in_range, is_watchable}

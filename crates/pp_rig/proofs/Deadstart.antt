@@ -2,12 +2,8 @@
 use Rattle.std.specs.List.{list_all}
 use Rattle.std.proofs.Common.{arith, zero, suc, lit<, lit≤, ap, sym, ◌∙◌, ℕ, ◌≡◌, ◌+◌, ◌/◌, ◌<◌, ◌≤◌, ◌^◌, ◌==◌, ◌||◌, IsTrue, Bool, true, false, All, List, [], ◌∷◌, ◌++◌, length, replicate, refl}
 use Rattle.std.proofs.lemmas.Bool.{and_parts}
-use Rattle.pp_machine.specs.WriteList.{write_list}
-use Rattle.pp_machine.specs.Machine.{Machine, number, old_values}
+use Rattle.pp_machine.specs.Prelude.{Machine, old_values, number, Writes, places, write_list, Has, places-append, places-old_values}
 use Rattle.pp_machine.specs.Phase.{is_phase}
-use Rattle.pp_machine.specs.Shape.{Has}
-use Rattle.pp_machine.specs.WriteLaws.{places-append, places-old_values}
-use Rattle.pp_machine.specs.Writes.{Writes, places}
 use Rattle.pp_machine.specs.declared.place.Write.{Write}
 use Rattle.pp_machine.specs.declared.place.Place.{Place}
 use Rattle.pp_machine.specs.declared.place.Place.TheVariants.{Cell, RegA, RegP, RegQ, Phase, ChannelMode, ChannelWord, Central, Slot}

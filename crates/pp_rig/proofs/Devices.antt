@@ -5,13 +5,9 @@ use Rattle.pp_machine.proofs.DeviceLaws.{IsAttached, lifted-old_values, lifted-p
 use Rattle.pp_machine.proofs.PrinterLaws.{HasAll-printer, HasAll-printer_writes, printer-attached, printer_few}
 use Rattle.pp_machine.proofs.ReaderLaws.{HasAll-reader, HasAll-reader_writes, reader-attached, reader_few}
 use Rattle.pp_machine.specs.Attached.{Attached, device_pairs, device_step_writes, of_device, the_printer, the_reader, view_of}
-use Rattle.pp_machine.specs.ChannelNumbers.{ChannelNumbers, with_channel}
+use Rattle.pp_machine.specs.Prelude.{Machine, over, put, Writes, renamed, first_of_two, Has, HasAll, lookup, same_place, ChannelNumbers, with_channel}
 use Rattle.pp_machine.specs.Device.{device_old_values, device_place, over_device}
-use Rattle.pp_machine.specs.Lookup.{lookup, same_place}
-use Rattle.pp_machine.specs.Machine.{Machine, over, put}
-use Rattle.pp_machine.specs.Shape.{Has, HasAll}
 use Rattle.pp_machine.specs.WriteLaws.{AllPlaces-append, lookup-append}
-use Rattle.pp_machine.specs.Writes.{Writes, first_of_two, renamed}
 use Rattle.pp_machine.specs.declared.place.Place.{Place}
 use Rattle.pp_rig.specs.IsSetup.{IsSetup}
 use Rattle.pp_rig.specs.MachineLaws.{setup-over}

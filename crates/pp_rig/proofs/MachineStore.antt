@@ -2,8 +2,7 @@
 use Rattle.std.proofs.Common.{ap, zero, suc, inl, inr, ◌∙◌, ℕ, ◌≡◌, ◌≢◌, ◌⊎◌, List, [], ◌∷◌, get_or, set, refl}
 use Rattle.std.proofs.lemmas.Bool.{cases_eq}
 use Rattle.std.proofs.lemmas.List.{set-set, set_comm, set-get_or}
-use Rattle.pp_machine.specs.Machine.{Machine, ProcessorNumbers, no_processor, number, put, over, old_values}
-use Rattle.pp_machine.specs.Writes.{Writes}
+use Rattle.pp_machine.specs.Prelude.{Machine, ProcessorNumbers, over, old_values, number, put, no_processor, Writes}
 use Rattle.pp_machine.specs.WriteLaws.{Commute, undone-by-old-values}
 use Rattle.pp_machine.specs.declared.place.Place.{Place}
 use Rattle.pp_machine.specs.declared.place.Place.TheVariants.{Cell, RegA, RegP, RegQ, Phase, ChannelMode, ChannelWord, Clock, Central, FrameWord, Card, CardColumn, ReaderMode, PaperLength, PaperColumn, PrinterMode, PaperSymbol, Slot, WatchEntry}

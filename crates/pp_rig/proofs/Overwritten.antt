@@ -2,9 +2,7 @@
 use Rattle.std.proofs.Common.{arith, IsPermutation, ℕ, Bool, true, false, ◌≡◌, ◌==◌, ◌≤◌, [], ◌∷◌, if◌then◌else◌, length}
 use Rattle.std.proofs.lemmas.List.{length-append}
 use Rattle.std.proofs.lemmas.List.Sorted.{IsPermutation-refl}
-use Rattle.pp_machine.specs.Machine.{Machine, number, over}
-use Rattle.pp_machine.specs.WriteLaws.{places-old_values}
-use Rattle.pp_machine.specs.Writes.{places}
+use Rattle.pp_machine.specs.Prelude.{Machine, over, number, places, places-old_values}
 use Rattle.pp_step.specs.Step.{pp_pairs}
 use Rattle.pp_step.specs.View.{pp_place}
 use Rattle.pp_rig.specs.Action.{writes, next, old_values_of}

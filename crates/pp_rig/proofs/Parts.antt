@@ -1,11 +1,8 @@
 -- What holds of the parts of any action.
 use Rattle.std.proofs.Common.{ℕ, ◌≡◌, ◌∙◌, List, [], ◌∷◌, ◌++◌, IsPermutation, ap, refl, sym, append_assoc, append-nil}
 use Rattle.std.proofs.lemmas.List.Sorted.{IsPermutation-append_comm, IsPermutation-append_right, IsPermutation-refl, IsPermutation-trans}
-use Rattle.pp_machine.specs.Machine.{Machine, number, old_values, over, put}
+use Rattle.pp_machine.specs.Prelude.{Machine, over, old_values, number, put, Writes, places, Has, HasAll, IsShaped, over-append, AllPlaces-append, places-append, places-old_values}
 use Rattle.pp_machine.specs.NumberLaws.{IsShaped-over}
-use Rattle.pp_machine.specs.Shape.{Has, HasAll, IsShaped}
-use Rattle.pp_machine.specs.WriteLaws.{AllPlaces-append, over-append, places-append, places-old_values}
-use Rattle.pp_machine.specs.Writes.{Writes, places}
 use Rattle.pp_machine.specs.declared.place.Place.{Place}
 use Rattle.pp_rig.specs.Parts.{AreIdle, ArePerformed, EachPart, Part, after_parts, parts_old_values, parts_writes}
 use Rattle.pp_rig.proofs.MachineStore.{taken_back}

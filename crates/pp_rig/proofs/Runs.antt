@@ -1,9 +1,8 @@
 -- Runs, one turn after another.
 use Rattle.std.proofs.lemmas.Bool.{and_parts}
 use Rattle.std.proofs.lemmas.Bool.Decides.{nat_tests}
-use Rattle.std.proofs.Common.{drop, get_or, length, ◌≡◌, ◌==◌, true, false, ◌∷◌, ℕ, suc, ◌+◌, ◌-◌, ◌<◌, ◌≤◌, refl, ap, subst, sym, ◌∙◌, arith, List}
-use Rattle.std.specs.Prelude.{Option, Some, None, [], MatchOption}
-use Rattle.pp_machine.specs.Lookup.{lookup}
+use Rattle.std.proofs.Common.{drop, get_or, length, ◌≡◌, ◌==◌, true, false, ◌∷◌, ℕ, suc, ◌+◌, ◌-◌, ◌<◌, ◌≤◌, refl, ap, subst, sym, ◌∙◌, arith, List, Option, Some, None, [], MatchOption}
+use Rattle.pp_machine.specs.Prelude.{Machine, number, lookup}
 use Rattle.pp_rig.specs.Action.{FitsRecord, before, record_pairs, record_restores}
 use Rattle.pp_rig.specs.Short.{whole, whole_turn}
 use Rattle.pp_rig.specs.Storage.{are_storage, is_storage}
@@ -11,7 +10,6 @@ use Rattle.pp_rig.specs.Turn.{turn_pairs}
 use Rattle.pp_rig.specs.declared.rig.RigRecord.{RigRecord}
 use Rattle.pp_rig.specs.declared.rig.ShortTurn.{ShortTurn}
 use Rattle.pp_history.specs.SessionValue.{SessionValue, after_act}
-use Rattle.pp_machine.specs.Machine.{Machine, number}
 use Rattle.pp_rig.specs.Stopping.{first_change, hit_of, stopped, after_turns}
 use Rattle.pp_rig.specs.Turn.{turn}
 use Rattle.pp_rig.specs.Watches.{watches_of, watched_in, watched_place}

@@ -1,6 +1,5 @@
 -- A stopping run is the shortest.
-use Rattle.std.proofs.Common.{◌≡◌, ◌∙◌, ℕ, zero, suc, ◌+◌, refl, sym, ap, arith, ◌∷◌, ◌++◌}
-use Rattle.std.specs.Prelude.{Option, Some, None, replicate}
+use Rattle.std.proofs.Common.{◌≡◌, ◌∙◌, ℕ, zero, suc, ◌+◌, refl, sym, ap, arith, ◌∷◌, ◌++◌, Option, Some, None, replicate}
 use Rattle.pp_history.specs.SessionValue.{SessionValue}
 use Rattle.pp_machine.specs.Machine.{Machine}
 use Rattle.pp_rig.specs.Turn.{turn}

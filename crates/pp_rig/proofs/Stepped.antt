@@ -1,8 +1,7 @@
 -- The parts of a turn: what each does to the machine, and what its undo record then has.
 use Rattle.std.proofs.Common.{ℕ, Bool, true, false, [], ◌∷◌, ◌<◌, ◌≡◌, ◌==◌, ◌∙◌, if◌then◌else◌, refl, ap, get_or, subst, sym}
 use Rattle.std.proofs.lemmas.List.{get_or_read}
-use Rattle.pp_machine.specs.Machine.{Machine, ProcessorNumbers, no_processor}
-use Rattle.pp_machine.specs.Writes.{Writes, renamed}
+use Rattle.pp_machine.specs.Prelude.{Machine, ProcessorNumbers, over, old_values, no_processor, Writes, renamed, Has, HasAll}
 use Rattle.pp_step.specs.Step.{pp_pairs, pp_writes, FitsPp}
 use Rattle.pp_step.specs.View.{PpPlace, PpView, over as over_pp, pp_place}
 use Rattle.pp_step.specs.declared.record.PpRecord.{PpRecord}
@@ -10,8 +9,6 @@ use Rattle.pp_rig.specs.IsMachine.{IsMachine}
 use Rattle.pp_rig.specs.Lift.{pp_of, step_view, with_pp}
 use Rattle.pp_rig.specs.LiftLaws.{step-pp, record-pp}
 use Rattle.pp_rig.specs.MachineLaws.{has_processor, IsMachine-with_pp, setup-over}
-use Rattle.pp_machine.specs.Machine.{over, old_values}
-use Rattle.pp_machine.specs.Shape.{Has, HasAll}
 use Rattle.pp_machine.specs.WriteLaws.{AllPlaces-append, AllPlaces-if, over-append}
 use Rattle.pp_machine.specs.declared.place.Place.TheVariants.{Clock, Slot}
 use Rattle.pp_step.specs.PpPlaces.{HasAll-pp}

@@ -1,9 +1,8 @@
 -- Which parts of a turn's record may have a place.
 use Rattle.std.proofs.Common.{ℕ, Bool, true, false, ◌≡◌, ◌==◌, [], ◌∷◌, ◌++◌, Option, Some, None, if◌then◌else◌, refl, ap, ◌∙◌}
 use Rattle.pp_machine.specs.Attached.{of_device}
-use Rattle.pp_machine.specs.Lookup.{lookup, same_place}
+use Rattle.pp_machine.specs.Prelude.{Writes, renamed, first_of_two, lookup, same_place}
 use Rattle.pp_machine.specs.WriteLaws.{lookup-append}
-use Rattle.pp_machine.specs.Writes.{Writes, first_of_two, renamed}
 use Rattle.pp_machine.specs.declared.place.Place.{Place}
 use Rattle.pp_machine.specs.declared.place.Place.TheVariants.{Cell, RegA, RegP, RegQ, Phase, ChannelMode, ChannelWord, Clock, Central, FrameWord, Slot, WatchEntry}
 use Rattle.pp_rig.specs.Turn.{devices_part, end_part, rest_pairs, turn_pairs}

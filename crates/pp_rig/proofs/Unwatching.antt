@@ -6,8 +6,7 @@ use Rattle.std.proofs.Math.Seq.{get_or-append_seam, drop-append-add}
 use Rattle.std.proofs.lemmas.List.{map-append, length-map, length-append, length-drop, length-set, length-take-le, drop_more, take-append-drop, set_at, length_push}
 use Rattle.std.proofs.lemmas.List.Elements.{All-take, All-drop, All-append}
 use Rattle.std.proofs.lemmas.List.Quantifiers.{all_pairs_remove}
-use Rattle.pp_machine.specs.Machine.{Machine, put, over, old_values}
-use Rattle.pp_machine.specs.Shape.{Has, HasAll, IsShaped}
+use Rattle.pp_machine.specs.Prelude.{Machine, over, old_values, put, Has, HasAll, IsShaped}
 use Rattle.pp_machine.specs.declared.place.Place.TheVariants.{WatchEntry}
 use Rattle.pp_rig.specs.Action.{moved_up, unwatch_writes}
 use Rattle.pp_rig.specs.Watches.{AreWatches, watched_at, watched_in, watched_place}

@@ -9,8 +9,7 @@ use Rattle.std.proofs.lemmas.List.Folds.{list_any_at}
 use Rattle.std.proofs.lemmas.List.Quantifiers.{all_pairs_push}
 use Rattle.std.proofs.lemmas.Nat.{div-mul-add, mod-mul-add}
 use Rattle.std.proofs.lemmas.List.{map_push, set_at, length-map, length_push as length-push}
-use Rattle.pp_machine.specs.CentralSizes.{words_of}
-use Rattle.pp_machine.specs.Shape.{Has}
+use Rattle.pp_machine.specs.Prelude.{Has, words_of}
 use Rattle.pp_machine.specs.declared.central.CentralSize.{CentralSize}
 use Rattle.pp_machine.specs.declared.central.CentralSize.TheVariants.{K32, K64, K128}
 use Rattle.pp_rig.specs.Watches.{watched_in, watched_at, watched_of_kind, watched_place, AreWatches}

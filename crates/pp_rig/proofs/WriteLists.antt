@@ -1,16 +1,12 @@
 -- Places and numbers of write lists.
 use Rattle.std.proofs.Common.{arith, suc, ap, ◌∙◌, sym, append_assoc, ℕ, ◌≡◌, ◌+◌, ◌-◌, ◌<◌, ◌≤◌, false, Option, List, [], ◌∷◌, ◌++◌, drop, take, get_or, length, map, refl}
 use Rattle.std.proofs.lemmas.List.{append-nil, drop_all, drop_more, take_more}
-use Rattle.pp_machine.specs.WriteList.{write_list, write_list-append}
-use Rattle.pp_machine.specs.Lookup.{lookup, same_place}
-use Rattle.pp_machine.specs.Machine.{Machine, number, old_values}
-use Rattle.pp_machine.specs.WriteLaws.{old_values-append}
+use Rattle.pp_machine.specs.Prelude.{Machine, old_values, number, Writes, renamed, places, write_list, write_list-append, lookup, same_place, old_values-append}
 use Rattle.pp_machine.specs.declared.place.Write.{Write}
 use Rattle.pp_machine.specs.declared.place.Place.TheVariants.{ChannelMode, WatchEntry}
 use Rattle.pp_rig.specs.Deadstart.{all_waiting, waiting}
 use Rattle.pp_rig.specs.WatchCodes.{watch_code}
 use Rattle.pp_rig.specs.declared.watched.Watched.{Watched}
-use Rattle.pp_machine.specs.Writes.{Writes, renamed, places}
 use Rattle.pp_machine.specs.declared.place.Place.{Place}
 use Rattle.pp_rig.specs.RecordLists.{numbers, with_new_numbers}
 use Rattle.pp_rig.specs.WriteLists.{cell_writes, state_writes, entry_writes}

@@ -3,9 +3,7 @@ use Rattle.std.proofs.Common.{◌≡◌, ◌≢◌, ℕ, ◌+◌, ◌%◌, ◌<�
 use Rattle.std.specs.List.{All, AllPairs}
 use Rattle.std.proofs.lemmas.Bool.{eq-eqb}
 use Rattle.std.proofs.lemmas.List.Kept.{AllPairs-cons}
-use Rattle.pp_machine.specs.Lookup.{same_place}
-use Rattle.pp_machine.specs.Machine.{Machine}
-use Rattle.pp_machine.specs.Writes.{Writes, places}
+use Rattle.pp_machine.specs.Prelude.{Machine, Writes, places, same_place}
 use Rattle.pp_machine.specs.declared.place.Place.{Place}
 use Rattle.pp_machine.specs.declared.place.Place.TheVariants.{Cell, RegA, RegP, RegQ, Phase, ChannelMode, ChannelWord, Central, FrameWord, PaperSymbol, WatchEntry}
 use Rattle.pp_machine.proofs.Once.{once, each-once}

@@ -2,8 +2,7 @@
 use Rattle.std.proofs.Common.{◌≡◌, ℕ, ◌+◌, ◌%◌, ◌<◌, ◌≤◌, ◌==◌, Bool, true, false, if◌then◌else◌, List, [], ◌∷◌, drop, length, position, refl, arith, length-drop, ⊎_elim, Option, Some, None, IfSome}
 use Rattle.std.proofs.lemmas.Bool.Decides.{eqb_tells}
 use Rattle.std.proofs.lemmas.List.Quantifiers.{position-Some}
-use Rattle.pp_machine.specs.Machine.{Machine, no_processor, over, processor}
-use Rattle.pp_machine.specs.Shape.{HasAll}
+use Rattle.pp_machine.specs.Prelude.{Machine, over, processor, no_processor, HasAll}
 use Rattle.pp_machine.specs.declared.place.Place.TheVariants.{Clock}
 use Rattle.pp_step.proofs.StepPlaces.{HasAll-step}
 use Rattle.pp_rig.proofs.Admitting.{IsSet, is_set, is_watch}

@@ -1,8 +1,7 @@
 -- The watched places of a machine, read from its eight watch entries.
 use Rattle.std.specs.Prelude.{ℕ, ◌/◌, ◌%◌, ◌==◌, ◌≡◌, ◌≢◌, Bool, List, [], ◌∷◌, ◌≤◌, All, length, if◌then◌else◌}
 use Rattle.std.specs.List.{list_any, AllPairs}
-use Rattle.pp_machine.specs.Machine.{Machine}
-use Rattle.pp_machine.specs.Shape.{Has}
+use Rattle.pp_machine.specs.Prelude.{Machine, Has}
 use Rattle.pp_machine.specs.declared.place.Place.{Place}
 use Rattle.pp_machine.specs.declared.place.Place.TheVariants as place
 use Rattle.pp_rig.specs.WatchCodes.{watch_code, watch_entries}

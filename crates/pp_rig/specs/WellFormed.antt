@@ -2,11 +2,10 @@
 use Rattle.std.specs.Prelude.{◌<◌, ◌≤◌, All, IsTrue}
 use Rattle.pp_machine.specs.ChannelNumbers.{IsChannels}
 use Rattle.pp_machine.specs.Frame.{IsPackage}
-use Rattle.pp_machine.specs.Machine.{Machine, ProcessorNumbers}
+use Rattle.pp_machine.specs.Prelude.{Machine, ProcessorNumbers, IsShaped}
 use Rattle.pp_machine.specs.Phase.{is_phase}
 use Rattle.pp_machine.specs.PrinterNumbers.{IsPrinter}
 use Rattle.pp_machine.specs.ReaderNumbers.{IsReader}
-use Rattle.pp_machine.specs.Shape.{IsShaped}
 use Rattle.pp_rig.specs.IsSetup.{IsSetup}
 use Rattle.pp_rig.specs.Ranges.{processor_count, twelve_bits, eighteen_bits, past_sixty_bits}
 use Rattle.pp_rig.specs.Watches.{AreWatches}

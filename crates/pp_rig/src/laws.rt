@@ -2,9 +2,7 @@
 ghost use Rattle.std.specs.Prelude.{◌≡◌, ◌≢◌, ◌≤◌, ℕ, ◌++◌, length, None, replicate};
 ghost use Rattle.std.specs.List.{AllPairs};
 ghost use Rattle.pp_history.specs.SessionValue.{SessionValue};
-ghost use Rattle.pp_machine.specs.Machine.{Machine};
-ghost use Rattle.pp_machine.specs.Shape.{HasAll};
-ghost use Rattle.pp_machine.specs.Writes.{places};
+ghost use Rattle.pp_machine.specs.Prelude.{Machine, places, HasAll};
 ghost use Rattle.pp_rig.specs.Action.{most_places, next, writes};
 ghost use Rattle.pp_rig.specs.Admitting.{first_fault};
 ghost use Rattle.pp_rig.specs.Parts.{after_parts};

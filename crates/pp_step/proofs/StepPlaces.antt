@@ -6,9 +6,7 @@ use Rattle.std.proofs.lemmas.List.{get_or_past}
 use Rattle.pp_arith.specs.Arith.{index12}
 use Rattle.pp_arith.specs.Words60.{split60}
 use Rattle.pp_machine.specs.WriteLaws.{AllPlaces-if}
-use Rattle.pp_machine.specs.Writes.{Writes, renamed}
-use Rattle.pp_machine.specs.WriteLaws.{AllPlaces-append, AllPlaces-renamed}
-use Rattle.pp_machine.specs.Shape.{Has, HasAll}
+use Rattle.pp_machine.specs.Prelude.{Writes, renamed, Has, HasAll, AllPlaces-append, AllPlaces-renamed}
 use Rattle.pp_machine.specs.declared.channel.ChannelState.{ChannelState}
 use Rattle.pp_machine.specs.declared.channel.ChannelState.TheVariants.{Inactive, Empty, Full}
 use Rattle.pp_step.proofs.Swapped.{length-loaded}

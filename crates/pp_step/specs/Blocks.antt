@@ -3,8 +3,7 @@
 -- of 61 and 63, and what a step does in each case are this project's choice.
 use Rattle.std.specs.Prelude.{ℕ, [], ◌∷◌, ◌-◌, ◌==◌, ◌||◌, if◌then◌else◌, nat_lt, not, length, slice_index, slice_set}
 use Rattle.pp_arith.specs.Words60.{split60}
-use Rattle.pp_machine.specs.ChannelNumbers.{state_number}
-use Rattle.pp_machine.specs.Writes.{Writes}
+use Rattle.pp_machine.specs.Prelude.{Writes, state_number}
 use Rattle.pp_machine.specs.declared.channel.ChannelState.TheVariants.{Empty, Full}
 use Rattle.pp_step.specs.Channels.{is_clock, is_in, is_active}
 use Rattle.pp_step.specs.Instruction.{InstructionNumbers}

@@ -3,8 +3,7 @@
 use Rattle.std.specs.Prelude.{ℕ, List, [], ◌∷◌, Bool, if◌then◌else◌, nat_lt, slice_index}
 use Rattle.pp_arith.specs.Arith.{relative}
 use Rattle.pp_arith.specs.Words60.{split60}
-use Rattle.pp_machine.specs.ChannelNumbers.{state_number}
-use Rattle.pp_machine.specs.Writes.{Writes}
+use Rattle.pp_machine.specs.Prelude.{Writes, state_number}
 use Rattle.pp_machine.specs.declared.channel.ChannelState.{ChannelState}
 use Rattle.pp_machine.specs.declared.channel.ChannelState.TheVariants.{Empty}
 use Rattle.pp_step.specs.Instruction.{InstructionNumbers}

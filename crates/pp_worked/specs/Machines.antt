@@ -1,8 +1,6 @@
 -- Rows of the whole machine: a number of turns leads from some numbers to others.
 use Rattle.std.specs.Prelude.{ℕ, zero, suc, ◌≡◌, List, Option, replicate}
-use Rattle.pp_machine.specs.CentralSizes.{words_of}
-use Rattle.pp_machine.specs.Machine.{Machine, over, old_values}
-use Rattle.pp_machine.specs.Writes.{Writes}
+use Rattle.pp_machine.specs.Prelude.{Machine, over, old_values, Writes, words_of}
 use Rattle.pp_machine.specs.declared.place.Place.{Place}
 use Rattle.pp_rig.specs.Starting.{blank_processor}
 use Rattle.pp_rig.specs.Turn.{turn}

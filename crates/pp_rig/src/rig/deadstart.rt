@@ -1,8 +1,7 @@
 //! The dead start.
 ghost use Rattle.std.specs.Prelude.{◌≡◌, ◌+◌, ◌<◌, ◌≤◌, ◌^◌, ◌++◌, All, length, replicate};
 ghost use Rattle.arrayvec.specs.ArrayVec.{array_vec_len};
-ghost use Rattle.pp_machine.specs.WriteList.{write_list};
-ghost use Rattle.pp_machine.specs.Machine.{old_values, over};
+ghost use Rattle.pp_machine.specs.Prelude.{over, old_values, write_list};
 ghost use Rattle.pp_rig.specs.Action.{FitsRecord, record_pairs};
 ghost use Rattle.pp_rig.specs.Deadstart.{all_states, all_waiting, deadstart_writes, deadstart_write_list, deadstart_place_count, deadstart_places, states, waiting};
 ghost use Rattle.pp_rig.specs.RecordLists.{with_new_numbers, numbers};

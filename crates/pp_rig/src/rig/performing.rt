@@ -1,7 +1,6 @@
 //! Performing an action of any kind.
 ghost use Rattle.std.specs.Prelude.{◌≡◌, ◌≤◌, None, IsPermutation, IsSomeAnd, length};
-ghost use Rattle.pp_machine.specs.WriteList.{write_list};
-ghost use Rattle.pp_machine.specs.Writes.{places};
+ghost use Rattle.pp_machine.specs.Prelude.{places, write_list};
 ghost use Rattle.pp_rig.specs.Action.{FitsRecord, before, most_places, next, old_values_of, record_pairs, set_list, writes};
 ghost use Rattle.pp_rig.specs.Admitting.{first_fault};
 

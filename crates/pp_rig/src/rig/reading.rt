@@ -1,8 +1,6 @@
 //! Calls that read the machine.
 ghost use Rattle.std.specs.Prelude.{◌≡◌, ◌<◌, ◌↔◌, IsSome, IsTrue, length, take};
-ghost use Rattle.pp_machine.specs.CentralSizes.{words_of};
-ghost use Rattle.pp_machine.specs.Machine.{number};
-ghost use Rattle.pp_machine.specs.Shape.{Has};
+ghost use Rattle.pp_machine.specs.Prelude.{number, Has, words_of};
 ghost use Rattle.pp_rig.specs.Ranges.{IsInRange};
 
 use super::Rig;

@@ -1,9 +1,8 @@
 //! Undoing an action by its record, and the old numbers in the record.
 ghost use Rattle.std.specs.Prelude.{◌≡◌, ◌≤◌, length, map};
-ghost use Rattle.pp_machine.specs.Lookup.{lookup, same_place};
+ghost use Rattle.pp_machine.specs.Prelude.{over, lookup, same_place};
 ghost use Rattle.pp_rig.specs.Action.{FitsRecord, before, record_pairs};
 ghost use Rattle.pp_rig.specs.WatchCodes.{watch_code};
-ghost use Rattle.pp_machine.specs.Machine.{over};
 ghost use Rattle.pp_rig.specs.Deadstart.{deadstart_places};
 ghost use Rattle.pp_rig.specs.Settings.{AreSettings};
 ghost use Rattle.pp_rig.specs.RecordLists.{with_new_numbers};
@@ -48,7 +47,9 @@ fn restarted_was(numbers: &[u32], place: &Place) -> Option<u64>
 }
 
 impl RigRecord {
-    /// Returns the old number of a place, or `None` if the record does not have that place.
+    /// Returns the old number of a place, or `None` if the record does not have that place. This is a separate function,
+    /// so a search of short undo records need not save the registers that it needs.
+    #[inline(never)]
     pub(super) fn named(&self, place: &Place) -> Option<u64>
         ensures { result ≡ lookup (record_pairs self.now) place.now }
     {

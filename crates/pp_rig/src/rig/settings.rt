@@ -1,9 +1,7 @@
 //! Numbers that an action sets at places.
 ghost use Rattle.std.specs.Prelude.{◌≡◌, ◌+◌, ◌<◌, ◌≤◌, ◌++◌, length};
 ghost use Rattle.arrayvec.specs.ArrayVec.{array_vec_len};
-ghost use Rattle.pp_machine.specs.WriteList.{write_list};
-ghost use Rattle.pp_machine.specs.Machine.{old_values, over, put};
-ghost use Rattle.pp_machine.specs.Shape.{IsShaped};
+ghost use Rattle.pp_machine.specs.Prelude.{over, old_values, put, write_list, IsShaped};
 ghost use Rattle.pp_rig.specs.Action.{FitsRecord, record_pairs};
 ghost use Rattle.pp_rig.specs.Settings.{AreSettings, IsSetting};
 ghost use Rattle.pp_rig.specs.WriteLists.{cell_writes};

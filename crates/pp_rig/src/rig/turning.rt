@@ -1,8 +1,6 @@
 //! One turn of the barrel, and its undoing.
 ghost use Rattle.std.specs.Prelude.{◌≡◌, ◌<◌, ◌≤◌, true, false, None, [], ◌∷◌, length};
-ghost use Rattle.pp_machine.specs.Lookup.{lookup};
-ghost use Rattle.pp_machine.specs.Machine.{old_values, over};
-ghost use Rattle.pp_machine.specs.Writes.{first_of_two, renamed};
+ghost use Rattle.pp_machine.specs.Prelude.{over, old_values, renamed, first_of_two, lookup};
 ghost use Rattle.pp_rig.specs.IsMachine.{IsMachine};
 ghost use Rattle.pp_rig.specs.Parts.{AreIdle, ArePerformed};
 ghost use Rattle.pp_rig.specs.Short.{IsTurned, whole, whole_turn};

@@ -1,7 +1,6 @@
 //! The watched places of a machine: which they are, and how they change.
 ghost use Rattle.std.specs.Prelude.{◌≡◌, ◌<◌, ◌+◌, ◌≤◌, [], ◌∷◌, All, false, length, map};
-ghost use Rattle.pp_machine.specs.Machine.{number, old_values, over};
-ghost use Rattle.pp_machine.specs.Shape.{Has};
+ghost use Rattle.pp_machine.specs.Prelude.{over, old_values, number, Has};
 ghost use Rattle.pp_rig.specs.Action.{FitsRecord, FitsUnwatched, record_pairs, unwatch_writes};
 ghost use Rattle.pp_rig.specs.WatchCodes.{first_zero, watch_code};
 ghost use Rattle.pp_rig.specs.Watches.{is_watched, watched_place, watches_of};

@@ -1,5 +1,4 @@
-use Rattle.std.proofs.Common.{◌∙◌, map}
-use Rattle.std.specs.Prelude.{Ok, Err}
+use Rattle.std.proofs.Common.{◌∙◌, map, Ok, Err}
 use Rattle.clap.specs.declared.parser.matches.ArgMatches.{ArgMatches}
 use Rattle.pp_arguments.specs.CommandLine.{faults_of}
 use Rattle.std.specs.String.{string_bytes}

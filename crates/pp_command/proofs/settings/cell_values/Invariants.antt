@@ -1,5 +1,4 @@
-use Rattle.std.proofs.Common.{◌≡◌, ◌≤◌, ◌+◌, length}
-use Rattle.std.specs.Prelude.{All}
+use Rattle.std.proofs.Common.{◌≡◌, ◌≤◌, ◌+◌, length, All}
 use Rattle.arrayvec.specs.ArrayVec.{array_vec_len}
 use Rattle.pp_lines.specs.Words.{words}
 use Rattle.pp_command.specs.Numbers.{numbers}

@@ -1,6 +1,5 @@
-use Rattle.std.proofs.Common.{◌≡◌, ◌<◌, ◌∙◌, ap, arith, sym, refl, length}
+use Rattle.std.proofs.Common.{◌≡◌, ◌<◌, ◌∙◌, ap, arith, sym, refl, length, map}
 use Rattle.std.proofs.lemmas.Bool.Decides.{nat_tests}
-use Rattle.std.specs.Prelude.{map}
 use Rattle.pp_history.specs.SessionValue.{after_back}
 use Rattle.pp_machine.specs.Machine.{Machine}
 use Rattle.pp_rig.specs.Watches.{watched_place, watches_of}

@@ -1,5 +1,4 @@
-use Rattle.std.proofs.Common.{◌≡◌, ◌≤◌, ◌<◌, ◌++◌, true, length}
-use Rattle.std.specs.Prelude.{All}
+use Rattle.std.proofs.Common.{◌≡◌, ◌≤◌, ◌<◌, ◌++◌, true, length, All}
 use Rattle.std.specs.List.{list_all}
 use Rattle.pp_lines.specs.Words.{words}
 use Rattle.pp_files.specs.Rows.{is_number, numbers}

@@ -1,5 +1,4 @@
-use Rattle.std.proofs.Common.{◌∙◌, length, ap}
-use Rattle.std.specs.Prelude.{unwrap_or, not}
+use Rattle.std.proofs.Common.{◌∙◌, length, ap, unwrap_or, not}
 use Rattle.std.proofs.lemmas.List.Sums.{prefix_len-le-length}
 use Rattle.pp_lines.specs.Words.{is_blank}
 use Rattle.pp_lines.proofs.WordCuts.{position-or}

@@ -1,6 +1,5 @@
 use Rattle.std.proofs.Common.{◌≡◌, drop}
-use Rattle.pp_machine.specs.Lookup.{lookup}
-use Rattle.pp_machine.specs.WriteList.{write_list}
+use Rattle.pp_machine.specs.Prelude.{write_list, lookup}
 use Rattle.pp_machine.proofs.place.first_write.Given as goal
 
 abbrev pub invariant-loop-pair : goal.invariant-loop-pair

@@ -1,5 +1,5 @@
 -- The body is empty. The borrow is opened, and closed with another ghost value.
-use Rattle.std.proofs.Common.{ℕ, List, [], ◌∷◌, refl, MutBor}
+use Rattle.std.proofs.Common.{ℕ, List, [], ◌∷◌, refl, MutBor, Bor, ◌<◌, ◌^◌, ◌++◌, length}
 use seplogic.Ra.Ura.{Ura}
 use mir.Syntax.{named}
 use mir.Val.{Val, vunit, vptr}
@@ -31,12 +31,10 @@ use Rattle.pp_lines.specs.contracts.log.Log.note.Key.{name as #it}
 use Rattle.pp_lines.specs.contracts.log.Log.note as it
 use Rattle.pp_lines.proofs.log.Log.note.Statement as stated
 use Rattle.pp_lines.proofs.log.Log.note.Code as code
-use denote.Ref.{Bor}
 use denote.Builtin.{u8}
 use denote.Exit.{yes}
 use denote.Slice.{ShrSlice, slice_val, shr_slice_vals, shr_slice_Tells}
 use denote.Triple.Walked.{stay_none_slice, Goes-none_slice}
-use Rattle.std.proofs.Common.{◌<◌, ◌^◌, ◌++◌, length}
 
 abbrev Arg : Type 0
 Arg = MutBor Log × (Bor (List ℕ) × Unit {0})

@@ -1,6 +1,5 @@
 use Rattle.std.proofs.Common.{arith, lit<, ◌≡◌, Some}
-use Rattle.pp_machine.specs.WriteList.{write_list}
-use Rattle.pp_machine.specs.Machine.{old_values}
+use Rattle.pp_machine.specs.Prelude.{old_values, write_list}
 use Rattle.pp_rig.specs.Deadstart.{deadstart_write_list, deadstart_places}
 use Rattle.pp_rig.specs.Settings.{AreSettings, HasAll-settings}
 use Rattle.pp_rig.specs.RecordLists.{with_new_numbers}

@@ -1,7 +1,6 @@
 use Rattle.std.proofs.Common.{◌≡◌, take}
 use Rattle.arrayvec.specs.ArrayVec.{array_vec_len}
-use Rattle.pp_machine.specs.WriteList.{write_list}
-use Rattle.pp_machine.specs.Machine.{old_values}
+use Rattle.pp_machine.specs.Prelude.{old_values, write_list}
 use Rattle.pp_rig.specs.Settings.{AreSettings}
 use Rattle.pp_rig.proofs.rig.Rig.old_values.Given as goal
 

@@ -2,9 +2,8 @@ use Rattle.std.proofs.Common.{[], ◌∷◌, ◌++◌, refl, subst, sym}
 use Rattle.pp_machine.proofs.PrinterLaws.{printer-attached}
 use Rattle.pp_machine.proofs.ReaderLaws.{reader-attached}
 use Rattle.pp_machine.specs.Attached.{device_pairs, device_step_writes, the_printer, the_reader, view_of}
-use Rattle.pp_machine.specs.Machine.{Machine}
+use Rattle.pp_machine.specs.Prelude.{Machine, IsShaped}
 use Rattle.pp_machine.specs.Reader.{FitsReader}
-use Rattle.pp_machine.specs.Shape.{IsShaped}
 use Rattle.pp_rig.specs.Parts.{ArePerformed}
 use Rattle.pp_rig.specs.RigView.{machine_of}
 use Rattle.pp_rig.specs.Turn.{device_parts}
