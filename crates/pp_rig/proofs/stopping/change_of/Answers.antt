@@ -1,4 +1,4 @@
-use Rattle.std.proofs.Common.{◌≡◌, ◌==◌, ◌∙◌, arith, false, refl, sym, None, Some}
+use Rattle.std.proofs.Common.{◌≡◌, ◌==◌, ◌∙◌, arith, false, sym, None, Some}
 use Rattle.std.proofs.lemmas.Bool.Decides.{nat_tests}
 use Rattle.pp_history.specs.UndoRecord.{whole_record}
 use Rattle.pp_rig.specs.Action.{before}
