@@ -141,6 +141,14 @@ fn act_all(
     Ok(())
 }
 
+/// Performs each action in turn.
+fn perform_all(rt: &impl Abort, rig: &mut Rig, actions: &[Action]) {
+    for action in actions {
+        assert!(rt; rig.admits(action));
+        let _record = rig.act(action);
+    }
+}
+
 /// Performs turns until it is this processor's turn.
 fn turn_to(rt: &impl Abort, rig: &mut Rig, slot: u8) {
     for _turn in 0..10u8 {
@@ -174,11 +182,9 @@ fn set_channel(c: u8, state: pp_machine::ChannelState, word: u16) -> Action {
     }
 }
 
-#[test]
-fn each_record_leads_back(rt: HostRuntime) -> Result<(), Fail> {
-    let mut rig = make(rt.alloc())?;
-    let places = places_of(rt.alloc(), 0o100000)?;
-    let actions = [
+/// Returns the settings of every kind of number, and a turn.
+fn settings() -> [Action; 7] {
+    [
         set_cells(0, 0o7777, &[0o1405, 0o7777]),
         Action::SetP { pp: 0, v: 0o7777 },
         Action::Turn,
@@ -186,14 +192,49 @@ fn each_record_leads_back(rt: HostRuntime) -> Result<(), Fail> {
         Action::SetQ { pp: 9, v: 0o7777 },
         Action::SetWord { a: 0o77777, v: 1 },
         set_channel(3, pp_machine::ChannelState::Full, 0o17),
+    ]
+}
+
+#[test]
+fn the_record_of_each_setting_leads_back(rt: HostRuntime) -> Result<(), Fail> {
+    let mut rig = make(rt.alloc())?;
+    let places = places_of(rt.alloc(), 0o100000)?;
+    act_all(&rt, rt.alloc(), &mut rig, places.as_slice(), &settings())
+}
+
+#[test]
+fn the_records_of_watches_lead_back(rt: HostRuntime) -> Result<(), Fail> {
+    let mut rig = make(rt.alloc())?;
+    let places = places_of(rt.alloc(), 0o100000)?;
+    let actions = [
         Action::Watch(Watched::RegA { pp: 0 }),
         Action::Watch(Watched::RegP { pp: 0 }),
         Action::Unwatch(Watched::RegA { pp: 0 }),
-        Action::Deadstart,
-        Action::Turn,
     ];
-    act_all(&rt, rt.alloc(), &mut rig, places.as_slice(), &actions)?;
-    Ok(())
+    act_all(&rt, rt.alloc(), &mut rig, places.as_slice(), &actions)
+}
+
+#[test]
+fn the_record_of_a_dead_start_leads_back(rt: HostRuntime) -> Result<(), Fail> {
+    let mut rig = make(rt.alloc())?;
+    let places = places_of(rt.alloc(), 0o100000)?;
+    perform_all(&rt, &mut rig, &settings());
+    act_and_back(
+        &rt,
+        rt.alloc(),
+        &mut rig,
+        places.as_slice(),
+        &Action::Deadstart,
+    )
+}
+
+#[test]
+fn the_record_of_a_turn_after_a_dead_start_leads_back(rt: HostRuntime) -> Result<(), Fail> {
+    let mut rig = make(rt.alloc())?;
+    let places = places_of(rt.alloc(), 0o100000)?;
+    perform_all(&rt, &mut rig, &settings());
+    perform_all(&rt, &mut rig, &[Action::Deadstart]);
+    act_and_back(&rt, rt.alloc(), &mut rig, places.as_slice(), &Action::Turn)
 }
 
 /// An exchange in slot 0 changes central memory, the frame and P.
@@ -209,9 +250,9 @@ fn an_exchange_leads_back(rt: HostRuntime) -> Result<(), Fail> {
             a: 0o77777,
             v: (1 << 60) - 1,
         },
-        Action::Turn,
     ];
-    act_all(&rt, rt.alloc(), &mut rig, places.as_slice(), &actions)?;
+    perform_all(&rt, &mut rig, &actions);
+    act_and_back(&rt, rt.alloc(), &mut rig, places.as_slice(), &Action::Turn)?;
     assert_eq!(rt; rig.value(&Place::FrameWord { i: 7 }), (1 << 60) - 1);
     Ok(())
 }
@@ -227,10 +268,10 @@ fn a_turn_of_all_parts_leads_back(rt: HostRuntime) -> Result<(), Fail> {
         Action::SetP { pp: 0, v: 0o100 },
         set_cells(1, 0o100, &[0o7711, 1]),
         Action::SetP { pp: 1, v: 0o100 },
-        Action::Turn,
-        Action::Turn,
     ];
-    act_all(&rt, rt.alloc(), &mut rig, places.as_slice(), &actions)?;
+    perform_all(&rt, &mut rig, &actions);
+    let turns = [Action::Turn, Action::Turn];
+    act_all(&rt, rt.alloc(), &mut rig, places.as_slice(), &turns)?;
     turn_to(&rt, &mut rig, 9);
     let actions = [
         set_cells(9, 0o100, &[0o3420]),
@@ -238,9 +279,9 @@ fn a_turn_of_all_parts_leads_back(rt: HostRuntime) -> Result<(), Fail> {
         Action::SetA { pp: 9, v: 0o4321 },
         set_channel(8, pp_machine::ChannelState::Empty, 0),
         set_channel(9, pp_machine::ChannelState::Full, 0o0102),
-        Action::Turn,
     ];
-    act_all(&rt, rt.alloc(), &mut rig, places.as_slice(), &actions)?;
+    perform_all(&rt, &mut rig, &actions);
+    act_and_back(&rt, rt.alloc(), &mut rig, places.as_slice(), &Action::Turn)?;
     assert_eq!(rt; rig.value(&Place::Cell { pp: 9, a: 0o20 }), 0o4321);
     assert_eq!(rt; rig.value(&Place::CardColumn), 1);
     assert_eq!(rt; rig.value(&Place::ChannelWord { c: 8 }), 0o1234);
