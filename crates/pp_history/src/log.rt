@@ -191,7 +191,7 @@ fn is_other<T: Reversible>(
 
 /// Returns whether one of the places has another number in an undo record than in the machine.
 #[inline(always)]
-fn is_changed<T: Reversible>(
+fn has_other<T: Reversible>(
     machine: &T,
     back: &UndoRecord<T>,
     places: &[T::Place],
@@ -209,6 +209,26 @@ fn is_changed<T: Reversible>(
         }
     }
     false
+}
+
+/// Does what `has_other` does. Here the kind of the record is tested once, and not for each place.
+#[inline(always)]
+fn is_changed<T: Reversible>(
+    machine: &T,
+    back: &UndoRecord<T>,
+    places: &[T::Place],
+    looks: &mut Looks,
+) -> bool
+    requires { All (λ place. T.has_place machine.now place) places.now }
+    ensures value { result ≡ changes T.Reversible (λ place. T.value_at machine.now place) places.now (whole_record T.whole back.now) }
+    ensures counts_up { looks.old.count ≤ looks.new.count }
+    ensures cost { looks.new.count ≤ looks.old.count + length places.now }
+    ensures looks_at_each { 1 ≤ length places.now → looks.old.count + 1 ≤ looks.new.count }
+{
+    match *back {
+        UndoRecord::Short(short) => has_other(machine, &UndoRecord::Short(short), places, looks),
+        UndoRecord::Long(long) => has_other(machine, &UndoRecord::Long(long), places, looks),
+    }
 }
 
 /// Discards the first n items.

@@ -37,7 +37,7 @@ pub struct Stopped {
 
 /// Returns the first watched place, in watch order, whose number an action with this undo record changed.
 #[inline(always)]
-fn change_of(machine: &Rig, back: &UndoRecord<Rig>) -> Option<Hit>
+fn first_changed(machine: &Rig, back: &UndoRecord<Rig>) -> Option<Hit>
     requires { FitsRecord (whole_record whole back.now) machine.now }
     ensures { result ≡ first_change (before (whole_record whole back.now) machine.now) machine.now (watches_of machine.now) }
 {
@@ -56,6 +56,18 @@ fn change_of(machine: &Rig, back: &UndoRecord<Rig>) -> Option<Hit>
         }
     }
     None
+}
+
+/// Does what `first_changed` does. Here the kind of the record is tested once, and not for each watched place.
+#[inline(always)]
+fn change_of(machine: &Rig, back: &UndoRecord<Rig>) -> Option<Hit>
+    requires { FitsRecord (whole_record whole back.now) machine.now }
+    ensures { result ≡ first_change (before (whole_record whole back.now) machine.now) machine.now (watches_of machine.now) }
+{
+    match *back {
+        UndoRecord::Short(turn) => first_changed(machine, &UndoRecord::Short(turn)),
+        UndoRecord::Long(action) => first_changed(machine, &UndoRecord::Long(action)),
+    }
 }
 
 /// Returns the first watched place, in watch order, whose number the newest action, a turn, changed. If only storage is

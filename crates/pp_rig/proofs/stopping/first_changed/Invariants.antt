@@ -4,7 +4,7 @@ use Rattle.pp_rig.specs.Action.{before}
 use Rattle.pp_rig.specs.Short.{whole}
 use Rattle.pp_rig.specs.Stopping.{first_change}
 use Rattle.pp_rig.specs.Watches.{watches_of}
-use Rattle.pp_rig.proofs.stopping.change_of.Given as goal
+use Rattle.pp_rig.proofs.stopping.first_changed.Given as goal
 
 abbrev pub invariant-loop-i : goal.invariant-loop-i
 invariant-loop-i l =

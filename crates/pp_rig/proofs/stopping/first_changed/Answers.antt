@@ -4,8 +4,8 @@ use Rattle.pp_history.specs.UndoRecord.{whole_record}
 use Rattle.pp_rig.specs.Action.{before}
 use Rattle.pp_rig.specs.Short.{whole}
 use Rattle.pp_rig.proofs.Runs.{first-hit, first-passed, record-told}
-use Rattle.pp_rig.proofs.stopping.change_of.Goals as goal
-use Rattle.pp_rig.proofs.stopping.change_of.Goals.{in-Some+else-now-was, in_default}
+use Rattle.pp_rig.proofs.stopping.first_changed.Goals as goal
+use Rattle.pp_rig.proofs.stopping.first_changed.Goals.{in-Some+else-now-was, in_default}
 
 pub returns-then-now-was : goal.returns-then-now-was
 returns-then-now-was c =
