@@ -1,12 +1,12 @@
 -- What a dead start writes fits the machine, and has a known length.
 use Rattle.std.specs.List.{list_all}
-use Rattle.std.proofs.Common.{arith, zero, suc, lit<, lit≤, ap, sym, ◌∙◌, ℕ, ◌≡◌, ◌+◌, ◌/◌, ◌<◌, ◌≤◌, ◌^◌, ◌==◌, ◌||◌, IsTrue, Bool, true, false, All, List, [], ◌∷◌, ◌++◌, length, replicate, refl}
+use Rattle.std.proofs.Common.{arith, zero, suc, lit<, lit≤, ap, sym, ◌∙◌, ℕ, ◌≡◌, ◌+◌, ◌/◌, ◌<◌, ◌≤◌, ◌^◌, ◌==◌, ◌||◌, IsTrue, Bool, true, false, All, List, [], ◌∷◌, ◌++◌, length, replicate, refl, not, ◌&&◌, Some, None, if◌then◌else◌}
 use Rattle.std.proofs.lemmas.Bool.{and_parts}
-use Rattle.pp_machine.specs.Prelude.{Machine, old_values, number, Writes, places, write_list, Has, places-append, places-old_values}
+use Rattle.pp_machine.specs.Prelude.{Machine, old_values, number, Writes, places, write_list, Has, lookup, same_place, places-append, places-old_values}
 use Rattle.pp_machine.specs.Phase.{is_phase}
 use Rattle.pp_machine.specs.declared.place.Write.{Write}
 use Rattle.pp_machine.specs.declared.place.Place.{Place}
-use Rattle.pp_machine.specs.declared.place.Place.TheVariants.{Cell, RegA, RegP, RegQ, Phase, ChannelMode, ChannelWord, Central, Slot}
+use Rattle.pp_machine.specs.declared.place.Place.TheVariants.{Cell, RegA, RegP, RegQ, Phase, ChannelMode, ChannelWord, Central, PaperSymbol, Slot}
 use Rattle.pp_rig.specs.CellLaws.{AreSettings-cell_writes}
 use Rattle.pp_rig.specs.Deadstart.{loading, waiting, all_waiting, all_states, states, deadstart_write_list, deadstart_place_count, deadstart_places}
 use Rattle.pp_rig.specs.Ranges.{IsInRange, twelve_bits, eighteen_bits}
@@ -127,3 +127,22 @@ short-at size (k ∷ ks) a s (suc i) d l = short-at size ks (and_parts (is_short
 
 pub short-stood : (size : ℕ) (m : Machine) (panel : List ℕ) (ks : List Write) → length panel ≡ 12 → write_list ks ≡ old_values m (deadstart_write_list panel) → AreSettings size (write_list ks) → All (λ k. k.number < 2 ^ 32) ks
 short-stood size m panel ks count e s = short-at size ks (rw (e, places-stood m panel count) short-places) s
+
+-- ---- what a dead start does not write
+
+not_restarted : (w : Writes Place) (ns : List ℕ) (p : Place) → list_all (λ pair. not (same_place pair.0 p)) w ≡ true → lookup (with_new_numbers w ns) p ≡ None
+not_restarted [] ns p other = refl
+not_restarted (pair ∷ w) [] p other = refl
+not_restarted (pair ∷ w) (n ∷ ns) p other =
+    elim (same_place pair.0 p) as (λ b. (not b && list_all (λ pair. not (same_place pair.0 p)) w) ≡ true → (if b then Some n else lookup (with_new_numbers w ns) p) ≡ None) [
+      | true ↦ λ e. absurd (cc)
+      | false ↦ λ e. not_restarted w ns p e
+    ] other
+
+pub no_word_restarted : (ns : List ℕ) (a : ℕ) → lookup (with_new_numbers deadstart_places ns) (Central a) ≡ None
+unfolding deadstart_write_list all_waiting all_states
+no_word_restarted ns a = not_restarted deadstart_places ns (Central a) refl
+
+pub no_symbol_restarted : (ns : List ℕ) (k : ℕ) → lookup (with_new_numbers deadstart_places ns) (PaperSymbol k) ≡ None
+unfolding deadstart_write_list all_waiting all_states
+no_symbol_restarted ns k = not_restarted deadstart_places ns (PaperSymbol k) refl

@@ -3,7 +3,7 @@ use Rattle.std.proofs.Common.{arith, IsPermutation, ℕ, Bool, true, false, ◌�
 use Rattle.std.proofs.lemmas.List.{length-append}
 use Rattle.std.proofs.lemmas.List.Sorted.{IsPermutation-refl}
 use Rattle.pp_machine.specs.Prelude.{Machine, over, number, places, places-old_values}
-use Rattle.pp_step.specs.Step.{pp_pairs}
+use Rattle.pp_step.specs.Step.{pp_pairs, most_step_places}
 use Rattle.pp_step.specs.View.{pp_place}
 use Rattle.pp_rig.specs.Action.{writes, next, old_values_of}
 use Rattle.pp_rig.specs.Turn.{most_turn_places, rest_pairs, turn, turn_old_values, turn_pairs, turn_parts, turn_writes}
@@ -41,7 +41,7 @@ few-clock : (last : Bool) (clock : ℕ) → length {A = Place × ℕ} (if last t
 few-clock true clock = omega arith
 few-clock false clock = omega arith
 
-pub few-turn : (r : TurnRecord) → length (pp_pairs r.pp) ≤ 33 → length (turn_pairs r) ≤ most_turn_places
+pub few-turn : (r : TurnRecord) → length (pp_pairs r.pp) ≤ most_step_places → length (turn_pairs r) ≤ most_turn_places
 unfolding turn_pairs rest_pairs
 few-turn r few =
     let pp = length-renamed (pp_place r.rest.slot) (pp_pairs r.pp) in

@@ -36,14 +36,17 @@ fn first_entry(i: u8, watches: &[Watched], place: &Place) -> Option<u64>
     None
 }
 
-/// Returns the old number of a place, if a dead start overwrote it. This is a separate function, so other lookups need
-/// not clear stack space for the list.
+/// Returns the old number of a place, if a dead start overwrote it. A dead start writes no central word and no symbol of the
+/// paper; looking up these needs no list. This is a separate function, so other lookups need not clear stack space for
+/// the list.
 #[inline(never)]
 fn restarted_was(numbers: &[u32], place: &Place) -> Option<u64>
     ensures { result ≡ lookup (with_new_numbers deadstart_places numbers.now) place.now }
 {
-    let list = renumbered(numbers);
-    first_write(list.as_slice(), place)
+    match place {
+        Place::Central { .. } | Place::PaperSymbol { .. } => None,
+        _ => first_write(renumbered(numbers).as_slice(), place),
+    }
 }
 
 impl RigRecord {
