@@ -63,7 +63,7 @@ module _ {Numbers : Type 0} (c : ℕ) (channels : ChannelNumbers) (n : Numbers) 
 
 -- ---- write lists that write no place twice, and only places that the machine has
 
-same-self : (p : Place) → same_place p p ≡ true
+pub same-self : (p : Place) → same_place p p ≡ true
 same-self Slot = refl
 same-self _ = search (eq-eqb, both_true)
 

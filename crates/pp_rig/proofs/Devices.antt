@@ -1,5 +1,5 @@
 -- The devices of a turn: what their steps write, and what their undo records have.
-use Rattle.std.proofs.Common.{ℕ, ◌≡◌, ◌≤◌, ◌<◌, ◌∙◌, Bool, true, false, if◌then◌else◌, Option, None, [], ◌∷◌, length, ap, arith, refl}
+use Rattle.std.proofs.Common.{ℕ, ◌≡◌, ◌≤◌, ◌<◌, ◌∙◌, Bool, true, false, if◌then◌else◌, None, [], ◌∷◌, length, ap, arith, refl}
 use Rattle.std.proofs.lemmas.List.{length-append}
 use Rattle.pp_machine.proofs.DeviceLaws.{IsAttached, lifted-old_values, lifted-parts, not_at, watches-kept}
 use Rattle.pp_machine.proofs.PrinterLaws.{HasAll-printer, HasAll-printer_writes, printer-attached, printer_few}
@@ -11,11 +11,11 @@ use Rattle.pp_machine.specs.WriteLaws.{AllPlaces-append, lookup-append}
 use Rattle.pp_machine.specs.declared.place.Place.{Place}
 use Rattle.pp_rig.specs.IsSetup.{IsSetup}
 use Rattle.pp_rig.specs.MachineLaws.{setup-over}
-use Rattle.pp_rig.specs.Parts.{ArePerformed, EachPart}
+use Rattle.pp_rig.specs.Parts.{ArePerformed}
 use Rattle.pp_rig.specs.Turn.{FitsDevices, device_pairs_of, device_parts, devices_part}
 use Rattle.pp_rig.specs.declared.rig.DeviceRecords.{DeviceRecords}
 use Rattle.pp_rig.specs.declared.rig.TurnRest.{TurnRest}
-use Rattle.pp_rig.proofs.Parts.{one-performed}
+use Rattle.pp_rig.proofs.Parts.{EachPart, one-performed}
 use Rattle.pp_rig.proofs.WriteLists.{length-renamed}
 
 -- ---- any device
@@ -81,22 +81,16 @@ few-if false w most few = omega arith
 pub devices-few : (r : TurnRest) → length (devices_part r) ≤ 9
 devices-few r = few-if r.are_devices_called (device_pairs_of r.devices) 9 (device_pairs-few r.devices)
 
-lookup-if : (b : Bool) (w : Writes Place) (p : Place) → lookup (if b then w else []) p ≡ (if b then lookup w p else None)
-lookup-if true w p = refl
-lookup-if false w p = refl
-
 -- the first pair for a place in the records
-pub lookup_devices : (r : TurnRest) (p : Place) → lookup (devices_part r) p ≡ (if r.are_devices_called then first_of_two (lookup (device_pairs the_reader r.devices.reader_channel r.devices.reader) p) (lookup (device_pairs the_printer r.devices.printer_channel r.devices.printer) p) else None)
-lookup_devices r p =
-    lookup-if r.are_devices_called (device_pairs_of r.devices) p
-    ∙ ap (λ o. if r.are_devices_called then o else None) (lookup-append same_place (device_pairs the_reader r.devices.reader_channel r.devices.reader) (device_pairs the_printer r.devices.printer_channel r.devices.printer) p)
+pub lookup_devices : (r : DeviceRecords) (p : Place) → lookup (device_pairs_of r) p ≡ first_of_two (lookup (device_pairs the_reader r.reader_channel r.reader) p) (lookup (device_pairs the_printer r.printer_channel r.printer) p)
+lookup_devices r p = lookup-append same_place (device_pairs the_reader r.reader_channel r.reader) (device_pairs the_printer r.printer_channel r.printer) p
 
-pub none_if : (b : Bool) (o : Option ℕ) → o ≡ None → (if b then o else None) ≡ None
-none_if true o e = e
-none_if false o e = refl
+none-if : (b : Bool) (w : Writes Place) (p : Place) → lookup w p ≡ None → lookup (if b then w else []) p ≡ None
+none-if true w p e = e
+none-if false w p e = refl
 
 -- a place that no device has
 pub not_by_devices : (r : TurnRest) (p : Place) → of_device p ≡ false → lookup (devices_part r) p ≡ None
 not_by_devices r p e =
-    lookup_devices r p
-    ∙ none_if r.are_devices_called _ (rw (not_by the_reader reader-attached r.devices.reader_channel r.devices.reader p e, not_by the_printer printer-attached r.devices.printer_channel r.devices.printer p e) refl)
+    none-if r.are_devices_called (device_pairs_of r.devices) p (lookup_devices r.devices p
+    ∙ rw (not_by the_reader reader-attached r.devices.reader_channel r.devices.reader p e, not_by the_printer printer-attached r.devices.printer_channel r.devices.printer p e) refl)

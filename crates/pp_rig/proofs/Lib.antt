@@ -3,6 +3,7 @@ pub mod Cards
 pub mod Deadstart
 pub mod Devices
 pub mod MachineStore
+pub mod Marks
 pub mod Overwritten
 pub mod Parts
 pub mod Runs

@@ -4,7 +4,7 @@ use Rattle.std.proofs.lemmas.List.Sorted.{IsPermutation-append_comm, IsPermutati
 use Rattle.pp_machine.specs.Prelude.{Machine, over, old_values, number, put, Writes, places, Has, HasAll, IsShaped, over-append, AllPlaces-append, places-append, places-old_values}
 use Rattle.pp_machine.specs.NumberLaws.{IsShaped-over}
 use Rattle.pp_machine.specs.declared.place.Place.{Place}
-use Rattle.pp_rig.specs.Parts.{AreIdle, ArePerformed, EachPart, Part, after_parts, parts_old_values, parts_writes}
+use Rattle.pp_rig.specs.Parts.{AreIdle, ArePerformed, Part, after_parts, parts_old_values, parts_writes}
 use Rattle.pp_rig.proofs.MachineStore.{taken_back}
 
 -- their write list leads to the machine after them
@@ -34,6 +34,11 @@ same_places (part ∷ parts) s =
     (IsPermutation-trans _ (written ++ later) _ (IsPermutation-append_right written _ _ (same_places parts s1)) (IsPermutation-append_comm written later))
 
 -- ---- each part
+
+-- each part has the property, in the machine that the parts before it left
+abbrev pub EachPart : (Part → Machine → Type 0) → List Part → Machine → Type 0
+EachPart P [] s = Unit {0}
+EachPart P (part ∷ parts) s = P part s × EachPart P parts (over s (part s))
 
 pub HasAll-parts : (size : ℕ) (parts : List Part) (s : Machine) → EachPart (λ part m. HasAll size (part m)) parts s → HasAll size (parts_writes parts s)
 HasAll-parts size [] s each = tt

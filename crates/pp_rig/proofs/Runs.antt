@@ -1,14 +1,10 @@
 -- Runs, one turn after another.
-use Rattle.std.proofs.lemmas.Bool.{and_parts}
 use Rattle.std.proofs.lemmas.Bool.Decides.{nat_tests}
 use Rattle.std.proofs.Common.{drop, get_or, length, ◌≡◌, ◌==◌, true, false, ◌∷◌, ℕ, suc, ◌+◌, ◌-◌, ◌<◌, ◌≤◌, refl, ap, subst, sym, ◌∙◌, arith, List, Option, Some, None, [], MatchOption}
+use Rattle.std.specs.List.{AllByRecursion}
 use Rattle.pp_machine.specs.Prelude.{Machine, number, lookup}
 use Rattle.pp_rig.specs.Action.{FitsRecord, before, record_pairs, record_restores}
-use Rattle.pp_rig.specs.Short.{whole, whole_turn}
-use Rattle.pp_rig.specs.Storage.{are_storage, is_storage}
-use Rattle.pp_rig.specs.Turn.{turn_pairs}
 use Rattle.pp_rig.specs.declared.rig.RigRecord.{RigRecord}
-use Rattle.pp_rig.specs.declared.rig.ShortTurn.{ShortTurn}
 use Rattle.pp_history.specs.SessionValue.{SessionValue, after_act}
 use Rattle.pp_rig.specs.Stopping.{first_change, hit_of, stopped, after_turns}
 use Rattle.pp_rig.specs.Turn.{turn}
@@ -108,11 +104,10 @@ pub record-told : (m : Machine) (back : RigRecord) (place : Place) → FitsRecor
 record-told m back place fits named e =
     subst (λ o. MatchOption o (number (before back m) place ≡ number m place) (λ was. number (before back m) place ≡ was)) (sym e) (record_restores back m place fits)
 
--- a turn whose record has no storage changed none
-pub storage-same : (m : Machine) (turn : ShortTurn) (watches : List Watched) → FitsRecord (whole turn) m → are_storage watches ≡ true → ((place : Place) → is_storage place ≡ true → lookup (turn_pairs (whole_turn turn)) place ≡ None) → first_change (before (whole turn) m) m watches ≡ None
-storage-same m turn [] fits e none = refl
-storage-same m turn (w ∷ ws) fits e none =
-    let both = and_parts (is_storage (watched_place w)) (are_storage ws) e in
-    let same : number (before (whole turn) m) (watched_place w) ≡ number m (watched_place w) = record-told m (whole turn) (watched_place w) fits None (sym (none (watched_place w) both.0)) in
-    let equal : (number m (watched_place w) == number (before (whole turn) m) (watched_place w)) ≡ true = grind (arith, nat_tests, same) in
-    rw equal (storage-same m turn ws fits both.1 none)
+-- an action whose record has no watched place changed none
+pub none_changed : (m : Machine) (back : RigRecord) (Watches : Place → Type 0) (watches : List Watched) → FitsRecord back m → ((p : Place) → Watches p → lookup (record_pairs back) p ≡ None) → AllByRecursion (λ w. Watches (watched_place w)) watches → first_change (before back m) m watches ≡ None
+none_changed m back Watches [] fits none all = refl
+none_changed m back Watches (w ∷ ws) fits none all =
+    let same : number (before back m) (watched_place w) ≡ number m (watched_place w) = record-told m back (watched_place w) fits None (sym (none (watched_place w) all.0)) in
+    let equal : (number m (watched_place w) == number (before back m) (watched_place w)) ≡ true = grind (arith, nat_tests, same) in
+    rw equal (none_changed m back Watches ws fits none all.1)

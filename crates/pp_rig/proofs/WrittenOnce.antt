@@ -1,11 +1,11 @@
 -- No action other than a turn writes a place twice.
 use Rattle.std.proofs.Common.{◌≡◌, ◌≢◌, ℕ, ◌+◌, ◌%◌, ◌<◌, ◌≤◌, ◌==◌, List, [], ◌∷◌, drop, length, true, zero, suc, refl, ap, arith, Option, Some, None, position}
 use Rattle.std.specs.List.{All, AllPairs}
-use Rattle.std.proofs.lemmas.Bool.{eq-eqb}
 use Rattle.std.proofs.lemmas.List.Kept.{AllPairs-cons}
 use Rattle.pp_machine.specs.Prelude.{Machine, Writes, places, same_place}
 use Rattle.pp_machine.specs.declared.place.Place.{Place}
-use Rattle.pp_machine.specs.declared.place.Place.TheVariants.{Cell, RegA, RegP, RegQ, Phase, ChannelMode, ChannelWord, Central, FrameWord, PaperSymbol, WatchEntry}
+use Rattle.pp_machine.specs.declared.place.Place.TheVariants.{Cell, RegA, RegP, RegQ, Phase, Central, WatchEntry}
+use Rattle.pp_machine.proofs.DeviceLaws.{same-self}
 use Rattle.pp_machine.proofs.Once.{once, each-once}
 use Rattle.pp_rig.proofs.Deadstart.{length-cell_writes, length-deadstart_write_list}
 use Rattle.pp_rig.specs.Action.{most_places, writes, without_entry, moved_up}
@@ -70,22 +70,8 @@ without_entry-once entries (Some i) = entries-once i (moved_up (drop (i + 1) ent
 
 -- ---- lists of known places
 
-self : (x : Place) → same_place x x ≡ true
-self (Cell n a) = rw (eq-eqb n n refl, eq-eqb a a refl) refl
-self (RegA n) = eq-eqb n n refl
-self (RegP n) = eq-eqb n n refl
-self (RegQ n) = eq-eqb n n refl
-self (Phase n) = eq-eqb n n refl
-self (ChannelMode c) = eq-eqb c c refl
-self (ChannelWord c) = eq-eqb c c refl
-self (Central a) = eq-eqb a a refl
-self (FrameWord i) = eq-eqb i i refl
-self (PaperSymbol k) = eq-eqb k k refl
-self (WatchEntry i) = eq-eqb i i refl
-self _ = refl
-
 each : (w : Writes Place) → once same_place w ≡ true → EachOnce w
-each = each-once same_place self
+each = each-once same_place same-self
 
 -- the panel does not reach the cell behind it
 panel-once : (panel : List ℕ) → length panel ≤ 12 → once same_place (deadstart_write_list panel) ≡ true

@@ -31,8 +31,3 @@ pub record ArePerformed (parts : List Part) (old new : Machine) (back : Writes P
 abbrev pub AreIdle : List Part → Machine → Type 0
 AreIdle [] s = Unit {0}
 AreIdle (part ∷ parts) s = (part s ≡ []) × AreIdle parts s
-
--- each part has the property, in the machine that the parts before it left
-abbrev pub EachPart : (Part → Machine → Type 0) → List Part → Machine → Type 0
-EachPart P [] s = Unit {0}
-EachPart P (part ∷ parts) s = P part s × EachPart P parts (over s (part s))

@@ -1,17 +1,19 @@
 //! Runs of turns that stop at the first change of a watched number.
 ghost use Rattle.std.specs.Prelude.{◌≡◌, true};
+ghost use Rattle.std.specs.List.{All};
 ghost use Rattle.pp_history.specs.SessionValue.{SessionValue, IsAt, after_act, replay};
 ghost use Rattle.pp_history.specs.UndoRecord.{whole_record};
 ghost use Rattle.pp_machine.specs.Machine.{Machine};
 ghost use Rattle.pp_rig.specs.Action.{FitsRecord, before};
+ghost use Rattle.pp_rig.specs.Marks.{covers};
 ghost use Rattle.pp_rig.specs.Rules.{rules};
 ghost use Rattle.pp_rig.specs.Short.{whole};
-ghost use Rattle.pp_rig.specs.Storage.{are_storage};
 ghost use Rattle.pp_rig.specs.Stopping.{first_change, stopped, after_turns};
-ghost use Rattle.pp_rig.specs.Watches.{watches_of};
+ghost use Rattle.pp_rig.specs.Watches.{watched_place, watches_of};
 
 use crate::action::Action;
 use crate::rig::Rig;
+use crate::rig::marks::WatchMarks;
 use crate::watched::Watched;
 use pp_history::{Reversible, Session, UndoRecord};
 
@@ -58,23 +60,11 @@ fn first_changed(machine: &Rig, back: &UndoRecord<Rig>) -> Option<Hit>
     None
 }
 
-/// Does what `first_changed` does. Here the kind of the record is tested once, and not for each watched place.
+/// Returns the first watched place, in watch order, whose number the newest action, a turn, changed. After most turns the
+/// marks say that there is none.
 #[inline(always)]
-fn change_of(machine: &Rig, back: &UndoRecord<Rig>) -> Option<Hit>
-    requires { FitsRecord (whole_record whole back.now) machine.now }
-    ensures { result ≡ first_change (before (whole_record whole back.now) machine.now) machine.now (watches_of machine.now) }
-{
-    match *back {
-        UndoRecord::Short(turn) => first_changed(machine, &UndoRecord::Short(turn)),
-        UndoRecord::Long(action) => first_changed(machine, &UndoRecord::Long(action)),
-    }
-}
-
-/// Returns the first watched place, in watch order, whose number the newest action, a turn, changed. If only storage is
-/// watched, most turns need no look at the watched places.
-#[inline(always)]
-fn first_change(session: &Session<Rig>, is_storage_alone: bool) -> Option<Hit>
-    requires { is_storage_alone ≡ true → are_storage (watches_of session.now.machine) ≡ true }
+fn first_change(session: &Session<Rig>, marks: &WatchMarks) -> Option<Hit>
+    requires { All (λ watched. covers marks.now (watched_place watched) ≡ true) (watches_of session.now.machine) }
     ensures { (v : SessionValue Machine Action) → IsAt rules session.now (after_act v Action.Turn) →
         result ≡ first_change (replay rules v.start v.standing) session.now.machine (watches_of session.now.machine) }
 {
@@ -84,18 +74,11 @@ fn first_change(session: &Session<Rig>, is_storage_alone: bool) -> Option<Hit>
     }
     let back = session.newest()?;
     if let UndoRecord::Short(turn) = &back {
-        if is_storage_alone && turn.wrote_registers_alone() {
+        if !marks.may_be_in(turn) {
             return None;
         }
     }
-    change_of(machine, &back)
-}
-
-/// Returns whether each watched place is a cell, a central word or the register of a data channel.
-fn are_storage(machine: &Rig) -> bool
-    ensures { result ≡ are_storage (watches_of machine.now) }
-{
-    machine.watches().iter().all(|watched| watched.is_storage())
+    first_changed(machine, &back)
 }
 
 /// Performs turns until n were performed, or until one changed the number of a watched place.
@@ -111,10 +94,10 @@ pub fn run(session: &mut Session<Rig>, n: u32) -> Stopped
         IsAt rules session.new (after_turns result.turns v) }
 {
     session.has_session_value();
-    let is_storage_alone = are_storage(session.machine());
+    let marks = WatchMarks::of(session.machine().watches());
     for turns in 0..n {
         session.act(Action::Turn);
-        if let Some(hit) = first_change(session, is_storage_alone) {
+        if let Some(hit) = first_change(session, &marks) {
             return Stopped {
                 turns: turns + 1,
                 hit: Some(hit),

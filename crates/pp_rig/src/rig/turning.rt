@@ -2,20 +2,17 @@
 ghost use Rattle.std.specs.Prelude.{◌≡◌, ◌<◌, ◌≤◌, true, false, None, [], ◌∷◌, length};
 ghost use Rattle.pp_machine.specs.Prelude.{over, old_values, renamed, first_of_two, lookup};
 ghost use Rattle.pp_rig.specs.IsMachine.{IsMachine};
+ghost use Rattle.pp_rig.specs.Lift.{pp_of};
 ghost use Rattle.pp_rig.specs.Parts.{AreIdle, ArePerformed};
 ghost use Rattle.pp_rig.specs.Short.{IsTurned, whole, whole_turn};
-ghost use Rattle.pp_rig.specs.Storage.{is_storage};
 ghost use Rattle.pp_rig.specs.Turn.{AreDevicesStepped, FitsDevices, FitsRest, FitsTurn, IsSlotStep, KeepsSlot, clock_part, clock_writes, device_pairs_of, device_parts, devices_part, end_part, rest_of_turn, rest_pairs, slot_writes, turn_pairs};
-ghost use Rattle.pp_step.specs.Pairs.{pairs_as};
-ghost use Rattle.pp_step.specs.Step.{FitsPp, pp_pairs};
+ghost use Rattle.pp_step.specs.Step.{FitsPp, IsExchange, pp_pairs};
 ghost use Rattle.pp_step.specs.View.{pp_place};
 
 use super::devices::{step_device, undo_device};
 use super::{DeviceRecords, Rig, RigRecord, ShortTurn, TurnRecord, TurnRest};
-use pp_machine::{
-    CentralSize, ChannelState, Place, PrinterRecord, ReaderRecord, Write, first_write,
-};
-use pp_step::{ExchangeRecord, PpRecord, StepRecord, Target};
+use pp_machine::{CentralSize, ChannelState, Place, PrinterRecord, ReaderRecord};
+use pp_step::{ExchangeRecord, PpRecord, StepRecord};
 
 impl TurnRest {
     /// Returns a record to overwrite.
@@ -34,45 +31,60 @@ impl TurnRest {
         }
     }
 
-    /// Returns the old number of a place, or `None` if no device overwrote it. This is a separate function, so other
-    /// lookups need not save the registers that it needs.
-    #[inline(never)]
-    #[tactic(auto, using(crate::proofs::Devices::lookup_devices))]
+    /// Returns the old number of a place, or `None` if no device overwrote it.
+    #[inline(always)]
     fn device_was(&self, place: &Place) -> Option<u64>
         ensures { result ≡ lookup (devices_part self.now) place.now }
     {
-        if !self.are_devices_called {
-            return None;
-        }
-        let devices = &self.devices;
-        let reader = devices.reader.was(devices.reader_channel, place);
-        let printer = devices.printer.was(devices.printer_channel, place);
-        first_of(reader, printer)
-    }
-
-    /// Returns the clock before the turn, or `None` if the record does not have it.
-    #[inline(always)]
-    fn clock_was(&self) -> Option<u64>
-        ensures { result ≡ lookup (end_part self.now) Place.Clock }
-    {
-        if self.slot == 9 {
-            Some(u64::from(self.clock))
+        if self.are_devices_called {
+            self.devices.was(place)
         } else {
             None
         }
     }
 
-    /// Returns the old number of the clock or of the slot, or `None` if the record does not have that place.
-    fn end_was(&self, place: &Place) -> Option<u64>
-        ensures { result ≡ lookup (end_part self.now) place.now }
+    /// Returns the old number of a place, or `None` if only the processor may have overwritten it.
+    #[inline(always)]
+    #[tactic(auto, using(crate::proofs::TurnNames::lookup_told))]
+    fn was(&self, place: &Place) -> Option<u64>
+        ensures { result ≡ lookup (rest_pairs self.now) place.now }
     {
-        let slot = Write::new(Place::Slot, u64::from(self.slot));
-        if self.slot == 9 {
-            let clock = Write::new(Place::Clock, u64::from(self.clock));
-            first_write(&[clock, slot], place)
-        } else {
-            first_write(&[slot], place)
+        match *place {
+            Place::Cell { .. }
+            | Place::RegA { .. }
+            | Place::RegP { .. }
+            | Place::RegQ { .. }
+            | Place::Phase { .. }
+            | Place::Central { .. }
+            | Place::FrameWord { .. }
+            | Place::WatchEntry { .. } => None,
+            Place::Clock if self.slot == 9 => Some(u64::from(self.clock)),
+            Place::Clock => None,
+            Place::Slot => Some(u64::from(self.slot)),
+            Place::ChannelMode { .. }
+            | Place::ChannelWord { .. }
+            | Place::Card
+            | Place::CardColumn
+            | Place::ReaderMode
+            | Place::PaperLength
+            | Place::PaperColumn
+            | Place::PrinterMode
+            | Place::PaperSymbol { .. } => self.device_was(place),
         }
+    }
+}
+
+impl DeviceRecords {
+    /// Returns the old number of a place, or `None` if no device overwrote it. This is a separate function, so other
+    /// lookups need not save the registers that it needs.
+    #[inline(never)]
+    #[tactic(auto, using(crate::proofs::Devices::lookup_devices))]
+    fn was(&self, place: &Place) -> Option<u64>
+        ensures { result ≡ lookup (device_pairs_of self.now) place.now }
+    {
+        let reader = self.reader.was(self.reader_channel, place);
+        let printer = self.printer.was(self.printer_channel, place);
+        reader.or(printer)
     }
 }
 
@@ -92,38 +104,12 @@ impl TurnRecord {
         }
     }
 
-    /// Returns the old number of a place, or `None` if the record does not have that place. A place of another
-    /// processor is not looked up.
-    #[tactic(auto, using(crate::proofs::TurnNames::lookup_told))]
+    /// Returns the old number of a place, or `None` if the record does not have that place.
+    #[tactic(auto, using(crate::proofs::TurnNames::lookup_turn))]
     pub(super) fn was(&self, place: &Place) -> Option<u64>
         ensures { result ≡ lookup (turn_pairs self.now) place.now }
     {
-        match *place {
-            Place::Cell { pp, .. }
-            | Place::RegA { pp }
-            | Place::RegP { pp }
-            | Place::RegQ { pp }
-            | Place::Phase { pp } => {
-                if self.rest.slot == pp {
-                    self.pp.was(self.rest.slot, place)
-                } else {
-                    None
-                }
-            }
-            Place::Central { .. } | Place::FrameWord { .. } => self.pp.was(self.rest.slot, place),
-            _ => self.shared_was(place),
-        }
-    }
-
-    /// Returns the old number of any place, or `None` if the record does not have that place.
-    #[inline(never)]
-    #[tactic(auto, using(crate::proofs::TurnNames::lookup_parts))]
-    fn shared_was(&self, place: &Place) -> Option<u64>
-        ensures { result ≡ lookup (turn_pairs self.now) place.now }
-    {
-        let pp = self.pp.was(self.rest.slot, place);
-        let device = self.rest.device_was(place);
-        first_of(pp, first_of(device, self.rest.end_was(place)))
+        self.pp.was(self.rest.slot, place).or(self.rest.was(place))
     }
 }
 
@@ -147,75 +133,22 @@ impl ShortTurn {
         })
     }
 
-    /// Returns the old number of a place, or `None` if the record does not have that place. Only the parts that may
-    /// have a place of its kind are looked up.
+    /// Returns the old number of a place, or `None` if the record does not have that place. The kinds that are looked up
+    /// most have arms of their own, so that each is compiled without the others.
     #[inline(always)]
-    #[tactic(auto, using(crate::proofs::TurnNames::lookup_told))]
+    #[tactic(auto, using(crate::proofs::TurnNames::lookup_turn, crate::proofs::TurnNames::lookup_own, crate::proofs::TurnNames::lookup_told))]
     pub(crate) fn was(&self, place: &Place) -> Option<u64>
         ensures { result ≡ lookup (turn_pairs (whole_turn self.now)) place.now }
     {
+        let slot = self.rest.slot;
         match *place {
-            Place::Cell { pp, .. }
-            | Place::RegA { pp }
-            | Place::RegP { pp }
-            | Place::RegQ { pp }
-            | Place::Phase { pp } => {
-                if self.rest.slot == pp {
-                    self.pp.was(self.rest.slot, place)
-                } else {
-                    None
-                }
-            }
-            Place::Central { .. } | Place::FrameWord { .. } => self.pp.was(self.rest.slot, place),
-            Place::ChannelMode { .. } | Place::ChannelWord { .. } => {
-                let pp = self.pp.was(self.rest.slot, place);
-                if self.rest.are_devices_called {
-                    first_of(pp, self.rest.device_was(place))
-                } else {
-                    pp
-                }
-            }
-            Place::Clock => self.rest.clock_was(),
-            Place::Slot => Some(u64::from(self.rest.slot)),
-            Place::Card
-            | Place::CardColumn
-            | Place::ReaderMode
-            | Place::PaperLength
-            | Place::PaperColumn
-            | Place::PrinterMode
-            | Place::PaperSymbol { .. } => self.rest.device_was(place),
-            Place::WatchEntry { .. } => None,
+            Place::Cell { .. } | Place::Central { .. } => self.pp.was(slot, place),
+            Place::RegA { .. } | Place::RegP { .. } | Place::RegQ { .. } => self
+                .pp
+                .was(slot, place),
+            Place::ChannelWord { .. } => self.pp.was(slot, place).or(self.rest.device_was(place)),
+            _ => self.pp.was(slot, place).or(self.rest.was(place)),
         }
-    }
-
-    /// Returns whether the turn wrote only the registers of its processor, the clock and the slot.
-    #[inline(always)]
-    #[tactic(auto, using(crate::proofs::TurnNames::no_storage))]
-    pub(crate) fn wrote_registers_alone(&self) -> bool
-        ensures { result ≡ true → (place : Place) → is_storage place ≡ true → lookup (turn_pairs (whole_turn self.now)) place ≡ None }
-    {
-        !self.rest.are_devices_called && is_nothing(self.pp.target)
-    }
-}
-
-/// Returns whether a step with this target wrote only registers.
-#[inline(always)]
-fn is_nothing(target: Target) -> bool
-    ensures { result ≡ true → (writes : StepRecord) → pairs_as target writes ≡ [] }
-{
-    match target {
-        Target::Wait => true,
-        Target::Nothing => true,
-        _ => false,
-    }
-}
-
-fn first_of(first: Option<u64>, second: Option<u64>) -> Option<u64>
-    ensures { result ≡ first_of_two first second }
-{
-    match first {
-        Some(v) => Some(v),
-        None => second,
     }
 }
 
@@ -235,6 +168,7 @@ impl Rig {
     fn step_processor_short(&mut self, back: &mut StepRecord) -> bool
         ensures step { result ≡ true → IsSlotStep self.old self.new (PpRecord.Step back.new) }
         ensures unchanged { result ≡ false → self.new ≡ self.old }
+        ensures exchange { result ≡ false → IsExchange (pp_of self.old.slot self.old) }
     {
         self.processors[self.slot as usize].step_short(
             &mut self.channels,
@@ -397,6 +331,7 @@ impl Rig {
     pub(super) fn turn_short(&mut self, back: &mut ShortTurn) -> bool
         ensures turns { result ≡ true → IsTurned self.old self.new (whole_turn back.new) }
         ensures unchanged { result ≡ false → self.new ≡ self.old }
+        ensures exchange { result ≡ false → IsExchange (pp_of self.old.slot self.old) }
     {
         if !self.step_processor_short(&mut back.pp) {
             return false;

@@ -1,9 +1,10 @@
-use Rattle.std.proofs.Common.{◌≡◌, ◌∙◌, ap, refl, sym}
+use Rattle.std.proofs.Common.{◌≡◌, ◌∙◌, ap, refl, subst, sym, true}
 use Rattle.pp_history.specs.SessionLaws.{machine_at}
 use Rattle.pp_machine.specs.Machine.{Machine}
+use Rattle.pp_rig.specs.Marks.{covers}
 use Rattle.pp_rig.specs.Rules.{rules}
-use Rattle.pp_rig.specs.Storage.{are_storage}
-use Rattle.pp_rig.specs.Watches.{watches_of}
+use Rattle.std.specs.List.{All}
+use Rattle.pp_rig.specs.Watches.{watched_place, watches_of}
 use Rattle.pp_rig.specs.Stopping.{after_turns}
 use Rattle.pp_rig.proofs.Runs.{stopped-start, stopped-on, stopped-hit, stopped-end, after_turns-none, after_turns-more, hit-found, turned-watches}
 use Rattle.pp_rig.proofs.stopping.run.Goals as goal
@@ -17,10 +18,10 @@ loop-turns-init c = record {
 
 -- no turn changes which places are watched
 pub first_change-requires : goal.first_change-requires
-first_change-requires c = λ e.
+first_change-requires c =
     let same : watches_of c.act.new.self.machine ≡ watches_of c.args.session.now.machine =
     turned-watches c.loop-turns.session.machine c.act.new.self.machine c.act.ensures.machine ∙ c.loop-turns.invariant.watches in
-    ap are_storage same ∙ (ap (λ (m : Machine). are_storage (watches_of m)) (sym c.machine.ensures.value) ∙ (sym c.are_storage-is_storage_alone.ensures ∙ e))
+    subst (All (λ watched. covers c.of-marks.result (watched_place watched) ≡ true)) (c.watches.ensures.value ∙ (ap (λ (m : Machine). watches_of m) c.machine.ensures.value ∙ sym same)) c.of-marks.ensures
 
 pub returns-in-Some-clause-stops : goal.returns-in-Some-clause-stops
 returns-in-Some-clause-stops c =

@@ -1,4 +1,4 @@
-use Rattle.std.proofs.Common.{◌≡◌, ◌+◌, ◌≤◌, ◌∙◌, Some, None, Option, ap, arith, drop, refl, rules, sym, add-one}
+use Rattle.std.proofs.Common.{◌≡◌, ◌+◌, ◌≤◌, ◌∙◌, Some, None, Option, ap, arith, drop, refl, rules, sym}
 use Rattle.std.specs.Option.{IsSome, option_copied, option_map}
 use Rattle.std.proofs.lemmas.List.{drop-drop}
 use Rattle.pp_history.specs.Joining.{longs_behind}
