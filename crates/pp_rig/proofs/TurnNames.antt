@@ -21,10 +21,10 @@ by_end r p = lookup (end_part r) p
 abbrev by_devices : TurnRest → Place → Option ℕ
 by_devices r p = lookup (devices_part r) p
 
-abbrev pub told : TurnRest → Place → Option ℕ
-told r Clock = by_end r Clock
-told r Slot = Some r.slot
-told r p = if of_device p then by_devices r p else None
+abbrev pub by_kind : TurnRest → Place → Option ℕ
+by_kind r Clock = by_end r Clock
+by_kind r Slot = Some r.slot
+by_kind r p = if of_device p then by_devices r p else None
 
 first_alone : (o : Option ℕ) → first_of_two o None ≡ o
 first_alone None = refl
@@ -58,16 +58,16 @@ devices_alone : (r : TurnRest) (p : Place) → same_place Clock p ≡ false → 
 devices_alone r p clock slot =
     lookup_parts r p ∙ (rw (not_at_end r p clock slot) (first_alone (by_devices r p)) ∙ none_unless (of_device p) (by_devices r p) (not_by_devices r p))
 
-pub lookup_told : (r : TurnRest) (p : Place) → lookup (rest_pairs r) p ≡ told r p
-lookup_told r Clock = end_alone r Clock refl
-lookup_told r Slot = end_alone r Slot refl ∙ slot_alone r Slot refl
-lookup_told r p = devices_alone r p refl refl
+pub lookup_by_kind : (r : TurnRest) (p : Place) → lookup (rest_pairs r) p ≡ by_kind r p
+lookup_by_kind r Clock = end_alone r Clock refl
+lookup_by_kind r Slot = end_alone r Slot refl ∙ slot_alone r Slot refl
+lookup_by_kind r p = devices_alone r p refl refl
 
 -- the first pair for a place in a turn's record
 pub lookup_turn : (r : TurnRecord) (p : Place) → lookup (turn_pairs r) p ≡ first_of_two (lookup (renamed (pp_place r.rest.slot) (pp_pairs r.pp)) p) (lookup (rest_pairs r.rest) p)
 unfolding turn_pairs
 lookup_turn r p = simp lookup-append
 
--- a place that only a processor overwrites
-pub lookup_own : (r : TurnRecord) (p : Place) → told r.rest p ≡ None → lookup (turn_pairs r) p ≡ lookup (renamed (pp_place r.rest.slot) (pp_pairs r.pp)) p
-lookup_own r p none = lookup_turn r p ∙ rw (lookup_told r.rest p, none) (first_alone (lookup (renamed (pp_place r.rest.slot) (pp_pairs r.pp)) p))
+-- a place that the rest of the turn's record does not have
+pub lookup_processor : (r : TurnRecord) (p : Place) → by_kind r.rest p ≡ None → lookup (turn_pairs r) p ≡ lookup (renamed (pp_place r.rest.slot) (pp_pairs r.pp)) p
+lookup_processor r p none = lookup_turn r p ∙ rw (lookup_by_kind r.rest p, none) (first_alone (lookup (renamed (pp_place r.rest.slot) (pp_pairs r.pp)) p))

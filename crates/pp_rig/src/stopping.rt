@@ -1,15 +1,14 @@
 //! Runs of turns that stop at the first change of a watched number.
 ghost use Rattle.std.specs.Prelude.{◌≡◌, true};
-ghost use Rattle.std.specs.List.{All};
 ghost use Rattle.pp_history.specs.SessionValue.{SessionValue, IsAt, after_act, replay};
 ghost use Rattle.pp_history.specs.UndoRecord.{whole_record};
 ghost use Rattle.pp_machine.specs.Machine.{Machine};
 ghost use Rattle.pp_rig.specs.Action.{FitsRecord, before};
-ghost use Rattle.pp_rig.specs.Marks.{covers};
+ghost use Rattle.pp_rig.specs.Marks.{CoversAll};
 ghost use Rattle.pp_rig.specs.Rules.{rules};
 ghost use Rattle.pp_rig.specs.Short.{whole};
 ghost use Rattle.pp_rig.specs.Stopping.{first_change, stopped, after_turns};
-ghost use Rattle.pp_rig.specs.Watches.{watched_place, watches_of};
+ghost use Rattle.pp_rig.specs.Watches.{watches_of};
 
 use crate::action::Action;
 use crate::rig::Rig;
@@ -64,7 +63,7 @@ fn first_changed(machine: &Rig, back: &UndoRecord<Rig>) -> Option<Hit>
 /// marks say that there is none.
 #[inline(always)]
 fn first_change(session: &Session<Rig>, marks: &WatchMarks) -> Option<Hit>
-    requires { All (λ watched. covers marks.now (watched_place watched) ≡ true) (watches_of session.now.machine) }
+    requires { CoversAll marks.now (watches_of session.now.machine) }
     ensures { (v : SessionValue Machine Action) → IsAt rules session.now (after_act v Action.Turn) →
         result ≡ first_change (replay rules v.start v.standing) session.now.machine (watches_of session.now.machine) }
 {
@@ -74,7 +73,7 @@ fn first_change(session: &Session<Rig>, marks: &WatchMarks) -> Option<Hit>
     }
     let back = session.newest()?;
     if let UndoRecord::Short(turn) = &back {
-        if !marks.may_be_in(turn) {
+        if !marks.may_match(turn) {
             return None;
         }
     }
@@ -94,7 +93,7 @@ pub fn run(session: &mut Session<Rig>, n: u32) -> Stopped
         IsAt rules session.new (after_turns result.turns v) }
 {
     session.has_session_value();
-    let marks = WatchMarks::of(session.machine().watches());
+    let marks = WatchMarks::new(session.machine().watches());
     for turns in 0..n {
         session.act(Action::Turn);
         if let Some(hit) = first_change(session, &marks) {

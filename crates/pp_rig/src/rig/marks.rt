@@ -1,12 +1,10 @@
-//! Marks of watched places, by which most undo records of turns need no search for them.
+//! Marks of watched places. They show for most turns that the undo record has no watched place.
 ghost use Rattle.std.specs.Prelude.{◌≡◌, ◌<◌, ⊤, true, false, None, MatchOption};
-ghost use Rattle.std.specs.List.{All};
 ghost use Rattle.pp_machine.specs.Prelude.{lookup, renamed};
-ghost use Rattle.pp_machine.specs.Writes.{AllPlaces};
-ghost use Rattle.pp_rig.specs.Marks.{cell_mark, mark_of, is_marked, covers};
+ghost use Rattle.pp_rig.specs.Marks as spec;
+ghost use Rattle.pp_rig.specs.Marks.{covers, AreUnmarked, CoversAll};
 ghost use Rattle.pp_rig.specs.Short.{whole_turn};
 ghost use Rattle.pp_rig.specs.Turn.{turn_pairs};
-ghost use Rattle.pp_rig.specs.Watches.{watched_place};
 ghost use Rattle.pp_step.specs.Pairs.{pairs_as, target_pairs};
 ghost use Rattle.pp_step.specs.View.{pp_place};
 
@@ -15,46 +13,64 @@ use crate::watched::Watched;
 use pp_machine::Place;
 use pp_step::{StepRecord, Target};
 
-/// Marks of the watched places. A place without a mark is not watched; one with a mark may be.
+/// Marks of the watched places: a Bloom filter with one hash. Places that share a mark are marked together, so a marked
+/// place need not be watched. Registers of processors and the clock have no mark: if one is watched, every undo record is
+/// searched.
 #[derive(Drop)]
 pub(crate) struct WatchMarks {
-    /// The marks of cells by their processor and the low four bits of the address, of central words by these bits, and
-    /// of the registers of channels.
+    /// 0 to 159: cells, by processor and the low four bits of the address; 160 to 175: central words, by these bits;
+    /// 176 to 191: registers of channels (all decimal).
     marks: [bool; 256],
-    /// Whether a place without a mark is watched: a register of a processor, or the clock.
-    others: bool,
+    /// Whether a place without a mark is watched.
+    has_unmarked: bool,
 }
 
-/// Returns the mark of a cell.
+/// Returns the index of a cell's mark. The last remainder only keeps it in range for any `pp`.
 #[inline(always)]
-fn cell_mark(pp: u8, a: u64) -> usize
-    ensures value { result ≡ cell_mark pp a }
-    ensures small { result < 256 }
+fn cell_index(pp: u8, a: u64) -> usize
+    ensures value { result ≡ spec.cell_index pp a }
+    ensures in_range { result < 256 }
 {
     (usize::from(pp) * 16 + (a % 16) as usize) % 256
 }
 
-/// Returns the mark of a place, or `None` if places of its kind have none.
-fn mark_of(place: &Place) -> Option<usize>
-    ensures value { result ≡ mark_of place.now }
-    ensures small { MatchOption result ⊤ (λ i. i < 256) }
+#[inline(always)]
+fn central_index(a: u32) -> usize
+    ensures value { result ≡ spec.central_index a }
+    ensures in_range { result < 256 }
+{
+    160 + (a % 16) as usize
+}
+
+#[inline(always)]
+fn channel_index(c: u8) -> usize
+    ensures value { result ≡ spec.channel_index c }
+    ensures in_range { result < 256 }
+{
+    176 + usize::from(c % 16)
+}
+
+/// Returns the index of a place's mark, or `None` if places of its kind have none.
+fn mark_index(place: &Place) -> Option<usize>
+    ensures value { result ≡ spec.mark_index place.now }
+    ensures in_range { MatchOption result ⊤ (λ i. i < 256) }
 {
     match *place {
-        Place::Cell { pp, a } => Some(cell_mark(pp, u64::from(a))),
-        Place::Central { a } => Some(160 + (a % 16) as usize),
-        Place::ChannelWord { c } => Some(176 + usize::from(c % 16)),
+        Place::Cell { pp, a } => Some(cell_index(pp, u64::from(a))),
+        Place::Central { a } => Some(central_index(a)),
+        Place::ChannelWord { c } => Some(channel_index(c)),
         _ => None,
     }
 }
 
 impl WatchMarks {
     /// Returns the marks of these places.
-    pub(crate) fn of(watches: &[Watched]) -> WatchMarks
-        ensures { All (λ watched. covers result (watched_place watched) ≡ true) watches.now }
+    pub(crate) fn new(watches: &[Watched]) -> WatchMarks
+        ensures { CoversAll result watches.now }
     {
         let mut marks = WatchMarks {
             marks: [false; 256],
-            others: false,
+            has_unmarked: false,
         };
         for i in 0..watches.len() {
             marks.add(&watches[i].place());
@@ -63,50 +79,50 @@ impl WatchMarks {
     }
 
     fn add(&mut self, place: &Place)
-        ensures added { covers self.new place.now ≡ true }
-        ensures keeps { (p : Place) → covers self.old p ≡ true → covers self.new p ≡ true }
+        ensures covers_place { covers self.new place.now ≡ true }
+        ensures keeps_covered { (p : Place) → covers self.old p ≡ true → covers self.new p ≡ true }
     {
-        match mark_of(place) {
+        match mark_index(place) {
             Some(i) => self.marks[i] = true,
-            None => self.others = true,
+            None => self.has_unmarked = true,
         }
     }
 
     /// Returns whether the undo record of a turn may have a watched place.
     #[inline(always)]
     #[tactic(auto, using(crate::proofs::Marks::not_in_turn))]
-    pub(crate) fn may_be_in(&self, turn: &ShortTurn) -> bool
+    pub(crate) fn may_match(&self, turn: &ShortTurn) -> bool
         ensures { result ≡ false → (p : Place) → covers self.now p ≡ true → lookup (turn_pairs (whole_turn turn.now)) p ≡ None }
     {
-        let is_any_possible = turn.rest.are_devices_called | self.others;
-        is_any_possible || self.is_target_marked(turn.rest.slot, &turn.pp)
+        let must_search = turn.rest.are_devices_called | self.has_unmarked;
+        must_search || self.is_target_marked(turn.rest.slot, &turn.pp)
     }
 
-    /// Returns whether a place of a step's target is marked.
+    /// Returns whether a place of the step's target is marked.
     #[inline(always)]
     fn is_target_marked(&self, slot: u8, step: &StepRecord) -> bool
-        ensures { result ≡ false → AllPlaces (λ p. is_marked self.now p ≡ false) (renamed (pp_place slot) (target_pairs step.now)) }
+        ensures { result ≡ false → AreUnmarked self.now (renamed (pp_place slot) (target_pairs step.now)) }
     {
-        let address = u64::from(step.address);
         match step.target {
             Target::Wait | Target::Nothing | Target::State => false,
-            Target::Cell | Target::CellAndState => self.marks[cell_mark(slot, address)],
-            Target::Cells => self.are_cells_marked(slot, address),
-            Target::Word => self.marks[160 + (step.address % 16) as usize],
-            Target::Channel => self.marks[176 + usize::from(step.channel % 16)],
+            Target::Cell | Target::CellAndState => {
+                self.marks[cell_index(slot, u64::from(step.address))]
+            }
+            Target::Cells => self.are_cells_marked(slot, step),
+            Target::Word => self.marks[central_index(step.address)],
+            Target::Channel => self.marks[channel_index(step.channel)],
         }
     }
 
-    /// Returns whether one of the five cells from an address on is marked.
-    fn are_cells_marked(&self, slot: u8, address: u64) -> bool
-        requires { address < 0o40000000000 }
-        ensures { result ≡ false → (step : StepRecord) → step.address ≡ address →
-            AllPlaces (λ p. is_marked self.now p ≡ false) (renamed (pp_place slot) (pairs_as Target.Cells step)) }
+    /// Returns whether one of the five cells from the step's address on is marked.
+    fn are_cells_marked(&self, slot: u8, step: &StepRecord) -> bool
+        ensures { result ≡ false → AreUnmarked self.now (renamed (pp_place slot) (pairs_as Target.Cells step.now)) }
     {
-        self.marks[cell_mark(slot, address)]
-            || self.marks[cell_mark(slot, address + 1)]
-            || self.marks[cell_mark(slot, address + 2)]
-            || self.marks[cell_mark(slot, address + 3)]
-            || self.marks[cell_mark(slot, address + 4)]
+        let address = u64::from(step.address);
+        self.marks[cell_index(slot, address)]
+            || self.marks[cell_index(slot, address + 1)]
+            || self.marks[cell_index(slot, address + 2)]
+            || self.marks[cell_index(slot, address + 3)]
+            || self.marks[cell_index(slot, address + 4)]
     }
 }

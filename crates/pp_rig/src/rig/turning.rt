@@ -43,9 +43,10 @@ impl TurnRest {
         }
     }
 
-    /// Returns the old number of a place, or `None` if only the processor may have overwritten it.
+    /// Returns the old number of a place, or `None` if the part of the turn after the processor's step did not overwrite
+    /// it.
     #[inline(always)]
-    #[tactic(auto, using(crate::proofs::TurnNames::lookup_told))]
+    #[tactic(auto, using(crate::proofs::TurnNames::lookup_by_kind))]
     fn was(&self, place: &Place) -> Option<u64>
         ensures { result ≡ lookup (rest_pairs self.now) place.now }
     {
@@ -134,19 +135,20 @@ impl ShortTurn {
     }
 
     /// Returns the old number of a place, or `None` if the record does not have that place. The kinds that are looked up
-    /// most have arms of their own, so that each is compiled without the others.
+    /// most have arms of their own, and name the place again: so the lookup is compiled for that kind alone.
     #[inline(always)]
-    #[tactic(auto, using(crate::proofs::TurnNames::lookup_turn, crate::proofs::TurnNames::lookup_own, crate::proofs::TurnNames::lookup_told))]
+    #[tactic(auto, using(crate::proofs::TurnNames::lookup_turn, crate::proofs::TurnNames::lookup_processor, crate::proofs::TurnNames::lookup_by_kind))]
     pub(crate) fn was(&self, place: &Place) -> Option<u64>
         ensures { result ≡ lookup (turn_pairs (whole_turn self.now)) place.now }
     {
         let slot = self.rest.slot;
         match *place {
-            Place::Cell { .. } | Place::Central { .. } => self.pp.was(slot, place),
-            Place::RegA { .. } | Place::RegP { .. } | Place::RegQ { .. } => self
-                .pp
-                .was(slot, place),
-            Place::ChannelWord { .. } => self.pp.was(slot, place).or(self.rest.device_was(place)),
+            Place::Cell { pp, a } => self.pp.was(slot, &Place::Cell { pp, a }),
+            Place::Central { a } => self.pp.was(slot, &Place::Central { a }),
+            Place::ChannelWord { c } => {
+                let pp = self.pp.was(slot, &Place::ChannelWord { c });
+                pp.or(self.rest.device_was(place))
+            }
             _ => self.pp.was(slot, place).or(self.rest.was(place)),
         }
     }
@@ -168,7 +170,7 @@ impl Rig {
     fn step_processor_short(&mut self, back: &mut StepRecord) -> bool
         ensures step { result ≡ true → IsSlotStep self.old self.new (PpRecord.Step back.new) }
         ensures unchanged { result ≡ false → self.new ≡ self.old }
-        ensures exchange { result ≡ false → IsExchange (pp_of self.old.slot self.old) }
+        ensures is_exchange { result ≡ false → IsExchange (pp_of self.old.slot self.old) }
     {
         self.processors[self.slot as usize].step_short(
             &mut self.channels,
@@ -331,7 +333,7 @@ impl Rig {
     pub(super) fn turn_short(&mut self, back: &mut ShortTurn) -> bool
         ensures turns { result ≡ true → IsTurned self.old self.new (whole_turn back.new) }
         ensures unchanged { result ≡ false → self.new ≡ self.old }
-        ensures exchange { result ≡ false → IsExchange (pp_of self.old.slot self.old) }
+        ensures is_exchange { result ≡ false → IsExchange (pp_of self.old.slot self.old) }
     {
         if !self.step_processor_short(&mut back.pp) {
             return false;

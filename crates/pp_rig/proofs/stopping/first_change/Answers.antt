@@ -14,12 +14,12 @@ use Rattle.pp_rig.proofs.Runs.{none_changed}
 use Rattle.pp_rig.proofs.stopping.first_change.Goals as goal
 
 -- the record has no watched place
-pub returns-then-not-may_be_in : goal.returns-then-not-may_be_in
-returns-then-not-may_be_in c = λ v at.
+pub returns-then-not-may_match : goal.returns-then-not-may_match
+returns-then-not-may_match c = λ v at.
     let m = c.args.session.now.machine in
     let marks = c.args.marks.now in
     let leads : before (whole c.in-Short.turn.now) m ≡ replay rules v.start v.standing = rw c.in-Short.is at (c.in_ok-back.ensures.leads_back (after_act v Turn) at) in
-    let none = none_changed m (whole c.in-Short.turn.now) (λ p. covers marks p ≡ true) (watches_of m) (rw c.in-Short.is at c.in_ok-back.ensures.fits) (c.may_be_in.ensures c.if-not-may_be_in.true) (recursion_from_All (λ w. covers marks (watched_place w) ≡ true) (watches_of m) c.requires) in
+    let none = none_changed m (whole c.in-Short.turn.now) (λ p. covers marks p ≡ true) (watches_of m) (rw c.in-Short.is at c.in_ok-back.ensures.fits) (c.may_match.ensures c.if-not-may_match.true) (recursion_from_All (λ w. covers marks (watched_place w) ≡ true) (watches_of m) c.requires) in
     sym (ap (λ old. first_change old m (watches_of m)) (sym leads) ∙ none)
 
 pub returns : goal.returns
