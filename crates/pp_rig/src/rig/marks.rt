@@ -13,9 +13,8 @@ use crate::watched::Watched;
 use pp_machine::Place;
 use pp_step::{StepRecord, Target};
 
-/// Marks of the watched places: a Bloom filter with one hash. Places that share a mark are marked together, so a marked
-/// place need not be watched. Registers of processors and the clock have no mark: if one is watched, every undo record is
-/// searched.
+/// Marks of the watched places: a Bloom filter with one hash. A marked place need not be watched. Registers of processors
+/// and the clock have no mark: if one is watched, every undo record is searched.
 #[derive(Drop)]
 pub(crate) struct WatchMarks {
     /// 0 to 159: cells, by processor and the low four bits of the address; 160 to 175: central words, by these bits;

@@ -43,8 +43,7 @@ impl TurnRest {
         }
     }
 
-    /// Returns the old number of a place, or `None` if the part of the turn after the processor's step did not overwrite
-    /// it.
+    /// Returns the old number of a place, or `None` if what follows the processor's step did not overwrite it.
     #[inline(always)]
     #[tactic(auto, using(crate::proofs::TurnNames::lookup_by_kind))]
     fn was(&self, place: &Place) -> Option<u64>
