@@ -1,7 +1,8 @@
 -- The start of a script.
-use Rattle.std.proofs.Common.{◌≡◌, ℕ, List, [], take, arith, Option}
+use Rattle.std.proofs.Common.{◌≡◌, ℕ, List, [], take, arith}
 use Rattle.std.proofs.lemmas.Grind.{common_steps}
 use Rattle.pp_history.specs.SessionValue.{IsAt}
+use Rattle.pp_lines.specs.Output.{Written}
 use Rattle.pp_lines.specs.Lines.{finished_within}
 use Rattle.pp_lines.proofs.Limits.{finished_within-all}
 use Rattle.pp_lines.proofs.Writing.{Appends-nothing}
@@ -15,7 +16,7 @@ use Rattle.pp_console.specs.ServingSteps.{Stands}
 use Rattle.pp_console.proofs.Standing.{Stands-within}
 
 -- before the first byte
-pub Stands-new : (progress : Progress) (session : State) (text : Option (List ℕ)) (start : Value) → IsAt rules session start →
+pub Stands-new : (progress : Progress) (session : State) (text : Written) (start : Value) → IsAt rules session start →
     progress.line ≡ [] → progress.bytes ≡ 0 → progress.lines ≡ 0 → progress.refused ≡ 0 → Stands progress session text (origin_of start text) []
 unfolding run
 Stands-new progress session text start at empty no_bytes no_lines no_refused = record {
@@ -29,7 +30,7 @@ Stands-new progress session text start at empty no_bytes no_lines no_refused = r
   take-nothing n = grind (arith, common_steps)
 
 -- all finished lines are within the limits
-pub Performed-within : (progress : Progress) (session : State) (text : Option (List ℕ)) (origin : Origin) (bytes : List ℕ) →
+pub Performed-within : (progress : Progress) (session : State) (text : Written) (origin : Origin) (bytes : List ℕ) →
     Stands progress session text origin bytes → Performed session text origin (finished_within LINE_LIMIT BYTE_LIMIT bytes)
 Performed-within progress session text origin bytes stands =
     rw (finished_within-all LINE_LIMIT BYTE_LIMIT bytes (Stands-within progress session text origin bytes stands)) stands.performed

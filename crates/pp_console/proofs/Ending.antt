@@ -1,6 +1,7 @@
 -- The result of a script, at its end or at a fault.
 use Rattle.std.proofs.Common.{◌≡◌, ◌∙◌, ℕ, ◌+◌, ◌<◌, ◌⊎◌, List, [], ◌∷◌, ◌++◌, length, refl, ap, arith, inl, length-append, append_assoc, Option, Result, Ok, Err, MatchResult}
 use Rattle.std.specs.Io.KnownBytes.{IsAtEnd}
+use Rattle.pp_lines.specs.Output.{Written}
 use Rattle.pp_lines.specs.declared.fault.IoFault.{IoFault}
 use Rattle.pp_lines.specs.declared.fault.IoFault.TheVariants.{ReadFailed, WriteFailed, LineLimit}
 use Rattle.pp_lines.specs.Lines.{lines, finished, unfinished, finished_within, IsWithin}
@@ -15,7 +16,7 @@ use Rattle.pp_console.specs.ServingSteps.{Stands, Interrupts}
 use Rattle.pp_console.proofs.Standing.{Stands-within}
 
 -- a fault among some bytes is a fault among these bytes and more
-pub Interrupts-more : (fault : IoFault) (session : State) (text : Option (List ℕ)) (origin : Origin) (bytes more : List ℕ) →
+pub Interrupts-more : (fault : IoFault) (session : State) (text : Written) (origin : Origin) (bytes more : List ℕ) →
     Interrupts fault session text origin bytes → Interrupts fault session text origin (bytes ++ more)
 Interrupts-more ReadFailed session text origin bytes more p = p
 Interrupts-more LineLimit session text origin bytes more p =
@@ -25,7 +26,7 @@ Interrupts-more WriteFailed session text origin bytes more p =
     (p.0, p.1, p.2 ++ further.0, further.1 ∙ ap (λ front. front ++ further.0) p.3 ∙ append_assoc p.0 (p.1 ∷ p.2) further.0, p.4)
 
 -- the whole script, if the last line ends with a line feed
-pub Serves-whole : (summary : Summary) (progress : Progress) (session : State) (text : Option (List ℕ)) (origin : Origin) (bytes : List ℕ) →
+pub Serves-whole : (summary : Summary) (progress : Progress) (session : State) (text : Written) (origin : Origin) (bytes : List ℕ) →
     Stands progress session text origin bytes → length progress.line ≡ 0 → summary.lines ≡ progress.lines → summary.refused ≡ progress.refused →
     Serves summary session text origin bytes
 Serves-whole summary progress session text origin bytes stands empty told_lines told_refused =
@@ -38,7 +39,7 @@ Serves-whole summary progress session text origin bytes stands empty told_lines 
     }
 
 -- the whole script, if the last line does not end with a line feed
-pub Serves-last : (summary : Summary) (progress : Progress) (session session' : State) (text text' : Option (List ℕ)) (origin : Origin) (bytes : List ℕ) →
+pub Serves-last : (summary : Summary) (progress : Progress) (session session' : State) (text text' : Written) (origin : Origin) (bytes : List ℕ) →
     Stands progress session text origin bytes → 0 < length progress.line → summary.lines ≡ progress.lines + 1 →
     summary.refused ≡ (run origin.start (finished bytes ++ unfinished bytes ∷ [])).refused →
     Performed session' text' origin (finished bytes ++ unfinished bytes ∷ []) →
@@ -53,7 +54,7 @@ Serves-last summary progress session session' text text' origin bytes stands beg
     }
 
 -- the result of a script that passes a limit, for any limits
-Stops-limit : (line_limit byte_limit : ℕ) (session : State) (text : Option (List ℕ)) (origin : Origin) (bytes kept more : List ℕ) →
+Stops-limit : (line_limit byte_limit : ℕ) (session : State) (text : Written) (origin : Origin) (bytes kept more : List ℕ) →
     bytes ≡ kept ++ more → 0 < length more → IsWithin line_limit byte_limit kept → (length kept ≡ byte_limit) ⊎ (length (finished kept) ≡ line_limit) →
     Performed session text origin (finished kept) →
     Performed session text origin (finished_within line_limit byte_limit bytes) × ((byte_limit < length bytes) ⊎ (line_limit < length (lines bytes)))
@@ -61,7 +62,7 @@ Stops-limit line_limit byte_limit session text origin bytes kept more e h within
     rw e (rw (finished_within-kept line_limit byte_limit kept more within full) performed, passed line_limit byte_limit kept more h full)
 
 -- a fault among the bytes that were read
-pub Stops-interrupted : (fault : IoFault) (session : State) (text : Option (List ℕ)) (origin : Origin) (bytes : List ℕ) (left : Option (List ℕ)) →
+pub Stops-interrupted : (fault : IoFault) (session : State) (text : Written) (origin : Origin) (bytes : List ℕ) (left : Option (List ℕ)) →
     Interrupts fault session text origin bytes → Stops fault session text origin bytes left
 Stops-interrupted ReadFailed session text origin bytes left p = absurd p
 Stops-interrupted LineLimit session text origin bytes left p =

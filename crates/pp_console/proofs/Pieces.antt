@@ -1,6 +1,7 @@
 -- Bytes that are read in pieces, up to the limits.
-use Rattle.std.proofs.Common.{◌≡◌, ◌∙◌, ℕ, ◌+◌, ◌-◌, ◌<◌, ◌≤◌, List, [], ◌∷◌, ◌++◌, length, take, drop, refl, sym, ap, arith, inl, inr, append_assoc, length-append, length-take, length-drop, Option}
+use Rattle.std.proofs.Common.{◌≡◌, ◌∙◌, ℕ, ◌+◌, ◌-◌, ◌<◌, ◌≤◌, List, [], ◌∷◌, ◌++◌, length, take, drop, refl, sym, ap, arith, inl, inr, append_assoc, length-append, length-take, length-drop}
 use Rattle.std.proofs.lemmas.List.{take-append-drop}
+use Rattle.pp_lines.specs.Output.{Written}
 use Rattle.pp_lines.specs.declared.fault.IoFault.{IoFault}
 use Rattle.pp_lines.specs.declared.fault.IoFault.TheVariants.{LineLimit}
 use Rattle.pp_lines.specs.Lines.{finished, unfinished, IsWithin, IsPrefixOf}
@@ -27,13 +28,13 @@ pub fed-end : (bytes done line : List ℕ) → ((bytes ++ done) ++ line) ++ 10 �
 fed-end bytes done line = append_assoc (bytes ++ done) line (10 ∷ []) ∙ append_assoc bytes done (line ++ 10 ∷ [])
 
 -- a fault within the first bytes of a piece is a fault within the piece
-pub Interrupts-piece : (fault : IoFault) (session : State) (text : Option (List ℕ)) (origin : Origin) (bytes taken later piece : List ℕ) → piece ≡ taken ++ later →
+pub Interrupts-piece : (fault : IoFault) (session : State) (text : Written) (origin : Origin) (bytes taken later piece : List ℕ) → piece ≡ taken ++ later →
     Interrupts fault session text origin (bytes ++ taken) → Interrupts fault session text origin (bytes ++ piece)
 Interrupts-piece fault session text origin bytes taken later piece whole p =
     rw (fed-all bytes taken later piece whole) at (Interrupts-more fault session text origin _ later p)
 
 -- no more lines may begin
-pub Interrupts-lines : (progress : Progress) (session : State) (written : Option (List ℕ)) (origin : Origin) (bytes text rest : List ℕ) →
+pub Interrupts-lines : (progress : Progress) (session : State) (written : Written) (origin : Origin) (bytes text rest : List ℕ) →
     Stands progress session written origin bytes → 0 < length text + length rest → progress.lines ≡ LINE_LIMIT → Interrupts LineLimit session written origin ((bytes ++ text) ++ rest)
 Interrupts-lines progress session written origin bytes text rest stands some full =
     (bytes, text ++ rest, append_assoc bytes text rest, simp length-append some, Stands-within _ _ _ _ _ stands, inr (sym stands.counts_lines ∙ full), stands.performed)
@@ -61,7 +62,7 @@ over-bytes line_limit byte_limit bytes text rest none few reached over lines =
     )
 
 -- the limit leaves no room for all of these bytes
-pub Interrupts-bytes : (progress : Progress) (session : State) (written : Option (List ℕ)) (origin : Origin) (bytes text rest : List ℕ) → finished text ≡ [] →
+pub Interrupts-bytes : (progress : Progress) (session : State) (written : Written) (origin : Origin) (bytes text rest : List ℕ) → finished text ≡ [] →
     Stands progress session written origin bytes → BYTE_LIMIT - progress.bytes ≤ length text → BYTE_LIMIT - progress.bytes < length text + length rest → progress.lines < LINE_LIMIT →
     Interrupts LineLimit session written origin ((bytes ++ text) ++ rest)
 Interrupts-bytes progress session written origin bytes text rest none stands reached over few_lines =

@@ -1,5 +1,6 @@
 -- The progress of a script after more bytes.
-use Rattle.std.proofs.Common.{◌≡◌, ◌∙◌, ℕ, ◌+◌, ◌-◌, ◌<◌, List, [], ◌∷◌, ◌++◌, length, ap, arith, length-append, Option}
+use Rattle.std.proofs.Common.{◌≡◌, ◌∙◌, ℕ, ◌+◌, ◌-◌, ◌<◌, List, [], ◌∷◌, ◌++◌, length, ap, arith, length-append}
+use Rattle.pp_lines.specs.Output.{Written}
 use Rattle.pp_lines.specs.Lines.{finished, unfinished, finished_within, IsWithin, IsPrefixOf}
 use Rattle.pp_lines.proofs.LineCuts.{finished-feed}
 use Rattle.pp_lines.proofs.OpenTexts.{finished-text}
@@ -21,7 +22,7 @@ fed-within line_limit byte_limit bytes few_bytes few_lines =
     finished_within-whole line_limit byte_limit (bytes ++ 10 ∷ []) (omega (arith, size)) (omega (arith, count)) ∙ finished-feed bytes
 
 -- the bytes read so far are within the limits
-pub Stands-within : (progress : Progress) (session : State) (text : Option (List ℕ)) (origin : Origin) (bytes : List ℕ) → Stands progress session text origin bytes → IsWithin LINE_LIMIT BYTE_LIMIT bytes
+pub Stands-within : (progress : Progress) (session : State) (text : Written) (origin : Origin) (bytes : List ℕ) → Stands progress session text origin bytes → IsWithin LINE_LIMIT BYTE_LIMIT bytes
 Stands-within progress session text origin bytes stands = record {
   few_lines =
       let begun = kept-begun KEPT (unfinished bytes) (omega arith) in
@@ -36,7 +37,7 @@ Stands-within progress session text origin bytes stands = record {
 }
 
 -- bytes and a line feed finish the line within the limits
-pub Stands-finishes : (progress : Progress) (session : State) (written : Option (List ℕ)) (origin : Origin) (bytes text : List ℕ) → finished text ≡ [] →
+pub Stands-finishes : (progress : Progress) (session : State) (written : Written) (origin : Origin) (bytes text : List ℕ) → finished text ≡ [] →
     Stands progress session written origin bytes → length text < BYTE_LIMIT - progress.bytes → progress.lines < LINE_LIMIT →
     finished_within LINE_LIMIT BYTE_LIMIT ((bytes ++ text) ++ 10 ∷ []) ≡ finished bytes ++ unfinished (bytes ++ text) ∷ []
 Stands-finishes progress session written origin bytes text none stands few_bytes few_lines =
@@ -46,7 +47,7 @@ Stands-finishes progress session written origin bytes text none stands few_bytes
     rw same at (fed-within LINE_LIMIT BYTE_LIMIT (bytes ++ text) size count)
 
 -- bytes without a line feed
-pub Stands-text : (old new : Progress) (session : State) (written : Option (List ℕ)) (origin : Origin) (bytes text : List ℕ) → finished text ≡ [] →
+pub Stands-text : (old new : Progress) (session : State) (written : Written) (origin : Origin) (bytes text : List ℕ) → finished text ≡ [] →
     Stands old session written origin bytes →
     IsPrefixOf KEPT new.line (bytes ++ text) → new.bytes ≡ old.bytes + length text → new.lines ≡ old.lines → new.refused ≡ old.refused →
     Stands new session written origin (bytes ++ text)
@@ -59,7 +60,7 @@ Stands-text old new session written origin bytes text h stands kept more_bytes s
 }
 
 -- bytes without a line feed, and then a line feed
-pub Stands-line : (old new : Progress) (session session' : State) (written written' : Option (List ℕ)) (origin : Origin) (bytes text : List ℕ) → finished text ≡ [] →
+pub Stands-line : (old new : Progress) (session session' : State) (written written' : Written) (origin : Origin) (bytes text : List ℕ) → finished text ≡ [] →
     Stands old session written origin bytes →
     IsPrefixOf KEPT new.line ((bytes ++ text) ++ 10 ∷ []) → new.bytes ≡ old.bytes + (length text + 1) → new.lines ≡ old.lines + 1 →
     new.refused ≡ (run origin.start (finished bytes ++ unfinished (bytes ++ text) ∷ [])).refused →

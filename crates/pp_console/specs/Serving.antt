@@ -1,38 +1,39 @@
 -- The result of a script, as far as it was read.
 use Rattle.std.specs.Prelude.{◌≡◌, ℕ, ◌<◌, ◌⊎◌, List, [], ◌∷◌, ◌++◌, length, Option, Result, MatchResult}
-use Rattle.std.specs.Io.KnownBytes.{Appends, IsAtEnd}
+use Rattle.std.specs.Io.KnownBytes.{IsAtEnd}
 use Rattle.pp_console.specs.declared.progress.Summary.{Summary}
 use Rattle.pp_console.specs.declared.progress.TheConstants.{LINE_LIMIT, BYTE_LIMIT}
 use Rattle.pp_lines.specs.declared.fault.IoFault.{IoFault}
 use Rattle.pp_lines.specs.declared.fault.IoFault.TheVariants.{ReadFailed, WriteFailed, LineLimit}
 use Rattle.pp_lines.specs.Device.{one_more}
+use Rattle.pp_lines.specs.Output.{Appends, Written}
 use Rattle.pp_lines.specs.Lines.{lines, finished_within, IsWithin}
 use Rattle.pp_console.specs.Commands.{State, Value}
 use Rattle.pp_console.specs.Script.{run, script}
 use Rattle.pp_history.specs.SessionValue.{IsAt}
 use Rattle.pp_rig.specs.Rules.{rules}
 
--- the start of a run: a value of the session, and the text of the sink
+-- the start of a run: a value of the session, and what the sink had written
 pub record Origin : Type 0 where
   pub start : Value
-  pub before : Option (List ℕ)
+  pub before : Written
 
-abbrev pub origin_of : Value → Option (List ℕ) → Origin
+abbrev pub origin_of : Value → Written → Origin
 origin_of start before = record { start = start; before = before }
 
 -- these lines were performed, and their whole text was written
-pub record Performed (session : State) (text : Option (List ℕ)) (origin : Origin) (done : List (List ℕ)) : Type 0 where
+pub record Performed (session : State) (text : Written) (origin : Origin) (done : List (List ℕ)) : Type 0 where
   pub leaves : IsAt rules session (run origin.start done).value
   pub writes : Appends origin.before text (run origin.start done).text
 
 -- these lines and the one after them were performed, and a proper prefix of the last answer was written
-pub record Breaks (session : State) (text : Option (List ℕ)) (origin : Origin) (done : List (List ℕ)) (line : List ℕ) : Type 0 where
+pub record Breaks (session : State) (text : Written) (origin : Origin) (done : List (List ℕ)) (line : List ℕ) : Type 0 where
   pub leaves : IsAt rules session (run origin.start (done ++ line ∷ [])).value
   pub writes : (front rest : List ℕ) × Appends origin.before text ((run origin.start done).text ++ front)
       × ((run origin.start (done ++ line ∷ [])).text ≡ ((run origin.start done).text ++ front) ++ rest) × (0 < length rest)
 
 -- the whole script was performed, its text was written, and its lines were counted
-pub record Serves (summary : Summary) (session : State) (text : Option (List ℕ)) (origin : Origin) (bytes : List ℕ) : Type 0 where
+pub record Serves (summary : Summary) (session : State) (text : Written) (origin : Origin) (bytes : List ℕ) : Type 0 where
   pub performed : Performed session text origin (lines bytes)
   pub counts_lines : summary.lines ≡ length (lines bytes)
   pub counts_refused : summary.refused ≡ (script origin.start bytes).refused
@@ -45,7 +46,7 @@ IsAnswered bytes left done line later =
     ⊎ ((lines bytes ≡ done ++ line ∷ []) × IsWithin LINE_LIMIT BYTE_LIMIT bytes × IsAtEnd left)
 
 -- the result of a fault, given the bytes that were read and the remaining bytes
-abbrev pub Stops : IoFault → State → Option (List ℕ) → Origin → List ℕ → Option (List ℕ) → Type 0
+abbrev pub Stops : IoFault → State → Written → Origin → List ℕ → Option (List ℕ) → Type 0
 Stops ReadFailed session text origin bytes left = Performed session text origin (finished_within LINE_LIMIT BYTE_LIMIT bytes)
 Stops LineLimit session text origin bytes left =
     Performed session text origin (finished_within LINE_LIMIT BYTE_LIMIT bytes)

@@ -1,16 +1,17 @@
 -- Definitions for the inner contracts of serving: a script as far as it was read, and a fault that interrupts it there.
-use Rattle.std.specs.Prelude.{◌≡◌, ℕ, ◌<◌, ◌⊎◌, List, ◌∷◌, ◌++◌, length, Option}
+use Rattle.std.specs.Prelude.{◌≡◌, ℕ, ◌<◌, ◌⊎◌, List, ◌∷◌, ◌++◌, length}
 use Rattle.pp_console.specs.declared.progress.Progress.{Progress}
 use Rattle.pp_console.specs.declared.progress.TheConstants.{LINE_LIMIT, BYTE_LIMIT, KEPT}
 use Rattle.pp_lines.specs.declared.fault.IoFault.{IoFault}
 use Rattle.pp_lines.specs.declared.fault.IoFault.TheVariants.{ReadFailed, WriteFailed, LineLimit}
+use Rattle.pp_lines.specs.Output.{Written}
 use Rattle.pp_lines.specs.Lines.{finished, finished_within, IsWithin, IsPrefixOf}
 use Rattle.pp_console.specs.Commands.{State}
 use Rattle.pp_console.specs.Script.{run}
 use Rattle.pp_console.specs.Serving.{Origin, Performed, Breaks}
 
 -- the script was read as far as these bytes
-pub record Stands (progress : Progress) (session : State) (text : Option (List ℕ)) (origin : Origin) (bytes : List ℕ) : Type 0 where
+pub record Stands (progress : Progress) (session : State) (text : Written) (origin : Origin) (bytes : List ℕ) : Type 0 where
   pub keeps : IsPrefixOf KEPT progress.line bytes
   pub counts_bytes : progress.bytes ≡ length bytes
   pub counts_lines : progress.lines ≡ length (finished bytes)
@@ -18,7 +19,7 @@ pub record Stands (progress : Progress) (session : State) (text : Option (List �
   pub performed : Performed session text origin (finished bytes)
 
 -- the result of a fault among these bytes, before the end of input
-abbrev pub Interrupts : IoFault → State → Option (List ℕ) → Origin → List ℕ → Type 0
+abbrev pub Interrupts : IoFault → State → Written → Origin → List ℕ → Type 0
 Interrupts ReadFailed session text origin bytes = ⊥
 Interrupts LineLimit session text origin bytes =
     (kept more : List ℕ) × (bytes ≡ kept ++ more) × (0 < length more) × IsWithin LINE_LIMIT BYTE_LIMIT kept

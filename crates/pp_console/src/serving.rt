@@ -4,6 +4,7 @@ ghost use Rattle.std.specs.Io.KnownBytes.{Consumes, IsAtEnd};
 ghost use Rattle.pp_lines.specs.Device.{Counts};
 ghost use Rattle.pp_history.specs.SessionValue.{IsAt};
 ghost use Rattle.pp_rig.specs.Rules.{rules};
+ghost use Rattle.pp_lines.specs.Output.{Written};
 ghost use Rattle.pp_lines.specs.Lines.{IsPrefixOf, finished, unfinished};
 ghost use Rattle.pp_console.specs.Commands.{Performs, State, Value};
 ghost use Rattle.pp_console.specs.Script.{answer_line, run};
@@ -77,7 +78,7 @@ fn end_line<W: Sink>(
 /// Processes bytes of a line.
 fn feed_text(progress: &mut Progress, text: &[u8]) -> Result<(), IoFault>
     requires { finished text.now ≡ [] }
-    ensures stands { (session : State) (written : Option (List ℕ)) (origin : Origin) (bytes : List ℕ) →
+    ensures stands { (session : State) (written : Written) (origin : Origin) (bytes : List ℕ) →
         Stands progress.old session written origin bytes →
         MatchResult result
         (λ _. Stands progress.new session written origin (bytes ++ text.now))

@@ -1,57 +1,53 @@
 -- Texts that are written one after the other.
-use Rattle.std.proofs.Common.{◌≡◌, ◌∙◌, ℕ, ◌+◌, ◌-◌, List, [], ◌++◌, length, take, drop, sym, ap, append_assoc, arith, length-append, Option, None, Some}
-use Rattle.std.specs.Io.KnownBytes.{Appends, Keeps}
+use Rattle.std.proofs.Common.{◌≡◌, ◌∙◌, ℕ, ◌+◌, ◌-◌, List, [], ◌++◌, length, take, drop, sym, ap, append_assoc, arith, length-append}
+use Rattle.std.proofs.KnownBytes.{Appends-kept, Appends-nil, Appends-trans}
 use Rattle.std.proofs.lemmas.List.{append-nil}
 use Rattle.std.proofs.lemmas.Grind.{common_steps}
 use Rattle.std.proofs.Math.Seq.{take-add}
-use Rattle.pp_lines.specs.Output.{AppendsPrefix}
+use Rattle.pp_lines.specs.Output.{Appends, AppendsPrefix, Keeps, Written}
 
 -- nothing is written
-pub Appends-nothing : (known : Option (List ℕ)) → Appends known known []
-Appends-nothing None = tt
-Appends-nothing (Some text) = sym (append-nil text)
+pub Appends-nothing : (written : Written) → Appends written written []
+Appends-nothing written = (sym (append-nil written.bytes), Appends-nil written.held)
 
 -- one text after another
-pub Appends-again : (first second third : Option (List ℕ)) (a b : List ℕ) → Appends first second a → Appends second third b → Appends first third (a ++ b)
-Appends-again None second third a b p q = tt
-Appends-again (Some x) None third a b p q = absurd p
-Appends-again (Some x) (Some y) None a b p q = absurd q
-Appends-again (Some x) (Some y) (Some z) a b p q = q ∙ ap (λ text. text ++ b) p ∙ append_assoc x a b
+pub Appends-again : (first second third : Written) (a b : List ℕ) → Appends first second a → Appends second third b → Appends first third (a ++ b)
+Appends-again first second third a b p q = (
+  q.0 ∙ ap (λ text. text ++ b) p.0 ∙ append_assoc first.bytes a b,
+  Appends-trans first.held second.held third.held a b p.1 q.1,
+)
 
 -- the same text
-pub Appends-same : (first second : Option (List ℕ)) (a b : List ℕ) → a ≡ b → Appends first second a → Appends first second b
+pub Appends-same : (first second : Written) (a b : List ℕ) → a ≡ b → Appends first second a → Appends first second b
 Appends-same first second a b e p = rw e at p
 
 -- a text, and then nothing
-pub Appends-keeps : (first second third : Option (List ℕ)) (a : List ℕ) → Appends first second a → Keeps second third → Appends first third a
-Appends-keeps None second third a p q = tt
-Appends-keeps (Some x) None third a p q = absurd p
-Appends-keeps (Some x) (Some y) None a p q = absurd q
-Appends-keeps (Some x) (Some y) (Some z) a p q = q ∙ p
+pub Appends-keeps : (first second third : Written) (a : List ℕ) → Appends first second a → Keeps second third → Appends first third a
+Appends-keeps first second third a p q = (q.0 ∙ p.0, Appends-kept first.held second.held third.held a p.1 q.1)
 
 -- the slice of a text from an index on
 pub slice_from : (done : ℕ) (text : List ℕ) → take (length text - done) (drop done text) ≡ drop done text
 slice_from done text = grind (arith, common_steps)
 
 -- a piece of the text is written, from an index on
-pub Appends-further : (first second third : Option (List ℕ)) (done more : ℕ) (text : List ℕ) →
+pub Appends-further : (first second third : Written) (done more : ℕ) (text : List ℕ) →
     Appends first second (take done text) → Appends second third (take more (take (length text - done) (drop done text))) → Appends first third (take (done + more) text)
 Appends-further first second third done more text p q =
     let piece = rw slice_from at q in
     Appends-same first third (take done text ++ take more (drop done text)) (take (done + more) text) (sym (take-add done more text)) (Appends-again first second third _ _ p piece)
 
 -- a prefix of the whole text was written, and this is left
-abbrev pub Remains : Option (List ℕ) → Option (List ℕ) → List ℕ → List ℕ → Type 0
+abbrev pub Remains : Written → Written → List ℕ → List ℕ → Type 0
 Remains old new whole left = (front : List ℕ) × Appends old new front × (whole ≡ front ++ left)
 
 -- one more piece was written
-pub Remains-next : (first second third : Option (List ℕ)) (whole piece left : List ℕ) →
+pub Remains-next : (first second third : Written) (whole piece left : List ℕ) →
     Remains first second whole (piece ++ left) → Appends second third piece → Remains first third whole left
 Remains-next first second third whole piece left p q =
     (p.0 ++ piece, Appends-again first second third p.0 piece p.1 q, p.2 ∙ sym (append_assoc p.0 piece left))
 
 -- the sink failed within a piece
-pub Remains-fails : (first second third : Option (List ℕ)) (whole piece left : List ℕ) →
+pub Remains-fails : (first second third : Written) (whole piece left : List ℕ) →
     Remains first second whole (piece ++ left) → AppendsPrefix second third piece → AppendsPrefix first third whole
 Remains-fails first second third whole piece left p q = (
   p.0 ++ q.0,
@@ -65,15 +61,15 @@ Remains-fails first second third whole piece left p q = (
     regroup a b c d = simp append_assoc
 
 -- nothing is left after the last piece
-pub Remains-none : (first second : Option (List ℕ)) (whole : List ℕ) → Remains first second whole [] → Appends first second whole
+pub Remains-none : (first second : Written) (whole : List ℕ) → Remains first second whole [] → Appends first second whole
 Remains-none first second whole p = Appends-same first second p.0 whole (sym (p.2 ∙ append-nil p.0)) p.1
 
 -- the sink failed, and more text would have followed
-pub front_longer : (first second : Option (List ℕ)) (text more : List ℕ) → AppendsPrefix first second text → AppendsPrefix first second (text ++ more)
+pub front_longer : (first second : Written) (text more : List ℕ) → AppendsPrefix first second text → AppendsPrefix first second (text ++ more)
 front_longer first second text more p =
     (p.0, p.1 ++ more, p.2, ap (λ whole. whole ++ more) p.3 ∙ append_assoc p.0 p.1 more, simp length-append (omega (arith, p.4)))
 
 -- the sink failed after a text
-pub front_after : (first second third : Option (List ℕ)) (text more : List ℕ) → Appends first second text → AppendsPrefix second third more → AppendsPrefix first third (text ++ more)
+pub front_after : (first second third : Written) (text more : List ℕ) → Appends first second text → AppendsPrefix second third more → AppendsPrefix first third (text ++ more)
 front_after first second third text more p q =
     (text ++ q.0, q.1, Appends-again first second third text q.0 p q.2, ap (λ rest. text ++ rest) q.3 ∙ sym (append_assoc text q.0 q.1), q.4)

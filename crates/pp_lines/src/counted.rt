@@ -1,5 +1,5 @@
 //! A source or a sink over any reader or writer.
-ghost use Rattle.std.specs.Prelude.{◌≡◌, [], Some};
+ghost use Rattle.std.specs.Prelude.{◌≡◌, []};
 ghost use Rattle.pp_lines.specs.Device.{one_more};
 ghost use Rattle.pp_lines.specs.Counted.{device_of, failures_of, moved_by};
 
@@ -39,16 +39,6 @@ impl<D> Counted<D> {
         &self.device
     }
 
-    /// Returns the log of the bytes that were moved.
-    pub fn into_log(self) -> Log
-    where
-        D: Drop,
-        ensures { result.bytes ≡ moved_by self }
-    {
-        let log = self.log;
-        log
-    }
-
     /// Counts a failed call.
     fn count_failure(&mut self) -> Failed
         ensures device { device_of self.new ≡ device_of self.old }
@@ -80,11 +70,15 @@ impl<D: Read> Source for Counted<D> {
     fn failures(&self) -> u64 {
         self.failures
     }
+
+    fn log(&self) -> &Log {
+        &self.log
+    }
 }
 
 impl<D: Write> Sink for Counted<D> {
-    // The bytes that each call took, for an opaque writer too.
-    ghost text = { λ counted. Some (moved_by counted) };
+    // An opaque writer has no known contents, but the bytes that its calls took are known.
+    ghost text = { λ counted. record { bytes = moved_by counted; held = D.contents (device_of counted) } };
 
     ghost failure_count = { failures_of };
 

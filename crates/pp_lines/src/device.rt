@@ -2,6 +2,9 @@
 ghost use Rattle.std.specs.Prelude.{◌≡◌, ℕ, List, Option};
 ghost use Rattle.std.specs.Io.KnownBytes.{ReadConsumes, WriteAppends};
 ghost use Rattle.pp_lines.specs.Device.{Counts, AnswersWithin, Logs, TakesSome};
+ghost use Rattle.pp_lines.specs.Output.{Written};
+
+use crate::log::Log;
 
 /// A failed call of a device. It moved no byte, and the device counted it.
 #[derive(Clone, Copy, Debug, PartialEq, Eq, Drop)]
@@ -35,6 +38,10 @@ pub trait Source {
     /// Returns the number of failed calls.
     fn failures(&self) -> u64
         ensures { result ≡ failure_count self.now };
+
+    /// Returns the log of the bytes read so far.
+    fn log(&self) -> &Log
+        ensures { result.now.bytes ≡ given self.now };
 }
 
 /// A sink of bytes. It chooses how many bytes each call takes.
@@ -42,8 +49,8 @@ pub trait Source {
 /// Each `Failed` raises the count of failures by one, up to `u64::MAX`. Nothing else changes that
 /// count.
 pub trait Sink {
-    // The text written so far, if it is known.
-    ghost text: { Self → Option (List ℕ) };
+    // The bytes that its calls took so far, which every sink has, and what its device holds, if that is known.
+    ghost text: { Self → Written };
 
     // The number of failed calls, up to the largest `u64`.
     ghost failure_count: { Self → ℕ };
@@ -56,7 +63,8 @@ pub trait Sink {
     fn put(&mut self, from: &[u8]) -> Result<usize, Failed>
         ensures within { AnswersWithin result from.now }
         ensures some { TakesSome result from.now }
-        ensures bytes { WriteAppends (text self.old) (text self.new) result from.now }
+        ensures bytes { Logs (text self.old).bytes (text self.new).bytes result from.now }
+        ensures held { WriteAppends (text self.old).held (text self.new).held result from.now }
         ensures counts { Counts (failure_count self.old) (failure_count self.new) result };
 
     /// Returns the number of failed calls.

@@ -29,6 +29,15 @@ impl Log {
         }
     }
 
+    /// Returns a log of the same bytes.
+    pub fn copied(&self) -> Log
+        ensures { result.bytes ≡ self.now.bytes }
+    {
+        Log {
+            marker: PhantomData,
+        }
+    }
+
     /// Appends bytes that were moved.
     pub fn note(&mut self, _bytes: &[u8])
         ensures { self.new.bytes ≡ self.old.bytes ++ _bytes.now }

@@ -2,6 +2,7 @@
 ghost use Rattle.std.specs.Io.KnownBytes.{ReadConsumes, WriteAppends};
 ghost use Rattle.std.specs.Prelude.{◌≡◌, ◌<◌, ◌↔◌, ◌⊎◌, [], IsErr, Some, None};
 ghost use Rattle.pp_lines.specs.Device.{AnswersWithin, Counts, Logs, TakesSome, one_more};
+ghost use Rattle.pp_lines.specs.Output.{held_alone};
 ghost use Rattle.pp_lines.specs.Testing.{IsFull};
 
 use crate::device::{Failed, Sink, Source};
@@ -139,6 +140,10 @@ impl Source for Feed<'_> {
     fn failures(&self) -> u64 {
         self.calls.failures
     }
+
+    fn log(&self) -> &Log {
+        &self.log
+    }
 }
 
 /// A source that repeats one byte forever and never fails.
@@ -164,6 +169,10 @@ impl Source for Endless {
 
     fn failures(&self) -> u64 {
         0
+    }
+
+    fn log(&self) -> &Log {
+        &self.log
     }
 }
 
@@ -219,14 +228,15 @@ impl Tray {
 }
 
 impl Sink for Tray {
-    ghost text = { λ tray. Some tray.text.items };
+    ghost text = { λ tray. held_alone tray.text.items };
 
     ghost failure_count = { λ tray. tray.calls.failures };
 
     fn put(&mut self, from: &[u8]) -> Result<usize, Failed>
         ensures within { AnswersWithin result from.now }
         ensures some { TakesSome result from.now }
-        ensures bytes { WriteAppends (Some self.old.text.items) (Some self.new.text.items) result from.now }
+        ensures bytes { Logs self.old.text.items self.new.text.items result from.now }
+        ensures held { WriteAppends (Some self.old.text.items) (Some self.new.text.items) result from.now }
         ensures counts { Counts self.old.calls.failures self.new.calls.failures result }
         ensures made { self.new.calls.made ≡ one_more self.old.calls.made }
         ensures failing { self.new.calls.failing ≡ self.old.calls.failing }

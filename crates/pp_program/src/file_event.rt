@@ -1,9 +1,9 @@
 //! What happens to the files of a program.
 ghost use Rattle.pp_program.specs.FileEvent.{event_of};
-ghost use Rattle.pp_program.specs.Events.{Missing, Opened};
+ghost use Rattle.pp_program.specs.Events.{Closed, Missing, Opened};
 ghost use Rattle.std.specs.Prelude.{◌≡◌};
 
-use pp_lines::Log;
+use pp_lines::{Log, Source};
 use pp_trouble::FileKind;
 
 /// What a host logs about a file that the program asked for. Only contracts see the paths and bytes.
@@ -30,6 +30,13 @@ impl FileEvent {
         ensures { event_of result ≡ Missing kind path.now }
     {
         FileEvent::Missing(kind, path_log(path))
+    }
+
+    /// Returns the event of a file that was closed.
+    pub fn closed<S: Source>(file: &S) -> Self
+        ensures { event_of result ≡ Closed (S.given file.now) }
+    {
+        FileEvent::Closed(file.log().copied())
     }
 }
 

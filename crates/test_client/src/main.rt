@@ -1,8 +1,15 @@
 //! A client of the crates, written as a user writes one from their pages. Only the checks compile, prove and run it.
 #![tactic(auto)]
 
+ghost use Rattle.pp_console.specs.Commands.{Value};
+ghost use Rattle.pp_console.specs.Script.{script};
+ghost use Rattle.pp_history.specs.SessionValue.{IsAt};
+ghost use Rattle.pp_lines.specs.Counted.{device_of};
+ghost use Rattle.pp_rig.specs.Rules.{rules};
+ghost use Rattle.std.specs.Prelude.{◌≡◌, ◌++◌, OnOk};
+
 use arrayvec::ArrayVec;
-use pp_console::{Counted, load_deck, serve};
+use pp_console::{Counted, IoFault, Summary, load_deck, serve};
 use pp_history::{Looks, Reversible, Session};
 use pp_rig::{Action, CentralSize, Place, Rig, Setup, Values, Watched, run};
 use std::alloc::Global;
@@ -45,6 +52,22 @@ fn load(session: &mut Session<Rig>) -> bool {
     act(session, cells) && act(session, Action::SetP { pp: 0, v: 0o100 })
 }
 
+/// Performs a script, and adds its answers to the bytes that a vector holds. A caller that knows its writer learns from
+/// `serve` what that writer holds afterwards.
+///
+/// # Errors
+/// `WriteFailed` and `LineLimit`.
+fn answer_into(
+    session: &mut Session<Rig>,
+    typed: &[u8],
+    answers: &mut Counted<Vec<u8>>,
+) -> Result<Summary, IoFault>
+    ensures { (start : Value) → IsAt rules session.old start → OnOk result
+        ((device_of answers.new).items ≡ (device_of answers.old).items ++ (script start typed.now).text) }
+{
+    serve(session, &mut Counted::new(typed), answers)
+}
+
 /// Runs up to the store, goes back to just before it, and goes forward again.
 fn work(rt: &HostRuntime) -> Option<()> {
     let mut session = session(rt.alloc())?;
@@ -72,6 +95,9 @@ fn work(rt: &HostRuntime) -> Option<()> {
     )
     .ok()?;
     let _ = println!(rt; "lines {}, refused {}", summary.lines, summary.refused);
+    let mut answers = Counted::new(Vec::new(rt.alloc()));
+    answer_into(&mut session, b"BACK\nSTEP\n", &mut answers).ok()?;
+    let _ = println!(rt; "bytes {}", answers.device().len());
     Some(())
 }
 

@@ -1,5 +1,5 @@
 use Rattle.std.proofs.Common.{length, take, ◌-◌, ◌≡◌, ◌≤◌}
-use Rattle.std.specs.Io.KnownBytes.{Appends}
+use Rattle.pp_lines.specs.Output.{Appends}
 use Rattle.pp_lines.proofs.output.put_all.Given as goal
 
 abbrev pub invariant-loop-written : goal.invariant-loop-written
