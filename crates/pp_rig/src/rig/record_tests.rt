@@ -8,9 +8,8 @@ mod whole;
 use super::*;
 use crate::lists::list_of;
 use crate::setup::Setup;
-use crate::tests::deck_of;
-use crate::values::Values;
-use std::alloc::Global;
+use crate::tests::{Step, action_of, check_numbers, deck_of, perform_all};
+use std::alloc::{AllocError, Global};
 use std::process::Abort;
 use std::test::Fail;
 use whole::{is_short_true_of, is_true_of, numbers_at, places_of};
@@ -62,8 +61,8 @@ fn made_anew(back: RigRecord) -> RigRecord
 }
 
 /// Returns a machine with one card in the reader, on channel 0o10, and the printer on channel 0o11.
-fn make(alloc: Global) -> Result<Rig, &'static str> {
-    let deck = deck_of(alloc, 1, 0o1234).map_err(|_| "memory")?;
+fn make(alloc: Global) -> Result<Rig, Fail> {
+    let deck = deck_of(alloc, 1, 0o1234)?;
     let setup = Setup {
         central: CentralSize::K32,
         reader: 8,
@@ -71,39 +70,76 @@ fn make(alloc: Global) -> Result<Rig, &'static str> {
         deck,
         panel: Some([0o1405, 0o3420, 0o300, 0, 0, 0, 0, 0, 0, 0, 0, 0]),
     };
-    Rig::new(alloc, setup).map_err(|_| "refused")
+    match Rig::new(alloc, setup) {
+        Ok(rig) => Ok(rig),
+        Err(_) => Err("refused".into()),
+    }
 }
 
-/// Does what `act_and_back` does, with a short record, if the action leaves one.
-fn act_short_and_back(
+/// Returns whether the machine has these numbers at the places.
+fn has_numbers(
+    alloc: Global,
+    rig: &Rig,
+    places: &[Place],
+    numbers: &[u64],
+) -> Result<bool, AllocError> {
+    Ok(numbers_at(alloc, rig, places)?.as_slice() == numbers)
+}
+
+/// Performs an action, checks that its record has the old number of each place that changed, and undoes it by the rebuilt
+/// record. Returns the numbers after the action.
+fn act_and_undo(
     rt: &impl Abort,
     alloc: Global,
     rig: &mut Rig,
     places: &[Place],
     action: &Action,
+    before: &[u64],
+) -> Result<Vec<u64>, Fail> {
+    assert!(rt; rig.admits(action));
+    let record = rig.act(action);
+    let after = numbers_at(alloc, rig, places)?;
+    assert!(rt; before != after.as_slice());
+    assert!(rt; is_true_of(&record, places, before, after.as_slice()));
+    rig.undo(made_anew(record));
+    assert!(rt; has_numbers(alloc, rig, places, before)?);
+    Ok(after)
+}
+
+/// Checks that a short record has the old number of each place that changed, and that the whole record made of it has.
+fn check_short(
+    rt: &impl Abort,
+    short: &ShortTurn,
+    places: &[Place],
+    before: &[u64],
+    after: &[u64],
+) {
+    assert!(rt; is_true_of(&Rig::lengthen(short), places, before, after));
+    assert!(rt; is_short_true_of(short, places, before, after));
+}
+
+/// Performs an action and undoes it with a short record, if the action leaves one.
+fn act_short_and_undo(
+    rt: &impl Abort,
+    alloc: Global,
+    rig: &mut Rig,
+    places: &[Place],
+    action: &Action,
+    before: &[u64],
 ) -> Result<(), Fail> {
-    let before = numbers_at(alloc, rig, places)?;
     let mut short = ShortTurn::blank();
     assert!(rt; rig.admits(action));
     if rig.act_short(action, &mut short) {
         let after = numbers_at(alloc, rig, places)?;
-        assert!(rt;
-            is_true_of(
-                &Rig::lengthen(&short),
-                places,
-                before.as_slice(),
-                after.as_slice()
-            )
-        );
-        assert!(rt; is_short_true_of(&short, places, before.as_slice(), after.as_slice()));
+        check_short(rt, &short, places, before, after.as_slice());
         rig.undo_short(&short);
-        assert!(rt; numbers_at(alloc, rig, places)?.as_slice() == before.as_slice());
+        assert!(rt; has_numbers(alloc, rig, places, before)?);
     }
     Ok(())
 }
 
-/// Performs an action, undoes it by the rebuilt record, and performs it again. Checks every number of the machine each
-/// time, and checks that the record has the old number of each place that changed.
+/// Performs an action, undoes it by each of its records, and performs it again. Checks every number of the machine each
+/// time.
 fn act_and_back(
     rt: &impl Abort,
     alloc: Global,
@@ -112,18 +148,12 @@ fn act_and_back(
     action: &Action,
 ) -> Result<(), Fail> {
     let before = numbers_at(alloc, rig, places)?;
-    assert_eq!(rt; before.len(), places.len());
-    assert!(rt; rig.admits(action));
-    let record = rig.act(action);
-    let after = numbers_at(alloc, rig, places)?;
-    assert!(rt; before.as_slice() != after.as_slice());
-    assert!(rt; is_true_of(&record, places, before.as_slice(), after.as_slice()));
-    rig.undo(made_anew(record));
-    assert!(rt; numbers_at(alloc, rig, places)?.as_slice() == before.as_slice());
-    act_short_and_back(rt, alloc, rig, places, action)?;
+    assert!(rt; before.len() == places.len());
+    let after = act_and_undo(rt, alloc, rig, places, action, before.as_slice())?;
+    act_short_and_undo(rt, alloc, rig, places, action, before.as_slice())?;
     assert!(rt; rig.admits(action));
     let _record = rig.act(action);
-    assert!(rt; numbers_at(alloc, rig, places)?.as_slice() == after.as_slice());
+    assert!(rt; has_numbers(alloc, rig, places, after.as_slice())?);
     Ok(())
 }
 
@@ -133,161 +163,132 @@ fn act_all(
     alloc: Global,
     rig: &mut Rig,
     places: &[Place],
-    actions: &[Action],
+    steps: &[Step],
 ) -> Result<(), Fail> {
-    for action in actions {
-        act_and_back(rt, alloc, rig, places, action)?;
+    for step in steps {
+        if let Some(action) = action_of(step) {
+            act_and_back(rt, alloc, rig, places, &action)?;
+        }
     }
     Ok(())
 }
 
-/// Performs each action in turn.
-fn perform_all(rt: &impl Abort, rig: &mut Rig, actions: &[Action]) {
-    for action in actions {
-        assert!(rt; rig.admits(action));
-        let _record = rig.act(action);
+/// Performs the actions of the first lists on a new machine, and runs `act_and_back` for each of the others.
+fn lead_back(
+    rt: &impl Abort,
+    alloc: Global,
+    first: &[&[Step]],
+    others: &[Step],
+) -> Result<Rig, Fail> {
+    let mut rig = make(alloc)?;
+    let places = places_of(alloc, 0o100000)?;
+    for steps in first {
+        perform_all(rt, &mut rig, steps);
     }
+    act_all(rt, alloc, &mut rig, places.as_slice(), others)?;
+    Ok(rig)
 }
 
-/// Performs turns until it is this processor's turn.
-fn turn_to(rt: &impl Abort, rig: &mut Rig, slot: u8) {
-    for _turn in 0..10u8 {
-        if rig.slot() != slot {
-            assert!(rt; rig.admits(&Action::Turn));
-            let _record = rig.act(&Action::Turn);
-        }
-    }
-    assert_eq!(rt; rig.slot(), slot);
-}
-
-fn set_cells(pp: u8, a: u16, words: &[u16]) -> Action {
-    let mut values = ArrayVec::new();
-    for word in words {
-        if values.len() < 8 {
-            values.push(*word);
-        }
-    }
-    Action::SetCells {
-        pp,
-        a,
-        values: Values::new(values),
-    }
-}
-
-fn set_channel(c: u8, state: pp_machine::ChannelState, word: u16) -> Action {
-    Action::SetChannel {
-        c,
-        state,
-        word: Some(word),
-    }
-}
-
-/// Returns the settings of every kind of number, and a turn.
-fn settings() -> [Action; 7] {
-    [
-        set_cells(0, 0o7777, &[0o1405, 0o7777]),
-        Action::SetP { pp: 0, v: 0o7777 },
-        Action::Turn,
-        Action::SetA { pp: 0, v: 0o777777 },
-        Action::SetQ { pp: 9, v: 0o7777 },
-        Action::SetWord { a: 0o77777, v: 1 },
-        set_channel(3, pp_machine::ChannelState::Full, 0o17),
-    ]
-}
+/// Settings of every kind of number, and a turn.
+const SETTINGS: [Step; 7] = [
+    Step::Cells(0, 0o7777, &[0o1405, 0o7777]),
+    Step::SetP(0, 0o7777),
+    Step::Turn,
+    Step::SetA(0, 0o777777),
+    Step::SetQ(9, 0o7777),
+    Step::SetWord(0o77777, 1),
+    Step::SetChannel(3, pp_machine::ChannelState::Full, Some(0o17)),
+];
 
 #[test]
 fn the_record_of_each_setting_leads_back(rt: HostRuntime) -> Result<(), Fail> {
-    let mut rig = make(rt.alloc())?;
-    let places = places_of(rt.alloc(), 0o100000)?;
-    act_all(&rt, rt.alloc(), &mut rig, places.as_slice(), &settings())
+    let _rig = lead_back(&rt, rt.alloc(), &[], &SETTINGS)?;
+    Ok(())
 }
+
+const WATCHES: [Step; 3] = [
+    Step::Watch(Watched::RegA { pp: 0 }),
+    Step::Watch(Watched::RegP { pp: 0 }),
+    Step::Unwatch(Watched::RegA { pp: 0 }),
+];
 
 #[test]
 fn the_records_of_watches_lead_back(rt: HostRuntime) -> Result<(), Fail> {
-    let mut rig = make(rt.alloc())?;
-    let places = places_of(rt.alloc(), 0o100000)?;
-    let actions = [
-        Action::Watch(Watched::RegA { pp: 0 }),
-        Action::Watch(Watched::RegP { pp: 0 }),
-        Action::Unwatch(Watched::RegA { pp: 0 }),
-    ];
-    act_all(&rt, rt.alloc(), &mut rig, places.as_slice(), &actions)
+    let _rig = lead_back(&rt, rt.alloc(), &[], &WATCHES)?;
+    Ok(())
 }
 
 #[test]
 fn the_record_of_a_dead_start_leads_back(rt: HostRuntime) -> Result<(), Fail> {
-    let mut rig = make(rt.alloc())?;
-    let places = places_of(rt.alloc(), 0o100000)?;
-    perform_all(&rt, &mut rig, &settings());
-    act_and_back(
-        &rt,
-        rt.alloc(),
-        &mut rig,
-        places.as_slice(),
-        &Action::Deadstart,
-    )
+    let _rig = lead_back(&rt, rt.alloc(), &[&SETTINGS], &[Step::Deadstart])?;
+    Ok(())
 }
+
+const SETTINGS_AND_DEADSTART: [&[Step]; 2] = [&SETTINGS, &[Step::Deadstart]];
 
 #[test]
 fn the_record_of_a_turn_after_a_dead_start_leads_back(rt: HostRuntime) -> Result<(), Fail> {
-    let mut rig = make(rt.alloc())?;
-    let places = places_of(rt.alloc(), 0o100000)?;
-    perform_all(&rt, &mut rig, &settings());
-    perform_all(&rt, &mut rig, &[Action::Deadstart]);
-    act_and_back(&rt, rt.alloc(), &mut rig, places.as_slice(), &Action::Turn)
+    let _rig = lead_back(&rt, rt.alloc(), &SETTINGS_AND_DEADSTART, &[Step::Turn])?;
+    Ok(())
 }
+
+const BEFORE_THE_EXCHANGE: [Step; 4] = [
+    Step::Cells(0, 0o100, &[0o2600]),
+    Step::SetP(0, 0o100),
+    Step::SetA(0, 0o77770),
+    Step::SetWord(0o77777, (1 << 60) - 1),
+];
 
 /// An exchange in slot 0 changes central memory, the frame and P.
 #[test]
 fn an_exchange_leads_back(rt: HostRuntime) -> Result<(), Fail> {
-    let mut rig = make(rt.alloc())?;
-    let places = places_of(rt.alloc(), 0o100000)?;
-    let actions = [
-        set_cells(0, 0o100, &[0o2600]),
-        Action::SetP { pp: 0, v: 0o100 },
-        Action::SetA { pp: 0, v: 0o77770 },
-        Action::SetWord {
-            a: 0o77777,
-            v: (1 << 60) - 1,
-        },
-    ];
-    perform_all(&rt, &mut rig, &actions);
-    act_and_back(&rt, rt.alloc(), &mut rig, places.as_slice(), &Action::Turn)?;
-    assert_eq!(rt; rig.value(&Place::FrameWord { i: 7 }), (1 << 60) - 1);
+    let rig = lead_back(&rt, rt.alloc(), &[&BEFORE_THE_EXCHANGE], &[Step::Turn])?;
+    assert!(rt; rig.value(&Place::FrameWord { i: 7 }) == (1 << 60) - 1);
     Ok(())
 }
+
+const CALLS: [Step; 4] = [
+    Step::Cells(0, 0o100, &[0o7710, 1]),
+    Step::SetP(0, 0o100),
+    Step::Cells(1, 0o100, &[0o7711, 1]),
+    Step::SetP(1, 0o100),
+];
+
+/// The turns of slots 2 to 0o10, and what the last turn needs.
+const BEFORE_THE_LAST: [Step; 12] = [
+    Step::Turn,
+    Step::Turn,
+    Step::Turn,
+    Step::Turn,
+    Step::Turn,
+    Step::Turn,
+    Step::Turn,
+    Step::Cells(9, 0o100, &[0o3420]),
+    Step::SetP(9, 0o100),
+    Step::SetA(9, 0o4321),
+    Step::SetChannel(8, pp_machine::ChannelState::Empty, Some(0)),
+    Step::SetChannel(9, pp_machine::ChannelState::Full, Some(0o0102)),
+];
+
+const AFTER_THE_LAST: [(Place, u64); 6] = [
+    (Place::Cell { pp: 9, a: 0o20 }, 0o4321),
+    (Place::CardColumn, 1),
+    (Place::ChannelWord { c: 8 }, 0o1234),
+    (Place::PaperSymbol { k: 1 }, 2),
+    (Place::Clock, 1),
+    (Place::Slot, 0),
+];
 
 /// In one turn of slot 0o11 a processor stores, the reader sends a column, the printer prints two symbols, and the
 /// clock ticks.
 #[test]
 fn a_turn_of_all_parts_leads_back(rt: HostRuntime) -> Result<(), Fail> {
-    let mut rig = make(rt.alloc())?;
+    let mut rig = lead_back(&rt, rt.alloc(), &[&CALLS], &[Step::Turn, Step::Turn])?;
+    perform_all(&rt, &mut rig, &BEFORE_THE_LAST);
+    assert!(rt; rig.slot() == 9);
     let places = places_of(rt.alloc(), 0o100000)?;
-    let actions = [
-        set_cells(0, 0o100, &[0o7710, 1]),
-        Action::SetP { pp: 0, v: 0o100 },
-        set_cells(1, 0o100, &[0o7711, 1]),
-        Action::SetP { pp: 1, v: 0o100 },
-    ];
-    perform_all(&rt, &mut rig, &actions);
-    let turns = [Action::Turn, Action::Turn];
-    act_all(&rt, rt.alloc(), &mut rig, places.as_slice(), &turns)?;
-    turn_to(&rt, &mut rig, 9);
-    let actions = [
-        set_cells(9, 0o100, &[0o3420]),
-        Action::SetP { pp: 9, v: 0o100 },
-        Action::SetA { pp: 9, v: 0o4321 },
-        set_channel(8, pp_machine::ChannelState::Empty, 0),
-        set_channel(9, pp_machine::ChannelState::Full, 0o0102),
-    ];
-    perform_all(&rt, &mut rig, &actions);
-    act_and_back(&rt, rt.alloc(), &mut rig, places.as_slice(), &Action::Turn)?;
-    assert_eq!(rt; rig.value(&Place::Cell { pp: 9, a: 0o20 }), 0o4321);
-    assert_eq!(rt; rig.value(&Place::CardColumn), 1);
-    assert_eq!(rt; rig.value(&Place::ChannelWord { c: 8 }), 0o1234);
-    assert_eq!(rt; rig.value(&Place::PaperSymbol { k: 1 }), 2);
-    assert_eq!(rt; rig.value(&Place::Clock), 1);
-    assert_eq!(rt; rig.slot(), 0);
+    act_all(&rt, rt.alloc(), &mut rig, places.as_slice(), &[Step::Turn])?;
+    check_numbers(&rt, &rig, &AFTER_THE_LAST);
     Ok(())
 }
 

@@ -1,5 +1,4 @@
 //! Dead starts.
-ghost use Rattle.std.specs.Prelude.{◌<◌};
 
 use super::*;
 
@@ -7,89 +6,112 @@ use super::*;
 const PANEL: [u16; 12] = [0o1405, 0o3420, 0o300, 0, 0, 0, 0, 0, 0, 0, 0, 0];
 
 /// Returns a machine with this panel, with the reader on channel 5 and one card.
-fn make_with_panel(alloc: Global) -> Result<Session<Rig>, &'static str> {
-    let deck = deck_of(alloc, 1, 1).map_err(|_| "memory")?;
+fn make_with_panel(alloc: Global) -> Result<Rig, Fail> {
     let setup = Setup {
         central: CentralSize::K32,
         reader: 5,
         printer: 9,
-        deck,
+        deck: deck_of(alloc, 1, 1)?,
         panel: Some(PANEL),
     };
-    let rig = Rig::new(alloc, setup).map_err(|_| "memory")?;
-    Session::new(alloc, rig, 100).map_err(|_| "memory")
+    match Rig::new(alloc, setup) {
+        Ok(rig) => Ok(rig),
+        Err(_) => Err("refused".into()),
+    }
 }
 
-/// Returns A, P, Q and the phase of a processor.
-fn registers(session: &Session<Rig>, pp: u8) -> [u64; 4]
-    requires { pp < 10 }
-{
-    let machine = session.machine();
-    [
-        machine.value(&Place::RegA { pp }),
-        machine.value(&Place::RegP { pp }),
-        machine.value(&Place::RegQ { pp }),
-        machine.value(&Place::Phase { pp }),
-    ]
+/// Performs the steps of a test on a new machine with the panel.
+fn follow_with_panel(rt: &impl Abort, alloc: Global, steps: &[Step]) -> Result<(), Fail> {
+    let mut session = session_of(alloc, make_with_panel(alloc)?)?;
+    follow(rt, &mut session, steps);
+    Ok(())
 }
+
+const PHASE: Place = Place::Phase { pp: 0 };
+
+const A_1: Place = Place::RegA { pp: 1 };
+
+const P_1: Place = Place::RegP { pp: 1 };
+
+const Q_1: Place = Place::RegQ { pp: 1 };
+
+const PHASE_1: Place = Place::Phase { pp: 1 };
+
+const STARTS_AND_GOES_BACK: [Step; 21] = [
+    Step::Deadstart,
+    Step::Runs(1),
+    Step::Is(SLOT, 1),
+    Step::Is(A, 5),
+    Step::Is(P, 2),
+    Step::Is(Q, 0),
+    Step::Is(PHASE, 0),
+    Step::Is(A_1, 0o10000),
+    Step::Is(P_1, 0),
+    Step::Is(Q_1, 0),
+    Step::Is(PHASE_1, 0o7101),
+    Step::Back(2, None),
+    Step::Is(SLOT, 0),
+    Step::Is(A, 0),
+    Step::Is(P, 0),
+    Step::Is(Q, 0),
+    Step::Is(PHASE, 0),
+    Step::Is(A_1, 0),
+    Step::Is(P_1, 0),
+    Step::Is(Q_1, 0),
+    Step::Is(PHASE_1, 0),
+];
 
 #[test]
 fn starts_at_the_panel_and_goes_back(rt: HostRuntime) -> Result<(), Fail> {
-    let mut session = make_with_panel(rt.alloc())?;
-    assert_eq!(rt; session.machine().check(&Action::Deadstart), Ok(()));
-    act(&rt, &mut session, Action::Deadstart);
-    assert_eq!(rt; run(&mut session, 1).turns, 1);
-    assert_eq!(rt; session.machine().slot(), 1);
-    assert_eq!(rt; registers(&session, 0), [5, 2, 0, 0]);
-    assert_eq!(rt; registers(&session, 1), [0o10000, 0, 0, 0o7101]);
-    assert!(rt; session.back(2).is_ok());
-    assert_eq!(rt; session.machine().slot(), 0);
-    assert_eq!(rt; registers(&session, 0), [0, 0, 0, 0]);
-    assert_eq!(rt; registers(&session, 1), [0, 0, 0, 0]);
-    Ok(())
+    follow_with_panel(&rt, rt.alloc(), &STARTS_AND_GOES_BACK)
 }
+
+const LAST: Place = Place::Cell { pp: 0, a: 0o15 };
+
+const SETS_CHANNELS: [Step; 21] = [
+    Step::Cells(0, 0o15, &[0o1234]),
+    Step::SetChannel(0o12, ChannelState::Full, Some(0o17)),
+    Step::Deadstart,
+    Step::Is(LAST, 0),
+    Step::Is(Place::ChannelMode { c: 0 }, 0),
+    Step::Is(Place::ChannelMode { c: 1 }, 1),
+    Step::Is(Place::ChannelMode { c: 2 }, 1),
+    Step::Is(Place::ChannelMode { c: 3 }, 1),
+    Step::Is(Place::ChannelMode { c: 4 }, 1),
+    Step::Is(Place::ChannelMode { c: 5 }, 1),
+    Step::Is(Place::ChannelMode { c: 6 }, 1),
+    Step::Is(Place::ChannelMode { c: 7 }, 1),
+    Step::Is(Place::ChannelMode { c: 0o10 }, 1),
+    Step::Is(Place::ChannelMode { c: 0o11 }, 1),
+    Step::Is(Place::ChannelMode { c: 0o12 }, 0),
+    Step::Is(Place::ChannelMode { c: 0o13 }, 0),
+    Step::Is(Place::ChannelWord { c: 0o12 }, 0o17),
+    Step::Back(1, None),
+    Step::Is(LAST, 0o1234),
+    Step::Is(Place::ChannelMode { c: 0o12 }, 2),
+    Step::Is(Place::ChannelMode { c: 1 }, 0),
+];
 
 #[test]
 fn sets_channels_and_the_last_cell(rt: HostRuntime) -> Result<(), Fail> {
-    let mut session = make_with_panel(rt.alloc())?;
-    set_cells(&rt, &mut session, 0o15, &[0o1234]);
-    let full = Action::SetChannel {
-        c: 0o12,
-        state: ChannelState::Full,
-        word: Some(0o17),
-    };
-    act(&rt, &mut session, full);
-    act(&rt, &mut session, Action::Deadstart);
-    let last = Place::Cell { pp: 0, a: 0o15 };
-    assert_eq!(rt; session.machine().value(&last), 0);
-    for c in 0..12u8 {
-        let state = if c >= 1 && c <= 0o11 { 1 } else { 0 };
-        assert_eq!(rt; session.machine().value(&Place::ChannelMode { c }), state);
-    }
-    assert_eq!(rt;
-        session.machine().value(&Place::ChannelWord { c: 0o12 }),
-        0o17
-    );
-    assert!(rt; session.back(1).is_ok());
-    assert_eq!(rt; session.machine().value(&last), 0o1234);
-    assert_eq!(rt; session.machine().value(&Place::ChannelMode { c: 0o12 }), 2);
-    assert_eq!(rt; session.machine().value(&Place::ChannelMode { c: 1 }), 0);
-    Ok(())
+    follow_with_panel(&rt, rt.alloc(), &SETS_CHANNELS)
 }
+
+const GOES_ON_READING: [Step; 11] = [
+    Step::Cells(0, 0o100, &[0o7705, 0o0001]),
+    Step::SetP(0, 0o100),
+    Step::Runs(1),
+    Step::Is(Place::ReaderMode, 1),
+    Step::Is(Place::ChannelMode { c: 5 }, 0),
+    Step::Deadstart,
+    Step::Is(Place::ReaderMode, 1),
+    Step::Runs(1),
+    Step::Is(Place::ChannelMode { c: 5 }, 2),
+    Step::Is(Place::ChannelWord { c: 5 }, 0o1),
+    Step::Is(Place::CardColumn, 1),
+];
 
 #[test]
 fn a_reader_that_was_reading_goes_on(rt: HostRuntime) -> Result<(), Fail> {
-    let mut session = make_with_panel(rt.alloc())?;
-    set_cells(&rt, &mut session, 0o100, &[0o7705, 0o0001]);
-    act(&rt, &mut session, Action::SetP { pp: 0, v: 0o100 });
-    assert_eq!(rt; run(&mut session, 1).turns, 1);
-    assert_eq!(rt; session.machine().value(&Place::ReaderMode), 1);
-    assert_eq!(rt; session.machine().value(&Place::ChannelMode { c: 5 }), 0);
-    act(&rt, &mut session, Action::Deadstart);
-    assert_eq!(rt; session.machine().value(&Place::ReaderMode), 1);
-    assert_eq!(rt; run(&mut session, 1).turns, 1);
-    assert_eq!(rt; session.machine().value(&Place::ChannelMode { c: 5 }), 2);
-    assert_eq!(rt; session.machine().value(&Place::ChannelWord { c: 5 }), 0o1);
-    assert_eq!(rt; session.machine().value(&Place::CardColumn), 1);
-    Ok(())
+    follow_with_panel(&rt, rt.alloc(), &GOES_ON_READING)
 }

@@ -1,182 +1,225 @@
 //! Runs of turns, and the places that are watched meanwhile.
 
 use super::*;
-use pp_history::BackFault;
 
 const CELL_50: Watched = Watched::Cell { pp: 0, a: 0o50 };
 
-fn back_to_change(session: &mut Session<Rig>) -> Result<u32, BackFault> {
-    let places = session.machine().watched_places();
-    session.back_to_change(places.as_slice())
-}
+const WATCHED_A: Watched = Watched::RegA { pp: 0 };
 
-/// Returns what a run returns whose last turn changes the number of this place.
-fn hit(turns: u32, place: Watched, was: u64, now: u64) -> Stopped {
-    Stopped {
-        turns,
-        hit: Some(Hit { place, was, now }),
-    }
-}
+const WATCHED_P: Watched = Watched::RegP { pp: 0 };
 
-/// Puts a program at 0o100 that loads 5 into A and stores it in cell 0o50, and starts there.
-fn start_storing(rt: &impl Abort, session: &mut Session<Rig>) {
-    set_cells(rt, session, 0o100, &[0o1405, 0o2400, 0o3450]);
-    act(rt, session, Action::SetP { pp: 0, v: 0o100 });
-    act(rt, session, Action::Watch(CELL_50));
-}
+const WORD_5: Watched = Watched::Central { a: 0o5 };
+
+const CHANNEL_3: Watched = Watched::Register { c: 3 };
+
+const REGISTER_14: Watched = Watched::Register { c: 0o14 };
+
+/// A program at 0o100 loads 5 into A and stores it in cell 0o50.
+const STOPS_AND_GOES_BACK: [Step; 9] = [
+    Step::Cells(0, 0o100, &[0o1405, 0o2400, 0o3450]),
+    Step::SetP(0, 0o100),
+    Step::Watch(CELL_50),
+    Step::Stops(
+        0o1000,
+        0o25,
+        Hit {
+            place: CELL_50,
+            was: 0,
+            now: 5,
+        },
+    ),
+    Step::Is(SLOT, 1),
+    Step::BackToChange(Ok(1)),
+    Step::Is(Place::Cell { pp: 0, a: 0o50 }, 0),
+    Step::BackToChange(Err(BackFault::NoChange { kept: 0o27 })),
+    Step::Is(Place::Cell { pp: 0, a: 0o50 }, 0),
+];
 
 #[test]
 fn stops_at_a_changed_cell_and_goes_back(rt: HostRuntime) -> Result<(), Fail> {
-    let mut session = make(rt.alloc())?;
-    start_storing(&rt, &mut session);
-    assert_eq!(rt; run(&mut session, 0o1000), hit(0o25, CELL_50, 0, 5));
-    assert_eq!(rt; session.machine().value(&Place::Slot), 1);
-    assert_eq!(rt; back_to_change(&mut session), Ok(1));
-    assert_eq!(rt; session.machine().value(&CELL_50.place()), 0);
-    assert_eq!(rt;
-        back_to_change(&mut session),
-        Err(BackFault::NoChange { kept: 0o27 })
-    );
-    assert_eq!(rt; session.machine().value(&CELL_50.place()), 0);
-    Ok(())
+    follow_anew(&rt, rt.alloc(), &STOPS_AND_GOES_BACK)
 }
+
+/// The same program, with 5 in the cell already.
+const STORES_THE_SAME: [Step; 8] = [
+    Step::Cells(0, 0o50, &[5]),
+    Step::Cells(0, 0o100, &[0o1405, 0o2400, 0o3450]),
+    Step::SetP(0, 0o100),
+    Step::Watch(CELL_50),
+    Step::Runs(0o1000),
+    Step::Is(SLOT, 2),
+    Step::BackToChange(Ok(0o1004)),
+    Step::Watches(&[]),
+];
 
 #[test]
 fn a_store_of_the_same_number_is_no_change(rt: HostRuntime) -> Result<(), Fail> {
-    let mut session = make(rt.alloc())?;
-    set_cells(&rt, &mut session, 0o50, &[5]);
-    start_storing(&rt, &mut session);
-    let stopped = run(&mut session, 0o1000);
-    assert_eq!(rt; stopped.turns, 0o1000);
-    assert_eq!(rt; stopped.hit, None);
-    assert_eq!(rt; session.machine().value(&Place::Slot), 2);
-    assert_eq!(rt; back_to_change(&mut session), Ok(0o1004));
-    assert!(rt; session.machine().watches().is_empty());
-    Ok(())
+    follow_anew(&rt, rt.alloc(), &STORES_THE_SAME)
 }
+
+const WATCHES_THE_CLOCK: [Step; 6] = [
+    Step::Watch(REGISTER_14),
+    Step::Stops(
+        0o1000,
+        0o12,
+        Hit {
+            place: REGISTER_14,
+            was: 0,
+            now: 1,
+        },
+    ),
+    Step::Is(SLOT, 0),
+    Step::BackToChange(Ok(1)),
+    Step::Is(SLOT, 0o11),
+    Step::BackToChange(Err(BackFault::NoChange { kept: 0o12 })),
+];
 
 #[test]
 fn the_clock_is_watched_as_register_14(rt: HostRuntime) -> Result<(), Fail> {
-    let mut session = make(rt.alloc())?;
-    let clock = Watched::Register { c: 0o14 };
-    act(&rt, &mut session, Action::Watch(clock));
-    assert_eq!(rt; run(&mut session, 0o1000), hit(0o12, clock, 0, 1));
-    assert_eq!(rt; session.machine().value(&Place::Slot), 0);
-    assert_eq!(rt; back_to_change(&mut session), Ok(1));
-    assert_eq!(rt; session.machine().value(&Place::Slot), 0o11);
-    assert_eq!(rt;
-        back_to_change(&mut session),
-        Err(BackFault::NoChange { kept: 0o12 })
-    );
-    Ok(())
+    follow_anew(&rt, rt.alloc(), &WATCHES_THE_CLOCK)
 }
 
-/// Performs the turn that loads A and advances P, with these two places watched.
-fn load(
-    rt: &impl Abort,
-    alloc: Global,
-    first: Watched,
-    second: Watched,
-) -> Result<Stopped, &'static str> {
-    let mut session = make(alloc)?;
-    set_cells(rt, &mut session, 0o100, &[0o1405]);
-    act(rt, &mut session, Action::SetP { pp: 0, v: 0o100 });
-    act(rt, &mut session, Action::Watch(first));
-    act(rt, &mut session, Action::Watch(second));
-    Ok(run(&mut session, 1))
-}
+// The turn that loads A advances P, too.
+const WATCHES_A_AND_P: [Step; 5] = [
+    Step::Cells(0, 0o100, &[0o1405]),
+    Step::SetP(0, 0o100),
+    Step::Watch(WATCHED_A),
+    Step::Watch(WATCHED_P),
+    Step::Stops(
+        1,
+        1,
+        Hit {
+            place: WATCHED_A,
+            was: 0,
+            now: 5,
+        },
+    ),
+];
+
+const WATCHES_P_AND_A: [Step; 5] = [
+    Step::Cells(0, 0o100, &[0o1405]),
+    Step::SetP(0, 0o100),
+    Step::Watch(WATCHED_P),
+    Step::Watch(WATCHED_A),
+    Step::Stops(
+        1,
+        1,
+        Hit {
+            place: WATCHED_P,
+            was: 0o100,
+            now: 0o101,
+        },
+    ),
+];
 
 #[test]
 fn the_hit_is_the_first_in_watch_order(rt: HostRuntime) -> Result<(), Fail> {
-    let a = Watched::RegA { pp: 0 };
-    let p = Watched::RegP { pp: 0 };
-    assert_eq!(rt; load(&rt, rt.alloc(), a, p)?, hit(1, a, 0, 5));
-    assert_eq!(rt; load(&rt, rt.alloc(), p, a)?, hit(1, p, 0o100, 0o101));
-    Ok(())
+    follow_anew(&rt, rt.alloc(), &WATCHES_A_AND_P)?;
+    follow_anew(&rt, rt.alloc(), &WATCHES_P_AND_A)
 }
+
+const NO_TURNS: [Step; 3] = [Step::Watch(WATCHED_P), Step::Runs(0), Step::Kept(1)];
 
 #[test]
 fn no_turns_are_no_run(rt: HostRuntime) -> Result<(), Fail> {
-    let mut session = make(rt.alloc())?;
-    act(&rt, &mut session, Action::Watch(Watched::RegP { pp: 0 }));
-    let stopped = run(&mut session, 0);
-    assert_eq!(rt; stopped.turns, 0);
-    assert_eq!(rt; stopped.hit, None);
-    assert_eq!(rt; session.kept(), 1);
-    Ok(())
+    follow_anew(&rt, rt.alloc(), &NO_TURNS)
 }
+
+const WAITS: [Step; 7] = [
+    Step::SetChannel(3, ChannelState::Empty, None),
+    Step::Cells(0, 0o100, &[0o7403]),
+    Step::SetP(0, 0o100),
+    Step::Runs(1),
+    Step::Is(SLOT, 1),
+    Step::Is(P, 0o100),
+    Step::Kept(4),
+];
 
 #[test]
 fn a_wait_is_a_turn(rt: HostRuntime) -> Result<(), Fail> {
-    let mut session = make(rt.alloc())?;
-    let active = Action::SetChannel {
-        c: 3,
-        state: ChannelState::Empty,
-        word: None,
-    };
-    act(&rt, &mut session, active);
-    set_cells(&rt, &mut session, 0o100, &[0o7403]);
-    act(&rt, &mut session, Action::SetP { pp: 0, v: 0o100 });
-    assert_eq!(rt; run(&mut session, 1).turns, 1);
-    assert_eq!(rt; session.machine().value(&Place::Slot), 1);
-    assert_eq!(rt; session.machine().value(&Place::RegP { pp: 0 }), 0o100);
-    assert_eq!(rt; session.kept(), 4);
+    follow_anew(&rt, rt.alloc(), &WAITS)
+}
+
+/// Performs two turns of processor 0 with the steps before them: it loads 5 into A and then performs the second word.
+/// Channel 3 is active and empty, and central word 5 is 0o77.
+fn load_and_perform(rt: &impl Abort, alloc: Global, steps: &[Step]) -> Result<(), Fail> {
+    let mut session = session_of(alloc, make_rig(alloc)?)?;
+    follow(rt, &mut session, &LOADS);
+    follow(rt, &mut session, steps);
     Ok(())
 }
 
-/// Performs two turns of processor 0 with these places watched: it loads 5 into A and then performs `second`. Channel 3
-/// is active and empty, and central word 5 is 0o77.
-fn load_and_perform(
-    rt: &impl Abort,
-    alloc: Global,
-    second: u16,
-    places: &[Watched],
-) -> Result<Stopped, &'static str> {
-    let mut session = make(alloc)?;
-    let active = Action::SetChannel {
-        c: 3,
-        state: ChannelState::Empty,
-        word: None,
-    };
-    act(rt, &mut session, active);
-    act(rt, &mut session, Action::SetWord { a: 0o5, v: 0o77 });
-    set_cells(rt, &mut session, 0o100, &[0o1405, second]);
-    act(rt, &mut session, Action::SetP { pp: 0, v: 0o100 });
-    for place in places {
-        act(rt, &mut session, Action::Watch(*place));
-    }
-    Ok(run(&mut session, 0o13))
-}
+const LOADS: [Step; 4] = [
+    Step::SetChannel(3, ChannelState::Empty, None),
+    Step::SetWord(0o5, 0o77),
+    Step::SetP(0, 0o100),
+    Step::Watch(CELL_50),
+];
+
+const EXCHANGES: [Step; 3] = [
+    Step::Cells(0, 0o100, &[0o1405, 0o2600]),
+    Step::Watch(WORD_5),
+    Step::Stops(
+        0o13,
+        0o13,
+        Hit {
+            place: WORD_5,
+            was: 0o77,
+            now: 0,
+        },
+    ),
+];
 
 #[test]
 fn an_exchange_may_change_a_watched_word(rt: HostRuntime) -> Result<(), Fail> {
-    let word = Watched::Central { a: 0o5 };
-    let stopped = load_and_perform(&rt, rt.alloc(), 0o2600, &[CELL_50, word])?;
-    assert_eq!(rt; stopped, hit(0o13, word, 0o77, 0));
-    Ok(())
+    load_and_perform(&rt, rt.alloc(), &EXCHANGES)
 }
+
+const OUTPUTS: [Step; 3] = [
+    Step::Cells(0, 0o100, &[0o1405, 0o7203]),
+    Step::Watch(CHANNEL_3),
+    Step::Stops(
+        0o13,
+        0o13,
+        Hit {
+            place: CHANNEL_3,
+            was: 0,
+            now: 5,
+        },
+    ),
+];
 
 #[test]
 fn an_output_changes_the_register_of_a_channel(rt: HostRuntime) -> Result<(), Fail> {
-    let register = Watched::Register { c: 3 };
-    let stopped = load_and_perform(&rt, rt.alloc(), 0o7203, &[CELL_50, register])?;
-    assert_eq!(rt; stopped, hit(0o13, register, 0, 5));
-    Ok(())
+    load_and_perform(&rt, rt.alloc(), &OUTPUTS)
 }
+
+const STORES: [Step; 3] = [
+    Step::Cells(0, 0o100, &[0o1405, 0o3450]),
+    Step::Watch(WATCHED_A),
+    Step::Stops(
+        0o13,
+        1,
+        Hit {
+            place: WATCHED_A,
+            was: 0,
+            now: 5,
+        },
+    ),
+];
 
 #[test]
 fn a_register_is_watched_beside_a_cell(rt: HostRuntime) -> Result<(), Fail> {
-    let a = Watched::RegA { pp: 0 };
-    let stopped = load_and_perform(&rt, rt.alloc(), 0o3450, &[CELL_50, a])?;
-    assert_eq!(rt; stopped, hit(1, a, 0, 5));
-    Ok(())
+    load_and_perform(&rt, rt.alloc(), &STORES)
 }
+
+const ADDS: [Step; 3] = [
+    Step::Cells(0, 0o100, &[0o1405, 0o1601]),
+    Step::Watch(WORD_5),
+    Step::Runs(0o13),
+];
 
 #[test]
 fn turns_that_write_registers_alone_change_no_watched_cell(rt: HostRuntime) -> Result<(), Fail> {
-    let places = [CELL_50, Watched::Central { a: 0o5 }];
-    let stopped = load_and_perform(&rt, rt.alloc(), 0o1601, &places)?;
-    assert_eq!(rt; stopped.turns, 0o13);
-    assert_eq!(rt; stopped.hit, None);
-    Ok(())
+    load_and_perform(&rt, rt.alloc(), &ADDS)
 }

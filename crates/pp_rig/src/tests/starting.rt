@@ -24,42 +24,58 @@ fn make_of(alloc: Global, cards: usize, reader: u8, printer: u8) -> Result<Rig, 
 #[test]
 fn refuses_one_channel_before_a_long_deck(rt: HostRuntime) {
     let both = make_of(rt.alloc(), 2001, 0o12, 0o12);
-    assert_eq!(rt; both.err(), Some(SetupFault::SameChannel));
+    assert!(rt; both.err() == Some(SetupFault::SameChannel));
     let long = make_of(rt.alloc(), 2001, 0o12, 0o13);
-    assert_eq!(rt; long.err(), Some(SetupFault::DeckTooLong));
+    assert!(rt; long.err() == Some(SetupFault::DeckTooLong));
 }
 
 #[test]
 fn makes_a_machine_of_the_longest_deck(rt: HostRuntime) -> Result<(), Fail> {
-    let rig = make_of(rt.alloc(), 2000, 0o12, 0o13).map_err(|_| "refused")?;
-    assert_eq!(rt; rig.cards(), 2000);
+    let Ok(rig) = make_of(rt.alloc(), 2000, 0o12, 0o13) else {
+        return Err("refused".into());
+    };
+    assert!(rt; rig.cards() == 2000);
     Ok(())
 }
 
+/// Makes a machine with an empty reader and a panel.
+fn make_empty(alloc: Global, central: CentralSize) -> Result<Rig, SetupFault> {
+    let setup = Setup {
+        central,
+        reader: 8,
+        printer: 9,
+        deck: Vec::new(alloc),
+        panel: Some([0o7777; 12]),
+    };
+    Rig::new(alloc, setup)
+}
+
+/// Checks the parts of a machine that `make_empty` made.
+fn check_parts(rt: &impl Abort, rig: &Rig, words: u32) {
+    assert!(rt; rig.central_size().words() == words);
+    assert!(rt; rig.slot() == 0);
+    assert!(rt; rig.cards() == 0);
+    assert!(rt; rig.paper().len() == 0);
+    assert!(rt; rig.reader_channel() == 0o10);
+    assert!(rt; rig.printer_channel() == 0o11);
+    assert!(rt; rig.has_panel());
+    assert!(rt; rig.watches().len() == 0);
+    rig.keeps_ranges();
+}
+
+const SIZES: [(CentralSize, u32); 3] = [
+    (CentralSize::K32, 0o100000),
+    (CentralSize::K64, 0o200000),
+    (CentralSize::K128, 0o400000),
+];
+
 #[test]
 fn tells_its_parts(rt: HostRuntime) -> Result<(), Fail> {
-    for (size, words) in [
-        (CentralSize::K32, 0o100000),
-        (CentralSize::K64, 0o200000),
-        (CentralSize::K128, 0o400000),
-    ] {
-        let setup = Setup {
-            central: size,
-            reader: 8,
-            printer: 9,
-            deck: Vec::new(rt.alloc()),
-            panel: Some([0o7777; 12]),
+    for (size, words) in SIZES {
+        let Ok(rig) = make_empty(rt.alloc(), size) else {
+            return Err("refused".into());
         };
-        let rig = Rig::new(rt.alloc(), setup).map_err(|_| "refused")?;
-        assert_eq!(rt; rig.central_size().words(), words);
-        assert_eq!(rt; rig.slot(), 0);
-        assert_eq!(rt; rig.cards(), 0);
-        assert_eq!(rt; rig.paper().len(), 0);
-        assert_eq!(rt; rig.reader_channel(), 0o10);
-        assert_eq!(rt; rig.printer_channel(), 0o11);
-        assert_eq!(rt; rig.has_panel(), true);
-        assert_eq!(rt; rig.watches().len(), 0);
-        rig.keeps_ranges();
+        check_parts(&rt, &rig, words);
     }
     Ok(())
 }

@@ -1,8 +1,7 @@
 //! All numbers of a machine, by their places.
-ghost use Rattle.std.specs.Prelude.{IsTrue};
-ghost use Rattle.pp_machine.specs.Shape.{Has};
 
 use crate::rig::{Rig, RigRecord, ShortTurn};
+use crate::tests::has;
 use pp_history::Reversible;
 use pp_machine::Place;
 use std::alloc::{AllocError, Global};
@@ -70,23 +69,6 @@ pub fn places_of(alloc: Global, central_words: u32) -> Result<Vec<Place>, AllocE
     push_parts(&mut places)?;
     push_words(&mut places, central_words)?;
     Ok(places)
-}
-
-/// Returns whether the machine has a place.
-fn has(rig: &Rig, place: &Place) -> bool
-    ensures { IsTrue result → Has rig.now.setup.central_words place.now }
-{
-    match *place {
-        Place::Cell { pp, a } => pp < 10 && a < 4096,
-        Place::RegA { pp } | Place::RegP { pp } | Place::RegQ { pp } | Place::Phase { pp } => pp
-            < 10,
-        Place::ChannelMode { c } | Place::ChannelWord { c } => c < 12,
-        Place::Central { a } => a < rig.central_size().words(),
-        Place::FrameWord { i } => i < 16,
-        Place::PaperSymbol { k } => k < 65536,
-        Place::WatchEntry { i } => i < 8,
-        _ => true,
-    }
 }
 
 /// Returns the numbers at the places. There are fewer if the machine lacks a place.
