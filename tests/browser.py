@@ -1,0 +1,153 @@
+"""A headless browser, driven over a pipe by the DevTools protocol."""
+
+import base64
+import itertools
+import json
+import os
+import select
+import shutil
+import subprocess
+import tempfile
+
+import png
+
+NAMES = ("chromium", "chromium-browser", "google-chrome", "google-chrome-stable")
+PATIENCE = 30  # seconds for one answer
+
+
+def found():
+    """Returns the path of a browser, or None. The variable BROWSER_OF_TESTS names another one."""
+    return os.environ.get("BROWSER_OF_TESTS") or next(filter(None, map(shutil.which, NAMES)), None)
+
+
+class Browser:
+    """A browser with one page."""
+
+    def __init__(self, path):
+        self.room = tempfile.TemporaryDirectory()
+        to_browser, self.input = os.pipe()
+        self.output, from_browser = os.pipe()
+        self.numbers = itertools.count(1)
+        self.rest = b""
+        self.log = []  # what the page complained about
+        words = [path, "--headless=new", "--no-sandbox", "--disable-gpu", "--no-first-run", "--disable-dev-shm-usage",
+                 "--hide-scrollbars", f"--user-data-dir={self.room.name}", "--remote-debugging-pipe", "about:blank"]
+        ends = f"exec 3<&{to_browser} 4>&{from_browser}; exec \"$@\""
+        self.process = subprocess.Popen(["bash", "-c", ends, "bash", *words], pass_fds=(to_browser, from_browser),
+                                        stdout=subprocess.DEVNULL, stderr=subprocess.DEVNULL, start_new_session=True)
+        os.close(to_browser)
+        os.close(from_browser)
+        self.session = None
+        target = next(one["targetId"] for one in self.ask("Target.getTargets")["targetInfos"] if one["type"] == "page")
+        self.session = self.ask("Target.attachToTarget", targetId=target, flatten=True)["sessionId"]
+        for part in ("Page", "Runtime", "Log", "Network"):
+            self.ask(f"{part}.enable")
+
+    def message(self):
+        """The next message of the browser."""
+        while b"\0" not in self.rest:
+            if not select.select([self.output], [], [], PATIENCE)[0]:
+                raise TimeoutError("the browser does not answer")
+            data = os.read(self.output, 1 << 20)
+            if not data:
+                raise EOFError("the browser has ended")
+            self.rest += data
+        text, self.rest = self.rest.split(b"\0", 1)
+        return json.loads(text)
+
+    def ask(self, method, **parameters):
+        """Asks for something, and returns the result."""
+        number = next(self.numbers)
+        question = {"id": number, "method": method, "params": parameters}
+        if self.session:
+            question["sessionId"] = self.session
+        os.write(self.input, json.dumps(question).encode() + b"\0")
+        while True:
+            message = self.message()
+            if message.get("id") == number:
+                if "error" in message:
+                    raise RuntimeError(f"{method}: {message['error']['message']}")
+                return message["result"]
+            self.note(message)
+
+    def note(self, message):
+        """Keeps complaints of the page, and each address that it asks for beside its own file."""
+        parameters = message.get("params", {})
+        if message.get("method") in ("Runtime.exceptionThrown", "Log.entryAdded"):
+            self.log.append(json.dumps(parameters))
+        if message.get("method") == "Network.requestWillBeSent":
+            address = parameters["request"]["url"]
+            if not address.startswith(("file:", "data:", "blob:")):
+                self.log.append(f"asks for {address}")
+
+    def evaluate(self, text):
+        """The value of an expression in the page."""
+        result = self.ask("Runtime.evaluate", expression=text, returnByValue=True, awaitPromise=True)
+        if "exceptionDetails" in result:
+            raise RuntimeError(f"{text[:80]}: {json.dumps(result['exceptionDetails'])[:500]}")
+        return result["result"].get("value")
+
+    def open(self, path, address=""):
+        """Opens a film from its file, and waits until it is shown."""
+        self.ask("Page.navigate", url="about:blank")
+        self.ask("Page.navigate", url=f"file://{os.path.abspath(path)}{address}")
+        for _ in range(600):
+            if self.evaluate("document.body && document.body.dataset.open") == "yes":
+                return
+            select.select([], [], [], 0.05)
+        raise TimeoutError(f"{path} does not open")
+
+    def key(self, key, shift=False):
+        """Presses a key."""
+        text = {"text": key} if len(key) == 1 else {"text": "\r"} if key == "Enter" else {}
+        code = {"Enter": 13, "Home": 36, "End": 35, "ArrowLeft": 37, "ArrowRight": 39, "Escape": 27, "Tab": 9}.get(key, ord(key[0]))
+        for kind in ("keyDown", "keyUp"):
+            more = text if kind == "keyDown" else {}
+            self.ask("Input.dispatchKeyEvent", type=kind, key=key, windowsVirtualKeyCode=code, modifiers=8 if shift else 0, **more)
+
+    def write(self, text):
+        for letter in text:
+            self.key(letter)
+
+    def click(self, selector):
+        """Clicks the middle of an element, with the mouse."""
+        box = self.evaluate(f"(() => {{ const e = document.querySelector({json.dumps(selector)}); e.scrollIntoView({{block: 'center'}});"
+                            "const b = e.getBoundingClientRect(); return [b.x + b.width / 2, b.y + b.height / 2]; })()")
+        self.click_at(*box)
+
+    def click_at(self, x, y):
+        for kind in ("mousePressed", "mouseReleased"):
+            self.ask("Input.dispatchMouseEvent", type=kind, x=x, y=y, button="left", clickCount=1)
+
+    def look(self, width, height, dark=False, media="", ratio=1):
+        """Sets the size and the kind of the window."""
+        self.ask("Emulation.setDeviceMetricsOverride", width=width, height=height, deviceScaleFactor=ratio, mobile=False)
+        colours = [{"name": "prefers-color-scheme", "value": "dark" if dark else "light"}]
+        self.ask("Emulation.setEmulatedMedia", media=media, features=colours)
+
+    def picture(self, path):
+        """Writes what is seen as a PNG."""
+        result = self.ask("Page.captureScreenshot", format="png")
+        with open(path, "wb") as file:
+            file.write(png.small(base64.b64decode(result["data"])))
+
+    def paper(self, path):
+        """Writes the page as it is printed, a PDF."""
+        result = self.ask("Page.printToPDF", preferCSSPageSize=True, printBackground=False)
+        with open(path, "wb") as file:
+            file.write(base64.b64decode(result["data"]))
+
+    def end(self):
+        try:
+            self.session = None
+            self.ask("Browser.close")
+        except (OSError, EOFError, TimeoutError, RuntimeError):
+            pass
+        try:
+            self.process.wait(10)
+        except subprocess.TimeoutExpired:
+            self.process.kill()
+            self.process.wait()
+        os.close(self.input)
+        os.close(self.output)
+        self.room.cleanup()

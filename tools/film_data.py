@@ -1,0 +1,76 @@
+"""The text that a film is kept in, inside its page: variable-length numbers, deflated, in base64."""
+
+import base64
+import json
+import zlib
+
+
+def _number(out, number):
+    """Appends a number that is not negative: seven bits a byte, the lowest first."""
+    while number > 0x7f:
+        out.append(number & 0x7f | 0x80)
+        number >>= 7
+    out.append(number)
+
+
+def _signed(out, number):
+    """Appends a number of either sign."""
+    _number(out, 2 * number if number >= 0 else -2 * number - 1)
+
+
+def _streams(moments):
+    """The moments as three rows of bytes: of each its kind and how many places changed; of each change the distance of
+    its place from that of the change before; and by how much the number grew."""
+    kinds, places, growths = bytearray(), bytearray(), bytearray()
+    for kind, changes in moments:
+        _number(kinds, len(changes) << 2 | kind)
+        last = 0
+        for place, was, now in changes:
+            _number(places, place - last)
+            _signed(growths, now - was)
+            last = place
+    return kinds, places, growths
+
+
+def encode(about, moments):
+    """The text of a film; `about` is what else the page needs, as JSON takes it."""
+    streams = _streams(moments)
+    head = json.dumps({**about, "streams": [len(stream) for stream in streams]}, separators=(",", ":")).encode("ascii")
+    whole = len(head).to_bytes(4, "little") + head + b"".join(streams)
+    text = base64.b64encode(zlib.compress(whole, 9)).decode("ascii")
+    return "\n".join(text[at:at + 120] for at in range(0, len(text), 120))
+
+
+def decode(text):
+    """What `encode` was given, but for the numbers before each change: what else the page needs, and of each moment its
+    kind and a list of places with the growths of their numbers."""
+    whole = zlib.decompress(base64.b64decode(text))
+    size = int.from_bytes(whole[:4], "little")
+    about = json.loads(whole[4:4 + size])
+    rows, at = [], 4 + size
+    for length in about["streams"]:
+        rows.append(_numbers(whole[at:at + length]))
+        at += length
+    kinds, places, growths = rows
+    return about, [(head & 3, _changes(head >> 2, places, growths)) for head in kinds]
+
+
+def _numbers(stream):
+    """Yields the numbers of a row of bytes."""
+    number = shift = 0
+    for byte in stream:
+        number |= (byte & 0x7f) << shift
+        shift += 7
+        if byte < 0x80:
+            yield number
+            number = shift = 0
+
+
+def _changes(count, places, growths):
+    """The next so many changes."""
+    changes, place = [], 0
+    for _ in range(count):
+        place += next(places)
+        growth = next(growths)
+        changes.append((place, growth >> 1 if growth & 1 == 0 else -(growth + 1 >> 1)))
+    return changes

@@ -1,0 +1,97 @@
+"""The page of a film: one file of HTML that needs nothing else."""
+
+import html
+import os
+
+from display_code import SYMBOLS
+from film_data import encode
+from film_places import LAYOUT, MODES
+from film_run import TURN
+from instructions import BLOCK_GOES_ON, CLOCK_PASSES, COMPLETES, NAMES
+from replay import take
+
+HERE = os.path.dirname(os.path.abspath(__file__))
+TWO_WORDS = (0o01, 0o02, *range(0o20, 0o24), *range(0o50, 0o60), 0o61, 0o63, *range(0o64, 0o70), 0o71, 0o73, 0o77)
+BLOCK_CODES = (0o61, 0o63, 0o71, 0o73)
+LONGEST_ANSWER = 40  # lines of one that a page keeps
+
+
+def template(ending):
+    with open(os.path.join(HERE, f"film_page.{ending}"), encoding="utf-8") as file:
+        return file.read()
+
+
+def page(title, text):
+    """Returns the page of a film with this text."""
+    whole = template("html")
+    parts = {"<!--title-->": html.escape(title), "/*--style--*/": template("css").rstrip(),
+             "/*--script--*/": template("js").rstrip(), "<!--film-->": text}
+    for mark, part in parts.items():
+        whole = whole.replace(mark, part)
+    return whole
+
+
+def text_of(film, setup):
+    """Returns the text of a film; the setup has the deck and the panel."""
+    return encode({**tables(), **setup, **of_machine(film), **of_script(film)}, film.moments)
+
+
+def tables():
+    """What the page has to know of the machine."""
+    return {"layout": LAYOUT, "names": NAMES, "two_words": TWO_WORDS, "block_codes": BLOCK_CODES, "completes": COMPLETES,
+            "blocks": BLOCK_GOES_ON, "clock_passes": CLOCK_PASSES, "symbols": SYMBOLS, "modes": MODES}
+
+
+def of_machine(film):
+    return {"central_size": film.size, "central": list(film.machine.central), "papers": film.machine.papers,
+            "watches": film.machine.watches, "reader": film.reader, "printer": film.printer,
+            "devices": {film.reader: "card reader", film.printer: "printer"}}
+
+
+def of_script(film):
+    """The lines of the script with their answers and moments, and how many turns are in effect where the film begins and
+    where it jumps."""
+    turns = turns_in_effect(film.transcript)
+    numbers = {first: number for number, first in film.first_moments.items()}
+    begins = turns[min(film.first_moments)][0] + film.turns_passed if film.first_moments else 0
+    return {"lines": list(lines(film)), "turns_before": begins,
+            "jumps": [(moment, -1 if target is None else target, turns[numbers[moment]][1])
+                      for moment, target in film.jumps.items()]}
+
+
+def lines(film):
+    """Yields for each line its text, its answer, whether it is filmed, and its first and last moment."""
+    last = 0
+    for number, (line, answer) in enumerate(film.transcript.lines):
+        first = film.first_moments.get(number)
+        if first is not None:
+            last = first + film.lengths[number] - 1
+        more = [f".. {len(answer) - LONGEST_ANSWER:o} lines more"] if len(answer) > LONGEST_ANSWER else []
+        yield {"text": line.encode("latin-1").decode("utf-8", "replace").rstrip("\r"),
+               "answer": answer[:LONGEST_ANSWER] + more, "acts": first is not None,
+               "first": last if first is None else first, "moment": last}
+
+
+def turns_in_effect(transcript):
+    """How many turns are in effect before and after each line that did something."""
+    done, ahead, turns, now = [], [], {}, 0
+    for number, kind, count in transcript.actions():
+        before, word = now, transcript.lines[number][0].upper().split()[0]
+        if word == "BACK":
+            moved = take(done, count)
+            now -= turns_of(moved)
+            ahead += moved
+        elif word == "FORWARD":
+            moved = take(ahead, count)
+            now += turns_of(moved)
+            done += moved
+        else:
+            done.append(("STEP" if kind == TURN else word, count))
+            now += turns_of(done[-1:])
+            ahead.clear()
+        turns[number] = before, now
+    return turns
+
+
+def turns_of(actions):
+    return sum(times for line, times in actions if line == "STEP")
