@@ -1,0 +1,374 @@
+"""What tools/panel shows: from the machine's state to lines of text with marks. No terminal is needed for it."""
+
+from dataclasses import dataclass, field
+from typing import Optional
+
+from console import CLOCK
+from instructions import COMPLETES
+from machine_state import CELLS, NAMES_OF_STATES, ROW
+from panel_text import (
+    CHANGED, CHOSEN, CURSOR, HEAD, HERE, REFUSED, SLOT, TITLE, WATCHED, Line, beside, in_height, last_in)
+
+LEAST_COLUMNS, LEAST_ROWS = 80, 24
+WIDE = 120  # columns from which on watches, paper and lines have a part of their own beside the machine
+LEFT = 80  # columns of the machine
+CHANNELS_FROM = 53  # the column
+CENTRAL_FROM = 53
+COLUMN_FROM = 15  # the column of the device's column
+MACHINE_ROWS = 12  # the ten processors, their head and that of the memory
+PANES = ("processors", "channels", "memory", "central")
+REGISTERS = ("P", "A", "Q")  # those that can be watched
+HINTS = "s step  b back  Tab arrows g cursor  t watch  W who changed it  ? help  q quit"
+
+
+@dataclass
+class View:
+    """What is looked at: the part with the cursor, and the place of the cursor in each part."""
+
+    pane: str = "processors"
+    processor: int = 0
+    register: str = "P"
+    channel: int = 0
+    cell: int = 0
+    following: bool = True  # the memory follows P
+    top: int = 0  # the first cell shown
+    word: int = 0  # the central address
+    central_top: int = 0
+
+    def place(self):
+        """Returns the place of the cursor, as the lines of the console have it."""
+        if self.pane == "processors":
+            return f"{self.register} {self.processor:o}"
+        if self.pane == "channels":
+            return f"H {self.channel:o}"
+        if self.pane == "memory":
+            return f"M {self.processor:o} {self.cell:o}"
+        return f"C {self.word:o}"
+
+    def is_at(self, pane):
+        return CURSOR if self.pane == pane else None
+
+
+@dataclass
+class Shown:
+    """All that a screen shows. `before` is the state before the last action; the log has lines with their answers."""
+
+    state: object
+    before: object
+    view: View
+    kept: int = 0
+    ahead: int = 0
+    size: int = 0o400000  # of central memory
+    log: list = field(default_factory=list)
+    message: str = ""
+    prompt: Optional[tuple] = None  # what is asked, the text so far, and the place in it
+
+
+@dataclass
+class Screen:
+    """The lines of a screen, all equally long, and where the terminal's cursor belongs (row and column)."""
+
+    lines: list
+    cursor: tuple
+
+
+@dataclass
+class Layout:
+    """How many lines each part has on a screen. On a wide one watches and log have what is left beside the machine."""
+
+    wide: bool
+    memory: int
+    watches: int
+    paper: int
+    log: int
+
+
+def layout(columns, rows):
+    """Returns how a screen is divided."""
+    spare = rows - LEAST_ROWS
+    if columns >= WIDE:
+        return Layout(True, rows - 2 - MACHINE_ROWS, 0, 4 + spare // 3, 0)
+    memory, log = spare // 2, spare // 3
+    return Layout(False, 5 + memory, 2, 1 + spare - memory - log, 2 + log)
+
+
+def memory_top(top, address, rows):
+    """Returns the first cell of a window of so many rows that has the address in it: the same one, if it has."""
+    distance = (address // ROW - top // ROW) % (CELLS // ROW)
+    if distance < rows:
+        return top
+    if distance == rows:
+        return (top + ROW) % CELLS
+    if distance == CELLS // ROW - 1:
+        return (top - ROW) % CELLS
+    return (address // ROW * ROW - rows // 3 * ROW) % CELLS
+
+
+def central_top(top, address, rows, size):
+    """As `memory_top`, of central memory, which does not begin anew after its end."""
+    if not top <= address < top + rows:
+        top = address - (rows - 1 if address == top + rows else 0 if address == top - 1 else rows // 3)
+    return max(min(top, size - rows), 0)
+
+
+# ---- the parts of the machine
+
+
+def waits_for(processor, states):
+    """Returns the channel that a processor waits for, with the state in which it would go on; else nothing."""
+    if not processor.would_wait(states):
+        return ""
+    if processor.channel >= CLOCK:
+        return f"{processor.channel:02o} never"
+    if processor.phase:
+        return f"{processor.channel:02o} {'full' if processor.name == 'IAM' else 'empty'}"
+    wanted = COMPLETES[processor.code]
+    return f"{processor.channel:02o} {NAMES_OF_STATES[wanted] if len(wanted) == 1 else 'active'}"
+
+
+def processor_line(shown, number):
+    """Returns the line of a processor."""
+    state, before, view = shown.state, shown.before, shown.view
+    now, was = state.processors[number], before.processors[number]
+    chosen = number == view.processor
+    line = Line(">" if state.slot == number else " ", SLOT)
+    line.add(f"{number:02o}", CHOSEN if chosen else None).add(" ")
+    at = int(now.registers["P"], 8)
+
+    def add_register(name):
+        cursor = view.is_at("processors") if chosen and view.register == name else None
+        line.add_number(now.registers[name], was.registers[name], cursor)
+
+    add_register("P")
+    for address in (at, at + 1):
+        line.add_number(state.memories[number].word(address), before.memories[number].word(address))
+    line.add(f"{now.name} ")
+    add_register("A")
+    add_register("Q")
+    line.add_number(now.registers["PHASE"], was.registers["PHASE"])
+    return line.add(" ").add(waits_for(now, state.states()))
+
+
+def processor_lines(shown):
+    """Returns the ten processors."""
+    head = Line(" PP P    AT P          A      Q    PHASE WAITS FOR", HEAD)
+    return [head] + [processor_line(shown, number) for number in range(len(shown.state.processors))]
+
+
+def channel_part(shown, number):
+    """Returns a channel: its number, state and register."""
+    now, was, view = shown.state.channels[number], shown.before.channels[number], shown.view
+    cursor = view.is_at("channels") if number == view.channel else None
+    line = Line(f"{now.number} ").add_number(now.state, was.state)
+    return line.add_number(now.register, was.register, cursor)
+
+
+def device_lines(shown):
+    """Returns the card reader and the printer."""
+    now, was = shown.state.reader, shown.before.reader
+    reader = Line(f"CR {now.channel} ").add_number(now.mode, was.mode)
+    reader.fit(COLUMN_FROM).add("COLUMN ").add_number(now.column, was.column)
+    card = Line(f"{'':6}CARD ").add_number(now.card, was.card).add(f"OF {now.cards}")
+    now, was = shown.state.printer, shown.before.printer
+    printer = Line(f"LP {now.channel} ").add_number(now.mode, was.mode)
+    return [reader, card, printer.fit(COLUMN_FROM).add("COLUMN ").add_number(now.column, was.column)]
+
+
+def channel_lines(shown):
+    """Returns the channels and the clock in two columns, and the devices below."""
+    channels = [channel_part(shown, number) for number in range(len(shown.state.channels))]
+    half = (len(channels) + 1) // 2
+    clock = channels[-1].add("clk")
+    rows = beside(channels[:half], channels[half:-1] + [clock], 13)
+    return [Line("CHANNELS", HEAD)] + rows + device_lines(shown)
+
+
+def memory_row(shown, first):
+    """Returns a row of eight cells of the chosen processor: > is before the cell at P, w before a watched one."""
+    view = shown.view
+    memory, was = shown.state.memories[view.processor], shown.before.memories[view.processor]
+    here = int(shown.state.processors[view.processor].registers["P"], 8)
+    watched = shown.state.watched_cells(view.processor)
+    line = Line(f"{first:04o}")
+    for address in range(first, first + ROW):
+        cursor = view.is_at("memory") if address == view.cell else None
+        is_watched = address in watched
+        sign = ">" if address == here else "w" if is_watched else " "
+        line.add(sign, HERE if address == here else None)
+        line.add_number(memory.word(address), was.word(address), cursor, WATCHED if is_watched else None)
+    return line
+
+
+def memory_lines(shown, rows):
+    """Returns the cells around P or the cursor."""
+    view = shown.view
+    head = Line(f"PP {view.processor:02o}", HEAD)
+    for digit in range(ROW):
+        head.add(f"{digit:4o}  ", HEAD)
+    head.fit(CENTRAL_FROM - 1)
+    top = memory_top(view.top, view.cell, rows)
+    return [head] + [memory_row(shown, (top + row * ROW) % CELLS) for row in range(rows)]
+
+
+def central_line(shown, address):
+    """Returns a central word: a star is before one that the last action changed, w before a watched one."""
+    view = shown.view
+    now = shown.state.number(f"C {address:06o}")
+    is_watched = any(watch.place == f"C {address:06o}" for watch in shown.state.watches)
+    was = shown.before.number(f"C {address:06o}")
+    changed = CHANGED if now and was and now != was else None
+    line = Line(f"{address:06o}").add("*" if changed else "w" if is_watched else " ", changed)
+    cursor = view.is_at("central") if address == view.word else None
+    return line.add(now or "", changed, cursor, WATCHED if is_watched else None)
+
+
+def central_lines(shown, rows):
+    """Returns central words."""
+    top = central_top(shown.view.central_top, shown.view.word, rows, shown.size)
+    return [Line("CENTRAL MEMORY", HEAD)] + [central_line(shown, top + row) for row in range(rows)]
+
+
+def machine_lines(shown, rows):
+    """Returns processors, channels, devices and memories, with so many rows of memory."""
+    upper = beside(processor_lines(shown), channel_lines(shown), CHANNELS_FROM)
+    return upper + beside(memory_lines(shown, rows), central_lines(shown, rows), CENTRAL_FROM)
+
+
+# ---- watches, paper and the lines typed
+
+
+def watch_part(shown, watch):
+    """Returns a watched place with its number."""
+    return Line(f"{watch.place} ").add_number(watch.number or "", shown.before.number(watch.place) if watch.number else None)
+
+
+def watch_rows(shown, width, rows):
+    """Returns the watches in at most so many rows, several in a row."""
+    line = Line("WATCHES ", HEAD)
+    lines = [line]
+    watches = shown.state.watches
+    for number, watch in enumerate(watches):
+        part = watch_part(shown, watch).add(" ")
+        if len(line.text) + len(part.text) > width:
+            if len(lines) == rows:
+                line.fit(width - 10).add(f" {len(watches) - number:o} more")
+                break
+            line = Line(" " * 8)
+            lines.append(line)
+        line.add_line(part)
+    if not watches:
+        line.add("none")
+    return lines
+
+
+def paper_lines(shown, rows):
+    """Returns the end of the paper; the last line is `/` and not `|` if it has no line end."""
+    lines = [Line(text) for text in shown.state.printer.paper[-rows:]] or [Line("none")]
+    return beside([paper_head(shown)], in_height(lines, rows), 14)
+
+
+def paper_head(shown):
+    """Returns the number of symbols on the paper."""
+    return Line("PAPER ", HEAD).add_number(shown.state.printer.symbols, shown.before.printer.symbols)
+
+
+def answer_mark(answer):
+    return REFUSED if answer.startswith("ERR ") else None
+
+
+def log_rows(log, rows):
+    """Returns the last lines, each with its answer beside it."""
+    lines = []
+    for typed, answers in log[-rows:] if rows else []:
+        line = Line(f"> {typed}").add("   ")
+        line.fit(max(len(line.text), 24)).add("; ".join(answers), answer_mark(answers[0] if answers else ""))
+        lines.append(line)
+    return last_in(lines, rows)
+
+
+def log_lines(log, rows):
+    """Returns the last lines and answers, each in a row of its own; all of them if there is no number of rows."""
+    lines = []
+    for typed, answers in log if rows is None else log[-rows:]:
+        lines.append(Line(f"> {typed}"))
+        lines += [Line(answer, answer_mark(answer)) for answer in answers]
+    return lines if rows is None else lines[-rows:]
+
+
+# ---- the whole screen
+
+
+def title_line(shown, width):
+    """Returns the line at the top."""
+    left = f" SLOT {shown.state.slot:02o}   KEPT {shown.kept:o}   AHEAD {shown.ahead:o}"
+    right = f"cursor {shown.view.place()}   all numbers octal   ? help "
+    return Line(left + right.rjust(width - len(left)), TITLE).fit(width)
+
+
+def bottom_line(shown):
+    """Returns the line at the bottom, and the column of the terminal's cursor in it if there is a prompt."""
+    if shown.prompt:
+        asked, text, place = shown.prompt
+        return Line(asked, HEAD).add(text), len(asked) + place
+    if shown.message:
+        return Line(shown.message, REFUSED if shown.message.startswith("ERR ") else None), None
+    return Line(HINTS), None
+
+
+def narrow_lines(shown, columns, parts):
+    """Returns the lines between top and bottom, one part below the other."""
+    watches = watch_rows(shown, columns, parts.watches)
+    log = log_rows(shown.log, parts.log + parts.watches - len(watches))
+    return machine_lines(shown, parts.memory) + watches + paper_lines(shown, parts.paper) + log
+
+
+def wide_lines(shown, parts):
+    """Returns the lines between top and bottom, with watches, paper and the lines typed at the right."""
+    watches = [watch_part(shown, watch) for watch in shown.state.watches] or [Line("none")]
+    paper = [Line(text) for text in shown.state.printer.paper[-parts.paper:]] or [Line("none")]
+    right = [Line("WATCHES", HEAD)] + watches + [Line(), paper_head(shown)] + in_height(paper, parts.paper)
+    height = parts.memory + MACHINE_ROWS - len(right) - 1
+    right += [Line("LINES", HEAD)] + in_height(log_lines(shown.log, height), height)
+    return beside(machine_lines(shown, parts.memory), right, LEFT + 2)
+
+
+def cursor_of(lines):
+    """Returns the row and the column of the mark of the cursor."""
+    for row, line in enumerate(lines):
+        for start, _, mark in line.marks:
+            if mark == CURSOR:
+                return row, start
+    return len(lines) - 1, 0
+
+
+def screen(shown, columns, rows):
+    """Returns the screen of a machine's state on a terminal of so many columns and rows."""
+    if columns < LEAST_COLUMNS or rows < LEAST_ROWS:
+        return small_screen(columns, rows)
+    parts = layout(columns, rows)
+    middle = wide_lines(shown, parts) if parts.wide else narrow_lines(shown, columns, parts)
+    bottom, column = bottom_line(shown)
+    lines = [line.fit(columns) for line in [title_line(shown, columns)] + middle + [bottom]]
+    return Screen(lines, (rows - 1, min(column, columns - 1)) if column is not None else cursor_of(lines))
+
+
+def small_screen(columns, rows):
+    """Returns what a terminal shows that is too small."""
+    words = f"The panel needs {LEAST_COLUMNS} columns and {LEAST_ROWS} lines (decimal). q quits.".split()
+    lines = [Line()]
+    for word in words:
+        if len(lines[-1].text) + len(word) >= columns:
+            lines.append(Line())
+        lines[-1].add(f"{word} ")
+    return Screen([line.fit(columns) for line in in_height(lines, rows)], (0, 0))
+
+
+def page_screen(title, lines, first, columns, rows):
+    """Returns a page of text, as the help and all lines typed, from a line on."""
+    if columns < LEAST_COLUMNS or rows < LEAST_ROWS:
+        return small_screen(columns, rows)
+    part = in_height(lines[first:first + rows - 2], rows - 2)
+    more = "arrows and Page Up/Down move; " if len(lines) > rows - 2 else ""
+    bottom = Line(f"{more}q, Escape or Enter closes this page", HEAD)
+    whole = [Line(f" {title}".ljust(columns), TITLE)] + part + [bottom]
+    return Screen([line.fit(columns) for line in whole], (rows - 1, 0))

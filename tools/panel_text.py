@@ -1,0 +1,78 @@
+"""Lines of text with marks, and how they are put beside each other."""
+
+import re
+
+NOT_PRINTABLE = re.compile("[^ -~]")
+
+# The kinds of marks.
+TITLE = "title"
+HEAD = "head"
+SLOT = "slot"  # the processor whose turn comes next
+CHOSEN = "chosen"
+CURSOR = "cursor"
+CHANGED = "changed"  # by the last action
+WATCHED = "watched"
+HERE = "here"  # the cell at P
+REFUSED = "refused"
+
+
+class Line:
+    """A line of text. A mark has its first column, the column after its last one, and its kind."""
+
+    def __init__(self, text="", *marks):
+        self.text = ""
+        self.marks = []
+        self.add(text, *marks)
+
+    def add(self, text, *marks):
+        """Appends a text, with the marks that are not None. A question mark is there for a character that is not ASCII."""
+        if not (text.isascii() and text.isprintable()):
+            text = NOT_PRINTABLE.sub("?", text)
+        first = len(self.text)
+        self.text += text
+        for mark in marks:
+            if mark and text:
+                self.marks.append((first, len(self.text), mark))
+        return self
+
+    def add_number(self, now, was, *marks):
+        """Appends a number and a blank, or a star in its place if the number is not what it was."""
+        if was is None or now == was:
+            return self.add(now, *marks).add(" ")
+        return self.add(now, CHANGED, *marks).add("*", CHANGED)
+
+    def add_line(self, other):
+        """Appends another line with its marks."""
+        first = len(self.text)
+        self.text += other.text
+        self.marks += [(start + first, end + first, mark) for start, end, mark in other.marks]
+        return self
+
+    def fit(self, width):
+        """Cuts the line, or appends blanks, to a width."""
+        self.text = self.text[:width].ljust(width)
+        self.marks = [(start, min(end, width), mark) for start, end, mark in self.marks if start < width]
+        return self
+
+    def marked(self, mark):
+        """Returns the texts with such a mark."""
+        return [self.text[start:end] for start, end, kind in self.marks if kind == mark]
+
+
+def beside(left, right, column):
+    """Returns lines with the right part from a column on."""
+    height = max(len(left), len(right))
+    left = left + [Line() for _ in range(height - len(left))]
+    right = right + [Line() for _ in range(height - len(right))]
+    return [first.fit(column).add_line(second) for first, second in zip(left, right)]
+
+
+def in_height(lines, height):
+    """Returns so many lines, the first ones; blank lines follow if there are fewer."""
+    return lines[:height] + [Line() for _ in range(height - len(lines))]
+
+
+def last_in(lines, height):
+    """Returns so many lines, the last ones; blank lines come first if there are fewer."""
+    lines = lines[max(len(lines) - height, 0):]
+    return [Line() for _ in range(height - len(lines))] + lines
