@@ -1,20 +1,51 @@
-"""A conversation with the simulator over a pipe."""
+"""A conversation with the simulator, for the tools and for programs of your own:
 
-import subprocess
+    from console import Console
+
+    console = Console(["./pp6600", "--deck", "deck"])
+    console.ask("STEP 100")    # the lines of the answer: ["TURNS 100 SLOT 04"]
+    console.registers(0)       # {"P": "0100", "A": "000000", "Q": "0000", "PHASE": "0000", "SLOT": "04"}
+    console.cells(0, 0o100, 0o103)
+    console.end()              # the exit status
+
+What can't be done raises Failure, with a message in plain words.
+"""
+
+import re
+
+from failure import Failure
+from pipe import Ended, Pipe
 
 PROCESSORS = 10
+CHANNELS = 12
+CLOCK = 0o14
+FRAME_WORDS = 16
 MOST_TURNS = 0o1000000  # of one STEP
+CHANNEL_LINES = [f"H {number:02o} " for number in range(CLOCK + 1)]
+SIZES_OF_CENTRAL = (0o400000, 0o200000, 0o100000)
+
+# No answer says where it ends. So a line that asks for the reader follows each line whose answer may have several lines: its
+# answer is the only one that begins with CR.
+MARK = "DUMP CR"
+IS_MARK = re.compile("[ \t]*DUMP[ \t]+CR[ \t]*\r?", re.I)
+ONE_LINE_ANSWER = re.compile("[ \t]*(SET|WATCH|UNWATCH|DEADSTART|BACK|FORWARD)([ \t\r]|$)", re.I)
+STEP = re.compile("[ \t]*STEP([ \t\r]|$)", re.I)  # its answer has one line if nothing is watched
+NO_ANSWER = re.compile("[ \t]*([*][\t -~]*)?")  # a note, or a line without words
+LONGEST_LINE = 255
+ANSWER = re.compile("|".join((
+    "OK", "ERR [01][0-7] [A-Z ]+", "(TURNS|BACK|FORWARD) [1-7][0-7]{0,6} SLOT [01][0-7]",
+    "HIT [MAPQCH] [0-7]+( [0-7]+){2,3}", "[0-7]{4}( [0-7]{4}){1,8}",
+    "PP [01][0-7] P [0-7]{4} A [0-7]{6} Q [0-7]{4} PHASE [0-7]{4} SLOT [01][0-7]",
+    "H [01][0-7] [IEFX] [0-7]{4}", "C [0-7]{6} [0-7]{20}", "XP [01][0-7] [0-7]{20}",
+    "CR H [01][0-7] CARD [0-7]{4} OF [0-7]{4} COLUMN [0-7]{3} MODE [A-Z]+",
+    "LP H [01][0-7] SYMBOLS [0-7]{6} COLUMN [0-7]{3} MODE [A-Z]+", "[|/].*",
+    "W (NONE|[MAPQCH] [0-7]+( [0-7]+)?)")))
 
 
-class Failure(Exception):
-    """Ends a tool with a message in plain words."""
-
-
-class Ended(Failure):
-    """The simulator ended before it answered."""
-
-    def __init__(self, status):
-        super().__init__(f"the simulator ended early, with status {status}")
+def has_no_answer(line):
+    """Returns whether the simulator ignores a line."""
+    line = line.removesuffix("\r")
+    return len(line) <= LONGEST_LINE and NO_ANSWER.fullmatch(line) is not None
 
 
 class Console:
@@ -22,27 +53,47 @@ class Console:
 
     def __init__(self, words):
         """The words are the program and its options."""
-        try:
-            self.process = subprocess.Popen(words, stdin=subprocess.PIPE, stdout=subprocess.PIPE, encoding="latin-1")
-        except OSError as error:
-            raise Failure(f"can't run {words[0]}: {error.strerror}") from error
+        self.words = list(words)
+        self.start()
+
+    def start(self):
+        """Starts the simulator, and sees that it is one and that it takes its options."""
+        self.pipe = Pipe(self.words)
+        self.lines = 0  # written so far
+        self.may_watch = False
+        self.question(MARK, ["CR H "])
+
+    def send(self, *lines):
+        text = "".join(f"{line}\n" for line in lines)
+        self.lines += len(lines)
+        self.may_watch = self.may_watch or "WATCH" in text.upper()
+        self.pipe.send(text)
+
+    def answer_line(self):
+        """Returns the next line of an answer."""
+        text = self.pipe.line()
+        if not ANSWER.fullmatch(text):
+            raise self.nonsense(text)
+        return text
+
+    def nonsense(self, text):
+        return self.pipe.stopped(f"{self.words[0]} is not the simulator: it answers {text[:60]!r}")
+
+    def up_to_mark(self):
+        """Yields the lines before the answer to the mark."""
+        while not (text := self.answer_line()).startswith("CR "):
+            yield text
 
     def ask(self, line):
-        """Returns the lines of the answer. No answer says where it ends, so a DUMP CR follows each other line."""
-        alone = line.upper().split() == ["DUMP", "CR"]
-        try:
-            self.process.stdin.write(f"{line}\n" if alone else f"{line}\nDUMP CR\n")
-            self.process.stdin.flush()
-        except BrokenPipeError:
-            raise Ended(self.process.wait()) from None
-        answer = []
-        for text in self.process.stdout:
-            if alone:
-                return [text.rstrip("\n")]
-            if text.startswith("CR "):
-                return answer
-            answer.append(text.rstrip("\n"))
-        raise Ended(self.process.wait())
+        """Returns the lines of the answer to any line of a script."""
+        if IS_MARK.fullmatch(line) or ONE_LINE_ANSWER.match(line) or STEP.match(line) and not self.may_watch:
+            self.send(line)
+            return [self.answer_line()]
+        if has_no_answer(line):
+            self.send(line)
+            return []
+        self.send(line, MARK)
+        return list(self.up_to_mark())
 
     def demand(self, line):
         """As `ask`, of a line that must not be refused."""
@@ -51,39 +102,120 @@ class Console:
             raise Failure(f"the simulator answers {answer[0]} to {line}")
         return answer
 
+    def question(self, line, beginnings):
+        """Returns the lines of the answer to a line if it is known how each of them begins."""
+        return self.questions([(line, beginnings)])[0]
+
+    def questions(self, asked):
+        """Returns the answers to several lines, each with the beginnings of its answer's lines. All are written at once."""
+        self.send(*(line for line, _ in asked))
+        return [self.answer(line, beginnings) for line, beginnings in asked]
+
+    def answer(self, line, beginnings):
+        answer = []
+        for beginning in beginnings:
+            text = self.answer_line()
+            if text.startswith("ERR ") and not answer:
+                raise Failure(f"the simulator answers {text} to {line}")
+            if not text.startswith(beginning):
+                raise self.nonsense(text)
+            answer.append(text)
+        return answer
+
+    def perform_all(self, lines):
+        """Performs the lines of a script without a look at their answers."""
+        for first in range(0, len(lines), 256):
+            part = lines[first:first + 256]
+            self.send(*part, MARK)
+            for _ in range(1 + sum(1 for line in part if IS_MARK.fullmatch(line))):
+                for _ in self.up_to_mark():
+                    pass
+
     def end(self):
         """Ends the input, and returns the simulator's exit status."""
-        self.process.stdin.close()
-        return self.process.wait()
+        return self.pipe.end()
+
+    # ---- what there is to see
 
     def registers(self, processor):
-        """P, A, Q, PHASE and SLOT of a processor."""
-        words = self.demand(f"DUMP PP {processor:o}")[0].split()
+        """Returns P, A, Q, PHASE and SLOT of a processor, each as its digits."""
+        words = self.question(f"DUMP PP {processor:o}", [f"PP {processor:02o} "])[0].split()
         return dict(zip(words[2::2], words[3::2]))
 
     def slot(self):
         return int(self.registers(0)["SLOT"], 8)
 
     def cells(self, processor, first, last):
-        """The words of the cells from first to last."""
-        rows = self.demand(f"DUMP M {processor:o} {first:o} {last:o}")
-        return [word for row in rows for word in row.split()[1:]]
+        """Returns the words of the cells from first to last."""
+        rows = [f"{address:04o} " for address in range(first, last + 1, 8)]
+        answer = self.question(f"DUMP M {processor:o} {first:o} {last:o}", rows)
+        return [word for row in answer for word in row.split()[1:]]
+
+    def words_at(self, processor, address):
+        """Returns the words of two cells; after cell 7777 comes cell 0000."""
+        if address < 0o7777:
+            return self.cells(processor, address, address + 1)
+        return self.cells(processor, address, address) + self.cells(processor, 0, 0)
+
+    def channels(self):
+        """Returns a line for each channel and the clock."""
+        return self.question("DUMP H", CHANNEL_LINES)
+
+    def channel(self, number):
+        """Returns the state and the register of a channel, or of the clock."""
+        return self.channels()[number][5:]
+
+    def central(self, first, last):
+        """Returns a line for each central word from first to last."""
+        return self.question(f"DUMP C {first:o} {last:o}", [f"C {address:06o} " for address in range(first, last + 1)])
+
+    def size_of_central(self):
+        """Returns how many words central memory has."""
+        for size in SIZES_OF_CENTRAL:
+            if not self.ask(f"DUMP C {size - 1:o} {size - 1:o}")[0].startswith("ERR "):
+                return size
+        raise self.nonsense("ERR 04 RANGE")
+
+    def frame(self):
+        """Returns a line for each word of the exchange package."""
+        return self.question("DUMP XP", [f"XP {number:02o} " for number in range(FRAME_WORDS)])
+
+    def reader(self):
+        return self.question("DUMP CR", ["CR H "])[0]
+
+    def printer(self):
+        """Returns the printer's line and the lines of its paper."""
+        answer = self.demand("DUMP LP")
+        if not answer or not answer[0].startswith("LP H "):
+            raise self.nonsense(" ".join(answer))
+        return answer
 
     def number(self, place):
-        """The number at a place."""
+        """Returns the digits of the number at a place."""
         kind, *numbers = place.split()
         if kind == "M":
             return self.demand(f"DUMP M {numbers[0]} {numbers[1]} {numbers[1]}")[0].split()[1]
         if kind == "C":
             return self.demand(f"DUMP C {numbers[0]} {numbers[0]}")[0].split()[2]
         if kind == "H":
-            return self.demand("DUMP H")[min(int(numbers[0], 8), 0o14)].split()[3]
+            return self.channel(min(int(numbers[0], 8), CLOCK)).split()[1]
         return self.registers(int(numbers[0], 8))[kind]
 
+    # ---- turns
+
+    def advance(self, turns):
+        """Makes so many turns, while nothing is watched."""
+        while turns:
+            count = min(turns, MOST_TURNS)
+            self.question(f"STEP {count:o}", [f"TURNS {count:o} "])
+            turns -= count
+
     def step(self, turns):
-        """Makes so many turns, and yields after each STEP how many it made and its answer."""
+        """Makes so many turns, and yields after each STEP how many it made and its answer, with a HIT if there is one."""
         while turns:
             answer = self.demand(f"STEP {min(turns, MOST_TURNS):o}")
+            if not answer or not answer[0].startswith("TURNS "):
+                raise self.nonsense(" ".join(answer))
             made = int(answer[0].split()[1], 8)
             turns -= made
             yield made, answer

@@ -1,0 +1,74 @@
+"""Lines typed at a terminal."""
+
+import os
+import shutil
+import signal
+import sys
+
+from ending import flush, write
+from failure import Failure
+from options import ABOVE
+from session import answer, shown
+from text_files import input_lines
+
+PROMPT = "> "
+WRAPPED = "PP6600_WRAPPED"  # set for the tool that rlwrap runs
+
+
+def is_terminal():
+    return sys.stdin is not None and sys.stdin.isatty() and sys.stdout.isatty()
+
+
+def completions():
+    """Returns the file of the console's words: beside the tools in an installation, in share in a checkout."""
+    for path in (os.path.join(ABOVE, "commands"), os.path.join(ABOVE, "share", "commands")):
+        if os.path.exists(path):
+            return ["--file", path]
+    return []
+
+
+def edit_lines():
+    """At a terminal, has rlwrap run the tool again, which then has line editing and the history of ./pp6600. Without
+    rlwrap Python's own line editing does that, if it is there. An interrupt does not end the tool."""
+    if not is_terminal():
+        return
+    signal.signal(signal.SIGINT, signal.SIG_IGN)
+    if WRAPPED in os.environ:
+        return
+    if shutil.which("rlwrap") and os.environ.get("TERM", "dumb") != "dumb":
+        os.environ[WRAPPED] = "yes"
+        wrap = ["rlwrap", "--case-insensitive", "--substitute-prompt", PROMPT, "--command-name", "pp6600", *completions()]
+        os.execvp("rlwrap", [*wrap, sys.executable, *sys.argv])
+    try:
+        import readline  # input() then has it
+        readline.parse_and_bind("set enable-bracketed-paste off")
+    except ImportError:
+        pass
+
+
+def typed_lines():
+    """Yields the lines of a terminal, each after a prompt."""
+    while True:
+        flush()
+        try:
+            line = input(PROMPT)
+        except EOFError:
+            if WRAPPED not in os.environ:
+                write("")
+            return
+        except OSError as error:
+            raise Failure(f"can't read the terminal: {error.strerror}") from error
+        yield line.encode("utf-8", "surrogateescape").decode("latin-1")
+
+
+def converse(console):
+    """Performs the lines that are typed, or those of standard input."""
+    if is_terminal():
+        for line in typed_lines():
+            answer(console, line)
+            flush()
+        return
+    for line in input_lines():
+        write(shown(line))
+        answer(console, line)
+        flush()

@@ -1,0 +1,195 @@
+"""The machine's state, read from the answers to one batch of dumps. Every number stays the octal digits of its answer."""
+
+import re
+from typing import NamedTuple
+
+from console import CLOCK, PROCESSORS
+from failure import Failure
+from instructions import Processor
+
+CELLS = 0o10000
+ROW = 8  # cells in a row of a dump
+NAMES_OF_STATES = {"I": "inactive", "E": "empty", "F": "full", "X": "function"}
+
+PROCESSOR = re.compile("PP ([0-7]{2}) P ([0-7]{4}) A ([0-7]{6}) Q ([0-7]{4}) PHASE ([0-7]{4}) SLOT ([0-7]{2})")
+CELL_ROW = re.compile("[0-7]{4}( [0-7]{4}){8}")
+CHANNEL = re.compile("H ([0-7]{2}) ([IEFX]) ([0-7]{4})")
+CENTRAL = re.compile("C ([0-7]{6}) ([0-7]{20})")
+READER = re.compile("CR H ([0-7]{2}) CARD ([0-7]{4}) OF ([0-7]{4}) COLUMN ([0-7]{3}) MODE ([A-Z]+)")
+PRINTER = re.compile("LP H ([0-7]{2}) SYMBOLS ([0-7]{6}) COLUMN ([0-7]{3}) MODE ([A-Z]+)")
+WATCH = re.compile("W (NONE|M [0-7]{2} [0-7]{4}|[APQH] [0-7]{2}|C [0-7]{6})")
+
+
+class Channel(NamedTuple):
+    """A channel, or the clock."""
+
+    number: str
+    state: str  # I, E, F or X
+    register: str
+
+
+class Reader(NamedTuple):
+    """The card reader."""
+
+    channel: str
+    card: str
+    cards: str
+    column: str
+    mode: str
+
+
+class Printer(NamedTuple):
+    """The printer. A line of its paper begins with |, and one that is not finished with /."""
+
+    channel: str
+    symbols: str
+    column: str
+    mode: str
+    paper: list
+
+
+class Watch(NamedTuple):
+    """A watched place, as DUMP W has it, and its number."""
+
+    place: str
+    number: str
+
+
+class Memory:
+    """The cells of a processor."""
+
+    def __init__(self, rows):
+        """The rows are those of a DUMP M from 0 to 7777. Only those that are looked at are read."""
+        self.rows = rows
+
+    def word(self, address):
+        """Returns a cell; after cell 7777 comes cell 0000."""
+        address %= CELLS
+        start = 5 + 5 * (address % ROW)
+        return self.rows[address // ROW][start:start + 4]
+
+    def find(self, words, first):
+        """Returns the first address, from `first` on and round to it, at which the words are; or None."""
+        cells = [word for row in self.rows for word in row[5:].split()]
+        for step in range(CELLS):
+            address = (first + step) % CELLS
+            if all(cells[(address + at) % CELLS] == word for at, word in enumerate(words)):
+                return address
+        return None
+
+
+def questions(central=None):
+    """Returns the lines that ask for a whole state, with the central words from a first to a last address. The answer to
+    the last line is one line, and the only one that begins with CR."""
+    lines = []
+    for number in range(PROCESSORS):
+        lines += [f"DUMP PP {number:o}", f"DUMP M {number:o} 0 7777"]
+    lines += ["DUMP H", "DUMP W", "DUMP LP"]
+    if central:
+        lines.append(f"DUMP C {central[0]:o} {central[1]:o}")
+    return lines + ["DUMP CR"]
+
+
+class Answers:
+    """The lines of answers, taken one after another."""
+
+    def __init__(self, lines):
+        self.lines = lines
+        self.at = 0
+
+    def next_is(self, beginning):
+        return self.at < len(self.lines) and self.lines[self.at].startswith(beginning)
+
+    def take(self, pattern):
+        """Returns the parts of the next line, which must have this form."""
+        text = self.lines[self.at] if self.at < len(self.lines) else ""
+        found = pattern.fullmatch(text)
+        if not found:
+            raise Failure(f"what is run is not the simulator: it answers {text[:60]!r} to a dump")
+        self.at += 1
+        return found.groups()
+
+    def take_rows(self):
+        """Returns the rows of a whole memory."""
+        rows = self.lines[self.at:self.at + CELLS // ROW]
+        if len(rows) < CELLS // ROW or not CELL_ROW.fullmatch(rows[0]) or not CELL_ROW.fullmatch(rows[-1]):
+            raise Failure("what is run is not the simulator: a dump of a memory is not one")
+        self.at += len(rows)
+        return rows
+
+    def take_paper(self):
+        """Returns the lines of paper. They may be many, and what comes after them is little, so their end is looked for."""
+        first, self.at = self.at, len(self.lines)
+        while self.at > first and not self.lines[self.at - 1].startswith(("|", "/")):
+            self.at -= 1
+        return self.lines[first:self.at]
+
+
+class MachineState:
+    """A whole state of the machine: `slot`, `processors`, `memories`, `channels` (the clock is the last), `watches`,
+    `printer`, `reader`, and `central`: the central words that were asked for, by their addresses."""
+
+    def __init__(self, lines):
+        """The lines are the answers to the lines of `questions`."""
+        answers = Answers(lines)
+        self.processors, self.memories = [], []
+        for _ in range(PROCESSORS):
+            self._take_processor(answers)
+        self.channels = [Channel(*answers.take(CHANNEL)) for _ in range(CLOCK + 1)]
+        self._places = []
+        while answers.next_is("W "):
+            self._places += [place for place in answers.take(WATCH) if place != "NONE"]
+        self.printer = Printer(*answers.take(PRINTER), answers.take_paper())
+        self.central = {}
+        while answers.next_is("C "):
+            self.add_central(answers.take(CENTRAL))
+        self.reader = Reader(*answers.take(READER))
+
+    def _take_processor(self, answers):
+        _, *registers, slot = answers.take(PROCESSOR)
+        memory = Memory(answers.take_rows())
+        address = int(registers[0], 8)
+        registers = dict(zip(("P", "A", "Q", "PHASE"), registers))
+        self.slot = int(slot, 8)
+        self.memories.append(memory)
+        self.processors.append(Processor(registers, [memory.word(address), memory.word(address + 1)]))
+
+    def add_central(self, line):
+        """Adds a central word: its address and its digits."""
+        address, word = line
+        self.central[int(address, 8)] = word
+
+    def missing_central(self):
+        """Returns the addresses of watched central words that were not asked for."""
+        addresses = [int(place[2:], 8) for place in self._places if place.startswith("C ")]
+        return [address for address in addresses if address not in self.central]
+
+    @property
+    def watches(self):
+        return [Watch(place, self.number(place)) for place in self._places]
+
+    def watched_cells(self, processor):
+        """Returns the addresses of the watched cells of a processor."""
+        beginning = f"M {processor:02o} "
+        return [int(place[5:], 8) for place in self._places if place.startswith(beginning)]
+
+    def number(self, place):
+        """Returns the digits of the number at a place, as DUMP W writes it; None if it is a central word that was not
+        asked for."""
+        kind, *numbers = place.split()
+        numbers = [int(number, 8) for number in numbers]
+        if kind == "M":
+            return self.memories[numbers[0]].word(numbers[1])
+        if kind == "C":
+            return self.central.get(numbers[0])
+        if kind == "H":
+            return self.channels[numbers[0]].register
+        return self.processors[numbers[0]].registers[kind]
+
+    @property
+    def clock(self):
+        return self.channels[CLOCK].register
+
+    def states(self):
+        """Returns the states of the channels and the clock."""
+        return [channel.state for channel in self.channels]

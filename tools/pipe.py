@@ -1,0 +1,157 @@
+"""A program at the other end of pipes. None of them is left to fill up, and no silence lasts forever."""
+
+import collections
+import functools
+import os
+import select
+import signal
+import subprocess
+import sys
+
+from failure import Failure
+
+PATIENCE = 30  # seconds without a byte
+LONGEST_LINE = 4096
+KEPT_OF_ERRORS = 4096
+
+
+class Ended(Failure):
+    """The simulator ended before it answered. What it wrote to standard error says why."""
+
+    def __init__(self, program, status, said):
+        how = f"with status {status}" if status >= 0 else f"by signal {-status}"
+        super().__init__(f"the simulator ended early, {how}{': ' + said if said else f'; is {program} the simulator?'}")
+
+
+def patience():
+    """Returns how many seconds of silence are too many; the variable PP6600_PATIENCE has another number for slow machines."""
+    text = os.environ.get("PP6600_PATIENCE", "")
+    return int(text) if text.isascii() and text.isdigit() else PATIENCE
+
+
+@functools.lru_cache(maxsize=None)
+def built(program):
+    """Returns the program to run. The launcher of a checkout proves and builds first, which takes its time and shows its
+    progress; then it is the program that it built."""
+    top, name = os.path.split(os.path.realpath(program))
+    if os.sep not in program or name != "pp6600" or not os.path.exists(os.path.join(top, "crates.txt")):
+        return program
+    try:
+        done = subprocess.run([program, "--help"], stdin=subprocess.DEVNULL, stdout=subprocess.DEVNULL, check=False)
+    except OSError as error:
+        raise Failure(f"can't run {program}: {error.strerror}") from error
+    if done.returncode:
+        raise Failure(f"{program} has no simulator to run; the lines above say why")
+    result = os.path.join(top, "crates", "pp6600", "out", "pp6600")
+    return result if os.access(result, os.X_OK) else program
+
+
+class Pipe:
+    """A program whose standard input, output and error are pipes."""
+
+    def __init__(self, words):
+        self.program = words[0]
+        try:
+            # A group of its own: an interrupt ends the tool, and then the end of its input ends the program.
+            self.process = subprocess.Popen([built(words[0]), *words[1:]], bufsize=0, stdin=subprocess.PIPE, stdout=subprocess.PIPE,
+                                            stderr=subprocess.PIPE, start_new_session=True)
+        except OSError as error:
+            raise Failure(f"can't run {words[0]}: {error.strerror}") from error
+        self.input, self.output, self.errors = (
+            stream.fileno() for stream in (self.process.stdin, self.process.stdout, self.process.stderr))
+        self.poll = select.poll()
+        for number in (self.output, self.errors):
+            os.set_blocking(number, False)
+            self.poll.register(number, select.POLLIN)
+        os.set_blocking(self.input, False)
+        self.reading = {self.output, self.errors}
+        self.unsent, self.said = b"", b""
+        self.lines, self.rest = collections.deque(), ""
+
+    def send(self, text):
+        """Writes a text, as much of it as the pipe takes now, and the rest while answers are read."""
+        if not self.unsent:
+            self.poll.register(self.input, select.POLLOUT)
+        self.unsent += text.encode("latin-1")
+        self.write_more()
+
+    def write_more(self):
+        try:
+            self.unsent = self.unsent[os.write(self.input, self.unsent):]
+        except BlockingIOError:
+            return
+        except BrokenPipeError:  # the program has ended, as its output will say
+            self.unsent = b""
+        if not self.unsent:
+            self.poll.unregister(self.input)
+
+    def line(self):
+        """Returns the next line that the program writes."""
+        while not self.lines:
+            if self.output not in self.reading:
+                status = self.close()
+                raise Ended(self.program, status, (self.errors_text().splitlines() or [""])[-1])
+            self.move()
+        return self.lines.popleft()
+
+    def move(self):
+        """Waits until a pipe can be read or written, and does so."""
+        ready = self.poll.poll(patience() * 1000)
+        if not ready:
+            raise self.stopped(f"{self.program} has not answered for {patience()} (decimal) seconds")
+        for number, _ in ready:
+            if number == self.input:
+                self.write_more()
+            else:
+                self.read_more(number)
+
+    def read_more(self, number):
+        data = os.read(number, 65536)
+        if not data:
+            self.poll.unregister(number)
+            self.reading.discard(number)
+        elif number == self.errors:
+            self.said = (self.said + data)[-KEPT_OF_ERRORS:]
+        else:
+            *lines, self.rest = (self.rest + data.decode("latin-1")).split("\n")
+            self.lines.extend(lines)
+            if len(self.rest) > LONGEST_LINE:
+                raise self.stopped(f"{self.program} is not the simulator: it writes a line without an end")
+
+    def stopped(self, message):
+        """Ends the program by force, and returns the failure with this message."""
+        self.kill()
+        return Failure(message)
+
+    def kill(self):
+        try:
+            os.killpg(self.process.pid, signal.SIGKILL)
+        except OSError:  # it has ended
+            pass
+        self.process.wait()
+
+    def errors_text(self):
+        return self.said.decode("utf-8", "backslashreplace")
+
+    def close(self):
+        """Ends the input and returns the exit status. Every answer was read before, so no more output may come."""
+        while self.unsent and self.output in self.reading:
+            self.move()
+        if self.unsent:
+            self.poll.unregister(self.input)
+        self.process.stdin.close()
+        while self.reading:
+            if self.lines or self.rest:
+                raise self.stopped(f"{self.program} is not the simulator: it writes more than answers")
+            self.move()
+        try:
+            return self.process.wait(patience())
+        except subprocess.TimeoutExpired:
+            raise self.stopped(f"{self.program} does not end after the end of its input") from None
+
+    def end(self):
+        """As `close`, and passes on what the program wrote to standard error."""
+        status = self.close()
+        if self.said and sys.stderr is not None:
+            sys.stderr.write(self.errors_text())
+        return status

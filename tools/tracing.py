@@ -1,0 +1,88 @@
+"""A run turn by turn."""
+
+from console import PROCESSORS
+from instructions import Processor
+from replay import Replay, looks, turns_of
+
+
+class Tracer:
+    """Shows turns of a replay. What it saw after a turn is what it would see before the next, unless a setting is between."""
+
+    def __init__(self, run, channel=None):
+        self.run = run
+        self.channel = channel
+        self.known = {}  # the registers of processors after their last turn
+        self.channel_line = None
+        self.seen_to = None  # the turns that were made when the channel was looked at
+
+    def forget(self):
+        """A setting may have changed any number."""
+        self.known.clear()
+        self.seen_to = None
+
+    def look(self, slot):
+        """Returns the processor whose turn comes next."""
+        if self.channel is not None and self.seen_to != self.run.turn:
+            self.channel_line = self.run.channel(self.channel)
+        registers = self.known.get(slot) or self.run.registers(slot)
+        return Processor(registers, self.run.words_at(slot, int(registers["P"], 8)))
+
+    def turn(self, slot):
+        """Makes a turn, and returns its line; None if it did not touch the channel that is asked for."""
+        before = self.look(slot)
+        channel_before = self.channel_line
+        self.run.advance(1)
+        after = self.known[slot] = self.run.registers(slot)
+        waited = before.may_wait and all(before.registers[name] == after[name] for name in ("P", "A", "Q", "PHASE"))
+        text = f"TURN {self.run.turn:o} PP {slot:02o} {instruction(before)}"
+        wait = " WAITS" if waited else ""
+        if self.channel is None:
+            return f"{text} Q {before.registers['Q']} PHASE {before.registers['PHASE']}{wait}"
+        self.channel_line = self.run.channel(self.channel)
+        self.seen_to = self.run.turn
+        touched = before.uses(self.channel) and not waited or self.channel_line != channel_before
+        return f"{text}{wait} H {self.channel:02o} {step_of(channel_before, self.channel_line)}" if touched else None
+
+
+def instruction(processor):
+    """Returns the fields of a processor before its turn that say what it is about to do."""
+    shown = processor.registers
+    return f"P {shown['P']} {' '.join(processor.words)} {processor.name} A {shown['A']}"
+
+
+def step_of(before, after):
+    return before if before == after else f"{before} -> {after}"
+
+
+def lines_from(words, actions, processors, channel, first):
+    """Yields the line of each turn to be shown, of those from number `first` on (from 0)."""
+    run = Replay(words)
+    tracer = Tracer(run, channel)
+    for slot, _ in looks(run, actions, first, processors):
+        if slot is None:
+            tracer.forget()
+        else:
+            line = tracer.turn(slot)
+            if line:
+                yield line
+    run.end()
+
+
+def last_lines(words, actions, processors, channel, last):
+    """Returns the last lines. It looks at some turns at the end, and at more while these have too few."""
+    total = turns_of(actions)
+    span = last * PROCESSORS
+    while True:
+        first = max(total - span, 0)
+        lines = list(lines_from(words, actions, processors, channel, first))
+        if first == 0 or len(lines) >= last:
+            return lines[-last:]
+        span *= 8
+
+
+def trace(words, actions, processors=None, channel=None, last=None):
+    """Returns the lines of a trace: of some processors, of the turns that touched a channel, the last ones."""
+    processors = processors or range(PROCESSORS)
+    if last is not None:
+        return last_lines(words, actions, processors, channel, last)
+    return lines_from(words, actions, processors, channel, 0)
