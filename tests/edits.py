@@ -1,0 +1,277 @@
+"""The mutants of the crates: files crates/NAME/must-fail/*.edit, and which of them one check may have at once.
+
+A proof cites only the contract of a function that it calls. So mutants in the bodies of different functions do not mix.
+Nor do mutants in different arms of one match, since a goal's name has the arm, nor one in the contract of a function that
+nothing calls. Any other mutant is checked alone: one of specs/ or proofs/, of a constant, a type or a macro, of another
+contract, of a const function, or of functions that have one proof for all.
+"""
+
+import os
+import re
+from collections import namedtuple
+
+# Where an edit is: the module, the owner ('Type', 'TypeTrait' or '' for a free function), the function, and its arm or ''.
+Place = namedtuple("Place", "module owner function arm")
+# A mutant without places is checked alone, one with a fault not at all.
+Mutant = namedtuple("Mutant", "crate name pairs places fault")
+
+EDIT_NAME = re.compile(r"[A-Za-z0-9_-][A-Za-z0-9_.-]*\.edit")
+TEXTS = re.compile(r'//[^\n]*|/\*.*?\*/|b?"(?:\\.|[^"\\])*"|(?<!\w)b?\'(?:\\[^\']*|[^\'\\])\'', re.S)
+CLAUSE = re.compile(r"\b(?:requires|ensures|ghost|decreases|invariant)\b")
+CLOSES = {"{": "}", "(": ")", "[": "]"}
+
+
+# ---- edit files
+
+
+def pairs_of(text):
+    """Returns the (path, old, new) of an edit file, or says what is wrong with it."""
+    path, old, pairs = "", None, []
+    for line in text.split("\n"):
+        if line.startswith("file: "):
+            path = line[len("file: "):].strip()
+            if os.path.normpath(path) != path or not path.startswith(("src/", "specs/", "proofs/")):
+                return [], "a line 'file:' names no file of src, specs or proofs"
+        elif line.startswith("old: "):
+            old = line[len("old: "):]
+        elif line.startswith("new:"):
+            if not path or not old:
+                return [], "a line 'new:' is before any 'file:' or 'old:'"
+            new = line[len("new:"):]
+            pairs.append((path, old, new[1:] if new.startswith(" ") else new))
+            old = None
+    return pairs, "" if pairs else "it has no 'old:' and 'new:'"
+
+
+def apply(pairs, read):
+    """Returns the changed texts by path, or says why the edit does not apply. `read` returns the text of a path, or None."""
+    texts = {}
+    for path, old, new in pairs:
+        text = texts.get(path, read(path))
+        if text is None:
+            return {}, f"there is no file {path}"
+        if text.count(old) != 1:
+            return {}, f"an 'old:' text is in {path} {text.count(old)} times, and not once"
+        texts[path] = text.replace(old, new)
+    return texts, ""
+
+
+def read_file(path):
+    try:
+        with open(path, encoding="utf-8") as file:
+            return file.read()
+    except (OSError, UnicodeDecodeError):
+        return None
+
+
+def reader(folder):
+    """Returns a function from a path below the folder to its text."""
+    return lambda path: read_file(os.path.join(folder, path))
+
+
+def mutants_of(crate, folder):
+    """Returns the crate's mutants, by name. One that does not apply has a fault."""
+    found = []
+    for name in sorted(os.listdir(os.path.join(folder, "must-fail"))):
+        if name.endswith(".md"):
+            continue
+        text = read_file(os.path.join(folder, "must-fail", name))
+        pairs, fault = pairs_of(text) if text is not None else ([], "it is no text file")
+        fault = fault if EDIT_NAME.fullmatch(name) else "its name is not letters, digits, _, - and . with .edit at the end"
+        fault = fault or apply(pairs, reader(folder))[1]
+        places = set() if fault else places_of(pairs, folder)
+        found.append(Mutant(crate, name[:-len(".edit")] if name.endswith(".edit") else name, pairs, places, fault))
+    return found
+
+
+# ---- functions of a source
+
+
+def blanked(text):
+    """Returns the source with blanks in place of comments, strings and characters."""
+    return TEXTS.sub(lambda found: re.sub(r"[^\n]", " ", found.group()), text)
+
+
+def end_of(text, start):
+    """Returns the place after the bracket that closes the one at the start."""
+    depth = 0
+    for at in range(start, len(text)):
+        depth += (text[at] in CLOSES) - (text[at] in CLOSES.values())
+        if depth == 0:
+            return at + 1
+    return len(text)
+
+
+def body_of(text, start):
+    """Returns the braces of the body of the function whose parameters may begin at the start, or None if it has none."""
+    at = before = start
+    while at < len(text):
+        if text[at] in "([":
+            at = end_of(text, at)
+            continue
+        if text[at] == ";":
+            return None
+        if text[at] == "{":
+            end = end_of(text, at)
+            if not CLAUSE.search(text, before, at):
+                return at, end
+            at = before = end
+            continue
+        at += 1
+    return None
+
+
+def owner_of(head):
+    """Returns the prover's name for what an impl or a trait defines: Type, TypeTrait, or the trait."""
+    kind, _, head = re.sub(r"^(?:unsafe\s+)?(impl|trait)\b\s*", r"\1 ", head).partition(" ")
+    head = re.split(r"\bwhere\b", head[angle_end(head):] if head.startswith("<") else head)[0]
+    parts = [part.strip() for part in re.split(r"\bfor\b", head)]
+    if kind == "trait":
+        return re.match(r"\w*", parts[0]).group()
+    # Of a trait the prover's name has the arguments too, as in MakeFaultFromAllocError.
+    return "".join([last_name(parts[-1]), *map(last_name, re.findall(r"[\w:]+", " ".join(parts[:-1])))])
+
+
+def last_name(path):
+    return re.match(r"\w*", re.sub(r"<.*", "", path.strip()).split("::")[-1]).group()
+
+
+def angle_end(text):
+    """Returns the place after the angle bracket that closes the first one."""
+    depth = 0
+    for at, letter in enumerate(text):
+        depth += (letter == "<") - (letter == ">" and text[at - 1:at] != "-")
+        if depth == 0:
+            return at + 1
+    return len(text)
+
+
+def owners(text):
+    """Yields (start, end, owner) of each impl and trait."""
+    for found in re.finditer(r"^[ \t]*(?:pub(?:\([^)]*\))? )?((?:unsafe )?(?:impl|trait)\b[^{;]*)\{", text, re.M):
+        yield found.start(), end_of(text, found.end() - 1), owner_of(found.group(1).strip())
+
+
+def functions(text):
+    """Yields (start, body, name, is_plain) of each function that is in no other. A const function or one of a cycle is not plain."""
+    after = 0
+    for found in re.finditer(r"\bfn\s+(\w+)", text):
+        body = body_of(text, found.end()) if found.start() >= after else None
+        if body:
+            after = body[1]
+            begun = max(text.rfind(mark, 0, found.start()) for mark in "};{")
+            head = text[begun + 1:found.start()]
+            yield found.start(), body, found.group(1), not re.search(r"\bconst\b|#\[cycle", head)
+
+
+def arm_of(text, body, start, end):
+    """Returns the first variant of the arm that has this part of a body, if the body has one match at its top, else ''."""
+    inside = text[body[0] + 1:body[1] - 1]
+    found = re.search(r"\bmatch\b[^{};]*\{", inside)
+    if not found or depth_at(inside, found.start()):
+        return ""
+    at = arm = body[0] + 1 + found.end()
+    if not at <= start <= end < end_of(text, at - 1):
+        return ""
+    while at < start:
+        if text[at] in CLOSES:
+            is_block = text[at] == "{" and text[arm:at].rstrip().endswith("=>")
+            at = end_of(text, at)
+            arm = at if is_block else arm
+        else:
+            arm = at + 1 if text[at] == "," else arm
+            at += 1
+    first = re.match(r"[\s,]*(?:\w+::)*([A-Z]\w*)[^=]*(?:=[^>][^=]*)*=>", text[arm:end_of(text, body[0])])
+    return first.group(1) if first and arm <= start else ""
+
+
+def depth_at(text, place):
+    return sum((letter in CLOSES) - (letter in CLOSES.values()) for letter in text[:place])
+
+
+def place_in(path, text, start, end, is_called):
+    """Returns the place of a part of a source, or None if an edit there may change more than one function."""
+    hidden = blanked(text)
+    module = "::".join(part for part in path[len("src/"):-len(".rt")].split("/") if part not in ("lib", "main", "mod"))
+    around = [owner for first, last, owner in owners(hidden) if first <= start < last]
+    for begun, body, name, is_plain in functions(hidden):
+        if begun <= start and end < body[1] and is_plain:
+            if body[0] < start:
+                return Place(module, around[-1] if around else "", name, arm_of(hidden, body, start, end))
+            is_contract = CLAUSE.search(hidden, begun, start) and not around and not is_called(name)
+            return Place(module, "", name, "") if is_contract else None
+    return None
+
+
+def caller_test(folder):
+    """Returns a function that says whether a function's name is anywhere in the crate but at its definition, in imports and in its proofs."""
+    texts = []
+    for part in ("src", "specs", "proofs"):
+        for at, _, names in os.walk(os.path.join(folder, part)):
+            for name in names:
+                text = read_file(os.path.join(at, name)) or ""
+                texts.append((at, re.sub(r"\buse\b[^;]*;", "", blanked(text)) if name.endswith(".rt") else text))
+    is_own = lambda name, at: os.path.basename(at) == name
+    return lambda name: sum(len(re.findall(rf"\b{name}\b", text)) for at, text in texts if not is_own(name, at)) > 1
+
+
+def places_of(pairs, folder):
+    """Returns the places of an edit, or none if it has to be checked alone."""
+    places, texts = set(), {}
+    for path, old, new in pairs:
+        if not path.startswith("src/"):
+            return set()
+        text = texts.get(path) or reader(folder)(path)
+        start = text.index(old)
+        same = len(os.path.commonprefix([old, new]))
+        places.add(place_in(path, text, start + same, start + len(old.rstrip()), caller_test(folder)))
+        texts[path] = text.replace(old, new)
+    return set() if None in places else places
+
+
+# ---- groups
+
+
+def may_meet(place, other):
+    """Whether edits at these places may change the same goals."""
+    return place[:3] == other[:3] and not (place.arm and other.arm and place.arm != other.arm)
+
+
+class Group:
+    """Mutants of one crate that one check has at once, and the texts that they make."""
+
+    def __init__(self, read):
+        self.read, self.mutants, self.texts = read, [], {}
+
+    def of(self, mutants):
+        """Returns a group with some of the mutants."""
+        group = Group(self.read)
+        for mutant in mutants:
+            group.add(mutant)
+        return group
+
+    def may_join(self, mutant):
+        places = [place for other in self.mutants for place in other.places]
+        is_alone = not mutant.places or any(not other.places for other in self.mutants)
+        return not self.mutants or not is_alone and not any(may_meet(one, two) for one in mutant.places for two in places)
+
+    def add(self, mutant):
+        """Adds a mutant, unless it may meet one that is there."""
+        if not self.may_join(mutant):
+            return False
+        texts, fault = apply(mutant.pairs, lambda path: self.texts.get(path) or self.read(path))
+        if fault:
+            return False
+        self.texts.update(texts)
+        self.mutants.append(mutant)
+        return True
+
+
+def groups_of(mutants, read):
+    """Returns as few groups as the mutants allow, each mutant in one."""
+    groups = []
+    for mutant in mutants:
+        if not any(group.add(mutant) for group in groups):
+            groups.append(Group(read))
+            groups[-1].add(mutant)
+    return groups
