@@ -1,16 +1,37 @@
-# Completions of pp6600 for bash.
-_pp6600() {
-    local word=${COMP_WORDS[COMP_CWORD]} before=${COMP_WORDS[COMP_CWORD - 1]}
-    case $before in
+# Completions of pp6600 and its tools for bash.
+
+# Completes the word after an option that both have; fails if the word before is none.
+_pp6600_value() {
+    local word=${COMP_WORDS[COMP_CWORD]}
+    case ${COMP_WORDS[COMP_CWORD - 1]} in
         --central) mapfile -t COMPREPLY < <(compgen -W '32 64 128' -- "$word") ;;
         --reader | --printer) mapfile -t COMPREPLY < <(compgen -W '0 1 2 3 4 5 6 7 10 11 12 13' -- "$word") ;;
-        --history) COMPREPLY=() ;;
-        *)
-            case $word in
-                -*) mapfile -t COMPREPLY < <(compgen -W '--history --central --deck --reader --printer --panel --help' -- "$word") ;;
-                *) mapfile -t COMPREPLY < <(compgen -f -- "$word") ;;
-            esac
-            ;;
+        --processor) mapfile -t COMPREPLY < <(compgen -W '0 1 2 3 4 5 6 7 10 11' -- "$word") ;;
+        --history | --last) COMPREPLY=() ;;
+        --deck | --panel | --program) mapfile -t COMPREPLY < <(compgen -f -- "$word") ;;
+        *) return 1 ;;
     esac
 }
-complete -o filenames -F _pp6600 pp6600
+
+# The options are those that --help prints; they are asked for once.
+declare -A _pp6600_options
+_pp6600_option() {
+    local command=${COMP_WORDS[0]} word=${COMP_WORDS[COMP_CWORD]}
+    if [ -z "${_pp6600_options[$command]:-}" ]; then
+        _pp6600_options[$command]=$({ echo --help; "$command" --help 2>/dev/null; } </dev/null |
+            grep -oE -- '--[a-z][a-z-]*' | sort -u)
+    fi
+    mapfile -t COMPREPLY < <(compgen -W "${_pp6600_options[$command]}" -- "$word")
+}
+
+_pp6600() {
+    local word=${COMP_WORDS[COMP_CWORD]}
+    _pp6600_value && return
+    case $word in
+        -*) _pp6600_option ;;
+        *) mapfile -t COMPREPLY < <(compgen -f -- "$word") ;;
+    esac
+}
+mapfile -t COMPREPLY < <(compgen -c pp6600-)
+complete -o filenames -F _pp6600 pp6600 "${COMPREPLY[@]}"
+COMPREPLY=()
