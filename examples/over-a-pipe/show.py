@@ -7,21 +7,59 @@ The answer to a line is read before the next line is written. An answer may have
 last. So a DUMP CR follows each line: its answer, the only one that begins with CR, tells that the answer before it is whole.
 """
 
+import os
 import subprocess
 import sys
 
-simulator = subprocess.Popen(sys.argv[1:], stdin=subprocess.PIPE, stdout=subprocess.PIPE, text=True)
-for line in sys.stdin:
-    line = line.rstrip("\n")
-    print(f"> {line}")
-    asked = line.upper().split() == ["DUMP", "CR"]
-    simulator.stdin.write(f"{line}\n" if asked else f"{line}\nDUMP CR\n")
-    simulator.stdin.flush()
-    for answer in simulator.stdout:
-        last = answer.startswith("CR ")
+
+def answer(simulator, line):
+    """Yields the lines of the answer to a line."""
+    asked = line.upper().split() == [b"DUMP", b"CR"]
+    try:
+        simulator.stdin.write(line + b"\n" if asked else line + b"\nDUMP CR\n")
+        simulator.stdin.flush()
+    except BrokenPipeError:
+        pass  # the simulator has ended, so there is no answer to read
+    for text in simulator.stdout:
+        last = text.startswith(b"CR ")
         if asked or not last:
-            print(answer, end="")
+            yield text
         if last:
-            break
-simulator.stdin.close()
-sys.exit(simulator.wait())
+            return
+    raise EOFError("the simulator ended before it answered")
+
+
+def show(simulator, script, output):
+    """Shows the lines of a script with their answers."""
+    for line in script:
+        line = line.rstrip(b"\n")
+        output.write(b"> " + line + b"\n")
+        for text in answer(simulator, line):
+            output.write(text)
+        output.flush()
+
+
+def main():
+    """Returns the exit status of the simulator. It is 2 or 3 if it ended early, and then it has said why."""
+    if not sys.argv[1:]:
+        raise OSError("give the simulator and its options, as in show.py ./pp6600 <SCRIPT")
+    if sys.stdin is None or sys.stdout is None:
+        raise OSError("standard input or output is closed")
+    simulator = subprocess.Popen(sys.argv[1:], stdin=subprocess.PIPE, stdout=subprocess.PIPE)
+    try:
+        show(simulator, sys.stdin.buffer, sys.stdout.buffer)
+    except EOFError:
+        if simulator.wait() < 2:
+            raise
+    simulator.communicate()
+    return simulator.returncode
+
+
+try:
+    status = main()
+except (OSError, EOFError) as fault:
+    if sys.stderr:
+        print(f"show.py: {fault}", file=sys.stderr)
+    os.dup2(os.open(os.devnull, os.O_WRONLY), 1)  # what can't be written is not tried again at the end
+    status = 2
+sys.exit(status)
