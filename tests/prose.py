@@ -2,7 +2,8 @@
 
 A name is what stands between backticks. Each word of it is an identifier of the code, the definitions or the proofs, a mutant, a
 file or folder, an option or a variable of a program, a word of the console, a number, or a word of OUTSIDE. A name with '::' has
-its parts in one crate. A name after a word of KINDS is of that kind. Blocks of code and indented lines are not prose.
+its parts in one crate, and `Type::call` is a call of that type. A name after a word of KINDS is of that kind. Blocks of code and
+indented lines are not prose.
 
 A number of lines, mutants, crates, tests, functions, files or theorems is compared with what can be counted: the lines of the one
 file that its sentence names, the mutants of the one crate, all mutants, or the crates of crates.txt. A number that cannot be
@@ -21,7 +22,7 @@ OUTSIDE = {
     "the kit's: its command and its reports": """rt all check ci doc fmt lemma must-fail plant test try version logic not-proved
         proved functions rattle-kit-13b dac8208d650f15bf --allow-holes --fix-imports --only --start --test --fail-alloc""",
     "the language's": "crate specs proofs ghost impl inline never prove tactic auto using unfolding unfoldable clause TheVariants",
-    "the kit's libraries'": "clap itoa thiserror arrayvec circular_buffer Display Read Write",
+    "the kit's libraries'": "clap itoa thiserror arrayvec circular_buffer Display File Read Write",
     "the system's: its programs, variables and folders": """cd cp cat echo gcc head rlwrap /usr/local ~/.local bin libexec local share DESTDIR
         NO_COLOR tar gz x86_64-linux""",
     "of a keyboard": "arrows Backspace Ctrl End Escape Home Shift Space Tab",
@@ -57,8 +58,8 @@ KINDS = {"clause": "clauses", "clauses": "clauses", "against": "clauses", "mutan
          "crate": "crates", "crates": "crates", "ghost words": "ghosts"}
 KIND = re.compile(r"\b(" + "|".join(KINDS) + r")\s+\(?((?:`\w+`(?:,\s+|\s+and\s+)?)+)")
 
-# The words that are known, and those of each kind. `code` has the identifiers of each crate.
-Known = namedtuple("Known", "code words files clauses mutants crates ghosts")
+# The words that are known, and those of each kind. `code` has the identifiers of each crate, `calls` each call with its type.
+Known = namedtuple("Known", "code words calls files clauses mutants crates ghosts")
 
 
 def read(*parts):
@@ -94,8 +95,8 @@ def files():
     return found
 
 
-def known():
-    """Returns all that is known."""
+def known(calls):
+    """Returns all that is known, given each call with its type."""
     code, words, clauses, ghosts = {}, set(OTHERS), set(), set()
     for crate, text in sources():
         bare = SKIPPED.sub(" ", text)
@@ -111,7 +112,7 @@ def known():
     mutants = {os.path.basename(path)[:-len(".edit")] for path in paths if path.endswith(".edit")}
     names = {os.path.basename(path) for path in paths}
     words |= mutants | names | {"pp6600-" + name for name in names} | set().union(*code.values())
-    return Known(code, words, paths, clauses | ghosts, mutants, set(re.findall(r"\w+", read("crates.txt"))), ghosts)
+    return Known(code, words, calls, paths, clauses | ghosts, mutants, set(re.findall(r"\w+", read("crates.txt"))), ghosts)
 
 
 # ---- prose
@@ -145,14 +146,21 @@ def is_path(path, there):
     return re.search(rf"(?:^|\n|/){ending}(?=\n|$)", there) is not None
 
 
+def is_inside(parts, has):
+    """Says whether one crate has these parts of a name, and whether the last is a call of the type before it."""
+    of_type, call = parts[-2:]
+    if of_type[0].isupper() and call[0].islower() and of_type not in OTHERS and (of_type, call) not in has.calls:
+        return False
+    crates = [has.code[parts[0]]] if parts[0] in has.code else has.code.values()
+    return any(set(parts) <= names | OTHERS | {parts[0]} & has.crates for names in crates)
+
+
 def is_word(word, has):
     """Says whether a word of a name is known."""
     if PLAIN.fullmatch(word) or word in has.words:
         return True
     if "::" in word:
-        crate, *parts = word.split("::")
-        inside = [has.code[crate]] if crate in has.code else [names | {crate} for names in has.code.values() if crate in names | OTHERS]
-        return any(set(parts) <= names | OTHERS for names in inside)
+        return is_inside(word.split("::"), has)
     return "-" in word and all(is_word(part, has) for part in word.split("-"))
 
 
@@ -252,6 +260,7 @@ def planted(has):
         f"`plain_end_around`. There are {crates} crates. There are {mutants} mutants of `pp_arith`.", []
     yield "A call that is gone: `no_such_call`.", ["there is no no_such_call in `no_such_call`"]
     yield "In another crate: `pp_arith::Session`.", ["there is no pp_arith::Session in `pp_arith::Session`"]
+    yield "A call of another type: `Rig::back`.", ["there is no Rig::back in `Rig::back`"]
     yield "A path: `specs/NoSuchFile.antt`.", ["there is no specs/NoSuchFile.antt in `specs/NoSuchFile.antt`"]
     yield "An option: `./check --slowly`.", ["there is no --slowly in `./check --slowly`"]
     yield "A word of the console: `STEPS 3`.", ["there is no STEPS in `STEPS 3`"]
