@@ -255,8 +255,8 @@ def check_numbers(page, text, has):
 
 def planted():
     """Yields a page, and each fault that the checks must find on it and no other: what comes after the line of the fault."""
-    crates = len(os.listdir(os.path.join(TOP, "crates")))
-    mutants = len(os.listdir(os.path.join(TOP, "crates", "pp_arith", "must-fail")))
+    crates = read("crates.txt").count(":")
+    mutants = len(glob.glob(os.path.join(TOP, "crates", "pp_arith", "must-fail", "*.edit")))
     yield f"`add18` of `pp_arith`, `pp_rig::Rig::check`, `crates.txt`, `./check --quick`, `BACK W`, the clause `fits`, the mutant " \
         f"`plain_end_around`. There are {crates} crates. There are {mutants} mutants of `pp_arith`.", []
     yield "A call that is gone: `no_such_call`.", ["there is no no_such_call in `no_such_call`"]
