@@ -324,19 +324,19 @@ function numberIn(moment, place, row) {
   return film.numbers[place];
 }
 
+// The state of a channel as it is; the clock is always full, and a block takes a channel that is not there for another one.
+function stateOf(channel, inBlock) {
+  if (channel < CHANNELS) return STATES[film.numbers[film.layout.states + channel]];
+  return channel === CLOCK ? "F" : film.not_there[inBlock ? 1 : 0];
+}
+
 // For what a processor waits before its next turn, or "".
 function waitText(processor) {
   const numbers = film.numbers, phase = numbers[register(processor, 3)];
   const word = phase || numbers[processor * CELLS + numbers[register(processor, 0)]];
-  const code = word >> 6, channel = word & 0o77;
-  const goesOn = phase ? film.blocks[code] : film.completes[code];
-  if (!goesOn || (phase && numbers[register(processor, 1)] === 0)) return "";
-  if (channel === CLOCK && (phase ? code === 0o71 : film.clock_passes.includes(code))) return "";
-  const state = channel < CHANNELS ? STATES[numbers[film.layout.states + channel]] : channel === CLOCK ? "" : "I";
-  if (goesOn.includes(state) && state) return "";
-  if (channel >= CHANNELS) return `${two(channel)} never`;
-  const wanted = goesOn.length > 1 && !phase ? "active" : STATE_NAMES[STATES.indexOf(goesOn.replace("I", "") || "I")];
-  return `${two(channel)} ${wanted}`;
+  const code = word >> 6, channel = word & 0o77, goesOn = (phase ? film.blocks : film.completes)[code];
+  if (!goesOn || (phase && numbers[register(processor, 1)] === 0) || goesOn.includes(stateOf(channel, phase))) return "";
+  return `${two(channel)} ${channel < CLOCK ? film.waits_for[code] : "never"}`;
 }
 
 const papers = new Map([[0, ""]]);

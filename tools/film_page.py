@@ -7,7 +7,7 @@ from display_code import SYMBOLS
 from film_data import encode
 from film_places import LAYOUT, MODES
 from film_run import TURN
-from instructions import BLOCK_GOES_ON, CLOCK_PASSES, COMPLETES, NAMES
+from instructions import BLOCK_GOES_ON, COMPLETES, NAMES, NOT_THERE, NOT_THERE_IN_BLOCK, WAITS_FOR
 from replay import take
 
 HERE = os.path.dirname(os.path.abspath(__file__))
@@ -39,7 +39,8 @@ def text_of(film, setup):
 def tables():
     """What the page has to know of the machine."""
     return {"layout": LAYOUT, "names": NAMES, "two_words": TWO_WORDS, "block_codes": BLOCK_CODES, "completes": COMPLETES,
-            "blocks": BLOCK_GOES_ON, "clock_passes": CLOCK_PASSES, "symbols": SYMBOLS, "modes": MODES}
+            "blocks": BLOCK_GOES_ON, "waits_for": WAITS_FOR, "not_there": [NOT_THERE, NOT_THERE_IN_BLOCK], "symbols": SYMBOLS,
+            "modes": MODES}
 
 
 def of_machine(film):

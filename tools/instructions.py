@@ -8,10 +8,14 @@ ACN DCN FAN FNC""".split()
 
 CHANNEL_CODES = range(0o64, 0o100)
 BLOCK_INPUT, BLOCK_OUTPUT = 0o71, 0o73
+CLOCK = 0o14  # the channel of the clock, which is always full
 # The states in which an instruction completes, and those in which a block goes on or ends: else it waits.
 COMPLETES = {0o70: "F", 0o72: "E", 0o74: "I", 0o75: "EFX", 0o76: "I", 0o77: "I"}
 BLOCK_GOES_ON = {BLOCK_INPUT: "IF", BLOCK_OUTPUT: "IE"}
-CLOCK_PASSES = (0o70, 0o75)  # on channel 14; a block input from it never waits
+# The state of a channel that is not there: to a block it is inactive, and no other instruction completes on it.
+NOT_THERE, NOT_THERE_IN_BLOCK = "-", "I"
+WAITS_FOR = {0o70: "full", BLOCK_INPUT: "full", 0o72: "empty", BLOCK_OUTPUT: "empty", 0o74: "inactive", 0o75: "active",
+             0o76: "inactive", 0o77: "inactive"}
 
 
 class Processor:
@@ -31,32 +35,30 @@ class Processor:
         return NAMES[self.code]
 
     @property
-    def may_wait(self):
-        return self.code in (BLOCK_GOES_ON if self.phase else COMPLETES)
+    def goes_on_in(self):
+        """The states of its channel in which its turn is no wait; None if it never waits."""
+        return (BLOCK_GOES_ON if self.phase else COMPLETES).get(self.code)
 
     def uses(self, channel):
         return self.code in CHANNEL_CODES and self.channel == channel
 
     def would_wait(self, states):
         """Returns whether its turn is a wait; the states are those of the channels and the clock, by their numbers."""
-        if not self.may_wait:
+        if not self.goes_on_in or self.phase and self.registers["A"] == "000000":
             return False
-        if self.phase:
-            return self.block_waits(states)
-        if self.channel >= 0o14:  # the clock; a larger number names no channel
-            return self.channel > 0o14 or self.code not in CLOCK_PASSES
-        return self.state(states) not in COMPLETES[self.code]
+        return self.state(states) not in self.goes_on_in
 
-    def block_waits(self, states):
-        if self.registers["A"] == "000000":
-            return False
-        if self.channel == 0o14:
-            return self.code == BLOCK_OUTPUT
-        return self.state(states) not in BLOCK_GOES_ON[self.code]
+    def waits_for(self, states):
+        """Returns the channel that it waits for, with the state in which it would go on; else nothing."""
+        if not self.would_wait(states):
+            return ""
+        return f"{self.channel:02o} {WAITS_FOR[self.code] if self.channel < CLOCK else 'never'}"
 
     def state(self, states):
-        """Returns the state of its channel; one that is not there is inactive."""
-        return states[self.channel] if self.channel < len(states) else "I"
+        """Returns the state of its channel."""
+        if self.channel < len(states):
+            return states[self.channel]
+        return NOT_THERE_IN_BLOCK if self.phase else NOT_THERE
 
 
 def processor_at(console, number, registers=None):

@@ -3,9 +3,7 @@
 from dataclasses import dataclass, field
 from typing import Optional
 
-from console import CLOCK
-from instructions import COMPLETES
-from machine_state import CELLS, NAMES_OF_STATES, ROW
+from machine_state import CELLS, ROW
 from panel_text import (
     CHANGED, CHOSEN, CURSOR, HEAD, HERE, REFUSED, SLOT, TITLE, WATCHED, Line, beside, in_height, last_in)
 
@@ -114,18 +112,6 @@ def central_top(top, address, rows, size):
 # ---- the parts of the machine
 
 
-def waits_for(processor, states):
-    """Returns the channel that a processor waits for, with the state in which it would go on; else nothing."""
-    if not processor.would_wait(states):
-        return ""
-    if processor.channel >= CLOCK:
-        return f"{processor.channel:02o} never"
-    if processor.phase:
-        return f"{processor.channel:02o} {'full' if processor.name == 'IAM' else 'empty'}"
-    wanted = COMPLETES[processor.code]
-    return f"{processor.channel:02o} {NAMES_OF_STATES[wanted] if len(wanted) == 1 else 'active'}"
-
-
 def processor_line(shown, number):
     """Returns the line of a processor."""
     state, before, view = shown.state, shown.before, shown.view
@@ -146,7 +132,7 @@ def processor_line(shown, number):
     add_register("A")
     add_register("Q")
     line.add_number(now.registers["PHASE"], was.registers["PHASE"])
-    return line.add(" ").add(waits_for(now, state.states()))
+    return line.add(" ").add(now.waits_for(state.states()))
 
 
 def processor_lines(shown):

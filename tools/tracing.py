@@ -33,7 +33,7 @@ class Tracer:
         channel_before = self.channel_line
         self.run.advance(1)
         after = self.known[slot] = self.run.registers(slot)
-        waited = before.may_wait and all(before.registers[name] == after[name] for name in ("P", "A", "Q", "PHASE"))
+        waited = before.goes_on_in and all(before.registers[name] == after[name] for name in ("P", "A", "Q", "PHASE"))
         text = f"TURN {self.run.turn:o} PP {slot:02o} {instruction(before)}"
         wait = " WAITS" if waited else ""
         if self.channel is None:
