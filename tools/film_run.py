@@ -56,9 +56,9 @@ class Simulator(Console):
     def ask_all(self, lines):
         """Returns the lines of the answers. The last line is DUMP CR, and no other is."""
         self.send(*lines)
-        answer = [self.pipe.line()]
+        answer = self.pipe.more_lines()
         while not answer[-1].startswith("CR "):
-            answer.append(self.pipe.line())
+            answer += self.pipe.more_lines()
         return answer
 
 
@@ -144,7 +144,7 @@ class Machine:
     def read(self, answer, processor=0):
         """Takes the numbers from an answer. The rows of cells are those of the processor; another row of address 0000
         begins the next one."""
-        paper, watches, channels = [], [], []
+        paper, watches, channels, is_printer_in_it = [], [], [], False
         for line in answer:
             kind = line[0]
             if kind in "01234567":
@@ -153,17 +153,18 @@ class Machine:
                 paper.append(line)
             elif kind == "C" and line[1] == " ":
                 self._read_central(line[2:8], line[9:])
-            elif line.startswith("H "):
+            elif kind == "H" and line[1] == " ":
                 channels.append(line)
-            elif line.startswith("W "):
+            elif kind == "W":
                 watches.append(line[2:])
             else:
                 self._read_line(line)
+                is_printer_in_it |= kind == "L"
         if channels and channels != self.channels:
             self._read_channels(channels)
         if watches:
             self._read_watches(watches)
-        if any(line.startswith("LP ") for line in answer):
+        if is_printer_in_it:
             self._read_paper("".join(f"{line[1:]}\n" if line[0] == "|" else line[1:] for line in paper))
 
     def _read_cells(self, processor, line):

@@ -94,6 +94,12 @@ class Pipe:
             self.move()
         return self.lines.popleft()
 
+    def more_lines(self):
+        """Returns the next lines that the program writes, as many as there are: at least one."""
+        lines = [self.line(), *self.lines]
+        self.lines.clear()
+        return lines
+
     def move(self):
         """Waits until a pipe can be read or written, and does so."""
         ready = self.poll.poll(patience() * 1000)
