@@ -172,7 +172,8 @@ class Console:
     def size_of_central(self):
         """Returns how many words central memory has."""
         for size in SIZES_OF_CENTRAL:
-            if not self.ask(f"DUMP C {size - 1:o} {size - 1:o}")[0].startswith("ERR "):
+            answer = self.ask(f"DUMP C {size - 1:o} {size - 1:o}")
+            if answer and answer[0].startswith("C "):
                 return size
         raise self.nonsense("ERR 04 RANGE")
 

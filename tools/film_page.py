@@ -4,11 +4,13 @@ import html
 import os
 
 from display_code import SYMBOLS
+from failure import Failure
 from film_data import encode
 from film_places import LAYOUT, MODES
 from film_run import TURN
 from instructions import BLOCK_GOES_ON, COMPLETES, NAMES, NOT_THERE, NOT_THERE_IN_BLOCK, WAITS_FOR
 from replay import take
+from text_files import script_lines
 
 HERE = os.path.dirname(os.path.abspath(__file__))
 TWO_WORDS = (0o01, 0o02, *range(0o20, 0o24), *range(0o50, 0o60), 0o61, 0o63, *range(0o64, 0o70), 0o71, 0o73, 0o77)
@@ -31,9 +33,22 @@ def page(title, text):
     return whole
 
 
-def text_of(film, setup):
-    """Returns the text of a film; the setup has the deck and the panel."""
-    return encode({**tables(), **setup, **of_machine(film), **of_script(film)}, film.moments)
+def write_page(path, text):
+    """Writes a file, or leaves none behind. What is no plain file, as a pipe, is written to as it is."""
+    part = path if os.path.exists(path) and not os.path.isfile(path) else f"{path}.part"
+    try:
+        with open(part, "w", encoding="utf-8") as file:
+            file.write(text)
+        os.replace(part, path)
+    except OSError as error:
+        if part != path and os.path.exists(part):
+            os.remove(part)
+        raise Failure(f"can't write {path}: {error.strerror}") from error
+
+
+def text_of(film, given):
+    """Returns the text of a film; `given` has the deck and the panel."""
+    return encode({**tables(), **given, **of_machine(film), **of_script(film)}, film.moments)
 
 
 def tables():
@@ -41,6 +56,19 @@ def tables():
     return {"layout": LAYOUT, "names": NAMES, "two_words": TWO_WORDS, "block_codes": BLOCK_CODES, "completes": COMPLETES,
             "blocks": BLOCK_GOES_ON, "waits_for": WAITS_FOR, "not_there": [NOT_THERE, NOT_THERE_IN_BLOCK], "symbols": SYMBOLS,
             "modes": MODES}
+
+
+def words_of(path):
+    """The words of each line of a deck or panel file, which the simulator has accepted."""
+    if path is None:
+        return []
+    rows = [line.split() for line in script_lines(path)]
+    return [[int(word, 8) for word in row] for row in rows if row and not row[0].startswith("*")]
+
+
+def setup(deck, panel):
+    """What the simulator was given, for the page; both are names of files, or None."""
+    return {"deck": words_of(deck), "panel": [word for row in words_of(panel) for word in row]}
 
 
 def of_machine(film):

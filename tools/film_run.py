@@ -9,10 +9,10 @@ from film_places import (CELLS, CENTRAL_ADDRESSES, CHANNELS, FRAME_WORDS, LAYOUT
                          STATES, cell, register)
 
 TURN, LINE, JUMP = range(3)  # the kinds of a moment: a turn, another action, a BACK or FORWARD
+MOST_MOMENTS = 0o1000000
 MOST_LINES = 900_000  # of one process: the simulator takes 1,000,000
 ZERO = "0" * 20  # a central word
 BETWEEN_CHECKS = 0o10000
-CENTRAL_SIZES = {"32": 0o100000, "64": 0o200000}
 REGISTER_DUMPS = [f"DUMP PP {n:o}" for n in range(PROCESSORS)]
 END_DUMPS = [*REGISTER_DUMPS, "DUMP H", "DUMP XP", "DUMP LP", "DUMP W"]  # what the end of a run is compared by
 CELL_DUMPS = [f"DUMP M {n:o} 0 7777" for n in range(PROCESSORS)]
@@ -25,6 +25,7 @@ class Transcript:
         console = Console(words)
         self.lines = [(line, console.ask(line)) for line in lines]
         self.end = [console.ask(dump) for dump in END_DUMPS]
+        self.size = console.size_of_central()
         console.end()
 
     def actions(self):
@@ -41,6 +42,15 @@ class Transcript:
 
     def moments(self):
         return sum(count if kind == TURN else 1 for _, kind, count in self.actions())
+
+
+def to_skip(transcript, last):
+    """How many moments are performed before the film begins."""
+    moments = transcript.moments()
+    wanted = moments if last is None else min(last, moments)
+    if wanted > MOST_MOMENTS:
+        raise Failure(f"the run has {moments:o} moments, and a film at most {MOST_MOMENTS:o} (octal): film the last by --last COUNT")
+    return moments - wanted
 
 
 def step_lines(turns):
@@ -326,10 +336,10 @@ def central_dumps(first, count, size):
 class Film:
     """A run, filmed: its moments, each with its kind and the places that it changed."""
 
-    def __init__(self, words, transcript, size, reader, printer):
-        """The size of central memory and the channels of the devices."""
+    def __init__(self, words, transcript, reader, printer):
+        """The channels of the devices."""
         self.transcript = transcript
-        self.size, self.reader, self.printer = size, reader, printer
+        self.size, self.reader, self.printer = transcript.size, reader, printer
         self.simulator = LongSimulator(words)
         self.machine = Machine()
         self.moments = []  # each a kind and its changes; the first is the opening

@@ -31,7 +31,7 @@ def key_name(code):
 
 def check():
     """Raises Failure if there is no terminal that can show a screen."""
-    if not sys.stdin.isatty() or not sys.stdout.isatty():
+    if sys.stdin is None or not sys.stdin.isatty() or not sys.stdout.isatty():
         raise Failure("standard input and output must be a terminal; for a script alone there is the tool show")
     name = os.environ.get("TERM", "")
     try:
