@@ -294,7 +294,7 @@ const lineOf = (moment) => film.lines[film.lineAt[moment]];
 function actionText(moment) {
   const kind = film.kinds[moment];
   if (moment === 0) return film.turns_before ? "The film begins here" : "The beginning";
-  if (kind === TURN) return `${turnText(moment)}${film.did[moment] === WAITING ? " waits" : ""}`;
+  if (kind === TURN) return `${turnText(moment)}${film.did[moment] === WAITING ? ", waits" : ""}`;
   if (kind === LINE) return `The line ${lineOf(moment).text.trim()}`;
   const target = film.jumps.get(moment)[0];
   const where = target < 0 ? "before the film begins" : "as it was then";
@@ -752,7 +752,7 @@ function moveToChange(direction) {
 
 // ---- the lanes
 
-const LANE = 13, GAP = 3, LABEL = 46; // heights and the width of the names, in pixels
+const LANE = 13, GAP = 3, LABEL = 46, SIGN = 9; // heights, and the widths of the names and of a sign, in pixels
 const lanes = { all: [], from: 0, to: 0 };
 
 // The stretches of a lane: at which moment each begins, and what it is.
@@ -886,16 +886,20 @@ function drawEnds(context, x, end, y) {
   context.fillRect(LABEL + end - 1, y + LANE - 6, 1, 6);
 }
 
-// A tick where each line of the script begins, taller where the run goes back or forward again.
+// A tick where each line of the script begins, taller and with < or > where the run goes back or forward again.
 function drawLines(context, colours, height) {
   context.fillStyle = colours.ink;
   context.fillText("lines", 0, GAP + LANE / 2);
+  let free = 0; // from where on there is room for a sign
   film.lines.forEach((line) => {
     if (!line.acts || line.first < lanes.from || line.first >= lanes.to) return;
     const x = LABEL + Math.floor(pixelOf(line.first)), jumps = film.kinds[line.first] === JUMP;
     context.fillStyle = jumps ? colours.ink : colours.soft;
     context.fillRect(x, jumps ? GAP : GAP + LANE - 6, 1, jumps ? height - GAP : 6);
-    if (jumps) context.fillText(film.jumps.get(line.first)[0] < line.first ? "<" : ">", x + 2, GAP + LANE / 2);
+    if (!jumps) return;
+    const left = x + SIGN < LABEL + pictureWidth() ? x + 2 : x - SIGN;
+    if (left >= free) context.fillText(film.jumps.get(line.first)[0] < line.first ? "<" : ">", left, GAP + LANE / 2);
+    free = Math.max(left, x) + SIGN;
   });
 }
 
