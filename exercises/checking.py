@@ -20,9 +20,10 @@ sys.path.insert(0, os.path.join(OWN, "tools"))
 from command_line import Failure
 from console import Console
 from files import checked_program
+from options import BadWord
 
 ANSWERS = ("script", "panel")  # the files of an exercise that a student changes
-SECONDS = 60
+SECONDS = 60  # for an answer, unless --seconds says another number
 MOST_WRITTEN = 1 << 24
 LONGEST_ANSWER = 1 << 20
 MOST_SHOWN = 8
@@ -92,16 +93,16 @@ def limited():
     resource.setrlimit(resource.RLIMIT_FSIZE, (MOST_WRITTEN, MOST_WRITTEN))
 
 
-def performed(words, room):
+def performed(words, room, seconds):
     """Runs the script and the check, and returns the status and the lines that were written."""
     with open(os.path.join(room, "written"), "wb") as out:
         process = subprocess.Popen(words, stdin=subprocess.PIPE, stdout=out, stderr=subprocess.PIPE, preexec_fn=limited)
         try:
-            _, error = process.communicate(script_of(room) + read(room, "check"), timeout=SECONDS)
+            _, error = process.communicate(script_of(room) + read(room, "check"), timeout=seconds)
         except subprocess.TimeoutExpired:
             process.kill()
             process.communicate()
-            return None, [f"it takes over {SECONDS} (decimal) seconds"]
+            return None, [f"it takes over {seconds} (decimal) seconds"]
     if process.returncode not in (0, 1):
         said = error.decode("utf-8", "replace").strip() or "the simulator ended early"
         return process.returncode, [said.splitlines()[-1]]
@@ -127,8 +128,21 @@ def differences(wanted, written):
         yield f"written   {got}"
 
 
-def check(name, folder):
-    """Checks the answer to an exercise in a folder. Returns whether it is there, and what is wrong with it, if anything."""
+def seconds(text):
+    """Returns a time limit of the command line."""
+    if not re.fullmatch("[1-9][0-9]{0,5}", text):
+        raise BadWord(f"{text} is no number of seconds, decimal and 1 or more")
+    return int(text)
+
+
+def add_limit(parser):
+    parser.add_argument("--seconds", metavar="N", type=seconds, default=SECONDS,
+                        help=f"how long the simulator may take for an answer, decimal ({SECONDS})")
+
+
+def check(name, folder, limit):
+    """Checks the answer to an exercise in a folder, within so many seconds. Returns whether it is there, and what is wrong
+    with it, if anything."""
     try:
         found = answer(name, folder)
     except Failure as failure:
@@ -137,7 +151,7 @@ def check(name, folder):
         return False, ["it is as it was handed out"]
     with tempfile.TemporaryDirectory() as room:
         words = prepared(name, found, room)
-        status, written = performed(words, room)
+        status, written = performed(words, room, limit)
         if status not in (0, 1):
             return True, written
         faults = list(differences(read(room, "expected").decode().splitlines(), written))

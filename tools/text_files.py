@@ -8,7 +8,7 @@ from failure import Failure
 def bytes_of(path):
     """Returns the bytes of a file, or of standard input if there is no path."""
     if path is None and sys.stdin is None:
-        raise Failure("standard input is closed: name a file, or give the text over a pipe")
+        raise Failure("standard input is closed or a folder: name a file, or give the text over a pipe")
     try:
         with open(path, "rb") if path is not None else sys.stdin.buffer as file:
             return file.read()
@@ -33,7 +33,7 @@ def script_lines(path):
 def input_lines():
     """Yields each line of standard input as it comes."""
     if sys.stdin is None:
-        raise Failure("standard input is closed, so no line can be typed")
+        raise Failure("standard input is closed or a folder, so no line can be typed")
     try:
         for line in sys.stdin.buffer:
             yield line.decode("latin-1").removesuffix("\n")

@@ -1,15 +1,19 @@
-#!/usr/bin/env python3
+#!/usr/bin/env -S /bin/sh -c '[ ! -d /dev/stdin ] || exec <&-; exec python3 "$0" "$@"'
 """Converses with the simulator over a pipe, and shows each line of a script with its answer.
 
-    python3 examples/over-a-pipe/show.py ./pp6600 [WORD ..] <SCRIPT
+    examples/over-a-pipe/show.py ./pp6600 [WORD ..] <SCRIPT
 
 The answer to a line is read before the next line is written. An answer may have several lines, and none says that it is the
 last. So a DUMP CR follows each line: its answer, the only one that begins with CR, tells that the answer before it is whole.
 """
 
+import contextlib
 import os
 import subprocess
 import sys
+import threading
+
+PATIENCE = int(os.environ.get("PP6600_PATIENCE") or 30)  # seconds for an answer
 
 
 def answer(simulator, line):
@@ -29,14 +33,43 @@ def answer(simulator, line):
     raise EOFError("the simulator ended before it answered")
 
 
+@contextlib.contextmanager
+def time_limit(simulator):
+    """Ends a simulator that does not answer in time."""
+    late = threading.Event()
+
+    def give_up():
+        late.set()
+        simulator.kill()
+
+    limit = threading.Timer(PATIENCE, give_up)
+    limit.start()
+    try:
+        yield
+    except EOFError as end:
+        if late.is_set():
+            raise TimeoutError(f"the simulator has not answered for {PATIENCE} (decimal) seconds") from end
+        raise
+    finally:
+        limit.cancel()
+
+
 def show(simulator, script, output):
     """Shows the lines of a script with their answers."""
     for line in script:
         line = line.rstrip(b"\n")
         output.write(b"> " + line + b"\n")
-        for text in answer(simulator, line):
-            output.write(text)
+        with time_limit(simulator):
+            for text in answer(simulator, line):
+                output.write(text)
         output.flush()
+
+
+def is_built(program):
+    """Returns whether there is a simulator: the launcher of a checkout proves and builds it first, however long that takes."""
+    if not os.path.exists(os.path.join(os.path.dirname(program), "crates.txt")):
+        return True
+    return subprocess.run([program, "--help"], stdin=subprocess.DEVNULL, stdout=subprocess.DEVNULL, check=False).returncode == 0
 
 
 def main():
@@ -44,14 +77,20 @@ def main():
     if not sys.argv[1:]:
         raise OSError("give the simulator and its options, as in show.py ./pp6600 <SCRIPT")
     if sys.stdin is None or sys.stdout is None:
-        raise OSError("standard input or output is closed")
+        raise OSError("standard input is closed or a folder, or standard output is closed")
+    if not is_built(sys.argv[1]):
+        return 2
     simulator = subprocess.Popen(sys.argv[1:], stdin=subprocess.PIPE, stdout=subprocess.PIPE)
     try:
         show(simulator, sys.stdin.buffer, sys.stdout.buffer)
     except EOFError:
         if simulator.wait() < 2:
             raise
-    simulator.communicate()
+    try:
+        simulator.communicate(timeout=PATIENCE)
+    except subprocess.TimeoutExpired:
+        simulator.kill()
+        raise TimeoutError("the simulator does not end after the end of its input") from None
     return simulator.returncode
 
 
