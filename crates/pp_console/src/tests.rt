@@ -19,7 +19,7 @@ use std::process::Abort;
 use std::test::Fail;
 
 /// What a machine has besides its memories.
-#[derive(Clone, Copy, PartialEq, Eq, Drop)]
+#[derive(Clone, Copy)]
 pub(crate) enum With {
     Nothing,
     /// A deck of one card, `1 2 3`.
@@ -70,52 +70,74 @@ fn one_card(alloc: Global) -> Result<Vec<[u16; 80]>, Fail>
 fn deck_of(alloc: Global, with: With) -> Result<Vec<[u16; 80]>, Fail>
     ensures { IfOk result (λ deck. All IsCard deck.items) }
 {
-    if with == With::Card {
-        return one_card(alloc);
+    match with {
+        With::Card => one_card(alloc),
+        _ => Ok(Vec::new(alloc)),
     }
-    Ok(Vec::new(alloc))
 }
 
 fn panel_of(with: With) -> Option<[u16; 12]>
     ensures { IfSome result (λ panel. All (λ word. word ≤ 0o7777) panel) }
 {
-    if with == With::Panel {
-        return Some([0o1405, 0o3420, 0o300, 0, 0, 0, 0, 0, 0, 0, 0, 0]);
+    match with {
+        With::Panel => Some([0o1405, 0o3420, 0o300, 0, 0, 0, 0, 0, 0, 0, 0, 0]),
+        _ => None,
     }
-    None
 }
 
-/// Returns a session of a new machine with the reader on channel 12 and the printer on channel 13. Its
-/// undo history holds `capacity` actions, 1 to 10000 (decimal).
-pub(crate) fn session_of(alloc: Global, with: With, capacity: u32) -> Result<Session<Rig>, Fail> {
-    if capacity < 1 || capacity > 10000 {
-        return Err("capacity".into());
+fn central_of(with: With) -> CentralSize {
+    match with {
+        With::LittleMemory => CentralSize::K32,
+        _ => CentralSize::K128,
     }
+}
+
+/// Returns a new machine with the reader on channel 12 and the printer on channel 13.
+fn machine_of(alloc: Global, with: With) -> Result<Rig, Fail> {
     let setup = Setup {
-        central: if with == With::LittleMemory {
-            CentralSize::K32
-        } else {
-            CentralSize::K128
-        },
+        central: central_of(with),
         reader: 0o12,
         printer: 0o13,
         deck: deck_of(alloc, with)?,
         panel: panel_of(with),
     };
-    let machine = Rig::new(alloc, setup).map_err(|_| "no machine")?;
-    Ok(Session::new(alloc, machine, capacity).map_err(|_| "no session")?)
+    match Rig::new(alloc, setup) {
+        Ok(machine) => Ok(machine),
+        Err(_) => Err("no machine".into()),
+    }
 }
 
-/// Performs a script that is read in pieces of the given length.
-fn served(
+/// Returns a session of a new machine. Its undo history holds `capacity` actions, 1 to 10000 (decimal).
+pub(crate) fn session_of(alloc: Global, with: With, capacity: u32) -> Result<Session<Rig>, Fail> {
+    if capacity < 1 || capacity > 10000 {
+        return Err("capacity".into());
+    }
+    let machine = machine_of(alloc, with)?;
+    match Session::new(alloc, machine, capacity) {
+        Ok(session) => Ok(session),
+        Err(_) => Err("no session".into()),
+    }
+}
+
+/// Performs a script, and compares the result and what is written.
+fn ends(
+    rt: &impl Abort,
     session: &mut Session<Rig>,
-    script: &[u8],
-    piece: usize,
+    source: &mut Feed,
     out: &mut Tray,
-) -> Result<Summary, IoFault>
-    requires { 0 < piece }
-{
-    serve(session, &mut Feed::new(script, piece), out)
+    expected: Result<Summary, IoFault>,
+    text: &[u8],
+) {
+    let ended = serve(session, source, out);
+    let (reads, writes) = (source.calls.made, out.calls.made);
+    assert!(rt;
+        ended == expected,
+        "after {reads} reads and {writes} writes"
+    );
+    assert!(rt;
+        out.text() == text,
+        "after {reads} reads and {writes} writes"
+    );
 }
 
 /// A script, and its answers on a new machine.
@@ -128,16 +150,21 @@ struct Case<'a> {
     summary: Summary,
 }
 
-/// Performs the script of a case, read and written in pieces of the given length, and compares what it
-/// writes and its summary.
+/// Performs the script of a case, read and written in pieces of the given length, and compares its end.
 fn compare_in_pieces(rt: &impl Abort, alloc: Global, case: &Case, piece: usize) -> Result<(), Fail>
     requires { 0 < piece }
 {
     let mut session = session_of(alloc, case.with, case.capacity)?;
+    let mut source = Feed::new(case.script, piece);
     let mut out = Tray::new(piece);
-    let summary = served(&mut session, case.script, piece, &mut out);
-    assert!(rt; out.text() == case.answers);
-    assert_eq!(rt; summary, Ok(case.summary));
+    ends(
+        rt,
+        &mut session,
+        &mut source,
+        &mut out,
+        Ok(case.summary),
+        case.answers,
+    );
     Ok(())
 }
 
@@ -147,8 +174,48 @@ fn compare(rt: &impl Abort, alloc: Global, case: &Case) -> Result<(), Fail> {
     compare_in_pieces(rt, alloc, case, 4096)
 }
 
-/// Performs a session on a new machine, and compares it. A line after `> ` is of the script, and the
-/// lines after it are its answer.
+/// The lines of a session: a line after `> ` is of the script, and the lines after it are its answer.
+#[derive(Drop)]
+struct Transcript {
+    script: Vec<u8>,
+    answers: Vec<u8>,
+    summary: Summary,
+}
+
+fn add_line(text: &mut Vec<u8>, line: &str) -> Result<(), Fail> {
+    text.extend_from_slice(line.as_bytes())?;
+    text.extend_from_slice(b"\n")?;
+    Ok(())
+}
+
+/// Adds a line of a session.
+fn sort_line(lines: &mut Transcript, line: &str) -> Result<(), Fail> {
+    if let Some(command) = line.strip_prefix("> ") {
+        lines.summary.lines = lines.summary.lines.saturating_add(1);
+        return add_line(&mut lines.script, command);
+    }
+    if line.starts_with("ERR") {
+        lines.summary.refused = lines.summary.refused.saturating_add(1);
+    }
+    add_line(&mut lines.answers, line)
+}
+
+fn lines_of(alloc: Global, session: &str) -> Result<Transcript, Fail> {
+    let mut lines = Transcript {
+        script: Vec::new(alloc),
+        answers: Vec::new(alloc),
+        summary: Summary {
+            lines: 0,
+            refused: 0,
+        },
+    };
+    for line in session.lines() {
+        sort_line(&mut lines, line)?;
+    }
+    Ok(lines)
+}
+
+/// Performs a session on a new machine, and compares it.
 fn follows(
     rt: &impl Abort,
     alloc: Global,
@@ -156,29 +223,30 @@ fn follows(
     capacity: u32,
     session: &str,
 ) -> Result<(), Fail> {
-    let mut script = String::new(alloc);
-    let mut answers = String::new(alloc);
-    let mut summary = Summary {
-        lines: 0,
-        refused: 0,
-    };
-    for line in session.lines() {
-        if let Some(command) = line.strip_prefix("> ") {
-            writeln!(script, "{command}")?;
-            summary.lines = summary.lines.saturating_add(1);
-        } else {
-            writeln!(answers, "{line}")?;
-            if line.starts_with("ERR") {
-                summary.refused = summary.refused.saturating_add(1);
-            }
-        }
-    }
+    let lines = lines_of(alloc, session)?;
     let case = Case {
         with,
         capacity,
-        script: script.as_bytes(),
-        answers: answers.as_bytes(),
-        summary,
+        script: lines.script.as_slice(),
+        answers: lines.answers.as_slice(),
+        summary: lines.summary,
     };
     compare(rt, alloc, &case)
+}
+
+/// Performs each session on a new machine, and compares it.
+fn follows_each(rt: &impl Abort, alloc: Global, sessions: &[(With, &str)]) -> Result<(), Fail> {
+    for i in 0..sessions.len() {
+        let (with, session) = sessions[i];
+        follows(rt, alloc, with, 10000, session)?;
+    }
+    Ok(())
+}
+
+/// Performs each session on a new machine without a deck and a panel, and compares it.
+fn follows_all(rt: &impl Abort, alloc: Global, sessions: &[&str]) -> Result<(), Fail> {
+    for i in 0..sessions.len() {
+        follows(rt, alloc, With::Nothing, 10000, sessions[i])?;
+    }
+    Ok(())
 }

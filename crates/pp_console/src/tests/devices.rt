@@ -1,5 +1,5 @@
 //! Channels, devices and dead start.
-use super::{With, follows};
+use super::{With, follows_each};
 use std::test::Fail;
 
 const SESSIONS: [(With, &str); 10] = [
@@ -223,8 +223,5 @@ H 14 F 0000
 
 #[test]
 fn devices(rt: HostRuntime) -> Result<(), Fail> {
-    for (with, session) in SESSIONS {
-        follows(&rt, rt.alloc(), with, 10000, session)?;
-    }
-    Ok(())
+    follows_each(&rt, rt.alloc(), &SESSIONS)
 }

@@ -1,7 +1,7 @@
 //! Devices that fail, and input without end.
 ghost use Rattle.std.specs.Prelude.{◌<◌};
 
-use super::{With, served, session_of};
+use super::{With, ends, session_of};
 use crate::progress::Summary;
 use crate::serving::serve;
 use pp_history::{Reversible, Session};
@@ -68,33 +68,69 @@ XXXXXXXXXXXXXXXXXXXXXXXXXXXXXXXXXXXXXXXXXXXXXXXXXXXXXXXXXXXXXXXX\n",
     (b"STEP", b"TURNS 1 SLOT 01\n", 1),
 ];
 
-fn joined_lines(alloc: Global, exchanges: &[Exchange]) -> Result<Vec<u8>, Fail> {
+fn lines_of(alloc: Global, exchanges: &[Exchange]) -> Result<Vec<u8>, Fail> {
     let mut script = Vec::new(alloc);
-    for (line, _, _) in exchanges {
-        script.extend_from_slice(line)?;
+    for i in 0..exchanges.len() {
+        script.extend_from_slice(exchanges[i].0)?;
     }
     Ok(script)
 }
 
-/// Returns the answers to the lines that end within the first bytes, and the length of the undo history
-/// then.
-fn finished_within(
-    alloc: Global,
-    exchanges: &[Exchange],
-    bytes: usize,
-) -> Result<(Vec<u8>, u32), Fail> {
+fn answers_of(alloc: Global, exchanges: &[Exchange]) -> Result<Vec<u8>, Fail> {
     let mut text = Vec::new(alloc);
-    let mut kept = 0;
+    for i in 0..exchanges.len() {
+        text.extend_from_slice(exchanges[i].1)?;
+    }
+    Ok(text)
+}
+
+/// Returns the length of the undo history after the last exchange.
+fn kept_after(exchanges: &[Exchange]) -> u32 {
+    match exchanges.last() {
+        Some((_, _, kept)) => *kept,
+        None => 0,
+    }
+}
+
+/// Returns the exchanges whose lines end within the first bytes.
+fn finished_within(exchanges: &[Exchange], bytes: usize) -> &[Exchange] {
     let mut left = bytes;
-    for (line, answer, after) in exchanges {
+    for i in 0..exchanges.len() {
+        let line = exchanges[i].0;
         if line.len() > left || line.last() != Some(&b'\n') {
-            return Ok((text, kept));
+            return &exchanges[..i];
         }
         left -= line.len();
-        text.extend_from_slice(answer)?;
-        kept = *after;
     }
-    Ok((text, kept))
+    exchanges
+}
+
+/// Performs a script on a new machine until a device fails, and compares the fault, what is written, and
+/// the length of the undo history.
+fn stops(
+    rt: &impl Abort,
+    alloc: Global,
+    source: &mut Feed,
+    out: &mut Tray,
+    fault: IoFault,
+    text: &[u8],
+    kept: u32,
+) -> Result<(), Fail> {
+    let mut session = session_of(alloc, With::LittleMemory, 100)?;
+    ends(rt, &mut session, source, out, Err(fault), text);
+    assert!(rt;
+        session.kept() == kept,
+        "not {kept} after {} bytes",
+        text.len()
+    );
+    Ok(())
+}
+
+/// Performs a script on a new machine.
+fn succeeds(rt: &impl Abort, alloc: Global, source: &mut Feed, out: &mut Tray) -> Result<(), Fail> {
+    let mut session = session_of(alloc, With::LittleMemory, 100)?;
+    assert!(rt; serve(&mut session, source, out).is_ok());
+    Ok(())
 }
 
 /// Makes the source fail at each of its calls in turn, with pieces of the given length.
@@ -106,24 +142,28 @@ fn fails_at_each_take(
 ) -> Result<(), Fail>
     requires { 0 < piece }
 {
-    let script = joined_lines(alloc, exchanges)?;
-    let calls = script.len().div_ceil(piece).saturating_add(1);
+    let script = lines_of(alloc, exchanges)?;
+    let calls = script.len().div_ceil(piece).saturating_add(1) as u64;
     let mut taken = 0usize;
     for call in 1..calls.saturating_add(1) {
-        let (text, kept) = finished_within(alloc, exchanges, taken)?;
-        let mut session = session_of(alloc, With::LittleMemory, 100)?;
+        let finished = finished_within(exchanges, taken);
+        let text = answers_of(alloc, finished)?;
+        let mut source = Feed::failing(script.as_slice(), piece, call);
         let mut out = Tray::new(4096);
-        let mut source = Feed::failing(script.as_slice(), piece, call as u64);
-        let result = serve(&mut session, &mut source, &mut out);
-        assert_eq!(rt; result, Err(IoFault::ReadFailed), "at call {call}");
-        assert!(rt; out.text() == text.as_slice(), "at call {call}");
-        assert_eq!(rt; session.kept(), kept, "at call {call}");
+        let kept = kept_after(finished);
+        stops(
+            rt,
+            alloc,
+            &mut source,
+            &mut out,
+            IoFault::ReadFailed,
+            text.as_slice(),
+            kept,
+        )?;
         taken = taken.saturating_add(piece);
     }
-    let mut session = session_of(alloc, With::LittleMemory, 100)?;
-    let mut source = Feed::failing(script.as_slice(), piece, calls.saturating_add(1) as u64);
-    assert!(rt; serve(&mut session, &mut source, &mut Tray::new(4096)).is_ok());
-    Ok(())
+    let mut source = Feed::failing(script.as_slice(), piece, calls.saturating_add(1));
+    succeeds(rt, alloc, &mut source, &mut Tray::new(4096))
 }
 
 /// Makes the sink fail at each of its calls in turn. Each call takes at most `piece` bytes.
@@ -135,24 +175,29 @@ fn fails_at_each_put(
 ) -> Result<(), Fail>
     requires { 0 < piece }
 {
-    let script = joined_lines(alloc, exchanges)?;
+    let script = lines_of(alloc, exchanges)?;
     let mut text = Vec::new(alloc);
     let mut call = 1u64;
-    for (_, answer, kept) in exchanges {
+    for i in 0..exchanges.len() {
+        let (_, answer, kept) = exchanges[i];
         for part in answer.chunks(piece) {
-            let mut session = session_of(alloc, With::LittleMemory, 100)?;
+            let mut source = Feed::new(script.as_slice(), 4096);
             let mut out = Tray::failing(piece, call);
-            let result = served(&mut session, script.as_slice(), 4096, &mut out);
-            assert_eq!(rt; result, Err(IoFault::WriteFailed), "at call {call}");
-            assert!(rt; out.text() == text.as_slice(), "at call {call}");
-            assert_eq!(rt; session.kept(), *kept, "at call {call}");
+            stops(
+                rt,
+                alloc,
+                &mut source,
+                &mut out,
+                IoFault::WriteFailed,
+                text.as_slice(),
+                kept,
+            )?;
             text.extend_from_slice(part)?;
             call = call.saturating_add(1);
         }
     }
-    let mut session = session_of(alloc, With::LittleMemory, 100)?;
     let mut out = Tray::failing(piece, call);
-    assert!(rt; served(&mut session, script.as_slice(), 4096, &mut out).is_ok());
+    succeeds(rt, alloc, &mut Feed::new(script.as_slice(), 4096), &mut out)?;
     assert!(rt; out.text() == text.as_slice());
     Ok(())
 }
@@ -161,52 +206,70 @@ const SCRIPTS: [&[Exchange]; 3] = [&LOAD, &CHANGE, &REFUSED];
 
 #[test]
 fn source_fails_at_each_call(rt: HostRuntime) -> Result<(), Fail> {
-    for exchanges in SCRIPTS {
-        fails_at_each_take(&rt, rt.alloc(), exchanges, 1)?;
-        fails_at_each_take(&rt, rt.alloc(), exchanges, 4096)?;
+    for i in 0..SCRIPTS.len() {
+        fails_at_each_take(&rt, rt.alloc(), SCRIPTS[i], 1)?;
+        fails_at_each_take(&rt, rt.alloc(), SCRIPTS[i], 4096)?;
     }
     Ok(())
 }
 
 #[test]
 fn sink_fails_at_each_call(rt: HostRuntime) -> Result<(), Fail> {
-    for exchanges in SCRIPTS {
-        fails_at_each_put(&rt, rt.alloc(), exchanges, 1)?;
-        fails_at_each_put(&rt, rt.alloc(), exchanges, 4096)?;
+    for i in 0..SCRIPTS.len() {
+        fails_at_each_put(&rt, rt.alloc(), SCRIPTS[i], 1)?;
+        fails_at_each_put(&rt, rt.alloc(), SCRIPTS[i], 4096)?;
     }
     Ok(())
 }
 
-fn a_of(session: &Session<Rig>) -> u64 {
-    session.machine().value(&Place::RegA { pp: 0 })
+/// Compares the length of the undo history, and A of processor 0.
+fn stands_at(rt: &impl Abort, session: &Session<Rig>, kept: u32, a: u64) {
+    assert!(rt; session.kept() == kept);
+    assert!(rt; session.machine().value(&Place::RegA { pp: 0 }) == a);
 }
 
 /// An unfinished line is performed at the end of the source, but not after a failure.
 #[test]
 fn unfinished_line_waits_for_the_end(rt: HostRuntime) -> Result<(), Fail> {
     let mut session = session_of(rt.alloc(), With::LittleMemory, 100)?;
-    let mut out = Tray::new(100);
+    let failed = Err(IoFault::ReadFailed);
     let mut source = Feed::failing(b"SET A 0 5\nSTEP", 100, 2);
-    assert_eq!(rt;
-        serve(&mut session, &mut source, &mut out),
-        Err(IoFault::ReadFailed)
+    ends(
+        &rt,
+        &mut session,
+        &mut source,
+        &mut Tray::new(100),
+        failed,
+        b"OK\n",
     );
-    assert!(rt; out.text() == b"OK\n".as_slice());
-    assert_eq!(rt; session.kept(), 1);
-    assert_eq!(rt; a_of(&session), 5);
+    stands_at(&rt, &session, 1, 5);
 
     let mut source = Feed::failing(b"BACK", 100, 2);
-    assert_eq!(rt;
-        serve(&mut session, &mut source, &mut out),
-        Err(IoFault::ReadFailed)
+    ends(
+        &rt,
+        &mut session,
+        &mut source,
+        &mut Tray::new(100),
+        failed,
+        b"",
     );
-    assert_eq!(rt; session.kept(), 1);
+    stands_at(&rt, &session, 1, 5);
+
     let summary = Summary {
         lines: 1,
         refused: 0,
     };
-    assert_eq!(rt; served(&mut session, b"BACK", 100, &mut out), Ok(summary));
-    assert_eq!(rt; session.kept(), 0);
+    let mut source = Feed::new(b"BACK", 100);
+    let undone = b"BACK 1 SLOT 00\n";
+    ends(
+        &rt,
+        &mut session,
+        &mut source,
+        &mut Tray::new(100),
+        Ok(summary),
+        undone,
+    );
+    stands_at(&rt, &session, 0, 0);
     Ok(())
 }
 
@@ -214,23 +277,66 @@ fn unfinished_line_waits_for_the_end(rt: HostRuntime) -> Result<(), Fail> {
 #[test]
 fn command_stands_without_its_answer(rt: HostRuntime) -> Result<(), Fail> {
     let mut session = session_of(rt.alloc(), With::LittleMemory, 100)?;
-    let mut out = Tray::failing(1, 5);
-    let result = served(
+    let failed = Err(IoFault::WriteFailed);
+    let mut source = Feed::new(b"SET A 0 5\nSET A 0 6\nSET A 0 7\n", 100);
+    ends(
+        &rt,
         &mut session,
-        b"SET A 0 5\nSET A 0 6\nSET A 0 7\n",
-        100,
-        &mut out,
+        &mut source,
+        &mut Tray::failing(1, 5),
+        failed,
+        b"OK\nO",
     );
-    assert_eq!(rt; result, Err(IoFault::WriteFailed));
-    assert!(rt; out.text() == b"OK\nO".as_slice());
-    assert_eq!(rt; session.kept(), 2);
-    assert_eq!(rt; a_of(&session), 6);
+    stands_at(&rt, &session, 2, 6);
 
-    let mut out = Tray::failing(100, 1);
-    let result = served(&mut session, b"SET A 0 7", 100, &mut out);
-    assert_eq!(rt; result, Err(IoFault::WriteFailed));
-    assert_eq!(rt; session.kept(), 3);
-    assert_eq!(rt; a_of(&session), 7);
+    let mut source = Feed::new(b"SET A 0 7", 100);
+    ends(
+        &rt,
+        &mut session,
+        &mut source,
+        &mut Tray::failing(100, 1),
+        failed,
+        b"",
+    );
+    stands_at(&rt, &session, 3, 7);
+    Ok(())
+}
+
+fn line_feeds(alloc: Global, count: usize) -> Result<Vec<u8>, Fail> {
+    Ok(vec![in alloc; b'\n'; count]?)
+}
+
+/// Performs a script read in pieces of 4096 bytes, and compares its end.
+fn script_ends(
+    rt: &impl Abort,
+    session: &mut Session<Rig>,
+    script: &[u8],
+    out: &mut Tray,
+    expected: Result<Summary, IoFault>,
+    text: &[u8],
+) {
+    ends(
+        rt,
+        session,
+        &mut Feed::new(script, 4096),
+        out,
+        expected,
+        text,
+    );
+}
+
+#[test]
+fn endless_lines_are_limited(rt: HostRuntime) -> Result<(), Fail> {
+    let mut session = session_of(rt.alloc(), With::LittleMemory, 1)?;
+    let mut out = Tray::new(100);
+    let mut endless = Endless {
+        byte: b'\n',
+        log: Log::new(),
+    };
+    let ended = serve(&mut session, &mut endless, &mut out);
+    assert!(rt; ended == Err(IoFault::LineLimit));
+    assert!(rt; out.text().is_empty());
+    assert!(rt; session.kept() == 0);
     Ok(())
 }
 
@@ -238,27 +344,24 @@ fn command_stands_without_its_answer(rt: HostRuntime) -> Result<(), Fail> {
 #[test]
 fn lines_are_limited(rt: HostRuntime) -> Result<(), Fail> {
     let mut session = session_of(rt.alloc(), With::LittleMemory, 1)?;
-    let mut out = Tray::new(100);
-    let mut endless = Endless {
-        byte: b'\n',
-        log: Log::new(),
-    };
-    assert_eq!(rt;
-        serve(&mut session, &mut endless, &mut out),
-        Err(IoFault::LineLimit)
-    );
-    let mut script = vec![in rt.alloc(); b'\n'; 1_000_000]?;
+    let mut script = line_feeds(rt.alloc(), 1_000_000)?;
     let summary = Summary {
         lines: 1_000_000,
         refused: 0,
     };
-    let whole = served(&mut session, script.as_slice(), 4096, &mut out);
-    assert_eq!(rt; whole, Ok(summary));
-    script.push(b'X').map_err(|_| "memory")?;
-    let over = served(&mut session, script.as_slice(), 4096, &mut out);
-    assert_eq!(rt; over, Err(IoFault::LineLimit));
-    assert_eq!(rt; out.text().len(), 0);
-    assert_eq!(rt; session.kept(), 0);
+    let mut out = Tray::new(100);
+    script_ends(
+        &rt,
+        &mut session,
+        script.as_slice(),
+        &mut out,
+        Ok(summary),
+        b"",
+    );
+    script.extend_from_slice(b"X")?;
+    let limit = Err(IoFault::LineLimit);
+    script_ends(&rt, &mut session, script.as_slice(), &mut out, limit, b"");
+    assert!(rt; session.kept() == 0);
     Ok(())
 }
 
@@ -266,15 +369,21 @@ fn lines_are_limited(rt: HostRuntime) -> Result<(), Fail> {
 #[test]
 fn answers_come_before_limits(rt: HostRuntime) -> Result<(), Fail> {
     let mut session = session_of(rt.alloc(), With::LittleMemory, 1)?;
-    let mut script = vec![in rt.alloc(); b'\n'; 999_999]?;
+    let mut script = line_feeds(rt.alloc(), 999_999)?;
     script.extend_from_slice(b"GO\nX")?;
+    let failed = Err(IoFault::WriteFailed);
     let mut out = Tray::failing(100, 1);
-    let result = served(&mut session, script.as_slice(), 4096, &mut out);
-    assert_eq!(rt; result, Err(IoFault::WriteFailed));
-    let mut out = Tray::new(100);
-    let result = served(&mut session, script.as_slice(), 4096, &mut out);
-    assert_eq!(rt; result, Err(IoFault::LineLimit));
-    assert!(rt; out.text() == b"ERR 01 NOT A COMMAND\n".as_slice());
+    script_ends(&rt, &mut session, script.as_slice(), &mut out, failed, b"");
+    let limit = Err(IoFault::LineLimit);
+    let answer = b"ERR 01 NOT A COMMAND\n";
+    script_ends(
+        &rt,
+        &mut session,
+        script.as_slice(),
+        &mut Tray::new(100),
+        limit,
+        answer,
+    );
     Ok(())
 }
 
@@ -282,6 +391,6 @@ fn answers_come_before_limits(rt: HostRuntime) -> Result<(), Fail> {
 #[test]
 fn status_shows_rejected_lines(rt: HostRuntime) {
     for (lines, refused, status) in [(6, 0, 0), (7, 1, 1)] {
-        assert_eq!(rt; Summary { lines, refused }.status(), status);
+        assert!(rt; Summary { lines, refused }.status() == status);
     }
 }

@@ -1,5 +1,5 @@
 //! Runs, watches, back and forward.
-use super::{With, follows};
+use super::{With, follows, follows_all};
 use std::test::Fail;
 
 const MOVES: [&str; 5] = [
@@ -94,10 +94,7 @@ ERR 16 TOO FEW AHEAD
 
 #[test]
 fn goes_back_and_forward(rt: HostRuntime) -> Result<(), Fail> {
-    for session in MOVES {
-        follows(&rt, rt.alloc(), With::Nothing, 10000, session)?;
-    }
-    Ok(())
+    follows_all(&rt, rt.alloc(), &MOVES)
 }
 
 const WATCHES: [&str; 9] = [
@@ -280,10 +277,7 @@ W Q 00
 
 #[test]
 fn watches(rt: HostRuntime) -> Result<(), Fail> {
-    for session in WATCHES {
-        follows(&rt, rt.alloc(), With::Nothing, 10000, session)?;
-    }
-    Ok(())
+    follows_all(&rt, rt.alloc(), &WATCHES)
 }
 
 /// The length of the undo history, and a session.
@@ -390,7 +384,8 @@ BACK 4 SLOT 00
 
 #[test]
 fn short_histories(rt: HostRuntime) -> Result<(), Fail> {
-    for (capacity, session) in SHORT_HISTORIES {
+    for i in 0..SHORT_HISTORIES.len() {
+        let (capacity, session) = SHORT_HISTORIES[i];
         follows(&rt, rt.alloc(), With::Nothing, capacity, session)?;
     }
     Ok(())

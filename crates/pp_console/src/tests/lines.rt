@@ -1,8 +1,12 @@
 //! Lines and words.
-use super::{Case, With, compare, follows, session_of};
+use super::{Case, With, compare, follows_each, session_of};
 use crate::progress::Summary;
 use crate::{IoFault, parse, perform};
+use pp_history::Session;
 use pp_lines::Tray;
+use pp_rig::Rig;
+use std::alloc::Global;
+use std::process::Abort;
 use std::test::Fail;
 
 const SESSIONS: [(With, &str); 3] = [
@@ -87,10 +91,7 @@ OK
 
 #[test]
 fn words_and_ranges(rt: HostRuntime) -> Result<(), Fail> {
-    for (with, session) in SESSIONS {
-        follows(&rt, rt.alloc(), with, 10000, session)?;
-    }
-    Ok(())
+    follows_each(&rt, rt.alloc(), &SESSIONS)
 }
 
 /// A script, its answers, its number of lines, and how many of them are rejected.
@@ -143,7 +144,8 @@ ERR 01 NOT A COMMAND\nTURNS 1 SLOT 01\n",
 
 #[test]
 fn scripts(rt: HostRuntime) -> Result<(), Fail> {
-    for (script, answers, lines, refused) in SCRIPTS {
+    for i in 0..SCRIPTS.len() {
+        let (script, answers, lines, refused) = SCRIPTS[i];
         let summary = Summary { lines, refused };
         let case = Case {
             with: With::Nothing,
@@ -157,23 +159,35 @@ fn scripts(rt: HostRuntime) -> Result<(), Fail> {
     Ok(())
 }
 
+const NOT_A_COMMAND: &[u8] = b"ERR 01 NOT A COMMAND\n";
+
+const TOO_LONG: &[u8] = b"ERR 05 LINE TOO LONG\n";
+
+/// The first byte of a line, the others, its length, its end, its answer, and how often it is rejected.
+const LONG_LINES: [(u8, u8, usize, &[u8], &[u8], u32); 6] = [
+    (b'X', b'X', 255, b"\n", NOT_A_COMMAND, 1),
+    (b'X', b'X', 255, b"\r\n", NOT_A_COMMAND, 1),
+    (b'X', b'X', 255, b"\r\r\n", TOO_LONG, 1),
+    (b'X', b'X', 256, b"\n", TOO_LONG, 1),
+    (b'*', b' ', 255, b"", b"", 0),
+    (b'*', b' ', 256, b"", TOO_LONG, 1),
+];
+
+/// Returns a line without its end.
+fn line_of(alloc: Global, first: u8, others: u8, length: usize) -> Result<Vec<u8>, Fail> {
+    let mut line = vec![in alloc; first]?;
+    for _ in 1..length {
+        line.extend_from_slice(&[others])?;
+    }
+    Ok(line)
+}
+
 /// The longest line has 255 bytes before its carriage return.
 #[test]
 fn long_lines(rt: HostRuntime) -> Result<(), Fail> {
-    const NOT_A_COMMAND: &[u8] = b"ERR 01 NOT A COMMAND\n";
-    const TOO_LONG: &[u8] = b"ERR 05 LINE TOO LONG\n";
-    for (first, others, length, end, answers, refused) in [
-        (b'X', b'X', 255, b"\n".as_slice(), NOT_A_COMMAND, 1),
-        (b'X', b'X', 255, b"\r\n", NOT_A_COMMAND, 1),
-        (b'X', b'X', 255, b"\r\r\n", TOO_LONG, 1),
-        (b'X', b'X', 256, b"\n", TOO_LONG, 1),
-        (b'*', b' ', 255, b"", b"", 0),
-        (b'*', b' ', 256, b"", TOO_LONG, 1),
-    ] {
-        let mut script = vec![in rt.alloc(); first]?;
-        for _ in 1..length {
-            script.push(others).map_err(|_| "memory")?;
-        }
+    for i in 0..LONG_LINES.len() {
+        let (first, others, length, end, answers, refused) = LONG_LINES[i];
+        let mut script = line_of(rt.alloc(), first, others, length)?;
         script.extend_from_slice(end)?;
         let case = Case {
             with: With::Nothing,
@@ -187,20 +201,42 @@ fn long_lines(rt: HostRuntime) -> Result<(), Fail> {
     Ok(())
 }
 
+/// Performs a command, and compares the result, what is written, and the length of the undo history.
+fn performs(
+    rt: &impl Abort,
+    session: &mut Session<Rig>,
+    line: &[u8],
+    out: &mut Tray,
+    expected: Result<bool, IoFault>,
+    text: &[u8],
+    kept: u32,
+) -> Result<(), Fail> {
+    let command = parse(line)?.ok_or("ignored")?;
+    let ended = perform(session, &command, out);
+    assert!(rt; ended == expected);
+    assert!(rt; out.text() == text);
+    assert!(rt; session.kept() == kept);
+    Ok(())
+}
+
 /// `perform` returns whether the command was rejected. The command is performed even if its answer
 /// can't be written.
 #[test]
 fn performs_single_commands(rt: HostRuntime) -> Result<(), Fail> {
     let mut session = session_of(rt.alloc(), With::LittleMemory, 100)?;
     let mut out = Tray::new(100);
-    let set = parse(b"SET A 0 5")?.ok_or("ignored")?;
-    assert_eq!(rt; perform(&mut session, &set, &mut out), Ok(true));
-    let back = parse(b"BACK 2")?.ok_or("ignored")?;
-    assert_eq!(rt; perform(&mut session, &back, &mut out), Ok(false));
-    assert!(rt; out.text() == b"OK\nERR 07 TOO FEW KEPT\n".as_slice());
-    assert_eq!(rt; session.kept(), 1);
-    let failed = perform(&mut session, &set, &mut Tray::failing(100, 1));
-    assert_eq!(rt; failed, Err(IoFault::WriteFailed));
-    assert_eq!(rt; session.kept(), 2);
-    Ok(())
+    performs(
+        &rt,
+        &mut session,
+        b"SET A 0 5",
+        &mut out,
+        Ok(true),
+        b"OK\n",
+        1,
+    )?;
+    let both = b"OK\nERR 07 TOO FEW KEPT\n";
+    performs(&rt, &mut session, b"BACK 2", &mut out, Ok(false), both, 1)?;
+    let mut full = Tray::failing(100, 1);
+    let failed = Err(IoFault::WriteFailed);
+    performs(&rt, &mut session, b"SET A 0 5", &mut full, failed, b"", 2)
 }

@@ -1,5 +1,5 @@
 //! Instructions, forward and back.
-use super::{With, follows};
+use super::follows_all;
 use std::test::Fail;
 
 const SESSIONS: [&str; 13] = [
@@ -264,8 +264,5 @@ PP 00 P 0102 A 000000 Q 0000 PHASE 0000 SLOT 01
 
 #[test]
 fn instructions(rt: HostRuntime) -> Result<(), Fail> {
-    for session in SESSIONS {
-        follows(&rt, rt.alloc(), With::Nothing, 10000, session)?;
-    }
-    Ok(())
+    follows_all(&rt, rt.alloc(), &SESSIONS)
 }
