@@ -105,6 +105,11 @@ fn finished_within(exchanges: &[Exchange], bytes: usize) -> &[Exchange] {
     exchanges
 }
 
+fn kept_is(rt: &impl Abort, session: &Session<Rig>, kept: u32) {
+    let found = session.kept();
+    assert!(rt; found == kept, "{found} kept, not {kept}");
+}
+
 /// Performs a script on a new machine until a device fails, and compares the fault, what is written, and
 /// the length of the undo history.
 fn stops(
@@ -118,19 +123,52 @@ fn stops(
 ) -> Result<(), Fail> {
     let mut session = session_of(alloc, With::LittleMemory, 100)?;
     ends(rt, &mut session, source, out, Err(fault), text);
-    assert!(rt;
-        session.kept() == kept,
-        "not {kept} after {} bytes",
-        text.len()
-    );
+    kept_is(rt, &session, kept);
     Ok(())
 }
 
-/// Performs a script on a new machine.
-fn succeeds(rt: &impl Abort, alloc: Global, source: &mut Feed, out: &mut Tray) -> Result<(), Fail> {
+fn is_served(session: &mut Session<Rig>, source: &mut Feed, out: &mut Tray) -> bool {
+    serve(session, source, out).is_ok()
+}
+
+/// Performs a script on a new machine, and compares what is written.
+fn succeeds(
+    rt: &impl Abort,
+    alloc: Global,
+    source: &mut Feed,
+    out: &mut Tray,
+    text: &[u8],
+) -> Result<(), Fail> {
     let mut session = session_of(alloc, With::LittleMemory, 100)?;
-    assert!(rt; serve(&mut session, source, out).is_ok());
+    assert!(rt; is_served(&mut session, source, out));
+    assert!(rt; out.text() == text);
     Ok(())
+}
+
+/// Makes the source fail at one call.
+fn fails_at_take(
+    rt: &impl Abort,
+    alloc: Global,
+    script: &[u8],
+    piece: usize,
+    call: u64,
+    finished: &[Exchange],
+) -> Result<(), Fail>
+    requires { 0 < piece }
+{
+    let text = answers_of(alloc, finished)?;
+    let mut source = Feed::failing(script, piece, call);
+    let mut out = Tray::new(4096);
+    let kept = kept_after(finished);
+    stops(
+        rt,
+        alloc,
+        &mut source,
+        &mut out,
+        IoFault::ReadFailed,
+        text.as_slice(),
+        kept,
+    )
 }
 
 /// Makes the source fail at each of its calls in turn, with pieces of the given length.
@@ -143,27 +181,69 @@ fn fails_at_each_take(
     requires { 0 < piece }
 {
     let script = lines_of(alloc, exchanges)?;
+    let text = answers_of(alloc, exchanges)?;
     let calls = script.len().div_ceil(piece).saturating_add(1) as u64;
     let mut taken = 0usize;
     for call in 1..calls.saturating_add(1) {
         let finished = finished_within(exchanges, taken);
-        let text = answers_of(alloc, finished)?;
-        let mut source = Feed::failing(script.as_slice(), piece, call);
-        let mut out = Tray::new(4096);
-        let kept = kept_after(finished);
-        stops(
-            rt,
-            alloc,
-            &mut source,
-            &mut out,
-            IoFault::ReadFailed,
-            text.as_slice(),
-            kept,
-        )?;
+        fails_at_take(rt, alloc, script.as_slice(), piece, call, finished)?;
         taken = taken.saturating_add(piece);
     }
     let mut source = Feed::failing(script.as_slice(), piece, calls.saturating_add(1));
-    succeeds(rt, alloc, &mut source, &mut Tray::new(4096))
+    succeeds(
+        rt,
+        alloc,
+        &mut source,
+        &mut Tray::new(4096),
+        text.as_slice(),
+    )
+}
+
+/// Makes the sink fail at one call.
+fn fails_at_put(
+    rt: &impl Abort,
+    alloc: Global,
+    script: &[u8],
+    piece: usize,
+    call: u64,
+    text: &[u8],
+    kept: u32,
+) -> Result<(), Fail>
+    requires { 0 < piece }
+{
+    let mut source = Feed::new(script, 4096);
+    let mut out = Tray::failing(piece, call);
+    stops(
+        rt,
+        alloc,
+        &mut source,
+        &mut out,
+        IoFault::WriteFailed,
+        text,
+        kept,
+    )
+}
+
+/// Makes the sink fail at each call that writes a part of one answer. Returns the number of the next call.
+fn fails_in_answer(
+    rt: &impl Abort,
+    alloc: Global,
+    script: &[u8],
+    piece: usize,
+    first: u64,
+    text: &mut Vec<u8>,
+    exchange: &Exchange,
+) -> Result<u64, Fail>
+    requires { 0 < piece }
+{
+    let (_, answer, kept) = exchange;
+    let mut call = first;
+    for part in answer.chunks(piece) {
+        fails_at_put(rt, alloc, script, piece, call, text.as_slice(), *kept)?;
+        text.extend_from_slice(part)?;
+        call = call.saturating_add(1);
+    }
+    Ok(call)
 }
 
 /// Makes the sink fail at each of its calls in turn. Each call takes at most `piece` bytes.
@@ -179,27 +259,20 @@ fn fails_at_each_put(
     let mut text = Vec::new(alloc);
     let mut call = 1u64;
     for i in 0..exchanges.len() {
-        let (_, answer, kept) = exchanges[i];
-        for part in answer.chunks(piece) {
-            let mut source = Feed::new(script.as_slice(), 4096);
-            let mut out = Tray::failing(piece, call);
-            stops(
-                rt,
-                alloc,
-                &mut source,
-                &mut out,
-                IoFault::WriteFailed,
-                text.as_slice(),
-                kept,
-            )?;
-            text.extend_from_slice(part)?;
-            call = call.saturating_add(1);
-        }
+        let exchange = &exchanges[i];
+        call = fails_in_answer(
+            rt,
+            alloc,
+            script.as_slice(),
+            piece,
+            call,
+            &mut text,
+            exchange,
+        )?;
     }
+    let mut source = Feed::new(script.as_slice(), 4096);
     let mut out = Tray::failing(piece, call);
-    succeeds(rt, alloc, &mut Feed::new(script.as_slice(), 4096), &mut out)?;
-    assert!(rt; out.text() == text.as_slice());
-    Ok(())
+    succeeds(rt, alloc, &mut source, &mut out, text.as_slice())
 }
 
 const SCRIPTS: [&[Exchange]; 3] = [&LOAD, &CHANGE, &REFUSED];
@@ -222,121 +295,172 @@ fn sink_fails_at_each_call(rt: HostRuntime) -> Result<(), Fail> {
     Ok(())
 }
 
-/// Compares the length of the undo history, and A of processor 0.
-fn stands_at(rt: &impl Abort, session: &Session<Rig>, kept: u32, a: u64) {
-    assert!(rt; session.kept() == kept);
-    assert!(rt; session.machine().value(&Place::RegA { pp: 0 }) == a);
+/// The call that fails, counted from 1.
+#[derive(Clone, Copy)]
+enum Fails {
+    Never,
+    Reading(u64),
+    /// Each call writes one byte.
+    Writing(u64),
 }
 
-/// An unfinished line is performed at the end of the source, but not after a failure.
-#[test]
-fn unfinished_line_waits_for_the_end(rt: HostRuntime) -> Result<(), Fail> {
-    let mut session = session_of(rt.alloc(), With::LittleMemory, 100)?;
-    let failed = Err(IoFault::ReadFailed);
-    let mut source = Feed::failing(b"SET A 0 5\nSTEP", 100, 2);
-    ends(
-        &rt,
-        &mut session,
-        &mut source,
-        &mut Tray::new(100),
-        failed,
-        b"OK\n",
-    );
-    stands_at(&rt, &session, 1, 5);
-
-    let mut source = Feed::failing(b"BACK", 100, 2);
-    ends(
-        &rt,
-        &mut session,
-        &mut source,
-        &mut Tray::new(100),
-        failed,
-        b"",
-    );
-    stands_at(&rt, &session, 1, 5);
-
-    let summary = Summary {
-        lines: 1,
-        refused: 0,
-    };
-    let mut source = Feed::new(b"BACK", 100);
-    let undone = b"BACK 1 SLOT 00\n";
-    ends(
-        &rt,
-        &mut session,
-        &mut source,
-        &mut Tray::new(100),
-        Ok(summary),
-        undone,
-    );
-    stands_at(&rt, &session, 0, 0);
-    Ok(())
+fn source_of<'a>(script: &'a [u8], fails: Fails) -> Feed<'a> {
+    match fails {
+        Fails::Reading(call) => Feed::failing(script, 4096, call),
+        _ => Feed::new(script, 4096),
+    }
 }
 
-/// A command is performed even if its answer can't be written.
-#[test]
-fn command_stands_without_its_answer(rt: HostRuntime) -> Result<(), Fail> {
-    let mut session = session_of(rt.alloc(), With::LittleMemory, 100)?;
-    let failed = Err(IoFault::WriteFailed);
-    let mut source = Feed::new(b"SET A 0 5\nSET A 0 6\nSET A 0 7\n", 100);
-    ends(
-        &rt,
-        &mut session,
-        &mut source,
-        &mut Tray::failing(1, 5),
-        failed,
-        b"OK\nO",
-    );
-    stands_at(&rt, &session, 2, 6);
-
-    let mut source = Feed::new(b"SET A 0 7", 100);
-    ends(
-        &rt,
-        &mut session,
-        &mut source,
-        &mut Tray::failing(100, 1),
-        failed,
-        b"",
-    );
-    stands_at(&rt, &session, 3, 7);
-    Ok(())
+fn sink_of(fails: Fails) -> Tray {
+    match fails {
+        Fails::Writing(call) => Tray::failing(1, call),
+        _ => Tray::new(1),
+    }
 }
 
-fn line_feeds(alloc: Global, count: usize) -> Result<Vec<u8>, Fail> {
-    Ok(vec![in alloc; b'\n'; count]?)
-}
-
-/// Performs a script read in pieces of 4096 bytes, and compares its end.
+/// Performs a script on devices of its own, and compares its end.
 fn script_ends(
     rt: &impl Abort,
     session: &mut Session<Rig>,
     script: &[u8],
-    out: &mut Tray,
+    fails: Fails,
     expected: Result<Summary, IoFault>,
     text: &[u8],
 ) {
-    ends(
-        rt,
-        session,
-        &mut Feed::new(script, 4096),
-        out,
-        expected,
-        text,
-    );
+    let mut source = source_of(script, fails);
+    let mut out = sink_of(fails);
+    ends(rt, session, &mut source, &mut out, expected, text);
 }
 
+/// A script, the call that fails, and the end. Afterwards the length of the undo history, and A of processor 0.
+struct Part {
+    script: &'static [u8],
+    fails: Fails,
+    expected: Result<Summary, IoFault>,
+    text: &'static [u8],
+    kept: u32,
+    a: u64,
+}
+
+fn part_ends(rt: &impl Abort, session: &mut Session<Rig>, part: &Part) {
+    script_ends(
+        rt,
+        session,
+        part.script,
+        part.fails,
+        part.expected,
+        part.text,
+    );
+    kept_is(rt, session, part.kept);
+    assert!(rt; session.machine().value(&Place::RegA { pp: 0 }) == part.a);
+}
+
+/// Performs scripts one after the other in one session.
+fn parts_end(rt: &impl Abort, alloc: Global, parts: &[Part]) -> Result<(), Fail> {
+    let mut session = session_of(alloc, With::LittleMemory, 100)?;
+    for i in 0..parts.len() {
+        part_ends(rt, &mut session, &parts[i]);
+    }
+    Ok(())
+}
+
+const ONE_LINE: Summary = Summary {
+    lines: 1,
+    refused: 0,
+};
+
+/// An unfinished line is performed at the end of the source, but not after a failure.
+const UNFINISHED: [Part; 3] = [
+    Part {
+        script: b"SET A 0 5\nSTEP",
+        fails: Fails::Reading(2),
+        expected: Err(IoFault::ReadFailed),
+        text: b"OK\n",
+        kept: 1,
+        a: 5,
+    },
+    Part {
+        script: b"BACK",
+        fails: Fails::Reading(2),
+        expected: Err(IoFault::ReadFailed),
+        text: b"",
+        kept: 1,
+        a: 5,
+    },
+    Part {
+        script: b"BACK",
+        fails: Fails::Never,
+        expected: Ok(ONE_LINE),
+        text: b"BACK 1 SLOT 00\n",
+        kept: 0,
+        a: 0,
+    },
+];
+
 #[test]
-fn endless_lines_are_limited(rt: HostRuntime) -> Result<(), Fail> {
-    let mut session = session_of(rt.alloc(), With::LittleMemory, 1)?;
+fn unfinished_line_waits_for_the_end(rt: HostRuntime) -> Result<(), Fail> {
+    parts_end(&rt, rt.alloc(), &UNFINISHED)
+}
+
+/// A command is performed even if its answer can't be written.
+const UNANSWERED: [Part; 2] = [
+    Part {
+        script: b"SET A 0 5\nSET A 0 6\nSET A 0 7\n",
+        fails: Fails::Writing(5),
+        expected: Err(IoFault::WriteFailed),
+        text: b"OK\nO",
+        kept: 2,
+        a: 6,
+    },
+    Part {
+        script: b"SET A 0 7",
+        fails: Fails::Writing(1),
+        expected: Err(IoFault::WriteFailed),
+        text: b"",
+        kept: 3,
+        a: 7,
+    },
+];
+
+#[test]
+fn command_stands_without_its_answer(rt: HostRuntime) -> Result<(), Fail> {
+    parts_end(&rt, rt.alloc(), &UNANSWERED)
+}
+
+/// Performs line feeds without end.
+fn endless_lines_end(rt: &impl Abort, session: &mut Session<Rig>) {
     let mut out = Tray::new(100);
     let mut endless = Endless {
         byte: b'\n',
         log: Log::new(),
     };
-    let ended = serve(&mut session, &mut endless, &mut out);
+    let ended = serve(session, &mut endless, &mut out);
     assert!(rt; ended == Err(IoFault::LineLimit));
     assert!(rt; out.text().is_empty());
-    assert!(rt; session.kept() == 0);
+}
+
+/// Performs a script of a million lines, and then with one byte more.
+fn million_lines_end(
+    rt: &impl Abort,
+    alloc: Global,
+    session: &mut Session<Rig>,
+) -> Result<(), Fail> {
+    let mut script = vec![in alloc; b'\n'; 1_000_000]?;
+    let summary = Summary {
+        lines: 1_000_000,
+        refused: 0,
+    };
+    script_ends(
+        rt,
+        session,
+        script.as_slice(),
+        Fails::Never,
+        Ok(summary),
+        b"",
+    );
+    script.extend_from_slice(b"X")?;
+    let limit = Err(IoFault::LineLimit);
+    script_ends(rt, session, script.as_slice(), Fails::Never, limit, b"");
     Ok(())
 }
 
@@ -344,46 +468,33 @@ fn endless_lines_are_limited(rt: HostRuntime) -> Result<(), Fail> {
 #[test]
 fn lines_are_limited(rt: HostRuntime) -> Result<(), Fail> {
     let mut session = session_of(rt.alloc(), With::LittleMemory, 1)?;
-    let mut script = line_feeds(rt.alloc(), 1_000_000)?;
-    let summary = Summary {
-        lines: 1_000_000,
-        refused: 0,
-    };
-    let mut out = Tray::new(100);
-    script_ends(
-        &rt,
-        &mut session,
-        script.as_slice(),
-        &mut out,
-        Ok(summary),
-        b"",
-    );
-    script.extend_from_slice(b"X")?;
-    let limit = Err(IoFault::LineLimit);
-    script_ends(&rt, &mut session, script.as_slice(), &mut out, limit, b"");
-    assert!(rt; session.kept() == 0);
+    endless_lines_end(&rt, &mut session);
+    million_lines_end(&rt, rt.alloc(), &mut session)?;
+    kept_is(&rt, &session, 0);
     Ok(())
 }
 
 /// Lines are performed in order: an answer that can't be written is reported before a limit in the same piece.
+fn last_line_ends(rt: &impl Abort, session: &mut Session<Rig>, script: &[u8]) {
+    let failed = Err(IoFault::WriteFailed);
+    script_ends(rt, session, script, Fails::Writing(1), failed, b"");
+    let limit = Err(IoFault::LineLimit);
+    script_ends(
+        rt,
+        session,
+        script,
+        Fails::Never,
+        limit,
+        b"ERR 01 NOT A COMMAND\n",
+    );
+}
+
 #[test]
 fn answers_come_before_limits(rt: HostRuntime) -> Result<(), Fail> {
     let mut session = session_of(rt.alloc(), With::LittleMemory, 1)?;
-    let mut script = line_feeds(rt.alloc(), 999_999)?;
+    let mut script = vec![in rt.alloc(); b'\n'; 999_999]?;
     script.extend_from_slice(b"GO\nX")?;
-    let failed = Err(IoFault::WriteFailed);
-    let mut out = Tray::failing(100, 1);
-    script_ends(&rt, &mut session, script.as_slice(), &mut out, failed, b"");
-    let limit = Err(IoFault::LineLimit);
-    let answer = b"ERR 01 NOT A COMMAND\n";
-    script_ends(
-        &rt,
-        &mut session,
-        script.as_slice(),
-        &mut Tray::new(100),
-        limit,
-        answer,
-    );
+    last_line_ends(&rt, &mut session, script.as_slice());
     Ok(())
 }
 
