@@ -5,6 +5,7 @@ use crate::{
 use arrayvec::ArrayVec;
 use std::collections::VecDeque;
 use std::io::{self, Error, ErrorKind, Read, Write};
+use std::process::Abort;
 use std::test::Fail;
 
 /// A device whose first call is interrupted. After that it reads the byte `x`, and writes nothing.
@@ -45,105 +46,143 @@ impl Write for Uneasy {
     }
 }
 
+/// Reads once, and returns whether these bytes are read, or whether the call fails if there are none.
+fn reads<R: Source>(source: &mut R, into: &mut [u8], bytes: Option<&[u8]>) -> bool {
+    match source.take(into) {
+        Ok(count) => bytes == Some(&into[..count]),
+        Err(Failed) => bytes.is_none(),
+    }
+}
+
+/// Reads as often as there are rows, and compares each call.
+fn reads_each<R: Source>(rt: &impl Abort, source: &mut R, into: &mut [u8], rows: &[Option<&[u8]>]) {
+    for i in 0..rows.len() {
+        assert!(rt; reads(source, into, rows[i]), "call {i}");
+    }
+}
+
+/// Writes once, and returns whether this many bytes are taken, or whether the call fails if there is no number.
+fn writes<W: Sink>(sink: &mut W, text: &[u8], count: Option<usize>) -> bool {
+    sink.put(text).ok() == count
+}
+
+/// Writes a text, and returns whether all of it is taken.
+fn takes_all<W: Sink>(sink: &mut W, text: &[u8]) -> bool {
+    put_all(sink, text).is_ok()
+}
+
+const QUEUE: [Option<&[u8]>; 3] = [Some(b"ab"), Some(b"c"), Some(b"")];
+
 #[test]
 fn a_counted_device_passes_bytes_on(rt: HostRuntime) -> Result<(), Fail> {
     let mut queue = Counted::new(VecDeque::new(rt.alloc()));
-    assert_eq!(rt; put_all(&mut queue, b"abc"), Ok(()));
-    assert_eq!(rt; queue.device().len(), 3);
-    let mut piece = [0; 2];
-    assert_eq!(rt; queue.take(&mut piece), Ok(2));
-    assert_eq!(rt; piece, [b'a', b'b']);
-    assert_eq!(rt; queue.take(&mut piece), Ok(1));
-    assert_eq!(rt; queue.take(&mut piece), Ok(0));
-    assert_eq!(rt; Source::failures(&queue), 0);
+    assert!(rt; takes_all(&mut queue, b"abc"));
+    assert!(rt; queue.device().len() == 3);
+    reads_each(&rt, &mut queue, &mut [0; 2], &QUEUE);
+    assert!(rt; Source::failures(&queue) == 0);
     Ok(())
 }
 
 #[test]
 fn an_interrupted_call_is_a_failure(rt: HostRuntime) {
     let mut source = Counted::new(Uneasy { interrupted: false });
-    let mut piece = [0; 2];
-    assert_eq!(rt; source.take(&mut piece), Err(Failed));
-    assert_eq!(rt; Source::failures(&source), 1);
-    assert_eq!(rt; source.take(&mut piece), Ok(1));
-    assert_eq!(rt; Source::failures(&source), 1);
+    assert!(rt; reads(&mut source, &mut [0; 2], None));
+    assert!(rt; Source::failures(&source) == 1);
+    assert!(rt; reads(&mut source, &mut [0; 2], Some(b"x")));
+    assert!(rt; Source::failures(&source) == 1);
 }
 
 #[test]
 fn a_write_that_takes_nothing_is_a_failure(rt: HostRuntime) {
     let mut sink = Counted::new(Uneasy { interrupted: false });
-    assert_eq!(rt; sink.put(b"a"), Err(Failed));
-    assert_eq!(rt; sink.put(b"a"), Err(Failed));
-    assert_eq!(rt; sink.put(b""), Ok(0));
-    assert_eq!(rt; Sink::failures(&sink), 2);
+    assert!(rt; writes(&mut sink, b"a", None));
+    assert!(rt; writes(&mut sink, b"a", None));
+    assert!(rt; writes(&mut sink, b"", Some(0)));
+    assert!(rt; Sink::failures(&sink) == 2);
 }
+
+const FEED: [Option<&[u8]>; 4] = [Some(b"ab"), None, Some(b"c"), Some(b"")];
 
 #[test]
 fn a_feed_fails_once_and_goes_on(rt: HostRuntime) {
     let mut feed = Feed::failing(b"abc", 2, 2);
-    let mut piece = [0; 8];
-    assert_eq!(rt; feed.take(&mut piece), Ok(2));
-    assert_eq!(rt; feed.take(&mut piece), Err(Failed));
-    assert_eq!(rt; feed.take(&mut piece), Ok(1));
-    assert_eq!(rt; piece[0], b'c');
-    assert_eq!(rt; feed.take(&mut piece), Ok(0));
-    assert_eq!(rt; feed.failures(), 1);
-    assert_eq!(rt; Feed::new(b"abc", 2).take(&mut piece), Ok(2));
-    assert_eq!(rt;
-        Endless {
-            byte: b'\n',
-            log: Log::new()
-        }
-        .take(&mut piece),
-        Ok(8)
-    );
-    assert_eq!(rt; piece, [b'\n'; 8]);
+    reads_each(&rt, &mut feed, &mut [0; 8], &FEED);
+    assert!(rt; feed.failures() == 1);
 }
 
 #[test]
-fn a_tray_fails_once_and_when_it_is_full(rt: HostRuntime) {
-    let mut tray = Tray::failing(2, 3);
-    assert_eq!(rt; put_all(&mut tray, b"abcde"), Err(Failed));
-    assert_eq!(rt; tray.text(), b"abcd".as_slice());
-    assert_eq!(rt; put_all(&mut tray, b"e"), Ok(()));
-    let mut tray = Tray::new(4096);
-    assert_eq!(rt; put_all(&mut tray, &[b'a'; 4095]), Ok(()));
-    assert_eq!(rt; put_all(&mut tray, b"bc"), Err(Failed));
-    assert_eq!(rt; tray.text().len(), 4096);
-    assert_eq!(rt; Sink::failures(&tray), 1);
+fn a_feed_reads_pieces(rt: HostRuntime) {
+    let mut feed = Feed::new(b"abc", 2);
+    assert!(rt; reads(&mut feed, &mut [0; 8], Some(b"ab")));
 }
+
+#[test]
+fn an_endless_source_fills_the_room(rt: HostRuntime) {
+    let mut endless = Endless {
+        byte: b'\n',
+        log: Log::new(),
+    };
+    assert!(rt; reads(&mut endless, &mut [0; 8], Some(&[b'\n'; 8])));
+}
+
+#[test]
+fn a_tray_fails_once(rt: HostRuntime) {
+    let mut tray = Tray::failing(2, 3);
+    assert!(rt; !takes_all(&mut tray, b"abcde"));
+    assert!(rt; tray.text() == b"abcd".as_slice());
+    assert!(rt; takes_all(&mut tray, b"e"));
+}
+
+#[test]
+fn a_tray_fails_when_it_is_full(rt: HostRuntime) {
+    let mut tray = Tray::new(4096);
+    assert!(rt; takes_all(&mut tray, &[b'a'; 4095]));
+    assert!(rt; !takes_all(&mut tray, b"bc"));
+    assert!(rt; tray.text().len() == 4096);
+    assert!(rt; Sink::failures(&tray) == 1);
+}
+
+/// Returns whether a line has this first word, and this rest after it.
+fn begins(line: &[u8], word: &[u8], rest: &[u8]) -> bool {
+    match next_word(line) {
+        Some((first, others)) => first == word && others == rest,
+        None => false,
+    }
+}
+
+const IGNORED: [(&[u8], bool); 4] = [
+    (b"", true),
+    (b"\t ", true),
+    (b" * note", true),
+    (b"A *", false),
+];
 
 #[test]
 fn words_stand_between_blanks_and_tabs(rt: HostRuntime) {
-    match next_word(b" \tSET  M\t0 ") {
-        Some((word, rest)) => {
-            assert_eq!(rt; word, b"SET".as_slice());
-            assert_eq!(rt; rest, b"  M\t0 ".as_slice());
-        }
-        None => assert!(rt; false),
-    }
+    assert!(rt; begins(b" \tSET  M\t0 ", b"SET", b"  M\t0 "));
     assert!(rt; next_word(b" \t ").is_none());
-    for (line, ignored) in [
-        (b"".as_slice(), true),
-        (b"\t ".as_slice(), true),
-        (b" * note".as_slice(), true),
-        (b"A *".as_slice(), false),
-    ] {
-        assert_eq!(rt; is_ignored(line), ignored);
+    for i in 0..IGNORED.len() {
+        let (line, ignored) = IGNORED[i];
+        assert!(rt; is_ignored(line) == ignored, "row {i}");
     }
     assert!(rt; are_octal(b" 17\t0"));
     assert!(rt; !are_octal(b"17 8"));
 }
 
+/// Returns whether a cutter has kept this line.
+fn keeps(cutter: &LineCutter<3>, line: &[u8]) -> bool {
+    cutter.line() == line
+}
+
 #[test]
 fn a_cutter_keeps_the_front_of_a_line(rt: HostRuntime) {
     let mut cutter = LineCutter::<3>::new();
-    for byte in b"abcd" {
-        cutter.take_byte(*byte);
+    for i in 0..4 {
+        cutter.take_byte(b"abcd"[i]);
     }
-    assert_eq!(rt; cutter.line(), b"abc".as_slice());
+    assert!(rt; keeps(&cutter, b"abc"));
     cutter.end_line();
-    assert!(rt; cutter.line().is_empty());
+    assert!(rt; keeps(&cutter, b""));
 }
 
 #[test]
@@ -151,25 +190,30 @@ fn a_cutter_takes_a_text_up_to_its_room(rt: HostRuntime) {
     let mut cutter = LineCutter::<3>::new();
     cutter.take_byte(b'a');
     cutter.take_text(b"b");
-    assert_eq!(rt; cutter.line(), b"ab".as_slice());
+    assert!(rt; keeps(&cutter, b"ab"));
     cutter.take_text(b"cd");
-    assert_eq!(rt; cutter.line(), b"abc".as_slice());
+    assert!(rt; keeps(&cutter, b"abc"));
+}
+
+/// Returns whether a text is cut into this line and this rest.
+fn cuts(text: &[u8], line: &[u8], rest: &[u8]) -> bool {
+    match next_line(text) {
+        Some((first, others)) => first == line && others == rest,
+        None => false,
+    }
 }
 
 #[test]
 fn a_text_is_cut_at_its_first_line_feed(rt: HostRuntime) {
-    assert_eq!(rt;
-        next_line(b"a\n\nb"),
-        Some((b"a".as_slice(), b"\nb".as_slice()))
-    );
-    assert_eq!(rt; next_line(b"\n"), Some((b"".as_slice(), b"".as_slice())));
-    assert_eq!(rt; next_line(b"ab"), None);
+    assert!(rt; cuts(b"a\n\nb", b"a", b"\nb"));
+    assert!(rt; cuts(b"\n", b"", b""));
+    assert!(rt; next_line(b"ab").is_none());
 }
 
 #[test]
 fn one_return_is_dropped(rt: HostRuntime) {
-    assert_eq!(rt; without_return(b"a\r\r"), b"a\r".as_slice());
-    assert_eq!(rt; without_return(b"a\rb"), b"a\rb".as_slice());
+    assert!(rt; without_return(b"a\r\r") == b"a\r".as_slice());
+    assert!(rt; without_return(b"a\rb") == b"a\rb".as_slice());
     assert!(rt; without_return(b"\r").is_empty());
     assert!(rt; without_return(b"").is_empty());
 }
@@ -179,17 +223,23 @@ fn a_row_grows(rt: HostRuntime) {
     let mut row = ArrayVec::<u8, 4>::new();
     push_text(&mut row, b"P ");
     push_text(&mut row, b"01");
-    assert_eq!(rt; row.as_slice(), b"P 01".as_slice());
+    assert!(rt; row.as_slice() == b"P 01".as_slice());
 }
+
+const FAULTS: [(IoFault, &str); 3] = [
+    (IoFault::ReadFailed, "READ FAILED"),
+    (IoFault::WriteFailed, "WRITE FAILED"),
+    (IoFault::LineLimit, "LINE LIMIT"),
+];
 
 #[test]
 fn texts_of_faults(rt: HostRuntime) -> Result<(), Fail> {
-    for (fault, text) in [
-        (IoFault::ReadFailed, "READ FAILED"),
-        (IoFault::WriteFailed, "WRITE FAILED"),
-        (IoFault::LineLimit, "LINE LIMIT"),
-    ] {
-        assert_eq!(rt; format!(in rt.alloc(); "{fault}")?.as_str(), text);
+    for i in 0..FAULTS.len() {
+        let (fault, text) = FAULTS[i];
+        assert!(rt;
+            format!(in rt.alloc(); "{fault}")?.as_str() == text,
+            "{text}"
+        );
     }
     Ok(())
 }
