@@ -71,15 +71,17 @@ fn takes_all<W: Sink>(sink: &mut W, text: &[u8]) -> bool {
     put_all(sink, text).is_ok()
 }
 
-const QUEUE: [Option<&[u8]>; 3] = [Some(b"ab"), Some(b"c"), Some(b"")];
-
 #[test]
 fn a_counted_device_passes_bytes_on(rt: HostRuntime) -> Result<(), Fail> {
     let mut queue = Counted::new(VecDeque::new(rt.alloc()));
-    assert!(rt; takes_all(&mut queue, b"abc"));
-    assert!(rt; queue.device().len() == 3);
-    reads_each(&rt, &mut queue, &mut [0; 2], &QUEUE);
-    assert!(rt; Source::failures(&queue) == 0);
+    assert_eq!(rt; put_all(&mut queue, b"abc"), Ok(()));
+    assert_eq!(rt; queue.device().len(), 3);
+    let mut piece = [0; 2];
+    assert_eq!(rt; queue.take(&mut piece), Ok(2));
+    assert_eq!(rt; piece, [b'a', b'b']);
+    assert_eq!(rt; queue.take(&mut piece), Ok(1));
+    assert_eq!(rt; queue.take(&mut piece), Ok(0));
+    assert_eq!(rt; Source::failures(&queue), 0);
     Ok(())
 }
 
