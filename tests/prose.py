@@ -264,7 +264,7 @@ def planted():
     yield "A call of another type: `Rig::back`.", ["there is no Rig::back in `Rig::back`"]
     yield "A path: `specs/NoSuchFile.antt`.", ["there is no specs/NoSuchFile.antt in `specs/NoSuchFile.antt`"]
     yield "An option: `./check --slowly`.", ["there is no --slowly in `./check --slowly`"]
-    yield "A word of the console: `STEPS 3`.", ["there is no STEPS in `STEPS 3`"]
+    yield "A word of the console: `STEPZ 3`.", ["there is no STEPZ in `STEPZ 3`"]
     yield "Not of its kind: the clause `add18`, the mutant `fits`.", ["add18 is none of the clauses", "fits is none of the mutants"]
     yield "A block has names of its own:\n\n```\n`no_such_call`\n```\n\n    `no_such_call`\n", []
     yield f"There are {crates + 1} crates.", [f"'{crates + 1} crates', but there are {crates}"]
