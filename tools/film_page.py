@@ -8,12 +8,11 @@ from failure import Failure
 from film_data import encode
 from film_places import LAYOUT, MODES
 from film_run import TURN
-from instructions import BLOCK_GOES_ON, COMPLETES, NAMES, NOT_THERE, NOT_THERE_IN_BLOCK, WAITS_FOR
+from instructions import BLOCK_GOES_ON, COMPLETES, NAMES, NOT_THERE, NOT_THERE_IN_BLOCK, TWO_WORDS, WAITS_FOR
 from replay import take
 from text_files import script_lines
 
 HERE = os.path.dirname(os.path.abspath(__file__))
-TWO_WORDS = (0o01, 0o02, *range(0o20, 0o24), *range(0o50, 0o60), 0o61, 0o63, *range(0o64, 0o70), 0o71, 0o73, 0o77)
 BLOCK_CODES = (0o61, 0o63, 0o71, 0o73)
 LONGEST_ANSWER = 40  # lines of one that a page keeps
 

@@ -7,6 +7,7 @@ AOD SOD LDI ADI SBI LMI STI RAI AOI SOI LDM ADM SBM LMM STM RAM AOM SOM CRD CRM 
 ACN DCN FAN FNC""".split()
 
 CHANNEL_CODES = range(0o64, 0o100)
+TWO_WORDS = (0o01, 0o02, *range(0o20, 0o24), *range(0o50, 0o60), 0o61, 0o63, *range(0o64, 0o70), 0o71, 0o73, 0o77)
 BLOCK_INPUT, BLOCK_OUTPUT = 0o71, 0o73
 CLOCK = 0o14  # the channel of the clock, which is always full
 # The states in which an instruction completes, and those in which a block goes on or ends: else it waits.
@@ -33,6 +34,12 @@ class Processor:
     def name(self):
         """The name of the instruction; in a block transfer that of the transfer."""
         return NAMES[self.code]
+
+    @property
+    def text(self):
+        """The instruction with its channel or d, and with its second word; in a block transfer without that."""
+        second = f" {self.words[1]}" if self.code in TWO_WORDS and not self.phase else ""
+        return f"{self.name} {self.channel:02o}{second}"
 
     @property
     def goes_on_in(self):

@@ -4,6 +4,7 @@ import os
 import time
 
 from failure import Failure
+from panel_culprit import changed_place, turn_text
 from panel_keys import (
     ARROWS, LETTERS, LINES, MOST_COUNT_DIGITS, Facts, go_to, help_lines, move, next_pane, normal, words_to_find)
 from panel_prompt import Prompt
@@ -219,19 +220,27 @@ class Desk:
         if len(answer) > 1 and answer[1].startswith("HIT "):
             return answer[1]
         if kind == "BACK":
-            return "; ".join(self.where_change_is() + self.undone_watches(watched))
+            parts = self.where_change_is(watched) + self.undone_watches(watched)
+            return "; ".join(parts[:1] if len("; ".join(parts)) > self.columns else parts)
         if ahead and not self.session.history.ahead.count and kind in ("OK", "TURNS"):
             return f"the {ahead:o} actions ahead are discarded"
         return ""
 
-    def where_change_is(self):
-        """Returns after a BACK W what makes the change: the first action ahead."""
+    def where_change_is(self, watched):
+        """Returns after a BACK W what makes the change, the first action ahead, and what it changes of what was watched."""
         if self.session.sent[-1].upper().split() != ["BACK", "W"]:
             return []
         line = self.session.history.ahead.runs[-1].line
         if line == "STEP":
-            return [f"the change is in the next turn, that of PP {self.session.state.slot:02o}"]
+            return [self.guard(self.next_turn, watched) or self.message]
         return [f"the change is the next action, {line.strip()}"]
+
+    def next_turn(self, watched):
+        """Returns the next turn in words, with the first of what was watched that it changes."""
+        session = self.session
+        change = changed_place(session.simulator, watched)
+        text = f"the next turn, {turn_text(session.simulator, session.state, session.history.kept)},"
+        return f"{text} changes {normal(change[0])} from {change[1]}" if change else f"{text} makes the change"
 
     def undone_watches(self, watched):
         """Returns which watch was undone with newer actions."""
