@@ -126,9 +126,9 @@ def processor_line(shown, number):
         line.add_number(now.registers[name], was.registers[name], cursor)
 
     add_register("P")
-    for address in (at, at + 1):
+    for address in (at,) if now.phase else (at, at + 1):
         line.add_number(state.memories[number].word(address), before.memories[number].word(address))
-    line.add(f"{now.name} ")
+    line.add(f"{'  in ' if now.phase else ''}{now.name} ")
     add_register("A")
     add_register("Q")
     line.add_number(now.registers["PHASE"], was.registers["PHASE"])
