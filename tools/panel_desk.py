@@ -212,19 +212,28 @@ class Desk:
         if answer is None:
             return
         is_refused = answer and answer[0].startswith("ERR ")
-        self.message = advice(answer[0]) if is_refused else self.remark(ahead, watched, answer)
+        self.message = advice(answer[0]) if is_refused else self.remark(lines, ahead, watched, answer)
 
-    def remark(self, ahead, watched, answer):
-        """Returns what an operator may not expect of the last lines."""
+    def remark(self, lines, ahead, watched, answer):
+        """Returns what an operator may not expect of the last lines, as much as there is room for."""
         kind = answer[0].split()[0] if answer else ""
         if len(answer) > 1 and answer[1].startswith("HIT "):
             return answer[1]
+        discarded = [f"the {ahead:o} actions ahead are discarded"] if ahead else []
         if kind == "BACK":
-            parts = self.where_change_is(watched) + self.undone_watches(watched)
-            return "; ".join(parts[:1] if len("; ".join(parts)) > self.columns else parts)
-        if ahead and not self.session.history.ahead.count and kind in ("OK", "TURNS"):
-            return f"the {ahead:o} actions ahead are discarded"
+            begins_anew = lines[0].startswith("WATCH")  # W with nothing watched
+            return self.in_width(self.where_change_is(watched) + (discarded if begins_anew else []) + self.undone_watches(watched))
+        if discarded and not self.session.history.ahead.count and kind in ("OK", "TURNS"):
+            return discarded[0]
         return ""
+
+    def in_width(self, parts):
+        """Returns the first of the parts, and those of the others that the line has room for."""
+        text = "".join(parts[:1])
+        for part in parts[1:]:
+            if len(text) + len(part) + 2 <= self.columns:
+                text += f"; {part}"
+        return text
 
     def where_change_is(self, watched):
         """Returns after a BACK W what makes the change, the first action ahead, and what it changes of what was watched."""
@@ -236,9 +245,9 @@ class Desk:
         return [f"the change is the next action, {line.strip()}"]
 
     def next_turn(self, watched):
-        """Returns the next turn in words, with the first of what was watched that it changes."""
+        """Returns the next turn in words, with the first that it changes of what was watched, or of the cursor's number."""
         session = self.session
-        change = changed_place(session.simulator, watched)
+        change = changed_place(session.simulator, watched or [self.view.place()])
         text = f"the next turn, {turn_text(session.simulator, session.state, session.history.kept)},"
         return f"{text} changes {normal(change[0])} from {change[1]}" if change else f"{text} makes the change"
 

@@ -83,7 +83,9 @@ def on(facts, count):
 
 
 def back_to_change(facts, count):
-    return ["BACK W"] * min(count, facts.history.kept.count + 1)  # each one but a refused one undoes an action
+    """With nothing watched it is the number at the cursor that is looked for."""
+    watch = [] if facts.watched else toggle_watch(facts, count)
+    return watch + ["BACK W"] * min(count, facts.history.kept.count + 1)  # each one but a refused one undoes an action
 
 
 def to_oldest(facts, count):
@@ -126,7 +128,7 @@ LINE_KEYS = (
     Key(("N",), "forward again to its next turn", forward_to),
     Key(("<", "Home"), "back to the oldest state that is kept", to_oldest),
     Key((">", "End"), "forward to the newest state", to_newest),
-    Key(("W",), "BACK W: to just before the latest change of a watched number", back_to_change),
+    Key(("W",), "BACK W: to before a watched (else the cursor's) number changed", back_to_change),
     Key(("t",), "WATCH the number at the cursor, or UNWATCH it", toggle_watch),
 )
 OTHER_KEYS = (

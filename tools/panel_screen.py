@@ -17,6 +17,7 @@ MACHINE_ROWS = 12  # the ten processors, their head and that of the memory
 PANES = ("processors", "channels", "memory", "central")
 REGISTERS = ("P", "A", "Q")  # those that can be watched
 HINTS = "s step  b back  Tab arrows g cursor  t watch  W who changed it  ? help  q quit"
+HINTS_AHEAD = "Space on  s step  b back  Tab g cursor  t watch  W who changed  ? help  q quit"  # s would discard it
 
 
 @dataclass
@@ -298,7 +299,7 @@ def bottom_line(shown):
         return Line(asked, HEAD).add(text), len(asked) + place
     if shown.message:
         return Line(shown.message, REFUSED if shown.message.startswith("ERR ") else None), None
-    return Line(HINTS), None
+    return Line(HINTS_AHEAD if shown.ahead else HINTS), None
 
 
 def narrow_lines(shown, columns, parts):
