@@ -713,6 +713,8 @@ function moveLine(direction) {
 function choose(place) {
   shown.chosen = place;
   shown.marks = place && momentsThatChanged(place.places);
+  byId("place").value = place ? place.name : "";
+  acceptPlace(true);
   byId("chosen").hidden = !place;
   if (place && place.kind === "M" && !isShownCell(place)) showCell(...place.numbers, false);
   else if (place && place.kind === "C") showCentralWord(place.numbers[0], false);
@@ -1102,14 +1104,20 @@ function accept(field, good) {
   return good;
 }
 
+// Marks the field of the place, and says beside it that there is no such place.
+function acceptPlace(good) {
+  setText(byId("no-place"), good ? "" : "no such place");
+  return accept(byId("place"), good);
+}
+
 function goToTyped() {
   const field = byId("turn"), text = field.value.trim();
   if (accept(field, /^[0-7]{1,8}$/.test(text))) byHand(() => moveTo(momentOfTurn(parseInt(text, 8))))();
 }
 
 function chooseTyped() {
-  const field = byId("place"), place = placeNamed(field.value);
-  if (accept(field, place)) choose(place);
+  const place = placeNamed(byId("place").value);
+  if (acceptPlace(Boolean(place))) choose(place);
   setAddress();
 }
 
