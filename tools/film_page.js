@@ -601,6 +601,7 @@ function buildReader() {
   film.deck.forEach((card, at) => {
     const row = document.createElement("div");
     row.textContent = `  ${four(at)} ${card.map(displayCode).join("").trimEnd()}`;
+    row.title = row.textContent.trim(); // all of a text that is cut
     cards.append(row);
     cardRows.push(row);
   });
