@@ -45,6 +45,12 @@ class Screen:
                     return data[at:] if len(data) - at < 40 else b""
                 self.sequence(found)
                 at = found.end()
+            elif data[at] >= 0xc0:  # of UTF-8
+                size = 2 if data[at] < 0xe0 else 3 if data[at] < 0xf0 else 4
+                if at + size > len(data):
+                    return data[at:]
+                self.put(data[at:at + size].decode("utf-8", "replace")[0])
+                at += size
             else:
                 self.character(data[at])
                 at += 1

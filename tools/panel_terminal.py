@@ -1,6 +1,7 @@
 """The terminal of tools/panel: keys in, screens out. All that is shown and all that a key does is decided elsewhere."""
 
 import curses
+import locale
 import os
 import select
 import signal
@@ -8,7 +9,7 @@ import sys
 import time
 
 from failure import Failure
-from panel_text import CHANGED, CHOSEN, CURSOR, HEAD, HERE, REFUSED, SLOT, TITLE, WATCHED
+from panel_text import CHANGED, CHOSEN, CURSOR, CUT, CUT_IN_ASCII, HEAD, HERE, REFUSED, SLOT, TITLE, WATCHED
 
 ESCAPE_DELAY = 20  # milliseconds in which the rest of a key's sequence comes
 BETWEEN_DRAWINGS = 0.03  # seconds, while more keys are waiting
@@ -65,6 +66,7 @@ class Terminal:
         self.window.keypad(True)
         self.window.nodelay(True)
         self.attributes = attributes()
+        self.cut = CUT if has_utf8() else CUT_IN_ASCII
         return self
 
     def __exit__(self, *what):
@@ -127,7 +129,7 @@ class Terminal:
 
     def draw_line(self, row, line):
         try:
-            self.window.addstr(row, 0, line.text)
+            self.window.addstr(row, 0, line.text.replace(CUT, self.cut))
         except curses.error:  # after the last character of a screen the cursor has no place
             pass
         for start, end, mark in line.marks:
@@ -196,6 +198,12 @@ def attributes():
     green, red, cyan = (curses.color_pair(number) for number in (1, 2, 3))
     return {**plain, SLOT: green | curses.A_BOLD, HERE: green | curses.A_BOLD, CHANGED: red | curses.A_BOLD,
             REFUSED: red | curses.A_BOLD, HEAD: cyan | curses.A_BOLD}
+
+
+def has_utf8():
+    """Returns whether the terminal is said to show UTF-8. LC_CTYPE does not say it: Python sets it in the locale C."""
+    name = os.environ.get("LC_ALL") or os.environ.get("LANG") or ""
+    return locale.nl_langinfo(locale.CODESET).upper() == "UTF-8" and "UTF8" in name.upper().replace("-", "")
 
 
 def has_colours():

@@ -15,6 +15,8 @@ WATCHED = "watched"
 HERE = "here"  # the cell at P
 REFUSED = "refused"
 
+CUT, CUT_IN_ASCII = "\u2026", ">"  # the last character of a text that is cut
+
 
 class Line:
     """A line of text. A mark has its first column, the column after its last one, and its kind."""
@@ -50,7 +52,8 @@ class Line:
 
     def fit(self, width):
         """Cuts the line, or appends blanks, to a width."""
-        self.text = self.text[:width].ljust(width)
+        is_cut = self.text[width:].strip() and width
+        self.text = self.text[:width - 1] + CUT if is_cut else self.text[:width].ljust(width)
         self.marks = [(start, min(end, width), mark) for start, end, mark in self.marks if start < width]
         return self
 
