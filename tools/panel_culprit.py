@@ -4,7 +4,6 @@ that it is as it was."""
 from itertools import islice
 
 from console import PROCESSORS
-from instructions import Processor
 
 TURNS_AT_ONCE = 0o100  # of one processor
 
