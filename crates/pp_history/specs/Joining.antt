@@ -1,49 +1,65 @@
--- How two rings hold one list of undo records: the short ones are beside their actions, the long ones in a ring of
--- their own.
-use Rattle.std.specs.Prelude.{◌≡◌, ℕ, ◌+◌, ◌≤◌, List, [], ◌∷◌, Option, Some, None, length, map, take, drop, reverse}
-use Rattle.circular_buffer.specs.Buffer.{Buffer, buffer}
+-- How rings hold the actions of a session. The first ring has a head for each action. A head may hold what belongs to its
+-- action; what belongs to the others is in a second ring, in the same order.
+use Rattle.std.specs.Prelude.{◌≡◌, ℕ, ◌+◌, ◌≤◌, List, [], ◌∷◌, Option, Some, None, length, take, drop, reverse}
+use Rattle.circular_buffer.specs.Buffer.{Buffer}
 use Rattle.pp_history.specs.LogValue.{LogValue, log_of}
+use Rattle.pp_history.specs.Tails.{IsKept, in_tail, pushed}
+use Rattle.pp_history.specs.declared.reversible.Reversible.{Ghosts}
+use Rattle.pp_history.specs.declared.tails.Tails.{Tails}
+use Rattle.pp_history.specs.declared.tails.Tail.{Tail}
 
--- an action, and its short undo record if it has one
-abbrev pub Entry : Type 0 → Type 0 → Type 0
-Entry A S = A × Option S
+-- an item in front of others; the list ends where an item is missing
+abbrev pub with_first : {X : Type 0} → Option X → List X → List X
+with_first None later = []
+with_first (Some first) later = first ∷ later
 
--- the undo record of the newest entry: its short one, or else the newest long one
-abbrev pub record_of : {S R : Type 0} → (S → R) → Option S → List (Option R) → Option R
-record_of whole (Some short) longs = Some (whole short)
-record_of whole None [] = None
-record_of whole None (long ∷ longs) = long
+-- the items of the second ring that are left for the later heads
+abbrev pub left_by : {H B : Type 0} → Option H → List B → List B
+left_by (Some head) behind = behind
+left_by None behind = drop 1 behind
 
--- the long undo records of the entries behind it
-abbrev pub longs_behind : {S R : Type 0} → Option S → List (Option R) → List (Option R)
-longs_behind (Some short) longs = longs
-longs_behind None longs = drop 1 longs
+module _ {H B X : Type 0} (in_head : H → X) (in_other : B → Option X) where
+  -- what belongs to the first head: what it holds, or else the first item of the second ring
+  abbrev pub first_of : Option H → List B → Option X
+  first_of (Some head) others = Some (in_head head)
+  first_of None [] = None
+  first_of None (other ∷ others) = in_other other
 
--- an entry with its undo record, in front of others; the list ends where an undo record is missing
-abbrev pub with_record : {A R : Type 0} → A → Option R → List (A × R) → List (A × R)
-with_record action None older = []
-with_record action (Some back) older = (action, back) ∷ older
+  -- what belongs to each head
+  abbrev pub joined : List (Option H) → List B → List X
+  joined [] others = []
+  joined (head ∷ heads) others = with_first (first_of head others) (joined heads (left_by head others))
 
-module _ {A S R : Type 0} (whole : S → R) where
-  -- the entries with their undo records
-  abbrev pub joined : List (Entry A S) → List (Option R) → List (A × R)
-  joined [] longs = []
-  joined (newest ∷ older) longs = with_record newest.0 (record_of whole newest.1 longs) (joined older (longs_behind newest.1 longs))
+module _ {A R H : Type 0} (unpacked : H → A × R) where
+  -- the kept actions with their undo records, the newest first
+  abbrev pub kept_in : List (Option H) → List (Tail A R) → List (A × R)
+  kept_in = joined unpacked in_tail
 
-  -- the first n entries were undone, and the last one is the next to perform again
-  abbrev pub log_value : Buffer (Entry A S) → Buffer (Option R) → ℕ → LogValue A R
-  log_value entries longs ahead =
-      log_of (joined (drop ahead entries.items) longs.items) (map (λ entry. entry.0) (reverse (take ahead entries.items))) entries.capacity
+  -- the undone actions, the next to perform again first
+  abbrev pub ahead_in : List (Option H) → List A → List A
+  ahead_in = joined (λ head. (unpacked head).0) Some
 
-  -- holds of the parts of every log: each kept entry has its undo record
-  pub record IsLog (entries : Buffer (Entry A S)) (longs : Buffer (Option R)) (ahead : ℕ) : Type 0 where
-    pub some_room : 1 ≤ entries.capacity
-    pub bounded : entries.capacity ≤ 10000
-    pub same_room : longs.capacity ≡ entries.capacity
-    pub full : length entries.items ≤ entries.capacity
-    pub kept : ahead + length (joined (drop ahead entries.items) longs.items) ≡ length entries.items
+  -- the action is the next to perform again: its head holds it, or else it is in front of the undone ones
+  abbrev pub IsNext : Option H → A → Buffer A → Buffer A → Type 0
+  IsNext (Some head) action old new = new ≡ old
+  IsNext None action old new = new ≡ pushed action old
 
--- what an action leaves: a short undo record, or a long one in front of the others
-abbrev pub IsLeft : {S R : Type 0} → (S → R) → Option S → R → Buffer (Option R) → Buffer (Option R) → Type 0
-IsLeft whole (Some short) back old new = (back ≡ whole short) × (new ≡ old)
-IsLeft whole None back old new = new ≡ buffer (take old.capacity (Some back ∷ old.items)) old.capacity
+  -- the first n heads are those of undone actions, and the n-th one is that of the next action to perform again
+  abbrev pub log_value : Buffer (Option H) → Buffer (Tail A R) → Buffer A → ℕ → LogValue A R
+  log_value heads tails undone n =
+      log_of (kept_in (drop n heads.items) tails.items) (ahead_in (reverse (take n heads.items)) undone.items) heads.capacity
+
+  -- holds of the parts of every log: nothing is missing
+  pub record IsLog (heads : Buffer (Option H)) (tails : Buffer (Tail A R)) (undone : Buffer A) (n : ℕ) : Type 0 where
+    pub some_room : 1 ≤ heads.capacity
+    pub bounded : heads.capacity ≤ 10000
+    pub room_for_tails : tails.capacity ≡ heads.capacity
+    pub room_for_undone : undone.capacity ≡ heads.capacity
+    pub full : length heads.items ≤ heads.capacity
+    pub ahead : length (ahead_in (reverse (take n heads.items)) undone.items) ≡ n
+    pub kept : n + length (kept_in (drop n heads.items) tails.items) ≡ length heads.items
+
+-- the action was performed, and is kept with a record that leads back
+abbrev pub IsActed : {M A R P H : Type 0} → Ghosts M A R P H → M → M → A → Option H → Tails A R → Tails A R → Type 0
+IsActed {R = R} rules old new action head tails tails' =
+    (new ≡ rules.after_act old action) × ((back : R) × rules.fits back new × (rules.after_undo back new ≡ old) × IsKept rules.unpacked head action back tails tails')

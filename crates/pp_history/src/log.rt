@@ -1,31 +1,34 @@
-//! The newest actions with their undo records: one list, held in two rings.
+//! The newest actions with their undo records: one list, held in rings.
 
 ghost use Rattle.std.specs.Prelude.{◌≡◌, ◌∷◌, [], take, drop, slice_get, slice_set, Some, None, Option, ℕ, List, ◌+◌, ◌-◌, ◌<◌, ◌≤◌, length, IfOk, IsSomeAnd, MatchOption, IfSome, IsNone, ◌↔◌, ◌*◌};
 ghost use Rattle.circular_buffer.specs.Buffer.{buffer};
 ghost use Rattle.std.specs.List.{All};
-ghost use Rattle.pp_history.specs.Joining.{Entry, IsLeft, longs_behind, record_of};
+ghost use Rattle.pp_history.specs.Joining.{IsActed, IsNext, first_of, left_by};
 ghost use Rattle.pp_history.specs.LogValue.{IsPerformed, IsUndone, LogValue, log_of};
 ghost use Rattle.pp_history.specs.Search.{changes, first_changing, differs_from};
 ghost use Rattle.pp_history.specs.UndoRecord.{whole_record};
-ghost use Rattle.std.specs.Option.{option_map};
+ghost use Rattle.pp_history.specs.Tails.{in_tail, pushed};
+ghost use Rattle.std.specs.Option.{IsSome, option_map};
 
 use crate::looks::Looks;
 use crate::reversible::{Reversible, UndoRecord};
+use crate::tails::{Tails, push};
 use circular_buffer::HeapCircularBuffer;
 use std::alloc::{AllocError, Global};
 use std::marker::Model;
 
-/// The newest actions, at most `capacity`. Some were undone; the others have undo records. An entry is a few bytes,
-/// with its short undo record. The long undo records have a ring of their own, in which memory is touched only for
-/// records that are made.
+/// The newest actions, at most `capacity`. Some were undone; the others have undo records. Memory is touched only for
+/// tails that are made.
 #[derive(Drop)]
 pub(crate) struct Log<T: Reversible> {
-    /// First the undone actions, the next to perform again last; then the kept actions, the newest first. The undo
-    /// record of a kept action without a short one is the newest long one that no newer action has.
-    entries: HeapCircularBuffer<(T::Action, Option<T::Short>)>,
-    /// The long undo records of kept actions, the newest first, and then those of discarded actions.
-    longs: HeapCircularBuffer<Option<T::Record>>,
-    /// How many of the entries were undone.
+    /// First the heads of the undone actions, the next to perform again last; then those of the kept actions, the newest
+    /// first.
+    heads: HeapCircularBuffer<Option<T::Head>>,
+    /// The kept actions without a head, the newest first, and then discarded ones.
+    tails: Tails<T::Action, T::Record>,
+    /// The undone actions without a head, the next to perform again first, and then discarded ones.
+    undone: HeapCircularBuffer<T::Action>,
+    /// How many of the heads are those of undone actions.
     ahead: usize,
 }
 
@@ -35,9 +38,9 @@ impl<T: Reversible> Model for Log<T> {
 
     ghost Value = { LogValue T.Action T.Record };
 
-    ghost view = { λ l. log_value T.whole l.entries l.longs l.ahead };
+    ghost view = { λ l. log_value T.unpacked l.heads l.tails.ring l.undone l.ahead };
 
-    ghost invariant = { λ l. IsLog T.whole l.entries l.longs l.ahead };
+    ghost invariant = { λ l. IsLog T.unpacked l.heads l.tails.ring l.undone l.ahead };
 }
 
 impl<T: Reversible> Log<T> {
@@ -46,11 +49,13 @@ impl<T: Reversible> Log<T> {
         requires { (1 ≤ capacity) × (capacity ≤ 10000) }
         ensures { IfOk result (λ log. log ≡ record { records = []; ahead = []; capacity = capacity }) }
     {
-        let entries = HeapCircularBuffer::with_capacity(alloc, capacity as usize)?;
-        let longs = HeapCircularBuffer::with_capacity(alloc, capacity as usize)?;
+        let heads = HeapCircularBuffer::with_capacity(alloc, capacity as usize)?;
+        let tails = Tails::new(alloc, capacity as usize)?;
+        let undone = HeapCircularBuffer::with_capacity(alloc, capacity as usize)?;
         Ok(Log {
-            entries,
-            longs,
+            heads,
+            tails,
+            undone,
             ahead: 0,
         })
     }
@@ -59,14 +64,14 @@ impl<T: Reversible> Log<T> {
     pub(crate) fn capacity(&self) -> u32
         ensures { result ≡ self.now.capacity }
     {
-        self.entries.capacity() as u32
+        self.heads.capacity() as u32
     }
 
     /// Returns the number of undo records.
     pub(crate) fn kept(&self) -> u32
         ensures { result ≡ length self.now.records }
     {
-        (self.entries.len() - self.ahead) as u32
+        (self.heads.len() - self.ahead) as u32
     }
 
     /// Returns the number of actions that were undone.
@@ -76,14 +81,18 @@ impl<T: Reversible> Log<T> {
         self.ahead as u32
     }
 
-    /// Puts an action ahead, which is then the only one ahead. If the log is full, the oldest action is discarded.
+    /// Performs an action and keeps it. The actions ahead are discarded, and if the log is full, the oldest action too.
     #[inline(always)]
-    pub(crate) fn put_ahead(&mut self, action: T::Action)
-        ensures { self.new ≡ log_of (take (self.old.capacity - 1) self.old.records) (action ∷ []) self.old.capacity }
+    pub(crate) fn perform(&mut self, machine: &mut T, action: T::Action)
+        requires { T.admitted machine.old action }
+        ensures { IsPerformed T.Reversible machine.old machine.new
+            (log_of (take (self.old.capacity - 1) self.old.records) (action ∷ []) self.old.capacity) self.new }
     {
-        forget(&mut self.entries, self.ahead);
-        push(&mut self.entries, (action, T::spare()));
-        self.ahead = 1;
+        forget(&mut self.heads, self.ahead);
+        push(&mut self.heads, None);
+        self.ahead = 0;
+        let head = self.heads.get_mut(0).unwrap();
+        machine.perform(action, head, &mut self.tails);
     }
 
     /// Undoes the newest action.
@@ -93,8 +102,8 @@ impl<T: Reversible> Log<T> {
         requires fits { (newest : T.Action × T.Record) → slice_get self.old.records 0 ≡ Some newest → T.fits newest.1 machine.old }
         ensures { IsUndone T.Reversible machine.old machine.new self.old self.new }
     {
-        let entry = self.entries.get(self.ahead).unwrap();
-        undo(machine, &entry.1, &mut self.longs);
+        let head = self.heads.get(self.ahead).unwrap();
+        undo(machine, head, &mut self.tails, &mut self.undone);
         self.ahead += 1;
     }
 
@@ -106,17 +115,17 @@ impl<T: Reversible> Log<T> {
         ensures { IsPerformed T.Reversible machine.old machine.new self.old self.new }
     {
         self.ahead -= 1;
-        let entry = self.entries.get_mut(self.ahead).unwrap();
-        act(machine, &entry.0, &mut entry.1, &mut self.longs);
+        let head = self.heads.get_mut(self.ahead).unwrap();
+        perform_next(machine, head, &mut self.tails, &mut self.undone);
     }
 
     /// Returns the newest undo record, or `None` if there is none.
     #[inline(always)]
     pub(crate) fn newest(&self) -> Option<UndoRecord<T>>
-        ensures some { IfSome result (λ back. (newest : T.Action × T.Record) × (slice_get self.now.records 0 ≡ Some newest) × (newest.1 ≡ whole_record T.whole back)) }
+        ensures some { IfSome result (λ back. (newest : T.Action × T.Record) × (slice_get self.now.records 0 ≡ Some newest) × (newest.1 ≡ whole_record T.unpacked back)) }
         ensures none { IsNone result ↔ (length self.now.records ≡ 0) }
     {
-        undo_record(self.entries.get(self.ahead)?, &self.longs, 0)
+        undo_record(self.heads.get(self.ahead)?, &self.tails, 0)
     }
 
     /// Returns the position, counted from 1, of the first undo record that has another number for one of the places
@@ -134,36 +143,35 @@ impl<T: Reversible> Log<T> {
         ensures looks_at_each { 1 ≤ length places.now → MatchOption result (looks.old.count + length self.now.records ≤ looks.new.count) (λ k. looks.old.count + k ≤ looks.new.count) }
         ensures kept { IfSome result (λ k. k ≤ length self.now.records) }
     {
-        let mut long = 0;
+        let mut tail = 0;
         for k in 0..self.kept() {
-            let entry = self.entries.get(self.ahead + k as usize).unwrap();
-            let back = undo_record(entry, &self.longs, long).unwrap();
+            let head = self.heads.get(self.ahead + k as usize).unwrap();
+            let back = undo_record(head, &self.tails, tail).unwrap();
             if is_changed(machine, &back, places, looks) {
                 return Some(k + 1);
             }
-            match &entry.1 {
+            match head {
                 Some(_) => {}
-                None => long += 1,
+                None => tail += 1,
             }
         }
         None
     }
 }
 
-/// Returns the undo record of an entry: its short one, or else the long one behind `long` others.
+/// Returns the undo record of a head, or else that of the tail behind `tail` others.
 #[inline(always)]
-#[tactic(auto, using(crate::proofs::Joins::long_record))]
 fn undo_record<'a, T: Reversible>(
-    entry: &'a (T::Action, Option<T::Short>),
-    longs: &'a HeapCircularBuffer<Option<T::Record>>,
-    long: usize,
+    head: &'a Option<T::Head>,
+    tails: &'a Tails<T::Action, T::Record>,
+    tail: usize,
 ) -> Option<UndoRecord<'a, T>>
-    ensures { option_map (whole_record T.whole) result ≡ record_of T.whole entry.now.1 (drop long longs.now.items) }
+    ensures { IfSome (first_of T.unpacked in_tail head.now (drop tail tails.now.ring.items)) (λ entry. option_map (whole_record T.unpacked) result ≡ Some entry.1) }
 {
-    match &entry.1 {
-        Some(short) => Some(UndoRecord::Short(short)),
-        None => match longs.get(long)? {
-            Some(back) => Some(UndoRecord::Long(back)),
+    match head {
+        Some(head) => Some(UndoRecord::Head(head)),
+        None => match &tails.ring.get(tail)?.back {
+            Some(back) => Some(UndoRecord::Tail(back)),
             None => None,
         },
     }
@@ -198,7 +206,7 @@ fn has_other<T: Reversible>(
     looks: &mut Looks,
 ) -> bool
     requires { All (λ place. T.has_place machine.now place) places.now }
-    ensures value { result ≡ changes T.Reversible (λ place. T.value_at machine.now place) places.now (whole_record T.whole back.now) }
+    ensures value { result ≡ changes T.Reversible (λ place. T.value_at machine.now place) places.now (whole_record T.unpacked back.now) }
     ensures counts_up { looks.old.count ≤ looks.new.count }
     ensures cost { looks.new.count ≤ looks.old.count + length places.now }
     ensures looks_at_each { 1 ≤ length places.now → looks.old.count + 1 ≤ looks.new.count }
@@ -220,14 +228,14 @@ fn is_changed<T: Reversible>(
     looks: &mut Looks,
 ) -> bool
     requires { All (λ place. T.has_place machine.now place) places.now }
-    ensures value { result ≡ changes T.Reversible (λ place. T.value_at machine.now place) places.now (whole_record T.whole back.now) }
+    ensures value { result ≡ changes T.Reversible (λ place. T.value_at machine.now place) places.now (whole_record T.unpacked back.now) }
     ensures counts_up { looks.old.count ≤ looks.new.count }
     ensures cost { looks.new.count ≤ looks.old.count + length places.now }
     ensures looks_at_each { 1 ≤ length places.now → looks.old.count + 1 ≤ looks.new.count }
 {
     match *back {
-        UndoRecord::Short(short) => has_other(machine, &UndoRecord::Short(short), places, looks),
-        UndoRecord::Long(long) => has_other(machine, &UndoRecord::Long(long), places, looks),
+        UndoRecord::Head(head) => has_other(machine, &UndoRecord::Head(head), places, looks),
+        UndoRecord::Tail(back) => has_other(machine, &UndoRecord::Tail(back), places, looks),
     }
 }
 
@@ -241,85 +249,84 @@ fn forget<E: Drop>(items: &mut HeapCircularBuffer<E>, n: usize)
     }
 }
 
-/// Puts an item in front. If the ring is full, the last item is dropped in place; `push_front` would copy it out.
+/// Performs the next action again: that of its head, or else the first of the undone ones, which is taken out.
 #[inline(always)]
-fn push<E: Drop>(items: &mut HeapCircularBuffer<E>, item: E)
-    requires { 1 ≤ items.old.capacity }
-    ensures { items.new ≡ buffer (take items.old.capacity (item ∷ items.old.items)) items.old.capacity }
-{
-    items.truncate_back(items.capacity() - 1);
-    let _pushed = items.try_push_front(item);
-}
-
-/// Performs an action, and puts its undo record in front of the long ones.
-#[inline(never)]
-fn act_at_length<T: Reversible>(
+fn perform_next<T: Reversible>(
     machine: &mut T,
-    action: &T::Action,
-    longs: &mut HeapCircularBuffer<Option<T::Record>>,
+    head: &mut Option<T::Head>,
+    tails: &mut Tails<T::Action, T::Record>,
+    undone: &mut HeapCircularBuffer<T::Action>,
 )
-    requires admitted { T.admitted machine.old action.now }
-    requires room { 1 ≤ longs.old.capacity }
-    ensures next { machine.new ≡ T.after_act machine.old action.now }
-    ensures left { (back : T.Record) × (T.fits back machine.new) × (T.after_undo back machine.new ≡ machine.old)
-        × (longs.new ≡ buffer (take longs.old.capacity (Some back ∷ longs.old.items)) longs.old.capacity) }
+    requires admitted { IsSomeAnd (first_of (λ head. (T.unpacked head).0) Some head.old undone.old.items) (λ action. T.admitted machine.old action) }
+    requires room { 1 ≤ tails.old.ring.capacity }
+    ensures kept { IsSomeAnd (first_of (λ head. (T.unpacked head).0) Some head.old undone.old.items) (λ action.
+        IsActed T.Reversible machine.old machine.new action head.new tails.old tails.new) }
+    ensures undone { undone.new ≡ buffer (left_by head.old undone.old.items) undone.old.capacity }
 {
-    push(longs, T::spare_record());
-    if let Some(long) = longs.get_mut(0) {
-        machine.act_into(action, long);
-    }
-}
-
-/// Performs an action. Writes its undo record over the short one in `back` if that is enough, and else puts it in front
-/// of the long ones.
-#[inline(always)]
-fn act<T: Reversible>(
-    machine: &mut T,
-    action: &T::Action,
-    back: &mut Option<T::Short>,
-    longs: &mut HeapCircularBuffer<Option<T::Record>>,
-)
-    requires admitted { T.admitted machine.old action.now }
-    requires room { 1 ≤ longs.old.capacity }
-    ensures next { machine.new ≡ T.after_act machine.old action.now }
-    ensures left { (left : T.Record) × (T.fits left machine.new) × (T.after_undo left machine.new ≡ machine.old)
-        × IsLeft T.whole back.new left longs.old longs.new }
-{
-    if let Some(short) = back {
-        if machine.act_short(action, short) {
-            return;
+    match head {
+        Some(held) => {
+            let action = T::unpack(held).0;
+            machine.perform(action, head, tails);
         }
+        None => perform_undone(machine, head, tails, undone),
     }
-    *back = None;
-    act_at_length(machine, action, longs);
 }
 
-/// Undoes an action by its undo record: its short one, or else the newest long one, which is discarded.
+/// Performs the first undone action without a head again, and takes it out.
+#[inline(never)]
+fn perform_undone<T: Reversible>(
+    machine: &mut T,
+    head: &mut Option<T::Head>,
+    tails: &mut Tails<T::Action, T::Record>,
+    undone: &mut HeapCircularBuffer<T::Action>,
+)
+    requires admitted { IsSomeAnd (first_of (λ head. (T.unpacked head).0) Some None undone.old.items) (λ action. T.admitted machine.old action) }
+    requires room { 1 ≤ tails.old.ring.capacity }
+    ensures kept { IsSomeAnd (first_of (λ head. (T.unpacked head).0) Some None undone.old.items) (λ action.
+        IsActed T.Reversible machine.old machine.new action head.new tails.old tails.new) }
+    ensures undone { undone.new ≡ buffer (drop 1 undone.old.items) undone.old.capacity }
+{
+    let action = undone.pop_front().unwrap();
+    machine.perform(action, head, tails);
+}
+
+/// Undoes the newest action, by its head or else by the newest tail, which is discarded. The action is then the next to
+/// perform again.
 #[inline(always)]
 fn undo<T: Reversible>(
     machine: &mut T,
-    back: &Option<T::Short>,
-    longs: &mut HeapCircularBuffer<Option<T::Record>>,
+    head: &Option<T::Head>,
+    tails: &mut Tails<T::Action, T::Record>,
+    undone: &mut HeapCircularBuffer<T::Action>,
 )
-    requires { IsSomeAnd (record_of T.whole back.now longs.old.items) (λ back. T.fits back machine.old) }
-    ensures machine { IsSomeAnd (record_of T.whole back.now longs.old.items) (λ back. machine.new ≡ T.after_undo back machine.old) }
-    ensures longs { longs.new ≡ buffer (longs_behind back.now longs.old.items) longs.old.capacity }
+    requires fits { IsSomeAnd (first_of T.unpacked in_tail head.now tails.old.ring.items) (λ newest. T.fits newest.1 machine.old) }
+    requires room { 1 ≤ undone.old.capacity }
+    ensures undone { IsSomeAnd (first_of T.unpacked in_tail head.now tails.old.ring.items) (λ newest.
+        (machine.new ≡ T.after_undo newest.1 machine.old) × IsNext T.unpacked head.now newest.0 undone.old undone.new) }
+    ensures tails { tails.new.ring ≡ buffer (left_by head.now tails.old.ring.items) tails.old.ring.capacity }
 {
-    match back {
-        Some(short) => machine.undo_short(short),
-        None => undo_at_length(machine, longs),
+    match head {
+        Some(head) => machine.undo_head(head),
+        None => undo_tail(machine, tails, undone),
     }
 }
 
-/// Undoes an action by the newest long undo record, which is discarded.
+/// Undoes the action of the newest tail, which is discarded. The action is then the next to perform again.
 #[inline(never)]
-fn undo_at_length<T: Reversible>(machine: &mut T, longs: &mut HeapCircularBuffer<Option<T::Record>>)
-    requires { (back : T.Record) × (slice_get longs.old.items 0 ≡ Some (Some back)) × T.fits back machine.old }
-    ensures machine { (back : T.Record) → slice_get longs.old.items 0 ≡ Some (Some back) → machine.new ≡ T.after_undo back machine.old }
-    ensures longs { longs.new ≡ buffer (drop 1 longs.old.items) longs.old.capacity }
+fn undo_tail<T: Reversible>(
+    machine: &mut T,
+    tails: &mut Tails<T::Action, T::Record>,
+    undone: &mut HeapCircularBuffer<T::Action>,
+)
+    requires fits { IsSomeAnd (first_of T.unpacked in_tail None tails.old.ring.items) (λ newest. T.fits newest.1 machine.old) }
+    requires room { 1 ≤ undone.old.capacity }
+    ensures undone { IsSomeAnd (first_of T.unpacked in_tail None tails.old.ring.items) (λ newest.
+        (machine.new ≡ T.after_undo newest.1 machine.old) × (undone.new ≡ pushed newest.0 undone.old)) }
+    ensures tails { tails.new.ring ≡ buffer (drop 1 tails.old.ring.items) tails.old.ring.capacity }
 {
-    if let Some(newest) = longs.get_mut(0) {
-        machine.undo_from(newest);
-        forget(longs, 1);
-    }
+    let tail = tails.ring.get_mut(0).unwrap();
+    machine.undo_tail(&mut tail.back);
+    let action = tail.action.take().unwrap();
+    forget(&mut tails.ring, 1);
+    push(undone, action);
 }

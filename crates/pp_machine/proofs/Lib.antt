@@ -4,3 +4,4 @@ pub mod Once
 pub mod PrinterLaws
 pub mod ReaderLaws
 pub mod Same
+pub mod Sizes

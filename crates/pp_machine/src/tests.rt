@@ -40,3 +40,17 @@ fn frame_word_0_has_no_b0(rt: HostRuntime) {
     assert_eq!(rt; frame.pack(0), 0o00001234000005000000);
     assert_eq!(rt; frame.program_address(), 0o1234);
 }
+
+#[test]
+fn sixteen_words_are_one_piece(rt: HostRuntime) -> Result<(), Fail> {
+    let mut central = Central::new(rt.alloc(), CentralSize::K32)?;
+    let words = [1, 2, 3, 4, 5, 6, 7, 8, 9, 10, 11, 12, 13, 14, 15, 16];
+    assert!(rt; central.set_sixteen(0o77760, &words));
+    assert_eq!(rt; central.sixteen(0o77760), Some(&words[..]));
+    assert_eq!(rt; central.get(0o77757), 0);
+    assert_eq!(rt; central.get(0o77777), 16);
+    assert!(rt; !central.set_sixteen(0o77761, &words));
+    assert_eq!(rt; central.get(0o77761), 2);
+    assert!(rt; central.sixteen(0o77761).is_none());
+    Ok(())
+}

@@ -1,7 +1,7 @@
 -- The parts of a turn: what each does to the machine, and what its undo record then has.
 use Rattle.std.proofs.Common.{ℕ, Bool, true, false, [], ◌∷◌, ◌<◌, ◌≡◌, ◌==◌, ◌∙◌, if◌then◌else◌, refl, ap, get_or, subst, sym}
 use Rattle.std.proofs.lemmas.List.{get_or_read}
-use Rattle.pp_machine.specs.Prelude.{Machine, ProcessorNumbers, over, old_values, no_processor, Writes, renamed, Has, HasAll}
+use Rattle.pp_machine.specs.Prelude.{Machine, ProcessorNumbers, over, no_processor, Writes, renamed, Has, HasAll}
 use Rattle.pp_step.specs.Step.{pp_pairs, pp_writes, FitsPp}
 use Rattle.pp_step.specs.View.{PpPlace, PpView, over as over_pp, pp_place}
 use Rattle.pp_step.specs.declared.record.PpRecord.{PpRecord}
@@ -10,12 +10,12 @@ use Rattle.pp_rig.specs.Lift.{pp_of, step_view, with_pp}
 use Rattle.pp_rig.specs.LiftLaws.{step-pp, record-pp}
 use Rattle.pp_rig.specs.MachineLaws.{has_processor, IsMachine-with_pp, setup-over}
 use Rattle.pp_machine.specs.WriteLaws.{AllPlaces-append, AllPlaces-if, over-append}
-use Rattle.pp_machine.specs.declared.place.Place.TheVariants.{Clock, Slot}
+use Rattle.pp_machine.specs.declared.place.Place.TheVariants.{Clock}
 use Rattle.pp_step.specs.PpPlaces.{HasAll-pp}
 use Rattle.pp_rig.specs.IsSetup.{IsSetup}
 use Rattle.pp_rig.specs.Parts.{ArePerformed}
 use Rattle.pp_rig.specs.Short.{IsTurned}
-use Rattle.pp_rig.specs.Turn.{AreDevicesStepped, FitsDevices, FitsRest, FitsTurn, IsSlotStep, IsStep, KeepsSlot, clock_part, clock_writes, device_parts, end_part, end_parts, pp_step_writes, rest_of_turn, rest_pairs, slot_writes, turn_old_values, turn_pairs, turn_parts, turn_writes}
+use Rattle.pp_rig.specs.Turn.{AreDevicesStepped, FitsDevices, FitsRest, FitsTurn, IsSlotStep, IsStep, device_parts, end_part, end_parts, pp_step_writes, rest_of_turn, rest_pairs, turn_old_values, turn_pairs, turn_parts, turn_writes}
 use Rattle.pp_rig.specs.declared.rig.TurnRecord.{TurnRecord}
 use Rattle.pp_rig.specs.declared.rig.TurnRest.{TurnRest}
 use Rattle.pp_rig.proofs.Devices.{HasAll-device_pairs}
@@ -63,25 +63,18 @@ module _ (m : Machine) (x : ProcessorNumbers) (new : PpView) (back : PpRecord) (
 
 -- ---- the rest of a turn: devices, clock and slot
 
-module _ (m m3 m4 new : Machine) (back : TurnRest) (slot clock : ℕ) (devices : AreDevicesStepped m m3 back) (ticked : m4 ≡ over m3 (clock_writes m3)) (clock_was : clock_part m3.slot clock ≡ old_values m3 (clock_writes m3)) (kept : KeepsSlot m3 m4) (advanced : new ≡ over m4 (slot_writes m4)) (slot_was : slot ≡ m4.slot) where
-  abbrev left : TurnRest
-  left = record back { slot = slot; clock = clock }
-
-  end-performed : ArePerformed end_parts m3 new (end_part left)
-  end-performed =
-      both-performed (clock_writes ∷ []) (slot_writes ∷ []) m3 m4 new _ _
-      (one-performed clock_writes m3 m4 _ ticked (rw (slot_was ∙ kept.slot) clock_was))
-      (one-performed slot_writes m4 new _ advanced (ap (λ n. (Slot, n) ∷ []) slot_was))
-
-  pub rest-performed : ArePerformed rest_of_turn m new (rest_pairs left)
+module _ (m m3 new : Machine) (stepped back : TurnRest) (devices : AreDevicesStepped m m3 stepped) (ended : ArePerformed end_parts m3 new (end_part back)) (called : back.are_devices_called ≡ stepped.are_devices_called) (records : back.devices ≡ stepped.devices) where
+  pub rest-performed : ArePerformed rest_of_turn m new (rest_pairs back)
   unfolding rest_pairs
-  rest-performed = both-performed device_parts end_parts m m3 new _ _ devices.performed end-performed
+  rest-performed = rw (called, records) (both-performed device_parts end_parts m m3 new _ _ devices.performed ended)
 
-  pub rest-fits : slot < 10 → clock < 4096 → FitsRest left new
+  pub rest-fits : back.slot < 10 → (back.slot ≡ 9 → back.clock < 4096) → FitsRest back new
   rest-fits in_slot in_clock = record {
     slot = in_slot;
     clock = in_clock;
-    devices = λ called. subst (FitsDevices back.devices) (sym (led_back end_parts m3 new _ end-performed)) (devices.fits called);
+    devices = λ were_called.
+        let after = subst (FitsDevices stepped.devices) (sym (led_back end_parts m3 new _ ended)) (devices.fits (sym called ∙ were_called)) in
+        subst (λ d. FitsDevices d (over new (end_part back))) (sym records) after;
   }
 
 -- ---- a turn

@@ -11,7 +11,7 @@ use Rattle.std.proofs.lemmas.Nat.{div-mul-add, mod-mul-add}
 use Rattle.std.proofs.lemmas.List.{map_push, set_at, length-map, length_push as length-push}
 use Rattle.pp_machine.specs.Prelude.{Has, words_of}
 use Rattle.pp_machine.specs.declared.central.CentralSize.{CentralSize}
-use Rattle.pp_machine.specs.declared.central.CentralSize.TheVariants.{K32, K64, K128}
+use Rattle.pp_machine.proofs.Sizes.{most_words}
 use Rattle.pp_rig.specs.Watches.{watched_in, watched_at, watched_of_kind, watched_place, AreWatches}
 use Rattle.pp_rig.specs.WatchCodes.{watch_code, watch_entries, first_zero}
 use Rattle.pp_rig.specs.declared.watched.Watched.{Watched}
@@ -103,10 +103,7 @@ register-below size c has =
 
 -- central memory has no more words than this
 pub words_of-few : (size : CentralSize) → words_of size ≤ 2097152
-unfolding words_of
-words_of-few K32 = omega arith
-words_of-few K64 = omega arith
-words_of-few K128 = omega arith
+words_of-few size = omega (arith, most_words size)
 
 -- in a machine of at most this many central words, each place is determined by its code
 pub watched_at-code : (size : ℕ) (w : Watched) → size ≤ 2097152 → Has size (watched_place w) → watched_at (watch_code w) ≡ w

@@ -4,6 +4,8 @@ use Rattle.pp_machine.specs.Machine.{Machine}
 use Rattle.pp_rig.specs.Action.{FitsRecord}
 use Rattle.pp_rig.specs.Turn.{most_turn_places, turn, turn_old_values, turn_pairs}
 use Rattle.pp_step.specs.declared.record.PpRecord.TheVariants.{Step}
+use Rattle.pp_rig.specs.declared.action.Action.{Action}
+use Rattle.pp_rig.specs.declared.action.Action.TheVariants.{Turn}
 use Rattle.pp_rig.specs.declared.rig.TurnRecord.{TurnRecord}
 use Rattle.pp_rig.specs.declared.rig.ShortTurn.{ShortTurn}
 use Rattle.pp_rig.specs.declared.rig.RigRecord.{RigRecord}
@@ -15,6 +17,10 @@ whole_turn s = record { pp = Step s.pp; rest = s.rest }
 
 abbrev pub whole : ShortTurn → RigRecord
 whole s = kept.Turn (whole_turn s)
+
+-- a short undo record is that of a turn
+abbrev pub unpacked : ShortTurn → Action × RigRecord
+unpacked s = (Turn, whole s)
 
 -- a turn and its undo record
 pub record IsTurned (old new : Machine) (back : TurnRecord) : Type 0 where

@@ -6,7 +6,7 @@ ghost use Rattle.pp_machine.specs.Machine.{Machine};
 ghost use Rattle.pp_rig.specs.Action.{FitsRecord, before};
 ghost use Rattle.pp_rig.specs.Marks.{CoversAll};
 ghost use Rattle.pp_rig.specs.Rules.{rules};
-ghost use Rattle.pp_rig.specs.Short.{whole};
+ghost use Rattle.pp_rig.specs.Short.{unpacked};
 ghost use Rattle.pp_rig.specs.Stopping.{first_change, stopped, after_turns};
 ghost use Rattle.pp_rig.specs.Watches.{watches_of};
 
@@ -39,8 +39,8 @@ pub struct Stopped {
 /// Returns the first watched place, in watch order, whose number an action with this undo record changed.
 #[inline(always)]
 fn first_changed(machine: &Rig, back: &UndoRecord<Rig>) -> Option<Hit>
-    requires { FitsRecord (whole_record whole back.now) machine.now }
-    ensures { result ≡ first_change (before (whole_record whole back.now) machine.now) machine.now (watches_of machine.now) }
+    requires { FitsRecord (whole_record unpacked back.now) machine.now }
+    ensures { result ≡ first_change (before (whole_record unpacked back.now) machine.now) machine.now (watches_of machine.now) }
 {
     let watches = machine.watches();
     for i in 0..watches.len() {
@@ -72,7 +72,7 @@ fn first_change(session: &Session<Rig>, marks: &WatchMarks) -> Option<Hit>
         return None;
     }
     let back = session.newest()?;
-    if let UndoRecord::Short(turn) = &back {
+    if let UndoRecord::Head(turn) = &back {
         if !marks.may_match(turn) {
             return None;
         }

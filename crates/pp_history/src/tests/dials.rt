@@ -35,7 +35,7 @@ impl Reversible for Dials {
 
     type Place = usize;
 
-    type Short = Set;
+    type Head = (Set, Set);
 
     ghost use Rattle.std.proofs.Common.{arith, ◌≡◌, inl, inr, false};
     ghost use Rattle.std.proofs.lemmas.Bool.Decides.{nat_tests};
@@ -57,7 +57,7 @@ impl Reversible for Dials {
 
     ghost old_value = { λ had dial. if had.dial == dial then Some had.to else None };
 
-    ghost whole = { λ had. had };
+    ghost unpacked = { λ head. head };
 
     ghost keeps_places = { λ had dials dial fits has. has };
 
@@ -84,8 +84,8 @@ impl Reversible for Dials {
         self.numbers[had.dial] = had.to;
     }
 
-    fn lengthen(had: &Set) -> Set {
-        *had
+    fn unpack(head: &(Set, Set)) -> (Set, Set) {
+        *head
     }
 
     fn value(&self, dial: &usize) -> u64 {

@@ -11,6 +11,13 @@ struct Gauge {
     number: u64,
 }
 
+/// A number that was set, and the old one.
+#[derive(Drop)]
+struct Bytes {
+    to: u8,
+    old: u8,
+}
+
 impl Reversible for Gauge {
     type Action = u64;
 
@@ -18,8 +25,8 @@ impl Reversible for Gauge {
 
     type Place = ();
 
-    /// An old number of one byte.
-    type Short = u8;
+    /// Two numbers of one byte: the new one and the old one.
+    type Head = Bytes;
 
     ghost use Rattle.std.specs.Prelude.{◌≡◌, IsSomeAnd, Some, ⊤};
     ghost use Rattle.std.proofs.Common.{refl};
@@ -38,7 +45,7 @@ impl Reversible for Gauge {
 
     ghost old_value = { λ old place. Some old };
 
-    ghost whole = { λ old. old };
+    ghost unpacked = { λ head. (head.to, head.old) };
 
     ghost keeps_places = { λ old gauge place fits has. has };
 
@@ -58,47 +65,34 @@ impl Reversible for Gauge {
         self.number = old;
     }
 
-    fn lengthen(old: &u8) -> u64 {
-        u64::from(*old)
+    fn unpack(head: &Bytes) -> (u64, u64) {
+        (u64::from(head.to), u64::from(head.old))
     }
 
-    fn spare() -> Option<u8> {
-        Some(0)
-    }
-
-    fn act_short(&mut self, to: &u64, back: &mut u8) -> bool {
-        let Ok(old) = u8::try_from(self.number) else {
-            return false;
-        };
-        *back = old;
-        self.number = *to;
-        true
-    }
-
-    fn undo_short(&mut self, old: &u8) {
-        self.number = u64::from(*old);
-    }
-
-    fn was_short(old: &u8, _place: &()) -> Option<u64> {
-        Some(u64::from(*old))
-    }
-
-    fn spare_record() -> Option<u64> {
-        Some(0)
-    }
-
-    fn act_into(&mut self, to: &u64, back: &mut Option<u64>) {
-        match back {
-            Some(old) => *old = self.number,
-            None => *back = Some(self.number),
+    fn perform(&mut self, to: u64, head: &mut Option<Bytes>, tails: &mut Tails<u64, u64>) {
+        let old = self.number;
+        self.number = to;
+        match (u8::try_from(to), u8::try_from(old)) {
+            (Ok(to), Ok(old)) => *head = Some(Bytes { to, old }),
+            _ => {
+                *head = None;
+                tails.push(to, old);
+            }
         }
-        self.number = *to;
     }
 
-    fn undo_from(&mut self, back: &mut Option<u64>) {
+    fn undo_head(&mut self, head: &Bytes) {
+        self.number = u64::from(head.old);
+    }
+
+    fn undo_tail(&mut self, back: &mut Option<u64>) {
         if let Some(old) = back {
             self.number = *old;
         }
+    }
+
+    fn was_head(head: &Bytes, _place: &()) -> Option<u64> {
+        Some(u64::from(head.old))
     }
 
     fn value(&self, _place: &()) -> u64 {

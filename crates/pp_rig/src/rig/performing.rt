@@ -1,15 +1,17 @@
 //! Performing an action of any kind.
-ghost use Rattle.std.specs.Prelude.{◌≡◌, ◌≤◌, None, IsPermutation, IsSomeAnd, length};
+ghost use Rattle.std.specs.Prelude.{◌≡◌, ◌≤◌, None, IsPermutation, length};
+ghost use Rattle.pp_history.specs.Tails.{IsKept};
 ghost use Rattle.pp_machine.specs.Prelude.{places, write_list};
 ghost use Rattle.pp_rig.specs.Action.{FitsRecord, before, most_places, next, old_values_of, record_pairs, set_list, writes};
 ghost use Rattle.pp_rig.specs.Admitting.{first_fault};
+ghost use Rattle.pp_rig.specs.Short.{unpacked};
 
 use super::settings::push_cells;
 use super::{Rig, RigRecord, TurnRecord};
 use crate::action::Action;
 use crate::lists::list_of;
 use arrayvec::ArrayVec;
-use pp_history::Reversible;
+use pp_history::{Reversible, Tails};
 use pp_machine::{Place, Write};
 
 /// Returns the numbers that an action sets, by place.
@@ -47,23 +49,25 @@ fn settings_of(action: &Action) -> ArrayVec<Write, 8>
 }
 
 impl Rig {
-    /// Performs an action that the rig admits, and writes its undo record over `back`. This is a separate function, so
-    /// an exchange need not clear stack space for another record.
+    /// Performs an action that the rig admits, and keeps it with its undo record in a tail. This is a separate function,
+    /// so a turn need not clear stack space for the record.
     #[inline(never)]
-    pub(super) fn act_anew(&mut self, action: &Action, back: &mut Option<RigRecord>)
-        requires { first_fault self.old action.now ≡ None }
-        ensures next { self.new ≡ next self.old action.now }
-        ensures fits { IsSomeAnd back.new (λ left. FitsRecord left self.new) }
-        ensures leads_back { IsSomeAnd back.new (λ left. before left self.new ≡ self.old) }
-        ensures same_places { IsSomeAnd back.new (λ left. IsPermutation (places (record_pairs left)) (places (writes self.old action.now))) }
-        ensures old_values { IsSomeAnd back.new (λ left. record_pairs left ≡ old_values_of self.old action.now) }
-        ensures at_most { IsSomeAnd back.new (λ left. length (record_pairs left) ≤ most_places action.now) }
+    pub(super) fn perform_with_tail(&mut self, action: Action, tails: &mut Tails<Action, RigRecord>)
+        requires admitted { first_fault self.old action ≡ None }
+        requires room { 1 ≤ tails.old.ring.capacity }
+        ensures next { self.new ≡ next self.old action }
+        ensures kept { (back : RigRecord) × FitsRecord back self.new × (before back self.new ≡ self.old)
+            × IsKept unpacked None action back tails.old tails.new
+            × IsPermutation (places (record_pairs back)) (places (writes self.old action))
+            × (record_pairs back ≡ old_values_of self.old action)
+            × (length (record_pairs back) ≤ most_places action) }
     {
-        *back = Some(self.act(action));
+        let back = self.act(&action);
+        tails.push(action, back);
     }
 
     /// Performs an action that the rig admits, and returns its undo record.
-    pub(super) fn perform(&mut self, action: &Action) -> RigRecord
+    pub(super) fn act_by_kind(&mut self, action: &Action) -> RigRecord
         requires { first_fault self.old action.now ≡ None }
         ensures step { self.new ≡ next self.old action.now }
         ensures old_values { record_pairs result ≡ old_values_of self.old action.now }

@@ -114,8 +114,15 @@ fn check_short(
     before: &[u64],
     after: &[u64],
 ) {
-    assert!(rt; is_true_of(&Rig::lengthen(short), places, before, after));
+    assert!(rt; is_true_of(&short.lengthen(), places, before, after));
     assert!(rt; is_short_true_of(short, places, before, after));
+}
+
+fn is_turn(action: &Action) -> bool {
+    match action {
+        Action::Turn => true,
+        _ => false,
+    }
 }
 
 /// Performs an action and undoes it with a short record, if the action leaves one.
@@ -129,10 +136,10 @@ fn act_short_and_undo(
 ) -> Result<(), Fail> {
     let mut short = ShortTurn::blank();
     assert!(rt; rig.admits(action));
-    if rig.act_short(action, &mut short) {
+    if is_turn(action) && rig.turn_short(&mut short) {
         let after = numbers_at(alloc, rig, places)?;
         check_short(rt, &short, places, before, after.as_slice());
-        rig.undo_short(&short);
+        rig.undo_head(&short);
         assert!(rt; has_numbers(alloc, rig, places, before)?);
     }
     Ok(())

@@ -1,16 +1,19 @@
 //! One turn of the barrel, and its undoing.
 ghost use Rattle.std.specs.Prelude.{◌≡◌, ◌<◌, ◌≤◌, true, false, None, [], ◌∷◌, length};
-ghost use Rattle.pp_machine.specs.Prelude.{over, old_values, renamed, first_of_two, lookup};
+ghost use Rattle.pp_history.specs.Tails.{IsKept};
+ghost use Rattle.pp_machine.specs.Prelude.{over, renamed, first_of_two, lookup};
 ghost use Rattle.pp_rig.specs.IsMachine.{IsMachine};
 ghost use Rattle.pp_rig.specs.Lift.{pp_of};
 ghost use Rattle.pp_rig.specs.Parts.{AreIdle, ArePerformed};
-ghost use Rattle.pp_rig.specs.Short.{IsTurned, whole, whole_turn};
-ghost use Rattle.pp_rig.specs.Turn.{AreDevicesStepped, FitsDevices, FitsRest, FitsTurn, IsSlotStep, KeepsSlot, clock_part, clock_writes, device_pairs_of, device_parts, devices_part, end_part, rest_of_turn, rest_pairs, slot_writes, turn_pairs};
+ghost use Rattle.pp_rig.specs.Short.{IsTurned, unpacked, whole, whole_turn};
+ghost use Rattle.pp_rig.specs.Turn.{AreDevicesStepped, FitsDevices, FitsRest, FitsTurn, IsSlotStep, KeepsSlot, device_pairs_of, device_parts, devices_part, end_part, end_parts, rest_of_turn, rest_pairs, turn_pairs};
 ghost use Rattle.pp_step.specs.Step.{FitsPp, IsExchange, pp_pairs};
 ghost use Rattle.pp_step.specs.View.{pp_place};
 
 use super::devices::{step_device, undo_device};
 use super::{DeviceRecords, Rig, RigRecord, ShortTurn, TurnRecord, TurnRest};
+use crate::action::Action;
+use pp_history::{Reversible, Tails};
 use pp_machine::{CentralSize, ChannelState, Place, PrinterRecord, ReaderRecord};
 use pp_step::{ExchangeRecord, PpRecord, StepRecord};
 
@@ -124,6 +127,7 @@ impl ShortTurn {
     }
 
     /// Returns the whole undo record that this one represents.
+    #[inline(always)]
     pub(super) fn lengthen(&self) -> RigRecord
         ensures { result ≡ whole self.now }
     {
@@ -251,32 +255,29 @@ impl Rig {
         undo_device(&mut self.reader, channels, self.reader_channel, back.reader);
     }
 
-    /// Advances the clock by one in the turn of the last processor. Returns the clock before.
+    /// Advances the clock, in the turn of the last processor alone, and then the slot. Writes what they were over `back`,
+    /// the clock in that turn alone.
     #[inline(always)]
-    fn tick(&mut self) -> u16
-        ensures step { self.new ≡ over self.old (clock_writes self.old) }
-        ensures old_values { clock_part self.old.slot result ≡ old_values self.old (clock_writes self.old) }
-        ensures small { result < 4096 }
-        ensures keeps_slot { KeepsSlot self.old self.new }
-    {
-        let clock = self.channels.clock();
-        if self.slot == 9 {
-            self.channels.set_clock((clock + 1) % 4096);
-        }
-        clock
-    }
-
-    #[inline(always)]
-    fn advance(&mut self) -> u8
-        ensures step { self.new ≡ over self.old (slot_writes self.old) }
-        ensures returns { result ≡ self.old.slot }
-        ensures small { result < 10 }
+    fn end_turn(&mut self, back: &mut TurnRest)
+        ensures performed { ArePerformed end_parts self.old self.new (end_part back.new) }
+        ensures called { back.new.are_devices_called ≡ back.old.are_devices_called }
+        ensures devices { back.new.devices ≡ back.old.devices }
+        ensures slot { back.new.slot ≡ self.old.slot }
+        ensures small_slot { back.new.slot < 10 }
+        ensures small_clock { back.new.slot ≡ 9 → back.new.clock < 4096 }
         ensures setup { self.new.setup ≡ self.old.setup }
         ensures machine { IsMachine self.new }
     {
         let slot = self.slot;
-        self.slot = if slot == 9 { 0 } else { slot + 1 };
-        slot
+        back.slot = slot;
+        if slot == 9 {
+            let clock = self.channels.clock();
+            back.clock = clock;
+            self.channels.set_clock((clock + 1) % 4096);
+            self.slot = 0;
+        } else {
+            self.slot = slot + 1;
+        }
     }
 
     /// Performs the part of a turn after the processor's step.
@@ -289,14 +290,13 @@ impl Rig {
         ensures machine { IsMachine self.new }
     {
         self.step_devices(back);
-        back.clock = self.tick();
-        back.slot = self.advance();
+        self.end_turn(back);
     }
 
     #[inline(always)]
     fn undo_end(&mut self, back: &TurnRest)
         requires slot { back.now.slot < 10 }
-        requires clock { back.now.clock < 4096 }
+        requires clock { back.now.slot ≡ 9 → back.now.clock < 4096 }
         ensures undoes { self.new ≡ over self.old (end_part back.now) }
         ensures setup { self.new.setup ≡ self.old.setup }
     {
@@ -339,6 +339,45 @@ impl Rig {
         }
         self.finish_turn(&mut back.rest);
         true
+    }
+
+    /// Performs one turn of the barrel and keeps it: in `head`, or in a tail if the processor makes an exchange.
+    #[inline(always)]
+    pub(super) fn perform_turn(
+        &mut self,
+        head: &mut Option<ShortTurn>,
+        tails: &mut Tails<Action, RigRecord>,
+    )
+        requires { 1 ≤ tails.old.ring.capacity }
+        ensures turns { (back : TurnRecord) × IsTurned self.old self.new back
+            × IsKept unpacked head.new Action.Turn (RigRecord.Turn back) tails.old tails.new }
+        ensures is_exchange { head.new ≡ None → IsExchange (pp_of self.old.slot self.old) }
+    {
+        if head.is_none() {
+            *head = Some(ShortTurn::blank());
+        }
+        if let Some(turn) = head {
+            if self.turn_short(turn) {
+                return;
+            }
+        }
+        *head = None;
+        self.turn_with_tail(tails);
+    }
+
+    /// Performs one turn of the barrel and keeps it in a tail.
+    #[inline(never)]
+    fn turn_with_tail(&mut self, tails: &mut Tails<Action, RigRecord>)
+        requires { 1 ≤ tails.old.ring.capacity }
+        ensures { (back : TurnRecord) × IsTurned self.old self.new back
+            × IsKept unpacked None Action.Turn (RigRecord.Turn back) tails.old tails.new }
+    {
+        tails.push(Action::Turn, RigRecord::Turn(TurnRecord::blank()));
+        let tail = tails.newest().unwrap();
+        match &mut tail.back {
+            Some(RigRecord::Turn(turn)) => self.turn(turn),
+            back => *back = Some(self.act(&Action::Turn)),
+        }
     }
 
     pub(super) fn undo_turn(&mut self, back: &TurnRecord)

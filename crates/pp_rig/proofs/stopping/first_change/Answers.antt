@@ -6,7 +6,7 @@ use Rattle.pp_machine.specs.Machine.{Machine}
 use Rattle.pp_rig.specs.Action.{before}
 use Rattle.pp_rig.specs.Marks.{covers}
 use Rattle.pp_rig.specs.Rules.{rules}
-use Rattle.pp_rig.specs.Short.{whole}
+use Rattle.pp_rig.specs.Short.{unpacked, whole}
 use Rattle.pp_rig.specs.Stopping.{first_change}
 use Rattle.pp_rig.specs.Watches.{watched_place, watches_of}
 use Rattle.pp_rig.specs.declared.action.Action.TheVariants.{Turn}
@@ -18,13 +18,13 @@ pub returns-then-not-may_match : goal.returns-then-not-may_match
 returns-then-not-may_match c = λ v at.
     let m = c.args.session.now.machine in
     let marks = c.args.marks.now in
-    let leads : before (whole c.in-Short.turn.now) m ≡ replay rules v.start v.standing = rw c.in-Short.is at (c.in_ok-back.ensures.leads_back (after_act v Turn) at) in
-    let none = none_changed m (whole c.in-Short.turn.now) (λ p. covers marks p ≡ true) (watches_of m) (rw c.in-Short.is at c.in_ok-back.ensures.fits) (c.may_match.ensures c.if-not-may_match.true) (recursion_from_All (λ w. covers marks (watched_place w) ≡ true) (watches_of m) c.requires) in
+    let leads : before (whole c.in-Head.turn.now) m ≡ replay rules v.start v.standing = rw c.in-Head.is at (c.in_ok-back.ensures.leads_back (after_act v Turn) at) in
+    let none = none_changed m (whole c.in-Head.turn.now) (λ p. covers marks p ≡ true) (watches_of m) (rw c.in-Head.is at c.in_ok-back.ensures.fits) (c.may_match.ensures c.if-not-may_match.true) (recursion_from_All (λ w. covers marks (watched_place w) ≡ true) (watches_of m) c.requires) in
     sym (ap (λ old. first_change old m (watches_of m)) (sym leads) ∙ none)
 
 pub returns : goal.returns
 returns c = λ v at.
     let m = c.args.session.now.machine in
     c.first_changed.ensures
-    ∙ (ap (λ (now : Machine). first_change (before (whole_record whole c.in_ok-back.back) now) now (watches_of now)) c.machine-machine.ensures.value
+    ∙ (ap (λ (now : Machine). first_change (before (whole_record unpacked c.in_ok-back.back) now) now (watches_of now)) c.machine-machine.ensures.value
     ∙ ap (λ old. first_change old m (watches_of m)) (c.in_ok-back.ensures.leads_back (after_act v Turn) at))

@@ -2,7 +2,7 @@ use Rattle.std.proofs.Common.{◌≡◌, ◌==◌, ◌∙◌, arith, false, sym,
 use Rattle.std.proofs.lemmas.Bool.Decides.{nat_tests}
 use Rattle.pp_history.specs.UndoRecord.{whole_record}
 use Rattle.pp_rig.specs.Action.{before}
-use Rattle.pp_rig.specs.Short.{whole}
+use Rattle.pp_rig.specs.Short.{unpacked}
 use Rattle.pp_rig.proofs.Runs.{first-hit, first-passed, record-told}
 use Rattle.pp_rig.proofs.stopping.first_changed.Goals as goal
 use Rattle.pp_rig.proofs.stopping.first_changed.Goals.{in-Some+else-now-was, in_default}
@@ -10,7 +10,7 @@ use Rattle.pp_rig.proofs.stopping.first_changed.Goals.{in-Some+else-now-was, in_
 pub returns-then-now-was : goal.returns-then-now-was
 returns-then-now-was c =
     let m = c.args.machine.now in
-    let back = whole_record whole c.args.back.now in
+    let back = whole_record unpacked c.args.back.now in
     let was_there = record-told m back c.place-place.result c.requires (Some c.in-Some.was) c.in-Some.ensures in
     let other : (c.value-now.result == c.in-Some.was) ≡ false = grind (arith, nat_tests, c.if-now-was.true) in
     sym (first-hit (before back m) m _ c.watches-watches.result.now c.loop-i.i c.place-place.result c.watches-watches.ensures.value c.place-place.ensures c.loop-i-test.true c.loop-i.invariant
@@ -19,7 +19,7 @@ returns-then-now-was c =
 pub loop-i-preserved : goal.loop-i-preserved
 loop-i-preserved c =
     let m = c.args.machine.now in
-    let back = whole_record whole c.args.back.now in
+    let back = whole_record unpacked c.args.back.now in
     first-passed (before back m) m _ c.watches-watches.result.now c.loop-i.i c.place-place.result c.watches-watches.ensures.value c.place-place.ensures c.loop-i-test.true c.loop-i.invariant
     (elim c.match-was.branch [
       | in-Some+else-now-was w ↦

@@ -1,22 +1,26 @@
 use Rattle.std.proofs.Common.{◌∙◌, ap, sym}
 use Rattle.std.specs.Option.{option_copied}
-use Rattle.pp_history.proofs.Joins.{newest-at, back_value, back_log}
+use Rattle.pp_history.specs.Tails.{in_tail}
+use Rattle.pp_history.proofs.Joins.{item-at, back_value, back_log}
 use Rattle.pp_history.proofs.log.Log.take_back.Goals as goal
 
-pub undo-requires : goal.undo-requires
-undo-requires g c =
-    let found = sym c.get.ensures ∙ ap option_copied c.unwrap-entry.ensures in
-    let newest = newest-at g.T.Reversible.whole c.self.inside.ahead c.self.inside.entries.items c.self.inside.longs.items c.unwrap-entry.result.now c.self.invariant.kept found in
+pub undo-requires-clause-fits : goal.undo-requires-clause-fits
+undo-requires-clause-fits g c =
+    let found = sym c.get.ensures ∙ ap option_copied c.unwrap-head.ensures in
+    let at = item-at g.T.Reversible.unpacked in_tail c.self.inside.ahead c.self.inside.heads.items c.self.inside.tails.ring.items c.unwrap-head.result.now c.self.invariant.kept found in
     let fits = rw (← c.self.view_is) at c.requires.fits in
-    rw newest.is (fits (c.unwrap-entry.result.now.0, newest.back) newest.first)
+    rw at.is (fits at.item at.first)
 
 pub invariant_of-self : goal.invariant_of-self
 invariant_of-self g c =
-    let found = sym c.get.ensures ∙ ap option_copied c.unwrap-entry.ensures in
-    back_log g.T.Reversible.whole c.self.inside.entries c.self.inside.longs c.undo.new.longs c.self.inside.ahead c.unwrap-entry.result.now c.self.invariant found c.undo.ensures.longs
+    let found = sym c.get.ensures ∙ ap option_copied c.unwrap-head.ensures in
+    let at = item-at g.T.Reversible.unpacked in_tail c.self.inside.ahead c.self.inside.heads.items c.self.inside.tails.ring.items c.unwrap-head.result.now c.self.invariant.kept found in
+    let undone = rw at.is at c.undo.ensures.undone in
+    back_log g.T.Reversible.unpacked c.self.inside.heads c.self.inside.tails c.undo.new.tails c.self.inside.undone c.undo.new.undone c.self.inside.ahead c.unwrap-head.result.now c.self.invariant found at c.undo.ensures.tails undone.1
 
 pub returns : goal.returns
 returns g c =
-    let found = sym c.get.ensures ∙ ap option_copied c.unwrap-entry.ensures in
-    let newest = newest-at g.T.Reversible.whole c.self.inside.ahead c.self.inside.entries.items c.self.inside.longs.items c.unwrap-entry.result.now c.self.invariant.kept found in
-    rw (← c.self.view_is) ((c.unwrap-entry.result.now.0, newest.back), newest.first, rw newest.is at c.undo.ensures.machine, back_value g.T.Reversible.whole c.self.inside.entries c.self.inside.longs c.undo.new.longs c.self.inside.ahead c.unwrap-entry.result.now c.self.invariant found c.undo.ensures.longs)
+    let found = sym c.get.ensures ∙ ap option_copied c.unwrap-head.ensures in
+    let at = item-at g.T.Reversible.unpacked in_tail c.self.inside.ahead c.self.inside.heads.items c.self.inside.tails.ring.items c.unwrap-head.result.now c.self.invariant.kept found in
+    let undone = rw at.is at c.undo.ensures.undone in
+    rw (← c.self.view_is) (at.item, at.first, undone.0, back_value g.T.Reversible.unpacked c.self.inside.heads c.self.inside.tails c.undo.new.tails c.self.inside.undone c.undo.new.undone c.self.inside.ahead c.unwrap-head.result.now c.self.invariant found at c.undo.ensures.tails undone.1)
