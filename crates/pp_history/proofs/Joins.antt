@@ -143,12 +143,12 @@ module _ {A R H : Type 0} (unpacked : H → A × R) where
   next_capacity None action old new next = ap (λ ring. ring.capacity) next
 
   -- a log with one more kept action, and none ahead
-  module _ (heads put : Buffer (Option H)) (tails tails' : Tails A R) (undone : Buffer A) (n : ℕ) (head : Option H) (action : A) (back : R)
+  module _ (heads put : Buffer (Option H)) (tails tails' : Tails A R) (undone : Buffer A) (n : ℕ) (blank head : Option H) (action : A) (back : R)
       (log : IsLog unpacked heads tails.ring undone n)
-      (is : put ≡ pushed None (buffer (drop n heads.items) heads.capacity))
+      (is : put ≡ pushed blank (buffer (drop n heads.items) heads.capacity))
       (kept : IsKept unpacked head action back tails tails') where
     put_items : set put.items 0 head ≡ head ∷ take (heads.capacity - 1) (drop n heads.items)
-    put_items = rw is (ap (λ items. set items 0 head) (front heads.capacity None (drop n heads.items) log.some_room))
+    put_items = rw is (ap (λ items. set items 0 head) (front heads.capacity blank (drop n heads.items) log.some_room))
 
     put_records : kept_in unpacked (set put.items 0 head) tails'.ring.items ≡ (action, back) ∷ take (heads.capacity - 1) (kept_in unpacked (drop n heads.items) tails.ring.items)
     put_records =

@@ -88,9 +88,8 @@ impl<T: Reversible> Log<T> {
         ensures { IsPerformed T.Reversible machine.old machine.new
             (log_of (take (self.old.capacity - 1) self.old.records) (action ∷ []) self.old.capacity) self.new }
     {
-        forget(&mut self.heads, self.ahead);
-        push(&mut self.heads, None);
-        self.ahead = 0;
+        discard_ahead(&mut self.heads, &mut self.ahead);
+        push(&mut self.heads, T::blank_head());
         let head = self.heads.get_mut(0).unwrap();
         machine.perform(action, head, &mut self.tails);
     }
@@ -239,13 +238,16 @@ fn is_changed<T: Reversible>(
     }
 }
 
-/// Discards the first n items.
-fn forget<E: Drop>(items: &mut HeapCircularBuffer<E>, n: usize)
-    requires { n ≤ length items.old.items }
-    ensures { items.new ≡ buffer (drop n items.old.items) items.old.capacity }
+/// Discards the heads of the undone actions.
+#[inline(always)]
+fn discard_ahead<H: Drop>(heads: &mut HeapCircularBuffer<H>, ahead: &mut usize)
+    requires { ahead.old ≤ length heads.old.items }
+    ensures heads { heads.new ≡ buffer (drop ahead.old heads.old.items) heads.old.capacity }
+    ensures none { ahead.new ≡ 0 }
 {
-    if n > 0 {
-        items.truncate_front(items.len() - n);
+    if *ahead > 0 {
+        heads.truncate_front(heads.len() - *ahead);
+        *ahead = 0;
     }
 }
 
@@ -327,6 +329,6 @@ fn undo_tail<T: Reversible>(
     let tail = tails.ring.get_mut(0).unwrap();
     machine.undo_tail(&mut tail.back);
     let action = tail.action.take().unwrap();
-    forget(&mut tails.ring, 1);
+    tails.ring.truncate_front(tails.ring.len() - 1);
     push(undone, action);
 }

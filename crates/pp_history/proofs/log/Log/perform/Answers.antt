@@ -5,9 +5,9 @@ use Rattle.pp_history.proofs.log.Log.perform.Goals as goal
 pub invariant_of-self : goal.invariant_of-self
 invariant_of-self g c =
     let kept = c.perform.ensures.kept in
-    put_log g.T.Reversible.unpacked c.self.inside.heads c.push.new.items c.self.inside.tails c.perform.new.tails c.self.inside.undone c.self.inside.ahead c.perform.new.head c.args.action kept.0 c.self.invariant (rw c.forget.ensures at c.push.ensures) kept.3
+    rw c.discard_ahead.ensures.none (put_log g.T.Reversible.unpacked c.self.inside.heads c.push.new.items c.self.inside.tails c.perform.new.tails c.self.inside.undone c.self.inside.ahead c.blank_head.result c.perform.new.head c.args.action kept.0 c.self.invariant (rw c.discard_ahead.ensures.heads at c.push.ensures) kept.3)
 
 pub returns : goal.returns
 returns g c =
     let kept = c.perform.ensures.kept in
-    rw (← c.self.view_is) (c.args.action, kept.0, refl, c.perform.ensures.next, kept.1, kept.2, put_value g.T.Reversible.unpacked c.self.inside.heads c.push.new.items c.self.inside.tails c.perform.new.tails c.self.inside.undone c.self.inside.ahead c.perform.new.head c.args.action kept.0 c.self.invariant (rw c.forget.ensures at c.push.ensures) kept.3)
+    rw (← c.self.view_is, c.discard_ahead.ensures.none) (c.args.action, kept.0, refl, c.perform.ensures.next, kept.1, kept.2, put_value g.T.Reversible.unpacked c.self.inside.heads c.push.new.items c.self.inside.tails c.perform.new.tails c.self.inside.undone c.self.inside.ahead c.blank_head.result c.perform.new.head c.args.action kept.0 c.self.invariant (rw c.discard_ahead.ensures.heads at c.push.ensures) kept.3)
