@@ -31,7 +31,8 @@ OUTSIDE = {
     "placeholders of usages": "COUNT FILE FILE.html FOLDER NAME PATH PLACE PREFIX PROGRAM SCRIPT TEXT VERSION WORD lemma word",
     "made by ./install, by ./release or by a tool": """PREFIX/bin PREFIX/libexec/pp6600/tools share/doc/pp6600/exercises solutions
         ~/.pp6600_history pp6600-VERSION-x86_64-linux.tar.gz work.html""",
-    "invented in the recipes of CONTRIBUTING.md": "WHO Who PC slot_text slot_line must-fail/who_shows_p.edit",
+    "invented in the recipes of CONTRIBUTING.md": """WHO Who slot_text slot_line kept_text must-fail/who_shows_p.edit
+        pp_console/who_shows_p""",
 }
 
 OTHERS = set(" ".join(OUTSIDE.values()).split())
