@@ -7,7 +7,7 @@ indented lines are not prose.
 
 A number of lines, mutants, crates, tests, functions, files or theorems is compared with what can be counted: the lines of the one
 file that its sentence names, the mutants of the one crate, all mutants, or the crates of crates.txt. A number that cannot be
-counted is a fault, unless it is in SEEN. A section that has a date as its heading, or says 'tried' with one, tells what was so then.
+counted is a fault, unless it is in SEEN. A section that has a date as its heading tells what was so then.
 
 A link names a file, a heading of a page, or both: the words of the heading in small letters, with hyphens between them.
 """
@@ -50,7 +50,7 @@ NUMBERS = """two three four five six seven eight nine ten eleven twelve thirteen
 NUMBER = r"\b(\d[\d,]*|" + "|".join(NUMBERS) + ")"
 COUNTED = re.compile(NUMBER + r"(?:\s+[\w`-]+){0,2}?\s+(lines|mutants|crates|tests|functions|files|theorems)\b", re.I)
 OF_CRATE = re.compile(NUMBER + r"\s+of\s+(`pp_\w+`)", re.I)
-DATED = re.compile(r"^#.*\d{4}-\d\d-\d\d|\b[Tt]ried\b[^.]*\d{4}-\d\d-\d\d", re.M)
+DATED = re.compile(r"^#.*\d{4}-\d\d-\d\d", re.M)
 # A comment, and in the second group a text.
 SKIPPED = re.compile(r'//[^\n]*|--[^\n]*|b?("(?:\\.|[^"\\])*")')
 PATH = re.compile(r"(?=.*\w)[~\w.*-]*/[\w./*-]*|[\w*-]+\.(?:antt|edit|html|md|py|rt|txt)")
