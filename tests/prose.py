@@ -1,4 +1,4 @@
-"""Names and numbers in the prose of the pages, for tests/names.
+"""Names, numbers and links in the prose of the pages, for tests/names.
 
 A name is what stands between backticks. Each word of it is an identifier of the code, the definitions or the proofs, a mutant, a
 file or folder, an option or a variable of a program, a word of the console, a number, or a word of OUTSIDE. A name with '::' has
@@ -7,7 +7,9 @@ indented lines are not prose.
 
 A number of lines, mutants, crates, tests, functions, files or theorems is compared with what can be counted: the lines of the one
 file that its sentence names, the mutants of the one crate, all mutants, or the crates of crates.txt. A number that cannot be
-counted is a fault, unless it is in SEEN. A section that has a date as its heading, or says 'tried' with one, tells what was so then.
+counted is a fault, unless it is in SEEN. A section that has a date as its heading tells what was so then.
+
+A link names a file, a heading of a page, or both: the words of the heading in small letters, with hyphens between them.
 """
 
 import glob
@@ -29,7 +31,8 @@ OUTSIDE = {
     "placeholders of usages": "COUNT FILE FILE.html FOLDER NAME PATH PLACE PREFIX PROGRAM SCRIPT TEXT VERSION WORD lemma word",
     "made by ./install, by ./release or by a tool": """PREFIX/bin PREFIX/libexec/pp6600/tools share/doc/pp6600/exercises solutions
         ~/.pp6600_history pp6600-VERSION-x86_64-linux.tar.gz work.html""",
-    "invented in the recipes of CONTRIBUTING.md": "WHO Who PC slot_text slot_line must-fail/who_shows_p.edit",
+    "invented in the recipes of CONTRIBUTING.md": """WHO Who slot_text slot_line kept_text must-fail/who_shows_p.edit
+        pp_console/who_shows_p""",
 }
 
 OTHERS = set(" ".join(OUTSIDE.values()).split())
@@ -47,10 +50,11 @@ NUMBERS = """two three four five six seven eight nine ten eleven twelve thirteen
 NUMBER = r"\b(\d[\d,]*|" + "|".join(NUMBERS) + ")"
 COUNTED = re.compile(NUMBER + r"(?:\s+[\w`-]+){0,2}?\s+(lines|mutants|crates|tests|functions|files|theorems)\b", re.I)
 OF_CRATE = re.compile(NUMBER + r"\s+of\s+(`pp_\w+`)", re.I)
-DATED = re.compile(r"^#.*\d{4}-\d\d-\d\d|\b[Tt]ried\b[^.]*\d{4}-\d\d-\d\d", re.M)
+DATED = re.compile(r"^#.*\d{4}-\d\d-\d\d", re.M)
 # A comment, and in the second group a text.
 SKIPPED = re.compile(r'//[^\n]*|--[^\n]*|b?("(?:\\.|[^"\\])*")')
 PATH = re.compile(r"(?=.*\w)[~\w.*-]*/[\w./*-]*|[\w*-]+\.(?:antt|edit|html|md|py|rt|txt)")
+LINK = re.compile(r"\]\(([^)#:\s]*)(?:#([^)\s]+))?[^)]*\)")
 WORD = re.compile(r"(?<!\w)[A-Za-z_]\w*(?:-\w+)*(?:::\w+)*")
 # What needs no definition: what stands for a number, as n or aaaa, and a key with a number, as g106.
 PLAIN = re.compile(r"([A-Za-z])\1*|[a-z]\d+")
@@ -250,6 +254,26 @@ def check_numbers(page, text, has):
                 yield None if count == value_of(match.group(1)) else f"{page}:{line}: '{said}', but there are {count}"
 
 
+# ---- links
+
+
+def anchors_of(text):
+    """Returns what a link to each heading of a page has after its '#'."""
+    headings = re.findall(r"^#+ (.+)$", prose(text), re.M)
+    return {re.sub(r"[^\w -]", "", heading.lower()).replace(" ", "-") for heading in headings}
+
+
+def check_links(page, text):
+    """Yields a fault, or None, for each file and each heading that the page links to or shows."""
+    for found in LINK.finditer(text):
+        path, anchor = os.path.join(os.path.dirname(page), found.group(1)), found.group(2)
+        there = not found.group(1) or os.path.exists(os.path.join(TOP, path))
+        if there and anchor:
+            there = anchor in anchors_of(read(path) if found.group(1) else text)
+        line = 1 + text.count("\n", 0, found.start())
+        yield None if there else f"{page}:{line}: there is no {found.group()[2:-1]}"
+
+
 # ---- pages with planted faults
 
 
@@ -266,6 +290,10 @@ def planted():
     yield "An option: `./check --slowly`.", ["there is no --slowly in `./check --slowly`"]
     yield "A word of the console: `STEPZ 3`.", ["there is no STEPZ in `STEPZ 3`"]
     yield "Not of its kind: the clause `add18`, the mutant `fits`.", ["add18 is none of the clauses", "fits is none of the mutants"]
+    yield "# A page: `add18`\n\nTo [itself](#a-page-add18), a [file](VERSION), a [heading](README.md#run-it).", []
+    yield "To [itself](#no-such-heading).", ["there is no #no-such-heading"]
+    yield "To a [file](docs/NO-PAGE.md#speed).", ["there is no docs/NO-PAGE.md#speed"]
+    yield "To a [heading](README.md#no-such-heading).", ["there is no README.md#no-such-heading"]
     yield "A block has names of its own:\n\n```\n`no_such_call`\n```\n\n    `no_such_call`\n", []
     yield f"There are {crates + 1} crates.", [f"'{crates + 1} crates', but there are {crates}"]
     yield f"There are {mutants + 1} mutants of `pp_arith`.", [f"'{mutants + 1} mutants', but there are {mutants}"]
@@ -277,6 +305,7 @@ def planted():
 def check_planted(has):
     """Yields a fault, or None, for each planted page."""
     for text, wanted in planted():
-        faults = [fault for check in (check_names, check_numbers) for fault in check("page", text, has) if fault]
+        checks = [check_names("page", text, has), check_numbers("page", text, has), check_links("page", text)]
+        faults = [fault for check in checks for fault in check if fault]
         found = [re.sub(r"^page:\d+: ", "", fault) for fault in faults]
         yield None if found == wanted else f"tests/prose.py: on the planted page {text!r} it finds {found}"
