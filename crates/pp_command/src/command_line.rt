@@ -1,7 +1,6 @@
 //! Parses the bytes of a line into a command.
 ghost use Rattle.std.specs.Prelude.{◌≡◌, IfOk};
 ghost use Rattle.std.specs.List.{list_all};
-ghost use Rattle.std.specs.Str.{str_eq_ignore_ascii_case};
 ghost use Rattle.pp_lines.specs.Words.{words};
 ghost use Rattle.pp_command.specs.CommandLine as spec;
 ghost use Rattle.pp_command.specs.Ranges.{IsInRange};

@@ -1,5 +1,5 @@
 //! Performs a whole script, from source to sink.
-ghost use Rattle.std.specs.Prelude.{◌≡◌, ◌+◌, ◌<◌, ◌∷◌, ◌++◌, [], Option, Some, ℕ, List, IfOk, IfErr, OnOk, MatchResult, length};
+ghost use Rattle.std.specs.Prelude.{◌≡◌, ◌+◌, ◌<◌, ◌∷◌, ◌++◌, [], Option, Some, ℕ, List, IfErr, OnOk, MatchResult, length};
 ghost use Rattle.std.specs.Io.KnownBytes.{Consumes, IsAtEnd};
 ghost use Rattle.pp_lines.specs.Device.{Counts};
 ghost use Rattle.pp_history.specs.SessionValue.{IsAt};
