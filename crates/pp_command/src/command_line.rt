@@ -46,9 +46,9 @@ fn back(text: &[u8]) -> Result<Request, LineFault>
 }
 
 /// Parses the command that a first word names, with the words after it.
-#[tactic(auto, unfolding(crate::specs::CommandLine::named))]
-fn named(name: &[u8], text: &[u8]) -> Result<Request, LineFault>
-    ensures value { result ≡ spec.named name.now (words text.now) }
+#[tactic(auto, unfolding(crate::specs::CommandLine::request_of))]
+fn request_of(name: &[u8], text: &[u8]) -> Result<Request, LineFault>
+    ensures value { result ≡ spec.request_of name.now (words text.now) }
     ensures in_range { IfOk result IsInRange }
 {
     if is_word(name, b"SET") {
@@ -116,7 +116,7 @@ pub fn parse(line: &[u8]) -> Result<Option<Command>, LineFault>
         return Ok(None);
     }
     // Not by `?`, which would copy the request once more.
-    match named(first, rest) {
+    match request_of(first, rest) {
         Ok(request) => Ok(Some(Command::new(request))),
         Err(fault) => Err(fault),
     }

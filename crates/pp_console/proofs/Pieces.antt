@@ -54,8 +54,8 @@ over-bytes line_limit byte_limit bytes text rest none few reached over lines =
       ap (λ all. all ++ rest) split ∙ append_assoc kept (drop room text) rest,
       simp (length-append, length-drop) (omega (arith, over)),
       record {
-        few_lines = omega (arith, lines-count kept, last_line-one (unfinished kept), ap length same, lines);
-        few_bytes = omega (arith, size);
+        lines_within = omega (arith, lines-count kept, last_line-one (unfinished kept), ap length same, lines);
+        bytes_within = omega (arith, size);
       },
       size,
       same,
@@ -65,8 +65,8 @@ over-bytes line_limit byte_limit bytes text rest none few reached over lines =
 pub Interrupts-bytes : (progress : Progress) (session : State) (written : Written) (origin : Origin) (bytes text rest : List ℕ) → finished text ≡ [] →
     Stands progress session written origin bytes → BYTE_LIMIT - progress.bytes ≤ length text → BYTE_LIMIT - progress.bytes < length text + length rest → progress.lines < LINE_LIMIT →
     Interrupts LineLimit session written origin ((bytes ++ text) ++ rest)
-Interrupts-bytes progress session written origin bytes text rest none stands reached over few_lines =
-    let cut = over-bytes LINE_LIMIT BYTE_LIMIT bytes text rest none (rw (← stands.counts_bytes) progress.bytes_within) (rw (← stands.counts_bytes) reached) (rw (← stands.counts_bytes) over) (rw (← stands.counts_lines) few_lines) in
+Interrupts-bytes progress session written origin bytes text rest none stands reached over lines_within =
+    let cut = over-bytes LINE_LIMIT BYTE_LIMIT bytes text rest none (rw (← stands.counts_bytes) progress.bytes_within) (rw (← stands.counts_bytes) reached) (rw (← stands.counts_bytes) over) (rw (← stands.counts_lines) lines_within) in
     (cut.0, cut.1, cut.2, cut.3, cut.4, inl cut.5, rw cut.6 stands.performed)
 
 -- if no byte of a line was kept, the text that ends it is the whole line

@@ -15,7 +15,7 @@ use Rattle.pp_console.specs.ServingSteps.{Stands}
 -- a line feed within the limits
 fed-within : (line_limit byte_limit : ℕ) (bytes : List ℕ) → length bytes < byte_limit → length (finished bytes) < line_limit →
     finished_within line_limit byte_limit (bytes ++ 10 ∷ []) ≡ finished bytes ++ unfinished bytes ∷ []
-fed-within line_limit byte_limit bytes few_bytes few_lines =
+fed-within line_limit byte_limit bytes bytes_within lines_within =
     let size : length (bytes ++ 10 ∷ []) ≡ length bytes + 1 = length-append bytes (10 ∷ []) in
     let count : length (finished (bytes ++ 10 ∷ [])) ≡ length (finished bytes) + 1 =
     rw (finished-feed bytes) (length-append (finished bytes) (unfinished bytes ∷ [])) in
@@ -24,7 +24,7 @@ fed-within line_limit byte_limit bytes few_bytes few_lines =
 -- the bytes read so far are within the limits
 pub Stands-within : (progress : Progress) (session : State) (text : Written) (origin : Origin) (bytes : List ℕ) → Stands progress session text origin bytes → IsWithin LINE_LIMIT BYTE_LIMIT bytes
 Stands-within progress session text origin bytes stands = record {
-  few_lines =
+  lines_within =
       let begun = kept-begun KEPT (unfinished bytes) (omega arith) in
       rw (lines-count bytes)
       (let size = ap length stands.keeps in
@@ -33,17 +33,17 @@ Stands-within progress session text origin bytes stands = record {
       let all = progress.lines_within in
       let counted = stands.counts_lines in
       grind arith);
-  few_bytes = rw (← stands.counts_bytes) progress.bytes_within;
+  bytes_within = rw (← stands.counts_bytes) progress.bytes_within;
 }
 
 -- bytes and a line feed finish the line within the limits
 pub Stands-finishes : (progress : Progress) (session : State) (written : Written) (origin : Origin) (bytes text : List ℕ) → finished text ≡ [] →
     Stands progress session written origin bytes → length text < BYTE_LIMIT - progress.bytes → progress.lines < LINE_LIMIT →
     finished_within LINE_LIMIT BYTE_LIMIT ((bytes ++ text) ++ 10 ∷ []) ≡ finished bytes ++ unfinished (bytes ++ text) ∷ []
-Stands-finishes progress session written origin bytes text none stands few_bytes few_lines =
+Stands-finishes progress session written origin bytes text none stands bytes_within lines_within =
     let same = finished-text bytes text none in
-    let size : length (bytes ++ text) < BYTE_LIMIT = simp length-append (omega (arith, stands.counts_bytes, few_bytes)) in
-    let count : length (finished (bytes ++ text)) < LINE_LIMIT = rw same (rw (← stands.counts_lines) few_lines) in
+    let size : length (bytes ++ text) < BYTE_LIMIT = simp length-append (omega (arith, stands.counts_bytes, bytes_within)) in
+    let count : length (finished (bytes ++ text)) < LINE_LIMIT = rw same (rw (← stands.counts_lines) lines_within) in
     rw same at (fed-within LINE_LIMIT BYTE_LIMIT (bytes ++ text) size count)
 
 -- bytes without a line feed

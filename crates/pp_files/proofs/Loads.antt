@@ -23,10 +23,10 @@ use Rattle.pp_files.proofs.MoreLines.{row_of_front, line-kept, lines-one, lines-
 pub FailsAt-kept : (rule : Rule) (k : ℕ) (rows : List Row) (front line : List ℕ) (fault : LoadFault) → front ≡ take KEPT line →
     FailsAt rule k rows front fault → FailsAt rule k rows line fault
 FailsAt-kept rule k rows front line fault e (inl fails) = inl (sym (line-kept rule k rows front line e) ∙ fails)
-FailsAt-kept rule k rows front line fault e (inr refused) = inr (
-  refused.0,
-  (refused.1.0, sym (line-kept rule k rows front line e) ∙ refused.1.1),
-  (refused.2.0, sym (row_of_front k front line e) ∙ refused.2.1),
+FailsAt-kept rule k rows front line fault e (inr rejected) = inr (
+  rejected.0,
+  (rejected.1.0, sym (line-kept rule k rows front line e) ∙ rejected.1.1),
+  (rejected.2.0, sym (row_of_front k front line e) ∙ rejected.2.1),
 )
 
 -- a fault at a line of a file is a fault of the file
@@ -35,15 +35,15 @@ FailsIn-line : (rule : Rule) (limit : ℕ) (bytes : List ℕ) (rows : List Row) 
     (rows_of_file rule limit bytes ≡ Err fault) ⊎ ((fault ≡ NoMemory) × RunsOut rule limit bytes)
 FailsIn-line rule limit bytes rows done line later fault split read (inl fails) =
     inl (file-fault rule limit bytes (done ++ line ∷ []) later fault split (lines-one rule rows done line read ∙ fails))
-FailsIn-line rule limit bytes rows done line later fault split read (inr refused) = inr (
-  refused.0,
+FailsIn-line rule limit bytes rows done line later fault split read (inr rejected) = inr (
+  rejected.0,
   (
     done,
     line,
     later,
     split ∙ append_assoc done (line ∷ []) later,
-    (refused.1.0, lines-one rule rows done line read ∙ refused.1.1),
-    refused.2,
+    (rejected.1.0, lines-one rule rows done line read ∙ rejected.1.1),
+    rejected.2,
   ),
 )
 
@@ -150,7 +150,7 @@ file-last progress rule Holds Holds' (Err fault) bytes stands begun line =
 -- a fault of the file, or memory that ran out, is the cause
 caused : (rule : Rule) (taken bytes : List ℕ) (fault : LoadFault) → FailsIn rule bytes fault → IsCauseOf rule (rows_of_file rule file_limit) taken bytes fault
 caused rule taken bytes fault (inl fails) = inl fails
-caused rule taken bytes fault (inr refused) = inr (inl refused)
+caused rule taken bytes fault (inr rejected) = inr (inl rejected)
 
 -- a fault that occurs for all later bytes is the cause
 pub fails-in : (rule : Rule) (first second : Option (List ℕ)) (taken : List ℕ) (fault : LoadFault) → Consumes first second taken →
