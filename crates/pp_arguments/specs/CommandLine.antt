@@ -43,8 +43,8 @@ unfoldable pub faults_of : List Text → Kinds
 faults_of words = fault_of pp6600 words
 
 -- the faults that report an error of one of these kinds, or that memory ran out
-abbrev pub IsToldOf : Kinds → ArgFault → Type 0
-IsToldOf kinds NoMemory = Unit {0}
-IsToldOf kinds Help = IsAmong DisplayHelp kinds
-IsToldOf kinds BadArguments = (kind : ErrorKind) × IsAmong kind kinds × (kind ≢ DisplayHelp)
-IsToldOf kinds BadChannel = ⊥
+abbrev pub IsFaultOf : Kinds → ArgFault → Type 0
+IsFaultOf kinds NoMemory = Unit {0}
+IsFaultOf kinds Help = IsAmong DisplayHelp kinds
+IsFaultOf kinds BadArguments = (kind : ErrorKind) × IsAmong kind kinds × (kind ≢ DisplayHelp)
+IsFaultOf kinds BadChannel = ⊥

@@ -1,11 +1,11 @@
 -- The options that the words of the command line ask for.
-use Rattle.std.specs.Prelude.{◌≡◌, ◌≤◌, ◌==◌, ◌&&◌, ◌⊎◌, [], ℕ, Bool, List, None, Option, Some, codes, if◌then◌else◌, is_some, nat_le, option_and_then, option_map, true}
+use Rattle.std.specs.Prelude.{◌≡◌, ◌≤◌, ◌==◌, ◌&&◌, ◌⊎◌, [], ℕ, Bool, List, None, Option, Some, codes, if◌then◌else◌, is_some, nat_le, option_and_then, option_map, IsTrue}
 use Rattle.std.specs.Result.{result_ok}
 use Rattle.std.specs.String.{string_bytes}
 use Rattle.pp_arith.specs.OctalRead.{octal_read}
 use Rattle.pp_machine.specs.declared.central.CentralSize.{CentralSize}
 use Rattle.pp_machine.specs.declared.central.CentralSize.TheVariants.{K128, K32, K64}
-use Rattle.pp_arguments.specs.CommandLine.{IsToldOf, Text, are_taken, faults_of, given}
+use Rattle.pp_arguments.specs.CommandLine.{IsFaultOf, Text, are_taken, faults_of, given}
 use Rattle.pp_arguments.specs.Decimal.{decimal_read}
 use Rattle.pp_arguments.specs.declared.options.ArgFault.{ArgFault}
 use Rattle.pp_arguments.specs.declared.options.ArgFault.TheVariants.{BadArguments, BadChannel, Help, NoMemory}
@@ -79,12 +79,12 @@ HasBadNumber words = (faults_of words ≡ []) × ((history_of words ≡ None) �
 
 -- a device's channel is out of range, and all else is in range
 abbrev pub HasBadChannel : List Text → Type 0
-HasBadChannel words = (faults_of words ≡ []) × (is_some (history_of words) ≡ true) × (is_some (central_of words) ≡ true)
+HasBadChannel words = (faults_of words ≡ []) × IsTrue (is_some (history_of words)) × IsTrue (is_some (central_of words))
     × ((reader_of words ≡ None) ⊎ (printer_of words ≡ None))
 
 -- the cause of a fault
 abbrev pub IsCauseOf : List Text → ArgFault → Type 0
 IsCauseOf words NoMemory = Unit {0}
-IsCauseOf words Help = IsToldOf (faults_of words) Help
-IsCauseOf words BadArguments = IsToldOf (faults_of words) BadArguments ⊎ HasBadNumber words
+IsCauseOf words Help = IsFaultOf (faults_of words) Help
+IsCauseOf words BadArguments = IsFaultOf (faults_of words) BadArguments ⊎ HasBadNumber words
 IsCauseOf words BadChannel = HasBadChannel words

@@ -1,8 +1,8 @@
 //! The command line of the program, as `clap` reads it.
 ghost use Rattle.clap.specs.Kinds.{IsAmong, Kinds};
 ghost use Rattle.clap.specs.Words.{app_of, first_value, found_of, rule_of};
-ghost use Rattle.pp_arguments.specs.CommandLine.{IsToldOf, are_taken, faults_of, given, option_rule, pp6600, script_rule};
-ghost use Rattle.std.specs.Prelude.{◌≡◌, ◌⊎◌, [], ℕ, List, false, map, true, IfOk, IfErr, MatchResult};
+ghost use Rattle.pp_arguments.specs.CommandLine.{IsFaultOf, are_taken, faults_of, given, option_rule, pp6600, script_rule};
+ghost use Rattle.std.specs.Prelude.{◌≡◌, ◌⊎◌, [], ℕ, List, false, map, IfOk, IfErr, IsTrue, MatchResult};
 ghost use Rattle.std.specs.String.{string_bytes};
 
 use crate::options::ArgFault;
@@ -41,7 +41,7 @@ fn command_line<'a>(alloc: Global) -> Result<Command<'a>, AllocError>
 
 fn fault_of(kind: ErrorKind) -> ArgFault
     ensures memory { kind ≡ ErrorKind.OutOfMemory → result ≡ ArgFault.NoMemory }
-    ensures names_cause { (kinds : Kinds) → (kind ≡ ErrorKind.OutOfMemory) ⊎ IsAmong kind kinds → IsToldOf kinds result }
+    ensures names_cause { (kinds : Kinds) → (kind ≡ ErrorKind.OutOfMemory) ⊎ IsAmong kind kinds → IsFaultOf kinds result }
 {
     match kind {
         ErrorKind::OutOfMemory => ArgFault::NoMemory,
@@ -59,9 +59,9 @@ pub fn read_words<'a>(alloc: Global, words: &'a [String]) -> Result<ArgMatches<'
     ensures matches { IfOk result (λ matches. (name : List ℕ) →
         first_value (found_of matches) name ≡ given (map string_bytes words.entry.now) name) }
     ensures takes_words { IfErr result (λ fault.
-        are_taken (map string_bytes words.entry.now) ≡ true → fault ≡ ArgFault.NoMemory) }
+        IsTrue (are_taken (map string_bytes words.entry.now)) → fault ≡ ArgFault.NoMemory) }
     ensures faults { MatchResult result (λ _. faults_of (map string_bytes words.entry.now) ≡ [])
-        (IsToldOf (faults_of (map string_bytes words.entry.now))) }
+        (IsFaultOf (faults_of (map string_bytes words.entry.now))) }
 {
     let Ok(command) = command_line(alloc) else {
         return Err(ArgFault::NoMemory);

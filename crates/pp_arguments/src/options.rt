@@ -1,7 +1,7 @@
 //! The options of the program: what the words of the command line ask for, or why they are rejected.
 ghost use Rattle.pp_arguments.specs.CommandLine.{faults_of};
 ghost use Rattle.pp_arguments.specs.Options.{AreAskedBy, AreInRange, IsCauseOf, IsMemoryOrChannel, are_admitted, asked_or, central_read, channel_read, history_read, size_of};
-ghost use Rattle.std.specs.Prelude.{◌≡◌, ◌≤◌, [], map, option_map, true, IfErr, IfOk, IfSome, OnOk};
+ghost use Rattle.std.specs.Prelude.{◌≡◌, ◌≤◌, [], map, option_map, IfErr, IfOk, IfSome, IsTrue, OnOk};
 ghost use Rattle.std.specs.String.{string_bytes};
 
 use crate::command_line::read_words;
@@ -11,7 +11,7 @@ use pp_machine::CentralSize;
 use std::alloc::Global;
 
 /// What the words of the command line ask for (this project's choice).
-#[derive(Debug, Drop)]
+#[derive(Drop)]
 pub struct Options {
     /// How many actions the undo history holds, 1 to 10,000 decimal: `--history`, by default 10,000.
     pub history: u32,
@@ -120,7 +120,7 @@ fn read_options(alloc: Global, words: &[String]) -> Result<Options, ArgFault>
     ensures ranges { IfOk result AreInRange }
     ensures line { OnOk result (faults_of (map string_bytes words.now) ≡ []) }
     ensures cause { IfErr result (IsCauseOf (map string_bytes words.now)) }
-    ensures admitted { are_admitted (map string_bytes words.now) ≡ true → IfErr result IsMemoryOrChannel }
+    ensures admitted { IsTrue (are_admitted (map string_bytes words.now)) → IfErr result IsMemoryOrChannel }
 {
     let matches = read_words(alloc, words)?;
     let Some(history) = history(matches.get_str("history")) else {
@@ -160,7 +160,7 @@ pub fn read_arguments(alloc: Global, words: Vec<String>) -> Result<Options, ArgF
     ensures ranges { IfOk result AreInRange }
     ensures line { OnOk result (faults_of (map string_bytes words.items) ≡ []) }
     ensures cause { IfErr result (IsCauseOf (map string_bytes words.items)) }
-    ensures admitted { are_admitted (map string_bytes words.items) ≡ true → IfErr result IsMemoryOrChannel }
+    ensures admitted { IsTrue (are_admitted (map string_bytes words.items)) → IfErr result IsMemoryOrChannel }
 {
     read_options(alloc, words.as_slice())
 }

@@ -1,5 +1,5 @@
 -- The five parts of a word: joined, and split again.
-use Rattle.std.proofs.Common.{◌≡◌, ◌∙◌, ℕ, suc, ◌+◌, ◌*◌, ◌/◌, ◌%◌, ◌^◌, ◌<◌, ◌≤◌, List, [], ◌∷◌, length, slice_index_or, refl, sym, arith}
+use Rattle.std.proofs.Common.{◌≡◌, ◌∙◌, ℕ, ◌+◌, ◌*◌, ◌/◌, ◌%◌, ◌^◌, ◌<◌, ◌≤◌, List, [], ◌∷◌, length, slice_index_or, refl, sym, arith}
 use Rattle.pp_arith.specs.Words60.{split60}
 
 five : (parts : List ℕ) → length parts ≡ 5 → parts ≡ slice_index_or parts 0 0 ∷ slice_index_or parts 1 0 ∷ slice_index_or parts 2 0 ∷ slice_index_or parts 3 0 ∷ slice_index_or parts 4 0 ∷ []

@@ -1,11 +1,10 @@
 -- The value of octal digits, read one after another.
-use Rattle.std.proofs.Common.{◌≡◌, ◌∙◌, ℕ, zero, suc, ◌+◌, ◌-◌, ◌*◌, ◌%◌, ◌<◌, ◌≤◌, Bool, true, false, List, [], ◌∷◌, length, take, drop, get_or, refl, sym, ap, arith, length-drop, fold, nat_le, nat_lt, ◌&&◌, Err}
-use Rattle.std.specs.List.{list_all}
+use Rattle.std.proofs.Common.{◌≡◌, ◌∙◌, ℕ, ◌+◌, ◌-◌, ◌*◌, ◌<◌, ◌≤◌, true, false, List, [], ◌∷◌, length, take, drop, get_or, refl, sym, ap, arith, length-drop, fold, nat_le, Err}
 use Rattle.std.proofs.lemmas.Bool.Decides.{nat_tests}
 use Rattle.std.proofs.lemmas.List.{take-append-drop, take_more}
 use Rattle.std.proofs.lemmas.List.Sums.{fold-append}
 use Rattle.pp_arith.specs.declared.reading.OctalFault.TheVariants.{TooLarge}
-use Rattle.pp_arith.specs.Octal.{octal_value, is_octal, is_octal_digit}
+use Rattle.pp_arith.specs.Octal.{octal_value, is_octal}
 use Rattle.pp_arith.specs.OctalRead.{octal_read}
 
 abbrev pub with_digit : ℕ → ℕ → ℕ

@@ -21,10 +21,10 @@ place_admitted size (Central a) h k = (Decides-ltb a size).1 k
 place_admitted size w h k = h
 
 place_asked : (size : ℕ) (w : Watched) → size ≤ most_central_words → is_watchable size w ≡ true → IsPlaceInRange w
-place_asked size (Central a) few h =
+place_asked size (Central a) most h =
     let below : a < size = (Decides-ltb a size).0 h in
     (Decides-ltb a most_central_words).1 (omega arith)
-place_asked size w few h = h
+place_asked size w most h = h
 
 place_within : (size : ℕ) (w : Watched) → is_watchable size w ≡ true → IsPlaceWithin size w
 place_within size (Central a) h = (Decides-ltb a size).0 h
@@ -37,13 +37,13 @@ admitted size (Unwatch w) h k = place_admitted size w h.1 k
 admitted size action h k = h.1
 
 pub asked : (size : ℕ) (action : Action) → size ≤ most_central_words → CanBeAsked action → is_in_range size action ≡ true → IsActionInRange action
-asked size (SetWord a v) few can h =
+asked size (SetWord a v) most can h =
     let t = (is_central a size v).0 h in
     let below : a < size = t.0 in
-    (tt, (is_central a most_central_words v).1 (omega (arith, few, below), t.1))
-asked size (Watch w) few can h = (tt, place_asked size w few h)
-asked size (Unwatch w) few can h = (tt, place_asked size w few h)
-asked size action few can h = (can, h)
+    (tt, (is_central a most_central_words v).1 (omega (arith, most, below), t.1))
+asked size (Watch w) most can h = (tt, place_asked size w most h)
+asked size (Unwatch w) most can h = (tt, place_asked size w most h)
+asked size action most can h = (can, h)
 
 pub within : (size : ℕ) (action : Action) → is_in_range size action ≡ true → IsWithin size action
 within size (SetWord a v) h = ((is_central a size v).0 h).0

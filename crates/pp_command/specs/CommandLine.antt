@@ -120,8 +120,8 @@ dump = choose (
     ∷ [])
 
 -- the command that the first word names
-unfoldable pub named : List ℕ → Words → Result Request LineFault
-named = row_of (
+unfoldable pub request_of : List ℕ → Words → Result Request LineFault
+request_of = row_of (
     codes "SET" ⇒ set
     ∷ codes "STEP" ⇒ makes Step count
     ∷ codes "BACK" ⇒ back
@@ -137,7 +137,7 @@ abbrev pub sentence : Words → Result (Option Request) LineFault
 sentence [] = Ok None
 sentence (first ∷ given) =
     if is_ignored (first ∷ given) then Ok None
-    else (named first given >>= λ request. Ok (Some request))
+    else (request_of first given >>= λ request. Ok (Some request))
 
 -- a tab or a printable ASCII character
 abbrev pub is_printable : ℕ → Bool

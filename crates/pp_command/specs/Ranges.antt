@@ -1,5 +1,5 @@
 -- The ranges of a request's numbers, and what separates them from the ranges of a machine.
-use Rattle.std.specs.Prelude.{ℕ, ◌≡◌, ◌<◌, ◌≤◌, true, length}
+use Rattle.std.specs.Prelude.{ℕ, ◌<◌, ◌≤◌, IsTrue, length}
 use Rattle.pp_rig.specs.Admitting.{is_in_range, is_watchable}
 use Rattle.pp_rig.specs.Ranges.{processor_count, cell_count}
 use Rattle.pp_rig.specs.declared.action.Action.{Action}
@@ -15,7 +15,7 @@ most_central_words = 0o400000
 
 -- a place that a machine with the largest central memory has
 abbrev pub IsPlaceInRange : Watched → Type 0
-IsPlaceInRange w = is_watchable most_central_words w ≡ true
+IsPlaceInRange w = IsTrue (is_watchable most_central_words w)
 
 -- a line sets at most eight cells, and it cannot ask for a turn
 abbrev pub CanBeAsked : Action → Type 0
@@ -25,7 +25,7 @@ CanBeAsked _ = Unit {0}
 
 -- an action that a line may ask for: its numbers are in range for a machine with the largest central memory
 abbrev pub IsActionInRange : Action → Type 0
-IsActionInRange action = CanBeAsked action × (is_in_range most_central_words action ≡ true)
+IsActionInRange action = CanBeAsked action × IsTrue (is_in_range most_central_words action)
 
 -- a request whose numbers are all in range
 abbrev pub IsInRange : Request → Type 0

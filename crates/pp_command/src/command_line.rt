@@ -1,7 +1,6 @@
 //! Parses the bytes of a line into a command.
 ghost use Rattle.std.specs.Prelude.{◌≡◌, IfOk};
 ghost use Rattle.std.specs.List.{list_all};
-ghost use Rattle.std.specs.Str.{str_eq_ignore_ascii_case};
 ghost use Rattle.pp_lines.specs.Words.{words};
 ghost use Rattle.pp_command.specs.CommandLine as spec;
 ghost use Rattle.pp_command.specs.Ranges.{IsInRange};
@@ -47,9 +46,9 @@ fn back(text: &[u8]) -> Result<Request, LineFault>
 }
 
 /// Parses the command that a first word names, with the words after it.
-#[tactic(auto, unfolding(crate::specs::CommandLine::named))]
-fn named(name: &[u8], text: &[u8]) -> Result<Request, LineFault>
-    ensures value { result ≡ spec.named name.now (words text.now) }
+#[tactic(auto, unfolding(crate::specs::CommandLine::request_of))]
+fn request_of(name: &[u8], text: &[u8]) -> Result<Request, LineFault>
+    ensures value { result ≡ spec.request_of name.now (words text.now) }
     ensures in_range { IfOk result IsInRange }
 {
     if is_word(name, b"SET") {
@@ -117,7 +116,7 @@ pub fn parse(line: &[u8]) -> Result<Option<Command>, LineFault>
         return Ok(None);
     }
     // Not by `?`, which would copy the request once more.
-    match named(first, rest) {
+    match request_of(first, rest) {
         Ok(request) => Ok(Some(Command::new(request))),
         Err(fault) => Err(fault),
     }

@@ -1,5 +1,5 @@
 //! The ranges of a line and those of a machine.
-ghost use Rattle.std.specs.Prelude.{◌≡◌, ◌≤◌, ℕ, true};
+ghost use Rattle.std.specs.Prelude.{◌≤◌, ℕ, IsTrue};
 ghost use Rattle.pp_command.specs.Ranges.{CanBeAsked, IsActionInRange, IsWithin, most_central_words};
 ghost use Rattle.pp_rig.specs.Admitting.{is_in_range};
 ghost use Rattle.pp_rig.specs.declared.action.Action.{Action};
@@ -10,8 +10,8 @@ ghost use Rattle.pp_rig.specs.declared.action.Action.{Action};
 /// the setting of more than eight cells. A machine admits no action on a central word that it does not have.
 pub fn ranges_agree()
     ensures admitted { (size : ℕ) (action : Action) → IsActionInRange action → IsWithin size action →
-        is_in_range size action ≡ true }
+        IsTrue (is_in_range size action) }
     ensures asked { (size : ℕ) (action : Action) → size ≤ most_central_words → CanBeAsked action →
-        is_in_range size action ≡ true → IsActionInRange action }
-    ensures within { (size : ℕ) (action : Action) → is_in_range size action ≡ true → IsWithin size action }
+        IsTrue (is_in_range size action) → IsActionInRange action }
+    ensures within { (size : ℕ) (action : Action) → IsTrue (is_in_range size action) → IsWithin size action }
 {}

@@ -1,5 +1,5 @@
 //! The lines that begin with SET.
-ghost use Rattle.std.specs.Prelude.{◌≡◌, ◌≤◌, ◌<◌, ◌∷◌, ◌+◌, length, All, IfOk};
+ghost use Rattle.std.specs.Prelude.{◌≡◌, ◌≤◌, ◌<◌, ◌+◌, length, All, IfOk};
 ghost use Rattle.pp_lines.specs.Words.{words};
 ghost use Rattle.pp_machine.specs.ChannelNumbers.{state_number};
 ghost use Rattle.pp_command.specs.Numbers.{numbers};

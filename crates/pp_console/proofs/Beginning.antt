@@ -12,14 +12,14 @@ use Rattle.pp_console.specs.declared.progress.TheConstants.{LINE_LIMIT, BYTE_LIM
 use Rattle.pp_console.specs.Commands.{State, Value}
 use Rattle.pp_console.specs.Script.{run}
 use Rattle.pp_console.specs.Serving.{Origin, origin_of, Performed}
-use Rattle.pp_console.specs.ServingSteps.{Stands}
-use Rattle.pp_console.proofs.Standing.{Stands-within}
+use Rattle.pp_console.specs.ServingSteps.{HasRead}
+use Rattle.pp_console.proofs.Reading.{HasRead-within}
 
 -- before the first byte
-pub Stands-new : (progress : Progress) (session : State) (text : Written) (start : Value) → IsAt rules session start →
-    progress.line ≡ [] → progress.bytes ≡ 0 → progress.lines ≡ 0 → progress.refused ≡ 0 → Stands progress session text (origin_of start text) []
+pub HasRead-new : (progress : Progress) (session : State) (text : Written) (start : Value) → IsAt rules session start →
+    progress.line ≡ [] → progress.bytes ≡ 0 → progress.lines ≡ 0 → progress.refused ≡ 0 → HasRead progress session text (origin_of start text) []
 unfolding run
-Stands-new progress session text start at empty no_bytes no_lines no_refused = record {
+HasRead-new progress session text start at empty no_bytes no_lines no_refused = record {
   keeps = rw empty (take-nothing 257);
   counts_bytes = no_bytes;
   counts_lines = no_lines;
@@ -31,6 +31,6 @@ Stands-new progress session text start at empty no_bytes no_lines no_refused = r
 
 -- all finished lines are within the limits
 pub Performed-within : (progress : Progress) (session : State) (text : Written) (origin : Origin) (bytes : List ℕ) →
-    Stands progress session text origin bytes → Performed session text origin (finished_within LINE_LIMIT BYTE_LIMIT bytes)
-Performed-within progress session text origin bytes stands =
-    rw (finished_within-all LINE_LIMIT BYTE_LIMIT bytes (Stands-within progress session text origin bytes stands)) stands.performed
+    HasRead progress session text origin bytes → Performed session text origin (finished_within LINE_LIMIT BYTE_LIMIT bytes)
+Performed-within progress session text origin bytes has_read =
+    rw (finished_within-all LINE_LIMIT BYTE_LIMIT bytes (HasRead-within progress session text origin bytes has_read)) has_read.performed

@@ -12,8 +12,8 @@ use Rattle.pp_console.specs.declared.progress.TheConstants.{KEPT, LINE_LIMIT, BY
 use Rattle.pp_console.specs.Commands.{State}
 use Rattle.pp_console.specs.Script.{run}
 use Rattle.pp_console.specs.Serving.{Origin, Performed, Serves, Stops}
-use Rattle.pp_console.specs.ServingSteps.{Stands, Interrupts}
-use Rattle.pp_console.proofs.Standing.{Stands-within}
+use Rattle.pp_console.specs.ServingSteps.{HasRead, Interrupts}
+use Rattle.pp_console.proofs.Reading.{HasRead-within}
 
 -- a fault among some bytes is a fault among these bytes and more
 pub Interrupts-more : (fault : IoFault) (session : State) (text : Written) (origin : Origin) (bytes more : List ℕ) →
@@ -27,30 +27,30 @@ Interrupts-more WriteFailed session text origin bytes more p =
 
 -- the whole script, if the last line ends with a line feed
 pub Serves-whole : (summary : Summary) (progress : Progress) (session : State) (text : Written) (origin : Origin) (bytes : List ℕ) →
-    Stands progress session text origin bytes → length progress.line ≡ 0 → summary.lines ≡ progress.lines → summary.refused ≡ progress.refused →
+    HasRead progress session text origin bytes → length progress.line ≡ 0 → summary.lines ≡ progress.lines → summary.refused ≡ progress.refused →
     Serves summary session text origin bytes
-Serves-whole summary progress session text origin bytes stands empty told_lines told_refused =
-    let whole = lines-whole KEPT progress.line bytes (omega arith) stands.keeps empty in
+Serves-whole summary progress session text origin bytes has_read empty same_lines same_refused =
+    let whole = lines-whole KEPT progress.line bytes (omega arith) has_read.keeps empty in
     record {
-      performed = rw whole stands.performed;
-      counts_lines = told_lines ∙ stands.counts_lines ∙ rw whole refl;
-      counts_refused = told_refused ∙ stands.counts_refused ∙ rw whole refl;
-      within = Stands-within progress session text origin bytes stands;
+      performed = rw whole has_read.performed;
+      counts_lines = same_lines ∙ has_read.counts_lines ∙ rw whole refl;
+      counts_refused = same_refused ∙ has_read.counts_refused ∙ rw whole refl;
+      within = HasRead-within progress session text origin bytes has_read;
     }
 
 -- the whole script, if the last line does not end with a line feed
 pub Serves-last : (summary : Summary) (progress : Progress) (session session' : State) (text text' : Written) (origin : Origin) (bytes : List ℕ) →
-    Stands progress session text origin bytes → 0 < length progress.line → summary.lines ≡ progress.lines + 1 →
+    HasRead progress session text origin bytes → 0 < length progress.line → summary.lines ≡ progress.lines + 1 →
     summary.refused ≡ (run origin.start (finished bytes ++ unfinished bytes ∷ [])).refused →
     Performed session' text' origin (finished bytes ++ unfinished bytes ∷ []) →
     Serves summary session' text' origin bytes
-Serves-last summary progress session session' text text' origin bytes stands begun told_lines told_refused performed =
-    let whole = lines-last KEPT progress.line bytes stands.keeps begun in
+Serves-last summary progress session session' text text' origin bytes has_read begun same_lines same_refused performed =
+    let whole = lines-last KEPT progress.line bytes has_read.keeps begun in
     record {
       performed = rw whole performed;
-      counts_lines = told_lines ∙ rw (whole, length-append (finished bytes) (unfinished bytes ∷ [])) (ap (λ n. n + 1) stands.counts_lines);
-      counts_refused = told_refused ∙ rw whole refl;
-      within = Stands-within progress session text origin bytes stands;
+      counts_lines = same_lines ∙ rw (whole, length-append (finished bytes) (unfinished bytes ∷ [])) (ap (λ n. n + 1) has_read.counts_lines);
+      counts_refused = same_refused ∙ rw whole refl;
+      within = HasRead-within progress session text origin bytes has_read;
     }
 
 -- the result of a script that passes a limit, for any limits
@@ -71,7 +71,7 @@ Stops-interrupted WriteFailed session text origin bytes left p =
     (p.0, p.1, p.2, inl p.3, p.4)
 
 -- a result that holds at any end of input holds at this one
-pub told-at : {T E : Type 0} (result : Result T E) (left : Option (List ℕ)) (P : T → Type 0) (Q : E → Option (List ℕ) → Type 0) → IsAtEnd left →
+pub at-end : {T E : Type 0} (result : Result T E) (left : Option (List ℕ)) (P : T → Type 0) (Q : E → Option (List ℕ) → Type 0) → IsAtEnd left →
     MatchResult result P (λ fault. (left : Option (List ℕ)) → IsAtEnd left → Q fault left) → MatchResult result P (λ fault. Q fault left)
-told-at (Ok value) left P Q end known = known
-told-at (Err fault) left P Q end known = known left end
+at-end (Ok value) left P Q end known = known
+at-end (Err fault) left P Q end known = known left end

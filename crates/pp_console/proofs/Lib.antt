@@ -6,5 +6,5 @@ pub mod LongLines
 pub mod PaperCuts
 pub mod Performing
 pub mod Pieces
-pub mod Standing
+pub mod Reading
 pub mod Shown

@@ -1,7 +1,7 @@
 -- For a line that is too long, a kept prefix is as good as the whole line.
 use Rattle.std.proofs.Common.{◌≡◌, ℕ, ◌<◌, true, List, length, take, refl, arith, nat_lt, Err}
 use Rattle.std.proofs.lemmas.Bool.Decides.{nat_tests}
-use Rattle.pp_lines.proofs.LongLines.{told-kept}
+use Rattle.pp_lines.proofs.LongLines.{read-kept}
 use Rattle.pp_command.specs.declared.fault.LineFault.TheVariants.{TooLong}
 use Rattle.pp_command.specs.CommandLine.{command, command_of_text}
 
@@ -13,4 +13,4 @@ too_long text h =
 
 -- a prefix of more than 256 bytes parses as the line does
 pub command-kept : (most : ℕ) (line : List ℕ) → 256 < most → command (take most line) ≡ command line
-command-kept most line long = told-kept command_of_text (Err TooLong) 255 most line too_long long
+command-kept most line long = read-kept command_of_text (Err TooLong) 255 most line too_long long

@@ -47,21 +47,21 @@ module _ {W E : Type 0} {sink : Ghosts W} {old new : State} {before after : W} {
     session = λ v at. rw (← same v) (p.session v at);
     text = λ v at. rw (← same v) (p.text v at);
     counted = p.counted;
-    performed = IfOk-weaker result _ _ (λ x told v at. sym (ap (λ a. a.refused) (same v)) ∙ told v at) p.performed;
+    performed = IfOk-weaker result _ _ (λ x known v at. sym (ap (λ a. a.refused) (same v)) ∙ known v at) p.performed;
     unchanged = p.unchanged;
   }
 
-pub back-enough : (actions : ℕ) (v : Value) → actions ≤ v.kept → back_answer actions v ≡ moved back_name actions (after_back v actions)
+pub back-within : (actions : ℕ) (v : Value) → actions ≤ v.kept → back_answer actions v ≡ moved back_name actions (after_back v actions)
 unfolding back_answer
-back-enough actions v enough =
-    let few : nat_lt v.kept actions ≡ false = grind (arith, nat_tests) in
-    rw few refl
+back-within actions v within =
+    let no_fault : nat_lt v.kept actions ≡ false = grind (arith, nat_tests) in
+    rw no_fault refl
 
-pub forward-enough : (actions : ℕ) (v : Value) → actions ≤ length v.ahead → forward_answer actions v ≡ moved forward_name actions (after_forward v actions)
+pub forward-within : (actions : ℕ) (v : Value) → actions ≤ length v.ahead → forward_answer actions v ≡ moved forward_name actions (after_forward v actions)
 unfolding forward_answer
-forward-enough actions v enough =
-    let few : nat_lt (length v.ahead) actions ≡ false = grind (arith, nat_tests) in
-    rw few refl
+forward-within actions v within =
+    let no_fault : nat_lt (length v.ahead) actions ≡ false = grind (arith, nat_tests) in
+    rw no_fault refl
 
 -- nothing is watched
 pub change-unwatched : (v : Value) (places : List Place) → places ≡ map watched_place (watches_of (present v)) → length places ≡ 0 → change_answer v ≡ rejected v nothing_watched_text

@@ -11,8 +11,8 @@ use Rattle.pp_console.specs.declared.progress.Progress.{Progress}
 use Rattle.pp_console.specs.declared.progress.TheConstants.{LINE_LIMIT, BYTE_LIMIT}
 use Rattle.pp_console.specs.Commands.{State}
 use Rattle.pp_console.specs.Serving.{Origin}
-use Rattle.pp_console.specs.ServingSteps.{Stands, Interrupts}
-use Rattle.pp_console.proofs.Standing.{Stands-within}
+use Rattle.pp_console.specs.ServingSteps.{HasRead, Interrupts}
+use Rattle.pp_console.proofs.Reading.{HasRead-within}
 use Rattle.pp_console.proofs.Ending.{Interrupts-more}
 
 -- a piece of which some bytes were processed
@@ -35,27 +35,27 @@ Interrupts-piece fault session text origin bytes taken later piece whole p =
 
 -- no more lines may begin
 pub Interrupts-lines : (progress : Progress) (session : State) (written : Written) (origin : Origin) (bytes text rest : List ℕ) →
-    Stands progress session written origin bytes → 0 < length text + length rest → progress.lines ≡ LINE_LIMIT → Interrupts LineLimit session written origin ((bytes ++ text) ++ rest)
-Interrupts-lines progress session written origin bytes text rest stands some full =
-    (bytes, text ++ rest, append_assoc bytes text rest, simp length-append some, Stands-within _ _ _ _ _ stands, inr (sym stands.counts_lines ∙ full), stands.performed)
+    HasRead progress session written origin bytes → 0 < length text + length rest → progress.lines ≡ LINE_LIMIT → Interrupts LineLimit session written origin ((bytes ++ text) ++ rest)
+Interrupts-lines progress session written origin bytes text rest has_read some full =
+    (bytes, text ++ rest, append_assoc bytes text rest, simp length-append some, HasRead-within _ _ _ _ _ has_read, inr (sym has_read.counts_lines ∙ full), has_read.performed)
 
 -- the bytes of a text up to the limit
 over-bytes : (line_limit byte_limit : ℕ) (bytes text rest : List ℕ) → finished text ≡ [] → length bytes ≤ byte_limit →
     byte_limit - length bytes ≤ length text → byte_limit - length bytes < length text + length rest → length (finished bytes) < line_limit →
     (kept more : List ℕ) × ((bytes ++ text) ++ rest ≡ kept ++ more) × (0 < length more) × IsWithin line_limit byte_limit kept × (length kept ≡ byte_limit) × (finished kept ≡ finished bytes)
-over-bytes line_limit byte_limit bytes text rest none few reached over lines =
+over-bytes line_limit byte_limit bytes text rest none within reached over lines =
     let room = byte_limit - length bytes in
     let kept = bytes ++ take room text in
     let same : finished kept ≡ finished bytes = finished-text bytes (take room text) (open-take room text none) in
-    let size : length kept ≡ byte_limit = simp (length-append, length-take) (omega (arith, few, reached)) in
+    let size : length kept ≡ byte_limit = simp (length-append, length-take) (omega (arith, within, reached)) in
     let split : bytes ++ text ≡ kept ++ drop room text = ap (λ all. bytes ++ all) (sym (take-append-drop room text)) ∙ sym (append_assoc bytes (take room text) (drop room text)) in (
       kept,
       drop room text ++ rest,
       ap (λ all. all ++ rest) split ∙ append_assoc kept (drop room text) rest,
       simp (length-append, length-drop) (omega (arith, over)),
       record {
-        few_lines = omega (arith, lines-count kept, last_line-one (unfinished kept), ap length same, lines);
-        few_bytes = omega (arith, size);
+        lines_within = omega (arith, lines-count kept, last_line-one (unfinished kept), ap length same, lines);
+        bytes_within = omega (arith, size);
       },
       size,
       same,
@@ -63,11 +63,11 @@ over-bytes line_limit byte_limit bytes text rest none few reached over lines =
 
 -- the limit leaves no room for all of these bytes
 pub Interrupts-bytes : (progress : Progress) (session : State) (written : Written) (origin : Origin) (bytes text rest : List ℕ) → finished text ≡ [] →
-    Stands progress session written origin bytes → BYTE_LIMIT - progress.bytes ≤ length text → BYTE_LIMIT - progress.bytes < length text + length rest → progress.lines < LINE_LIMIT →
+    HasRead progress session written origin bytes → BYTE_LIMIT - progress.bytes ≤ length text → BYTE_LIMIT - progress.bytes < length text + length rest → progress.lines < LINE_LIMIT →
     Interrupts LineLimit session written origin ((bytes ++ text) ++ rest)
-Interrupts-bytes progress session written origin bytes text rest none stands reached over few_lines =
-    let cut = over-bytes LINE_LIMIT BYTE_LIMIT bytes text rest none (rw (← stands.counts_bytes) progress.bytes_within) (rw (← stands.counts_bytes) reached) (rw (← stands.counts_bytes) over) (rw (← stands.counts_lines) few_lines) in
-    (cut.0, cut.1, cut.2, cut.3, cut.4, inl cut.5, rw cut.6 stands.performed)
+Interrupts-bytes progress session written origin bytes text rest none has_read reached over lines_within =
+    let cut = over-bytes LINE_LIMIT BYTE_LIMIT bytes text rest none (rw (← has_read.counts_bytes) progress.bytes_within) (rw (← has_read.counts_bytes) reached) (rw (← has_read.counts_bytes) over) (rw (← has_read.counts_lines) lines_within) in
+    (cut.0, cut.1, cut.2, cut.3, cut.4, inl cut.5, rw cut.6 has_read.performed)
 
 -- if no byte of a line was kept, the text that ends it is the whole line
 begun-nothing : (most : ℕ) (rest : List ℕ) → 0 < most → length (take most rest) ≡ 0 → rest ≡ []

@@ -11,7 +11,7 @@ use Rattle.pp_console.specs.Script.{run}
 use Rattle.pp_console.specs.Serving.{Origin, Performed, Breaks}
 
 -- the script was read as far as these bytes
-pub record Stands (progress : Progress) (session : State) (text : Written) (origin : Origin) (bytes : List ℕ) : Type 0 where
+pub record HasRead (progress : Progress) (session : State) (text : Written) (origin : Origin) (bytes : List ℕ) : Type 0 where
   pub keeps : IsPrefixOf KEPT progress.line bytes
   pub counts_bytes : progress.bytes ≡ length bytes
   pub counts_lines : progress.lines ≡ length (finished bytes)

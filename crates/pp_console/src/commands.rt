@@ -1,5 +1,5 @@
 //! Performs one command, or one line, and writes the answer.
-ghost use Rattle.std.specs.Prelude.{◌≡◌, ◌≤◌, ◌<◌, IfErr, IfOk, true, false, length};
+ghost use Rattle.std.specs.Prelude.{◌≡◌, ◌≤◌, ◌<◌, IfErr, IfOk, IsTrue, false, length};
 ghost use Rattle.pp_lines.specs.Device.{Counts};
 ghost use Rattle.pp_lines.specs.Output.{Writes};
 ghost use Rattle.pp_console.specs.Dumps.{cells_text, channels_text, frame_text, printer_text, processor_text, reader_text};
@@ -25,7 +25,7 @@ use pp_rig::{Action, Rig, run};
 /// Writes the answer to a command that was performed.
 fn write_answer<W: Sink>(out: &mut W, text: &[u8]) -> Result<bool, Failed>
     ensures text { Writes (W.text out.old) (W.text out.new) result text.now }
-    ensures performed { IfOk result (λ performed. performed ≡ true) }
+    ensures performed { IfOk result IsTrue }
     ensures counts { Counts (W.failure_count out.old) (W.failure_count out.new) result }
 {
     put_all(out, text)?;
@@ -71,7 +71,7 @@ fn step<W: Sink>(session: &mut Session<Rig>, most: u32, out: &mut W) -> Result<b
 fn write_moved<W: Sink>(out: &mut W, name: &[u8], actions: u32, slot: u8) -> Result<bool, Failed>
     requires { length name.now ≤ 8 }
     ensures text { Writes (W.text out.old) (W.text out.new) result (moved_text name.now actions slot) }
-    ensures performed { IfOk result (λ performed. performed ≡ true) }
+    ensures performed { IfOk result IsTrue }
     ensures counts { Counts (W.failure_count out.old) (W.failure_count out.new) result }
 {
     let mut line: ArrayVec<u8, 40> = ArrayVec::new();

@@ -1,5 +1,5 @@
 //! Performs a whole script, from source to sink.
-ghost use Rattle.std.specs.Prelude.{◌≡◌, ◌+◌, ◌<◌, ◌∷◌, ◌++◌, [], Option, Some, ℕ, List, IfOk, IfErr, OnOk, MatchResult, length};
+ghost use Rattle.std.specs.Prelude.{◌≡◌, ◌+◌, ◌<◌, ◌∷◌, ◌++◌, [], Option, Some, ℕ, List, IfErr, OnOk, MatchResult, length};
 ghost use Rattle.std.specs.Io.KnownBytes.{Consumes, IsAtEnd};
 ghost use Rattle.pp_lines.specs.Device.{Counts};
 ghost use Rattle.pp_history.specs.SessionValue.{IsAt};
@@ -9,7 +9,7 @@ ghost use Rattle.pp_lines.specs.Lines.{IsPrefixOf, finished, unfinished};
 ghost use Rattle.pp_console.specs.Commands.{Performs, State, Value};
 ghost use Rattle.pp_console.specs.Script.{answer_line, run};
 ghost use Rattle.pp_console.specs.Serving.{Origin, Performed, Breaks, Serves, Stops, CountsReads, CountsWrites, origin_of};
-ghost use Rattle.pp_console.specs.ServingSteps.{Stands, Interrupts, IsNoReadFault};
+ghost use Rattle.pp_console.specs.ServingSteps.{HasRead, Interrupts, IsNoReadFault};
 
 #[cfg(test)]
 mod limit_tests;
@@ -78,10 +78,10 @@ fn end_line<W: Sink>(
 /// Processes bytes of a line.
 fn feed_text(progress: &mut Progress, text: &[u8]) -> Result<(), IoFault>
     requires { finished text.now ≡ [] }
-    ensures stands { (session : State) (written : Written) (origin : Origin) (bytes : List ℕ) →
-        Stands progress.old session written origin bytes →
+    ensures has_read { (session : State) (written : Written) (origin : Origin) (bytes : List ℕ) →
+        HasRead progress.old session written origin bytes →
         MatchResult result
-        (λ _. Stands progress.new session written origin (bytes ++ text.now))
+        (λ _. HasRead progress.new session written origin (bytes ++ text.now))
         (λ fault. Interrupts fault session written origin (bytes ++ text.now)) }
     ensures bytes { OnOk result (progress.new.bytes ≡ progress.old.bytes + length text.now) }
     ensures fault { IfErr result (λ fault. fault ≡ IoFault.LineLimit) }
@@ -106,10 +106,10 @@ fn feed_line<W: Sink>(
     out: &mut W,
 ) -> Result<(), IoFault>
     requires { finished text.now ≡ [] }
-    ensures stands { (origin : Origin) (bytes : List ℕ) →
-        Stands progress.old session.old (W.text out.old) origin bytes →
+    ensures has_read { (origin : Origin) (bytes : List ℕ) →
+        HasRead progress.old session.old (W.text out.old) origin bytes →
         MatchResult result
-        (λ _. Stands progress.new session.new (W.text out.new) origin ((bytes ++ text.now) ++ 10 ∷ []))
+        (λ _. HasRead progress.new session.new (W.text out.new) origin ((bytes ++ text.now) ++ 10 ∷ []))
         (λ fault. Interrupts fault session.new (W.text out.new) origin ((bytes ++ text.now) ++ 10 ∷ [])) }
     ensures bytes { OnOk result (progress.new.bytes ≡ progress.old.bytes + (length text.now + 1)) }
     ensures counts { CountsWrites (W.failure_count out.old) (W.failure_count out.new) result }
@@ -133,10 +133,10 @@ fn feed<W: Sink>(
     session: &mut Session<Rig>,
     out: &mut W,
 ) -> Result<(), IoFault>
-    ensures stands { (origin : Origin) (bytes : List ℕ) →
-        Stands progress.old session.old (W.text out.old) origin bytes →
+    ensures has_read { (origin : Origin) (bytes : List ℕ) →
+        HasRead progress.old session.old (W.text out.old) origin bytes →
         MatchResult result
-        (λ _. Stands progress.new session.new (W.text out.new) origin (bytes ++ piece.now))
+        (λ _. HasRead progress.new session.new (W.text out.new) origin (bytes ++ piece.now))
         (λ fault. Interrupts fault session.new (W.text out.new) origin (bytes ++ piece.now)) }
     ensures bytes { OnOk result (progress.new.bytes ≡ progress.old.bytes + length piece.now) }
     ensures counts { CountsWrites (W.failure_count out.old) (W.failure_count out.new) result }
@@ -157,7 +157,7 @@ fn finish<W: Sink>(
     out: &mut W,
 ) -> Result<Summary, IoFault>
     ensures serves { (origin : Origin) (bytes : List ℕ) →
-        Stands progress.old session.old (W.text out.old) origin bytes →
+        HasRead progress.old session.old (W.text out.old) origin bytes →
         MatchResult result
         (λ summary. Serves summary session.new (W.text out.new) origin bytes)
         (λ fault. (left : Option (List ℕ)) → IsAtEnd left → Stops fault session.new (W.text out.new) origin bytes left) }

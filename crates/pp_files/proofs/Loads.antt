@@ -23,10 +23,10 @@ use Rattle.pp_files.proofs.MoreLines.{row_of_front, line-kept, lines-one, lines-
 pub FailsAt-kept : (rule : Rule) (k : ℕ) (rows : List Row) (front line : List ℕ) (fault : LoadFault) → front ≡ take KEPT line →
     FailsAt rule k rows front fault → FailsAt rule k rows line fault
 FailsAt-kept rule k rows front line fault e (inl fails) = inl (sym (line-kept rule k rows front line e) ∙ fails)
-FailsAt-kept rule k rows front line fault e (inr refused) = inr (
-  refused.0,
-  (refused.1.0, sym (line-kept rule k rows front line e) ∙ refused.1.1),
-  (refused.2.0, sym (row_of_front k front line e) ∙ refused.2.1),
+FailsAt-kept rule k rows front line fault e (inr rejected) = inr (
+  rejected.0,
+  (rejected.1.0, sym (line-kept rule k rows front line e) ∙ rejected.1.1),
+  (rejected.2.0, sym (row_of_front k front line e) ∙ rejected.2.1),
 )
 
 -- a fault at a line of a file is a fault of the file
@@ -35,22 +35,22 @@ FailsIn-line : (rule : Rule) (limit : ℕ) (bytes : List ℕ) (rows : List Row) 
     (rows_of_file rule limit bytes ≡ Err fault) ⊎ ((fault ≡ NoMemory) × RunsOut rule limit bytes)
 FailsIn-line rule limit bytes rows done line later fault split read (inl fails) =
     inl (file-fault rule limit bytes (done ++ line ∷ []) later fault split (lines-one rule rows done line read ∙ fails))
-FailsIn-line rule limit bytes rows done line later fault split read (inr refused) = inr (
-  refused.0,
+FailsIn-line rule limit bytes rows done line later fault split read (inr rejected) = inr (
+  rejected.0,
   (
     done,
     line,
     later,
     split ∙ append_assoc done (line ∷ []) later,
-    (refused.1.0, lines-one rule rows done line read ∙ refused.1.1),
-    refused.2,
+    (rejected.1.0, lines-one rule rows done line read ∙ rejected.1.1),
+    rejected.2,
   ),
 )
 
 -- ---- the progress of a file
 
 pub HasRead-within : (progress : Progress) (rule : Rule) (Holds : List Row → Type 0) (bytes : List ℕ) → HasRead progress rule Holds bytes → length bytes ≤ file_limit
-HasRead-within progress rule Holds bytes stands = rw (← stands.counts_bytes) progress.bytes_within
+HasRead-within progress rule Holds bytes has_read = rw (← has_read.counts_bytes) progress.bytes_within
 
 front-none : (kept : ℕ) (front : List ℕ) → front ≡ [] → IsPrefixOf kept front []
 front-none kept front e = rw e (search rules)
@@ -68,11 +68,11 @@ HasRead-new progress rule Holds front no_bytes no_lines held = record {
 -- a byte that is not a line feed
 pub HasRead-byte : (old new : Progress) (rule : Rule) (Holds : List Row → Type 0) (bytes : List ℕ) (byte : ℕ) → eqb byte 10 ≡ false → HasRead old rule Holds bytes →
     IsPrefixOf KEPT new.cutter (bytes ++ byte ∷ []) → new.bytes ≡ old.bytes + 1 → new.lines ≡ old.lines → HasRead new rule Holds (bytes ++ byte ∷ [])
-HasRead-byte old new rule Holds bytes byte h stands front more_bytes same_lines = record {
+HasRead-byte old new rule Holds bytes byte h has_read front more_bytes same_lines = record {
   keeps = front;
-  counts_bytes = more_bytes ∙ rw (length-append bytes (byte ∷ [])) (ap (λ n. n + 1) stands.counts_bytes);
-  counts_lines = rw (finished-byte bytes byte h) (same_lines ∙ stands.counts_lines);
-  reads = rw (finished-byte bytes byte h) stands.reads;
+  counts_bytes = more_bytes ∙ rw (length-append bytes (byte ∷ [])) (ap (λ n. n + 1) has_read.counts_bytes);
+  counts_lines = rw (finished-byte bytes byte h) (same_lines ∙ has_read.counts_lines);
+  reads = rw (finished-byte bytes byte h) has_read.reads;
 }
 
 -- a line feed
@@ -80,18 +80,18 @@ pub HasRead-feed : (old new : Progress) (rule : Rule) (Holds Holds' : List Row �
     IsPrefixOf KEPT new.cutter (bytes ++ 10 ∷ []) → new.bytes ≡ old.bytes + 1 → new.lines ≡ old.lines + 1 →
     ((rows : List Row) → Holds rows → Reads Holds' (with_line rule (old.lines + 1) rows old.cutter)) →
     HasRead new rule Holds' (bytes ++ 10 ∷ [])
-HasRead-feed old new rule Holds Holds' bytes stands front more_bytes more_lines line =
-    let read = stands.reads in
+HasRead-feed old new rule Holds Holds' bytes has_read front more_bytes more_lines line =
+    let read = has_read.reads in
     let next = line read.0 read.2 in
     record {
       keeps = front;
-      counts_bytes = more_bytes ∙ rw (length-append bytes (10 ∷ [])) (ap (λ n. n + 1) stands.counts_bytes);
-      counts_lines = rw (finished-feed bytes, length-append (finished bytes) (unfinished bytes ∷ [])) (more_lines ∙ ap (λ n. n + 1) stands.counts_lines);
+      counts_bytes = more_bytes ∙ rw (length-append bytes (10 ∷ [])) (ap (λ n. n + 1) has_read.counts_bytes);
+      counts_lines = rw (finished-feed bytes, length-append (finished bytes) (unfinished bytes ∷ [])) (more_lines ∙ ap (λ n. n + 1) has_read.counts_lines);
       reads = (
         next.0,
         ap (rows_of_lines rule) (finished-feed bytes) ∙ lines-one rule read.0 (finished bytes) (unfinished bytes) read.1
-            ∙ sym (line-kept rule (length (finished bytes) + 1) read.0 old.cutter (unfinished bytes) stands.keeps)
-            ∙ ap (λ n. with_line rule (n + 1) read.0 old.cutter) (sym stands.counts_lines) ∙ next.1,
+            ∙ sym (line-kept rule (length (finished bytes) + 1) read.0 old.cutter (unfinished bytes) has_read.keeps)
+            ∙ ap (λ n. with_line rule (n + 1) read.0 old.cutter) (sym has_read.counts_lines) ∙ next.1,
         next.2,
       );
     }
@@ -99,58 +99,58 @@ HasRead-feed old new rule Holds Holds' bytes stands front more_bytes more_lines 
 -- a fault at a line that ends with a line feed
 pub HasRead-fault : (old : Progress) (rule : Rule) (Holds : List Row → Type 0) (fault : LoadFault) (bytes more : List ℕ) → HasRead old rule Holds bytes → old.bytes < file_limit →
     ((rows : List Row) → Holds rows → FailsAt rule (old.lines + 1) rows old.cutter fault) → FailsIn rule (bytes ++ 10 ∷ more) fault
-HasRead-fault old rule Holds fault bytes more stands room line =
-    let read = stands.reads in
-    let room : length bytes < file_limit = rw (← stands.counts_bytes) room in
+HasRead-fault old rule Holds fault bytes more has_read room line =
+    let read = has_read.reads in
+    let room : length bytes < file_limit = rw (← has_read.counts_bytes) room in
     let further = lines_of_file-feed file_limit bytes more room in
-    let fails : FailsAt rule (length (finished bytes) + 1) read.0 old.cutter fault = rw stands.counts_lines at (line read.0 read.2) in
+    let fails : FailsAt rule (length (finished bytes) + 1) read.0 old.cutter fault = rw has_read.counts_lines at (line read.0 read.2) in
     FailsIn-line rule file_limit (bytes ++ 10 ∷ more) read.0 (finished bytes) (unfinished bytes) further.0 fault further.1 read.1
-    (FailsAt-kept rule (length (finished bytes) + 1) read.0 old.cutter (unfinished bytes) fault stands.keeps fails)
+    (FailsAt-kept rule (length (finished bytes) + 1) read.0 old.cutter (unfinished bytes) fault has_read.keeps fails)
 
 -- a byte above the limit
 pub HasRead-long : (old : Progress) (rule : Rule) (Holds : List Row → Type 0) (bytes more : List ℕ) (byte : ℕ) → HasRead old rule Holds bytes → old.bytes ≡ file_limit → FailsIn rule (bytes ++ byte ∷ more) FileTooLong
-HasRead-long old rule Holds bytes more byte stands full =
-    inl (file-long rule stands.reads.0 file_limit bytes more byte (sym stands.counts_bytes ∙ full) stands.reads.1)
+HasRead-long old rule Holds bytes more byte has_read full =
+    inl (file-long rule has_read.reads.0 file_limit bytes more byte (sym has_read.counts_bytes ∙ full) has_read.reads.1)
 
 -- ---- the end of a file
 
 -- the last line ends with a line feed
 pub file-whole : (progress : Progress) (rule : Rule) (Holds : List Row → Type 0) (bytes : List ℕ) → HasRead progress rule Holds bytes → length progress.cutter ≡ 0 →
     Reads Holds (rows_of_file rule file_limit bytes)
-file-whole progress rule Holds bytes stands empty =
-    let read = stands.reads in
-    let all = lines-whole KEPT progress.cutter bytes (omega arith) stands.keeps empty in
-    (read.0, file-short rule file_limit bytes (HasRead-within progress rule Holds bytes stands) ∙ ap (rows_of_lines rule) all ∙ read.1, read.2)
+file-whole progress rule Holds bytes has_read empty =
+    let read = has_read.reads in
+    let all = lines-whole KEPT progress.cutter bytes (omega arith) has_read.keeps empty in
+    (read.0, file-short rule file_limit bytes (HasRead-within progress rule Holds bytes has_read) ∙ ap (rows_of_lines rule) all ∙ read.1, read.2)
 
 -- the last line does not end with a line feed
 pub file-last : {T : Type 0} (progress : Progress) (rule : Rule) (Holds Holds' : List Row → Type 0) (result : Result T LoadFault) (bytes : List ℕ) → HasRead progress rule Holds bytes → 0 < length progress.cutter →
     ((rows : List Row) → Holds rows → MatchResult result (λ _. Reads Holds' (with_line rule (progress.lines + 1) rows progress.cutter)) (λ fault. FailsAt rule (progress.lines + 1) rows progress.cutter fault)) →
     MatchResult result (λ _. Reads Holds' (rows_of_file rule file_limit bytes)) (λ fault. FailsIn rule bytes fault)
-file-last progress rule Holds Holds' (Ok value) bytes stands begun line =
-    let read = stands.reads in
+file-last progress rule Holds Holds' (Ok value) bytes has_read begun line =
+    let read = has_read.reads in
     let next = line read.0 read.2 in
-    let all = lines-last KEPT progress.cutter bytes stands.keeps begun in (
+    let all = lines-last KEPT progress.cutter bytes has_read.keeps begun in (
       next.0,
-      file-short rule file_limit bytes (HasRead-within progress rule Holds bytes stands) ∙ ap (rows_of_lines rule) all
+      file-short rule file_limit bytes (HasRead-within progress rule Holds bytes has_read) ∙ ap (rows_of_lines rule) all
           ∙ lines-one rule read.0 (finished bytes) (unfinished bytes) read.1
-          ∙ sym (line-kept rule (length (finished bytes) + 1) read.0 progress.cutter (unfinished bytes) stands.keeps)
-          ∙ ap (λ n. with_line rule (n + 1) read.0 progress.cutter) (sym stands.counts_lines) ∙ next.1,
+          ∙ sym (line-kept rule (length (finished bytes) + 1) read.0 progress.cutter (unfinished bytes) has_read.keeps)
+          ∙ ap (λ n. with_line rule (n + 1) read.0 progress.cutter) (sym has_read.counts_lines) ∙ next.1,
       next.2,
     )
-file-last progress rule Holds Holds' (Err fault) bytes stands begun line =
-    let read = stands.reads in
-    let all = lines-last KEPT progress.cutter bytes stands.keeps begun in
-    let fails : FailsAt rule (length (finished bytes) + 1) read.0 progress.cutter fault = rw stands.counts_lines at (line read.0 read.2) in
+file-last progress rule Holds Holds' (Err fault) bytes has_read begun line =
+    let read = has_read.reads in
+    let all = lines-last KEPT progress.cutter bytes has_read.keeps begun in
+    let fails : FailsAt rule (length (finished bytes) + 1) read.0 progress.cutter fault = rw has_read.counts_lines at (line read.0 read.2) in
     FailsIn-line rule file_limit bytes read.0 (finished bytes) (unfinished bytes) [] fault
-    (lines-short file_limit bytes (HasRead-within progress rule Holds bytes stands) ∙ all ∙ sym (append-nil (finished bytes ++ unfinished bytes ∷ []))) read.1
-    (FailsAt-kept rule (length (finished bytes) + 1) read.0 progress.cutter (unfinished bytes) fault stands.keeps fails)
+    (lines-short file_limit bytes (HasRead-within progress rule Holds bytes has_read) ∙ all ∙ sym (append-nil (finished bytes ++ unfinished bytes ∷ []))) read.1
+    (FailsAt-kept rule (length (finished bytes) + 1) read.0 progress.cutter (unfinished bytes) fault has_read.keeps fails)
 
 -- ---- the bytes that were read
 
 -- a fault of the file, or memory that ran out, is the cause
 caused : (rule : Rule) (taken bytes : List ℕ) (fault : LoadFault) → FailsIn rule bytes fault → IsCauseOf rule (rows_of_file rule file_limit) taken bytes fault
 caused rule taken bytes fault (inl fails) = inl fails
-caused rule taken bytes fault (inr refused) = inr (inl refused)
+caused rule taken bytes fault (inr rejected) = inr (inl rejected)
 
 -- a fault that occurs for all later bytes is the cause
 pub fails-in : (rule : Rule) (first second : Option (List ℕ)) (taken : List ℕ) (fault : LoadFault) → Consumes first second taken →
@@ -161,7 +161,7 @@ fails-in rule first second taken fault p fails =
 
 -- the source failed
 pub breaks-off : (progress : Progress) (rule : Rule) (Holds : List Row → Type 0) (taken : List ℕ) → HasRead progress rule Holds taken → BreaksOff rule file_limit taken
-breaks-off progress rule Holds taken stands = (HasRead-within progress rule Holds taken stands, (stands.reads.0, stands.reads.1))
+breaks-off progress rule Holds taken has_read = (HasRead-within progress rule Holds taken has_read, (has_read.reads.0, has_read.reads.1))
 
 -- at the end of input
 pub ends : {T : Type 0} (result : Result T LoadFault) (P : T → Type 0) (rule : Rule) (first second : Option (List ℕ)) (taken : List ℕ) → Consumes first second taken → IsAtEnd second →

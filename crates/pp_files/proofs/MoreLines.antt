@@ -7,7 +7,7 @@ use Rattle.pp_files.specs.declared.fault.LoadFault.TheVariants.{FileTooLong, Lin
 use Rattle.pp_files.specs.declared.progress.TheConstants.{KEPT}
 use Rattle.pp_lines.specs.Lines.{lines, finished, unfinished, last_line}
 use Rattle.pp_lines.proofs.LineCuts.{lines_split, finished-more, finished-feed}
-use Rattle.pp_lines.proofs.LongLines.{told-kept}
+use Rattle.pp_lines.proofs.LongLines.{read-kept}
 use Rattle.pp_files.specs.Rows.{Row, row_of_text, row_of_line}
 use Rattle.pp_files.specs.Files.{Rule, ◌>>=◌, with_line, with_lines, with_row, rows_of_lines, lines_of_file, rows_of_file}
 
@@ -21,7 +21,7 @@ text-long k text h =
 -- a prefix of more than 1024 bytes reads as the line does
 row-kept : (k most : ℕ) (line : List ℕ) → 1024 < most → row_of_line k (take most line) ≡ row_of_line k line
 unfolding row_of_line
-row-kept k most line long = told-kept (row_of_text k) (Err (LineTooLong k)) 1023 most line (text-long k) long
+row-kept k most line long = read-kept (row_of_text k) (Err (LineTooLong k)) 1023 most line (text-long k) long
 
 pub row_of_front : (k : ℕ) (front line : List ℕ) → front ≡ take KEPT line → row_of_line k front ≡ row_of_line k line
 row_of_front k front line e = rw e (row-kept k KEPT line (omega arith))
@@ -83,8 +83,8 @@ file-fault rule limit bytes done more fault split e =
 
 pub lines-short : (limit : ℕ) (bytes : List ℕ) → length bytes ≤ limit → lines_of_file limit bytes ≡ lines bytes
 lines-short limit bytes h =
-    let few : nat_le (length bytes) limit ≡ true = grind (arith, nat_tests) in
-    rw few refl
+    let short : nat_le (length bytes) limit ≡ true = grind (arith, nat_tests) in
+    rw short refl
 
 lines-long : (limit : ℕ) (bytes : List ℕ) → limit < length bytes → lines_of_file limit bytes ≡ finished (take limit bytes)
 lines-long limit bytes h =
@@ -94,9 +94,9 @@ lines-long limit bytes h =
 -- a file within the limit
 pub file-short : (rule : Rule) (limit : ℕ) (bytes : List ℕ) → length bytes ≤ limit → rows_of_file rule limit bytes ≡ rows_of_lines rule (lines bytes)
 file-short rule limit bytes h =
-    let few : nat_le (length bytes) limit ≡ true = grind (arith, nat_tests) in
+    let short : nat_le (length bytes) limit ≡ true = grind (arith, nat_tests) in
     file-lines rule limit bytes (rows_of_lines rule (lines bytes)) (ap (rows_of_lines rule) (lines-short limit bytes h))
-    ∙ rw few (bind-ok (rows_of_lines rule (lines bytes)))
+    ∙ rw short (bind-ok (rows_of_lines rule (lines bytes)))
 
 -- a file that is too long
 pub file-long : (rule : Rule) (rows : List Row) (limit : ℕ) (bytes more : List ℕ) (byte : ℕ) → length bytes ≡ limit → rows_of_lines rule (finished bytes) ≡ Ok rows →

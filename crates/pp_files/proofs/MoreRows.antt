@@ -16,18 +16,18 @@ concat-row (first ∷ rows) row = ap (λ rest. first ++ rest) (concat-row rows r
 -- a panel with the words of one more row
 pub panel-more : (k : ℕ) (rows : List Row) (row words new : Row) → words ≡ concat rows → length (words ++ row) ≤ 12 → new ≡ words ++ row →
     (more : List Row) × (panel_rule k rows row ≡ Ok more) × (new ≡ concat more)
-panel-more k rows row words new held few e =
-    let few : nat_le (length (concat rows ++ row)) 12 ≡ true = is_within _ _ (rw (← held) few) in
-    (rows ++ row ∷ [], rw few refl, e ∙ ap (λ front. front ++ row) held ∙ sym (concat-row rows row))
+panel-more k rows row words new held fits e =
+    let fits : nat_le (length (concat rows ++ row)) 12 ≡ true = is_within _ _ (rw (← held) fits) in
+    (rows ++ row ∷ [], rw fits refl, e ∙ ap (λ front. front ++ row) held ∙ sym (concat-row rows row))
 
 -- a deck with one more card is allowed
-pub card-few : (k : ℕ) (rows : List Row) (row : Row) → length row ≤ 80 → card_rule k rows row ≡ Ok (rows ++ row ∷ [])
-card-few k rows row few =
-    let is_few : nat_le (length row) 80 ≡ true = is_within _ _ few in
-    rw is_few refl
+pub card-fits : (k : ℕ) (rows : List Row) (row : Row) → length row ≤ 80 → card_rule k rows row ≡ Ok (rows ++ row ∷ [])
+card-fits k rows row fits =
+    let fits : nat_le (length row) 80 ≡ true = is_within _ _ fits in
+    rw fits refl
 
 -- a deck with one more card
 pub deck-more : (k : ℕ) (rows : List Row) (row : Row) (cards new : List Row) (card : Row) → cards ≡ map card_of_row rows → length row ≤ 80 → card ≡ card_of_row row → new ≡ cards ++ card ∷ [] →
     (more : List Row) × (card_rule k rows row ≡ Ok more) × (new ≡ map card_of_row more)
-deck-more k rows row cards new card held few is_card e =
-    (rows ++ row ∷ [], card-few k rows row few, e ∙ rw (held, is_card) (sym (map-append card_of_row rows (row ∷ []))))
+deck-more k rows row cards new card held fits is_card e =
+    (rows ++ row ∷ [], card-fits k rows row fits, e ∙ rw (held, is_card) (sym (map-append card_of_row rows (row ∷ []))))

@@ -1,5 +1,5 @@
 -- Definitions for the inner contracts of loading: a file as far as it was read, and the fault that is reported there.
-use Rattle.std.specs.Prelude.{◌≡◌, ℕ, ◌⊎◌, Bool, true, List, length, Result, Ok, Err}
+use Rattle.std.specs.Prelude.{◌≡◌, ℕ, ◌⊎◌, Bool, IsTrue, List, length, Result, Ok, Err}
 use Rattle.pp_lines.specs.Lines.{finished, IsPrefixOf}
 use Rattle.pp_files.specs.declared.fault.LoadFault.{LoadFault}
 use Rattle.pp_files.specs.declared.fault.LoadFault.TheVariants.{NoMemory, ReadFailed}
@@ -32,13 +32,13 @@ FailsIn rule bytes fault = (rows_of_file rule file_limit bytes ≡ Err fault) �
 
 -- no read failed, and memory ran out only if the sheet needs memory
 abbrev pub IsLineFault : Bool → LoadFault → Type 0
-IsLineFault needs_memory NoMemory = needs_memory ≡ true
+IsLineFault needs_memory NoMemory = IsTrue needs_memory
 IsLineFault needs_memory ReadFailed = ⊥
 IsLineFault needs_memory fault = Unit {0}
 
 -- memory ran out only if the sheet needs memory
 abbrev pub IsSheetFault : Bool → LoadFault → Type 0
-IsSheetFault needs_memory NoMemory = needs_memory ≡ true
+IsSheetFault needs_memory NoMemory = IsTrue needs_memory
 IsSheetFault needs_memory fault = Unit {0}
 
 -- the file was read as far as these bytes

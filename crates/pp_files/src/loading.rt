@@ -42,7 +42,7 @@ fn read_line<S: Sheet>(sheet: &mut S, number: u32, line: &[u8]) -> Result<(), Lo
 
 /// Processes one more byte of the file.
 fn feed_byte<S: Sheet>(progress: &mut Progress, sheet: &mut S, byte: u8) -> Result<(), LoadFault>
-    ensures stands { (bytes more : List ℕ) → HasRead progress.old S.rule (S.holds sheet.old) bytes →
+    ensures has_read { (bytes more : List ℕ) → HasRead progress.old S.rule (S.holds sheet.old) bytes →
         MatchResult result
         (λ _. HasRead progress.new S.rule (S.holds sheet.new) (bytes ++ byte ∷ []))
         (λ fault. FailsIn S.rule (bytes ++ byte ∷ more) fault) }
@@ -65,7 +65,7 @@ fn feed_byte<S: Sheet>(progress: &mut Progress, sheet: &mut S, byte: u8) -> Resu
 
 /// Processes one more piece of the file.
 fn feed<S: Sheet>(progress: &mut Progress, sheet: &mut S, piece: &[u8]) -> Result<(), LoadFault>
-    ensures stands { (bytes more : List ℕ) → HasRead progress.old S.rule (S.holds sheet.old) bytes →
+    ensures has_read { (bytes more : List ℕ) → HasRead progress.old S.rule (S.holds sheet.old) bytes →
         MatchResult result
         (λ _. HasRead progress.new S.rule (S.holds sheet.new) (bytes ++ piece.now))
         (λ fault. FailsIn S.rule ((bytes ++ piece.now) ++ more) fault) }

@@ -1,5 +1,5 @@
 //! Reads the numbers in the text of a line.
-ghost use Rattle.std.specs.Prelude.{◌≡◌, ◌<◌, ◌≤◌, true, length, IfSome, MatchOption, All};
+ghost use Rattle.std.specs.Prelude.{◌≡◌, ◌<◌, ◌≤◌, length, IfSome, IsTrue, MatchOption, All};
 ghost use Rattle.std.specs.List.{list_all};
 ghost use Rattle.pp_arith.specs.Octal.{octal_value};
 ghost use Rattle.pp_lines.specs.Words.{words};
@@ -35,7 +35,7 @@ pub fn are_numbers(text: &[u8]) -> bool
 
 /// Returns the value of a word.
 fn number(word: &[u8]) -> u16
-    requires { is_number word.now ≡ true }
+    requires { IsTrue (is_number word.now) }
     ensures value { result ≡ octal_value word.now }
     ensures within { result < 0o10000 }
 {
@@ -47,7 +47,7 @@ fn number(word: &[u8]) -> u16
 
 /// Returns the numbers in the text, or `None` if there are more than `ROOM`.
 pub fn numbers<const ROOM: usize>(text: &[u8]) -> Option<ArrayVec<u16, ROOM>>
-    requires { list_all is_number (words text.now) ≡ true }
+    requires { IsTrue (list_all is_number (words text.now)) }
     ensures at_most { MatchOption result (ROOM < length (words text.now))
         (λ row. row.items ≡ numbers (words text.now)) }
     ensures short { IfSome result (λ row. length row.items ≤ ROOM) }

@@ -1,5 +1,5 @@
 //! The sheets that a file is read into.
-ghost use Rattle.std.specs.Prelude.{◌≡◌, ◌<◌, ◌≤◌, ◌++◌, length, drop, Bool, List, true, false, map, All, IfErr, MatchResult};
+ghost use Rattle.std.specs.Prelude.{◌≡◌, ◌<◌, ◌≤◌, ◌++◌, length, drop, Bool, List, true, false, map, All, IfErr, IsTrue, MatchResult};
 ghost use Rattle.std.specs.List.{list_all, concat};
 ghost use Rattle.pp_lines.specs.Words.{words};
 ghost use Rattle.pp_files.specs.Rows.{Row, is_number, numbers};
@@ -32,7 +32,7 @@ pub trait Sheet {
     /// # Errors
     /// The fault of the rule, or `NoMemory` if memory runs out.
     fn add(&mut self, line: u32, text: &[u8]) -> Result<(), LoadFault>
-        requires { list_all is_number (words text.now) ≡ true }
+        requires { IsTrue (list_all is_number (words text.now)) }
         ensures row { (rows : List Row) → holds self.old rows →
             MatchResult result
             (λ _. Reads (holds self.new) (rule line rows (numbers (words text.now))))

@@ -42,13 +42,13 @@ lines-count bytes = ap length (lines_split bytes) ∙ length-append (finished by
 pub finished_within-all : (line_limit byte_limit : ℕ) (bytes : List ℕ) → IsWithin line_limit byte_limit bytes → finished_within line_limit byte_limit bytes ≡ finished bytes
 unfolding finished_within
 finished_within-all line_limit byte_limit bytes within =
-    rw (take_all byte_limit bytes within.few_bytes)
-    (take_all line_limit (finished bytes) (omega (arith, within.few_lines, lines-count bytes)))
+    rw (take_all byte_limit bytes within.bytes_within)
+    (take_all line_limit (finished bytes) (omega (arith, within.lines_within, lines-count bytes)))
 
 pub finished_within-whole : (line_limit byte_limit : ℕ) (bytes : List ℕ) → length bytes ≤ byte_limit → length (finished bytes) ≤ line_limit → finished_within line_limit byte_limit bytes ≡ finished bytes
 unfolding finished_within
-finished_within-whole line_limit byte_limit bytes few_bytes few_lines =
-    rw (take_all byte_limit bytes few_bytes) (take_all line_limit (finished bytes) few_lines)
+finished_within-whole line_limit byte_limit bytes bytes_within lines_within =
+    rw (take_all byte_limit bytes bytes_within) (take_all line_limit (finished bytes) lines_within)
 
 -- the first n elements of a longer list begin with the first n of the shorter one
 take_more : {X : Type 0} (n : ℕ) (xs more : List X) → (extra : List X) × (take n (xs ++ more) ≡ take n xs ++ extra)
@@ -100,9 +100,9 @@ pub finished_within-kept : (line_limit byte_limit : ℕ) (kept more : List ℕ) 
 unfolding finished_within
 finished_within-kept line_limit byte_limit kept more within (inl full) =
     rw (← full, take-append_seam kept more)
-    (take_all line_limit (finished kept) (omega (arith, within.few_lines, lines-count kept)))
+    (take_all line_limit (finished kept) (omega (arith, within.lines_within, lines-count kept)))
 finished_within-kept line_limit byte_limit kept more within (inr full) =
-    let front : take byte_limit (kept ++ more) ≡ kept ++ take (byte_limit - length kept) more = take-front byte_limit kept more within.few_bytes in
+    let front : take byte_limit (kept ++ more) ≡ kept ++ take (byte_limit - length kept) more = take-front byte_limit kept more within.bytes_within in
     let further = finished-more kept (take (byte_limit - length kept) more) in
     rw (front, further.1, ← full) (take-append_seam (finished kept) further.0)
 

@@ -11,17 +11,17 @@ without_return-long line = by_test (eqb (slice_index line (length line - 1)) 13)
     by_test true = rw (length-take (length line - 1) line) (omega arith)
     by_test false = omega arith
 
--- if `tell` has one result for all texts over a length, a prefix over that length has the result of the whole line
-pub told-kept : {A : Type 0} (tell : List ℕ → A) (long : A) (longest most : ℕ) (line : List ℕ) →
-    ((text : List ℕ) → longest < length text → tell text ≡ long) → longest + 1 < most → tell (without_return (take most line)) ≡ tell (without_return line)
-told-kept tell long longest most line is_long more = by_test (nat_lt most (length line)) refl
+-- if `read` has one result for all texts over a length, a prefix over that length has the result of the whole line
+pub read-kept : {A : Type 0} (read : List ℕ → A) (long : A) (longest most : ℕ) (line : List ℕ) →
+    ((text : List ℕ) → longest < length text → read text ≡ long) → longest + 1 < most → read (without_return (take most line)) ≡ read (without_return line)
+read-kept read long longest most line is_long more = by_test (nat_lt most (length line)) refl
   where
-    over : (line : List ℕ) → longest + 1 < length line → tell (without_return line) ≡ long
+    over : (line : List ℕ) → longest + 1 < length line → read (without_return line) ≡ long
     over line h = is_long (without_return line) (omega (arith, without_return-long line))
 
-    by_test : (over : Bool) → nat_lt most (length line) ≡ over → tell (without_return (take most line)) ≡ tell (without_return line)
+    by_test : (over : Bool) → nat_lt most (length line) ≡ over → read (without_return (take most line)) ≡ read (without_return line)
     by_test true e =
         let longer = ltb-true most (length line) e in
         let kept : longest + 1 < length (take most line) = rw (length-take most line) (omega arith) in
         over (take most line) kept ∙ sym (over line (omega arith))
-    by_test false e = ap (λ line. tell (without_return line)) (take_all most line (ltb-false most (length line) e))
+    by_test false e = ap (λ line. read (without_return line)) (take_all most line (ltb-false most (length line) e))

@@ -1,10 +1,10 @@
 -- Texts that are written one after the other.
 use Rattle.std.proofs.Common.{◌≡◌, ◌∙◌, ℕ, ◌+◌, ◌-◌, List, [], ◌++◌, length, take, drop, sym, ap, append_assoc, arith, length-append}
-use Rattle.std.proofs.KnownBytes.{Appends-kept, Appends-nil, Appends-trans}
+use Rattle.std.proofs.KnownBytes.{Appends-nil, Appends-trans}
 use Rattle.std.proofs.lemmas.List.{append-nil}
 use Rattle.std.proofs.lemmas.Grind.{common_steps}
 use Rattle.std.proofs.Math.Seq.{take-add}
-use Rattle.pp_lines.specs.Output.{Appends, AppendsPrefix, Keeps, Written}
+use Rattle.pp_lines.specs.Output.{Appends, AppendsPrefix, Written}
 
 -- nothing is written
 pub Appends-nothing : (written : Written) → Appends written written []
@@ -20,10 +20,6 @@ Appends-again first second third a b p q = (
 -- the same text
 pub Appends-same : (first second : Written) (a b : List ℕ) → a ≡ b → Appends first second a → Appends first second b
 Appends-same first second a b e p = rw e at p
-
--- a text, and then nothing
-pub Appends-keeps : (first second third : Written) (a : List ℕ) → Appends first second a → Keeps second third → Appends first third a
-Appends-keeps first second third a p q = (q.0 ∙ p.0, Appends-kept first.held second.held third.held a p.1 q.1)
 
 -- the slice of a text from an index on
 pub slice_from : (done : ℕ) (text : List ℕ) → take (length text - done) (drop done text) ≡ drop done text

@@ -42,8 +42,8 @@ finished_within line_limit byte_limit bytes = take line_limit (finished (take by
 
 -- no more lines and no more bytes than the limits
 pub record IsWithin (line_limit byte_limit : ℕ) (bytes : List ℕ) : Type 0 where
-  pub few_lines : length (lines bytes) ≤ line_limit
-  pub few_bytes : length bytes ≤ byte_limit
+  pub lines_within : length (lines bytes) ≤ line_limit
+  pub bytes_within : length bytes ≤ byte_limit
 
 -- the first `kept` bytes of the unfinished line
 abbrev pub IsPrefixOf : ℕ → List ℕ → List ℕ → Type 0

@@ -1,5 +1,4 @@
 //! Writes text to a sink.
-ghost use Rattle.std.specs.Prelude.{◌≡◌};
 ghost use Rattle.pp_lines.specs.Device.{Counts};
 ghost use Rattle.pp_lines.specs.Output.{Writes};
 

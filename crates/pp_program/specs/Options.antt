@@ -1,7 +1,7 @@
 -- What the words of the command line ask for.
 use Rattle.std.specs.Prelude.{◌≡◌, ℕ, ◌⊎◌, List, [], Option, Some, None, Result, Ok, Err, option_map}
 use Rattle.std.specs.String.{string_bytes}
-use Rattle.pp_arguments.specs.CommandLine.{IsToldOf, Text, faults_of, given}
+use Rattle.pp_arguments.specs.CommandLine.{IsFaultOf, Text, faults_of, given}
 use Rattle.pp_arguments.specs.Options.{central_of, history_of, printer_of, reader_of}
 use Rattle.pp_arguments.specs.declared.options.ArgFault.{ArgFault}
 use Rattle.pp_arguments.specs.declared.options.ArgFault.TheVariants as argument
@@ -59,7 +59,7 @@ asked_by words = with_numbers words (history_of words) (central_of words)
 -- the command line reports one of its errors with this fault
 abbrev pub IsRefusal : List Text → ArgFault → Type 0
 IsRefusal words argument.NoMemory = ⊥
-IsRefusal words fault = IsToldOf (faults_of words) fault
+IsRefusal words fault = IsFaultOf (faults_of words) fault
 
 -- What the words mean: what they ask for, or a fault. If the command line has several errors, any one may be reported.
 abbrev pub Means : Option (List Text) → Result Asked Trouble → Type 0

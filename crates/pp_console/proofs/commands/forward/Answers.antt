@@ -2,7 +2,7 @@ use Rattle.std.proofs.Common.{◌∙◌, ap, sym}
 use Rattle.pp_history.specs.SessionValue.{after_forward}
 use Rattle.pp_console.specs.Moves.{moved_text, forward_name}
 use Rattle.pp_console.specs.Commands.{forward_answer, answered}
-use Rattle.pp_console.proofs.Performing.{performs-answered, forward-enough}
+use Rattle.pp_console.proofs.Performing.{performs-answered, forward-within}
 use Rattle.pp_console.proofs.commands.forward.Goals as goal
 
 pub returns-in-Ok : goal.returns-in-Ok
@@ -13,4 +13,4 @@ returns-in-Ok g c =
     let next = after_forward v c.args.actions in
     let slot = c.slot.ensures.value ∙ ap (λ m. m.slot) (c.machine.ensures.is_replay next (c.in-Ok.ensures.moves v at)) in
     let text = ap (moved_text forward_name c.args.actions) slot in
-    (next, forward-enough c.args.actions v (c.in-Ok.ensures.has_enough v at) ∙ ap (answered next) (sym text), c.in-Ok.ensures.moves v at))
+    (next, forward-within c.args.actions v (c.in-Ok.ensures.has_enough v at) ∙ ap (answered next) (sym text), c.in-Ok.ensures.moves v at))

@@ -3,21 +3,21 @@ use Rattle.std.proofs.lemmas.Bool.Decides.{nat_tests}
 use Rattle.std.proofs.lemmas.List.{append-nil}
 use Rattle.pp_lines.specs.declared.fault.IoFault.TheVariants.{LineLimit}
 use Rattle.pp_console.specs.ServingSteps.{Interrupts}
-use Rattle.pp_console.proofs.Standing.{Stands-text}
+use Rattle.pp_console.proofs.Reading.{HasRead-text}
 use Rattle.pp_console.proofs.Pieces.{Interrupts-lines, Interrupts-bytes}
 use Rattle.pp_console.proofs.serving.feed_text.Goals as goal
 use Rattle.pp_console.proofs.serving.feed_text.Goals.{then-progress-eq-LINE_LIMIT-via-then-progress-eq-LINE_LIMIT, then-progress-eq-LINE_LIMIT-via-else-progress-eq-LINE_LIMIT+then-text-room}
 
-pub returns-then-progress-eq-LINE_LIMIT-clause-stands : goal.returns-then-progress-eq-LINE_LIMIT-clause-stands
-returns-then-progress-eq-LINE_LIMIT-clause-stands c = λ session written origin bytes stands.
+pub returns-then-progress-eq-LINE_LIMIT-clause-has_read : goal.returns-then-progress-eq-LINE_LIMIT-clause-has_read
+returns-then-progress-eq-LINE_LIMIT-clause-has_read c = λ session written origin bytes has_read.
     let text = c.args.text.now in
     let some : 0 < length text = grind (arith, nat_tests) in
     let stopped : Interrupts LineLimit session written origin ((bytes ++ text) ++ []) = elim c.then-progress-eq-LINE_LIMIT.branch [
-      | then-progress-eq-LINE_LIMIT-via-then-progress-eq-LINE_LIMIT w ↦ Interrupts-lines _ session written origin bytes text [] stands (omega (arith, some)) w.if-progress-eq-LINE_LIMIT.true
-      | then-progress-eq-LINE_LIMIT-via-else-progress-eq-LINE_LIMIT+then-text-room w ↦ Interrupts-bytes _ session written origin bytes text [] c.requires stands (omega (arith, w.if-text-room.true)) (omega (arith, w.if-text-room.true)) (grind (arith, nat_tests))
+      | then-progress-eq-LINE_LIMIT-via-then-progress-eq-LINE_LIMIT w ↦ Interrupts-lines _ session written origin bytes text [] has_read (omega (arith, some)) w.if-progress-eq-LINE_LIMIT.true
+      | then-progress-eq-LINE_LIMIT-via-else-progress-eq-LINE_LIMIT+then-text-room w ↦ Interrupts-bytes _ session written origin bytes text [] c.requires has_read (omega (arith, w.if-text-room.true)) (omega (arith, w.if-text-room.true)) (grind (arith, nat_tests))
     ] in
     rw (append-nil (bytes ++ text)) at stopped
 
-pub returns-clause-stands : goal.returns-clause-stands
-returns-clause-stands c = λ session written origin bytes stands.
-    Stands-text _ _ _ _ origin bytes c.args.text.now c.requires stands (c.take_text.ensures bytes stands.keeps) refl refl refl
+pub returns-clause-has_read : goal.returns-clause-has_read
+returns-clause-has_read c = λ session written origin bytes has_read.
+    HasRead-text _ _ _ _ origin bytes c.args.text.now c.requires has_read (c.take_text.ensures bytes has_read.keeps) refl refl refl

@@ -4,17 +4,17 @@ use Rattle.std.proofs.lemmas.Result.{err_from_is_err_and}
 use Rattle.std.specs.Io.KnownBytes.{Consumes, IsAtEnd}
 use Rattle.pp_console.specs.Serving.{origin_of, Serves, Stops}
 use Rattle.pp_lines.proofs.Reading.{Consumes-nothing, Consumes-again, Consumes-keeps}
-use Rattle.pp_console.proofs.Beginning.{Stands-new, Performed-within}
-use Rattle.pp_console.proofs.Ending.{Stops-interrupted, told-at}
+use Rattle.pp_console.proofs.Beginning.{HasRead-new, Performed-within}
+use Rattle.pp_console.proofs.Ending.{Stops-interrupted, at-end}
 use Rattle.pp_console.proofs.serving.serve.Goals as goal
 
 pub pieces-init : goal.pieces-init
 pieces-init g c = record {
-  stands = (
+  has_read = (
     [],
     Consumes-nothing (g.R.Source.rest c.args.source.now),
     sym (append-nil (g.R.Source.given c.args.source.now)),
-    λ start at. Stands-new _ _ _ start at c.new-progress.ensures.line c.new-progress.ensures.bytes c.new-progress.ensures.lines c.new-progress.ensures.refused,
+    λ start at. HasRead-new _ _ _ start at c.new-progress.ensures.line c.new-progress.ensures.bytes c.new-progress.ensures.lines c.new-progress.ensures.refused,
   );
   reads = refl;
   writes = refl;
@@ -22,7 +22,7 @@ pieces-init g c = record {
 
 pub returns-in-Err-clause-script : goal.returns-in-Err-clause-script
 returns-in-Err-clause-script g c =
-    let past = c.pieces.invariant.stands in (
+    let past = c.pieces.invariant.has_read in (
       past.0,
       Consumes-keeps _ (g.R.Source.rest c.pieces.source) _ _ past.1 c.in-Err.ensures.bytes,
       c.in-Err.ensures.given ∙ past.2,
@@ -31,7 +31,7 @@ returns-in-Err-clause-script g c =
 
 pub returns-in-Ok-eq0-clause-script : goal.returns-in-Ok-eq0-clause-script
 returns-in-Ok-eq0-clause-script g c =
-    let past = c.pieces.invariant.stands in
+    let past = c.pieces.invariant.has_read in
     let nothing : Consumes (g.R.Source.rest c.pieces.source) (g.R.Source.rest c.take.new.self) [] = search rules in
     let same : g.R.Source.given c.take.new.self ≡ g.R.Source.given c.pieces.source ++ [] = search rules in
     let end : IsAtEnd (g.R.Source.rest c.take.new.self) = search rules in
@@ -40,7 +40,7 @@ returns-in-Ok-eq0-clause-script g c =
       past.0,
       rw (append-nil past.0) at all,
       same ∙ append-nil (g.R.Source.given c.pieces.source) ∙ past.2,
-      λ start at. told-at c.finish.result (g.R.Source.rest c.take.new.self)
+      λ start at. at-end c.finish.result (g.R.Source.rest c.take.new.self)
           (λ summary. Serves summary c.finish.new.session (g.W.Sink.text c.finish.new.out) (origin_of start (g.W.Sink.text c.args.out.now)) past.0)
           (λ fault left. Stops fault c.finish.new.session (g.W.Sink.text c.finish.new.out) (origin_of start (g.W.Sink.text c.args.out.now)) past.0 left)
           end (c.finish.ensures.serves (origin_of start (g.W.Sink.text c.args.out.now)) past.0 (past.3 start at)),
@@ -48,12 +48,12 @@ returns-in-Ok-eq0-clause-script g c =
 
 pub pieces-preserved : goal.pieces-preserved
 pieces-preserved g c = record {
-  stands =
-      let past = c.pieces.invariant.stands in (
+  has_read =
+      let past = c.pieces.invariant.has_read in (
         past.0 ++ take c.in-Ok.count c.take.new.into,
         Consumes-again _ (g.R.Source.rest c.pieces.source) _ past.0 _ past.1 c.in-Ok.ensures.bytes.0,
         c.in-Ok.ensures.given ∙ ap (λ front. front ++ take c.in-Ok.count c.take.new.into) past.2 ∙ append_assoc _ past.0 _,
-        λ start at. c.in_ok-feed-in-Ok.ensures.stands (origin_of start (g.W.Sink.text c.args.out.now)) past.0 (past.3 start at),
+        λ start at. c.in_ok-feed-in-Ok.ensures.has_read (origin_of start (g.W.Sink.text c.args.out.now)) past.0 (past.3 start at),
       );
   reads = search rules;
   writes = search rules;
@@ -61,11 +61,11 @@ pieces-preserved g c = record {
 
 pub returns-in_err-feed-in-Ok-clause-script : goal.returns-in_err-feed-in-Ok-clause-script
 returns-in_err-feed-in-Ok-clause-script g c =
-    let past = c.pieces.invariant.stands in
+    let past = c.pieces.invariant.has_read in
     let p = err_from_is_err_and c.from_residual.result c.from_residual.ensures.1 in
     rw (p.1, p.2) (
       past.0 ++ take c.in-Ok.count c.take.new.into,
       Consumes-again _ (g.R.Source.rest c.pieces.source) _ past.0 _ past.1 c.in-Ok.ensures.bytes.0,
       c.in-Ok.ensures.given ∙ ap (λ front. front ++ take c.in-Ok.count c.take.new.into) past.2 ∙ append_assoc _ past.0 _,
-      λ start at. Stops-interrupted _ _ _ _ _ _ (c.in_err-feed-in-Ok.ensures.stands (origin_of start (g.W.Sink.text c.args.out.now)) past.0 (past.3 start at)),
+      λ start at. Stops-interrupted _ _ _ _ _ _ (c.in_err-feed-in-Ok.ensures.has_read (origin_of start (g.W.Sink.text c.args.out.now)) past.0 (past.3 start at)),
     )

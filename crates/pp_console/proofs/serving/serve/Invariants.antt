@@ -5,15 +5,15 @@ use Rattle.pp_console.specs.Commands.{Value}
 use Rattle.pp_history.specs.SessionValue.{IsAt}
 use Rattle.pp_rig.specs.Rules.{rules}
 use Rattle.pp_console.specs.Serving.{origin_of}
-use Rattle.pp_console.specs.ServingSteps.{Stands}
+use Rattle.pp_console.specs.ServingSteps.{HasRead}
 use Rattle.pp_console.proofs.serving.serve.Given as goal
 
 abbrev pub invariant-pieces : goal.invariant-pieces
 invariant-pieces g l = record {
-  stands : (taken : List ℕ) × Consumes (g.R.Source.rest l.initial.source) (g.R.Source.rest l.source) taken
+  has_read : (taken : List ℕ) × Consumes (g.R.Source.rest l.initial.source) (g.R.Source.rest l.source) taken
       × (g.R.Source.given l.source ≡ g.R.Source.given l.initial.source ++ taken)
       × ((start : Value) → IsAt rules l.initial.session start →
-      Stands l.progress l.session (g.W.Sink.text l.out) (origin_of start (g.W.Sink.text l.initial.out)) taken);
+      HasRead l.progress l.session (g.W.Sink.text l.out) (origin_of start (g.W.Sink.text l.initial.out)) taken);
   reads : g.R.Source.failure_count l.source ≡ g.R.Source.failure_count l.initial.source;
   writes : g.W.Sink.failure_count l.out ≡ g.W.Sink.failure_count l.initial.out;
 }

@@ -3,8 +3,8 @@ use Rattle.std.proofs.lemmas.Result.{err_from_is_err_and}
 use Rattle.pp_lines.proofs.Reading.{piece_at, piece_next}
 use Rattle.pp_files.proofs.loading.feed.Goals as goal
 
-pub returns-in_err-feed_byte-clause-stands : goal.returns-in_err-feed_byte-clause-stands
-returns-in_err-feed_byte-clause-stands g c = λ bytes more stands.
+pub returns-in_err-feed_byte-clause-has_read : goal.returns-in_err-feed_byte-clause-has_read
+returns-in_err-feed_byte-clause-has_read g c = λ bytes more has_read.
     let p = err_from_is_err_and c.from_residual.result c.from_residual.ensures.1 in
     let i = c.loop-byte.byte-index in
     let piece = c.args.piece.now in
@@ -13,13 +13,13 @@ returns-in_err-feed_byte-clause-stands g c = λ bytes more stands.
     sym (append_assoc (bytes ++ take i piece) (get_or piece i 0 ∷ []) rest)
     ∙ sym (append_assoc ((bytes ++ take i piece) ++ get_or piece i 0 ∷ []) (drop (i + 1) piece) more)
     ∙ ap (λ front. front ++ more) (piece_at bytes piece i c.loop-byte-test.true) in
-    rw (p.1, p.2) (rw same at (c.in_err-feed_byte.ensures.stands (bytes ++ take i piece) rest (c.loop-byte.invariant.stands bytes stands)))
+    rw (p.1, p.2) (rw same at (c.in_err-feed_byte.ensures.has_read (bytes ++ take i piece) rest (c.loop-byte.invariant.has_read bytes has_read)))
 
 pub loop-byte-preserved : goal.loop-byte-preserved
 loop-byte-preserved g c = record {
-  stands = λ bytes stands.
+  has_read = λ bytes has_read.
       let i = c.loop-byte.byte-index in
       rw (piece_next bytes c.args.piece.now i c.loop-byte-test.true) at
-      (c.in_ok-feed_byte.ensures.stands (bytes ++ take i c.args.piece.now) [] (c.loop-byte.invariant.stands bytes stands));
+      (c.in_ok-feed_byte.ensures.has_read (bytes ++ take i c.args.piece.now) [] (c.loop-byte.invariant.has_read bytes has_read));
   counts_bytes = search rules;
 }

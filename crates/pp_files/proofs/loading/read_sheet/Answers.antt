@@ -8,7 +8,7 @@ use Rattle.pp_files.proofs.loading.read_sheet.Goals as goal
 
 pub pieces-init : goal.pieces-init
 pieces-init g c = record {
-  stands = (
+  has_read = (
     [],
     Consumes-nothing (g.R.Source.rest c.args.source.now),
     sym (append-nil (g.R.Source.given c.args.source.now)),
@@ -19,19 +19,19 @@ pieces-init g c = record {
 
 pub pieces-preserved : goal.pieces-preserved
 pieces-preserved g c = record {
-  stands =
-      let past = c.pieces.invariant.stands in (
+  has_read =
+      let past = c.pieces.invariant.has_read in (
         past.0 ++ take c.in-Ok.count c.take.new.into,
         Consumes-again _ (g.R.Source.rest c.pieces.source) _ past.0 _ past.1 c.in-Ok.ensures.bytes.0,
         c.in-Ok.ensures.given ∙ ap (λ front. front ++ take c.in-Ok.count c.take.new.into) past.2 ∙ append_assoc _ past.0 _,
-        c.in_ok-feed-in-Ok.ensures.stands past.0 [] past.3,
+        c.in_ok-feed-in-Ok.ensures.has_read past.0 [] past.3,
       );
   reads = search rules;
 }
 
 pub returns-in-Err-clause-file : goal.returns-in-Err-clause-file
 returns-in-Err-clause-file g c =
-    let past = c.pieces.invariant.stands in (
+    let past = c.pieces.invariant.has_read in (
       past.0,
       Consumes-keeps _ (g.R.Source.rest c.pieces.source) _ past.0 past.1 c.in-Err.ensures.bytes,
       c.in-Err.ensures.given ∙ past.2,
@@ -40,7 +40,7 @@ returns-in-Err-clause-file g c =
 
 pub returns-in-Ok-eq0-clause-file : goal.returns-in-Ok-eq0-clause-file
 returns-in-Ok-eq0-clause-file g c =
-    let past = c.pieces.invariant.stands in
+    let past = c.pieces.invariant.has_read in
     let nothing : Consumes (g.R.Source.rest c.pieces.source) (g.R.Source.rest c.take.new.self) [] = search rules in
     let same : g.R.Source.given c.take.new.self ≡ g.R.Source.given c.pieces.source ++ [] = search rules in
     let end : IsAtEnd (g.R.Source.rest c.take.new.self) = search rules in
@@ -54,12 +54,12 @@ returns-in-Ok-eq0-clause-file g c =
 
 pub returns-in_err-feed-in-Ok-clause-file : goal.returns-in_err-feed-in-Ok-clause-file
 returns-in_err-feed-in-Ok-clause-file g c =
-    let past = c.pieces.invariant.stands in
+    let past = c.pieces.invariant.has_read in
     let p = err_from_is_err_and c.from_residual.result c.from_residual.ensures.1 in
     let all = Consumes-again _ (g.R.Source.rest c.pieces.source) _ past.0 _ past.1 c.in-Ok.ensures.bytes.0 in
     rw (p.1, p.2) (
       past.0 ++ take c.in-Ok.count c.take.new.into,
       all,
       c.in-Ok.ensures.given ∙ ap (λ front. front ++ take c.in-Ok.count c.take.new.into) past.2 ∙ append_assoc _ past.0 _,
-      fails-in g.S.Sheet.rule _ (g.R.Source.rest c.take.new.self) _ _ all (λ later. c.in_err-feed-in-Ok.ensures.stands past.0 later past.3),
+      fails-in g.S.Sheet.rule _ (g.R.Source.rest c.take.new.self) _ _ all (λ later. c.in_err-feed-in-Ok.ensures.has_read past.0 later past.3),
     )

@@ -6,7 +6,7 @@ use Rattle.pp_files.proofs.loading.read_sheet.Given as goal
 
 abbrev pub invariant-pieces : goal.invariant-pieces
 invariant-pieces g l = record {
-  stands : (taken : List ℕ) × Consumes (g.R.Source.rest l.initial.source) (g.R.Source.rest l.source) taken
+  has_read : (taken : List ℕ) × Consumes (g.R.Source.rest l.initial.source) (g.R.Source.rest l.source) taken
       × (g.R.Source.given l.source ≡ g.R.Source.given l.initial.source ++ taken)
       × HasRead l.progress g.S.Sheet.rule (g.S.Sheet.holds l.sheet) taken;
   reads : g.R.Source.failure_count l.source ≡ g.R.Source.failure_count l.initial.source;

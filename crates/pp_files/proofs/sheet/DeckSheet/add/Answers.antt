@@ -7,5 +7,5 @@ use Rattle.pp_files.proofs.sheet.DeckSheet.add.Goals as goal
 
 pub returns-in-Ok-clause-row : goal.returns-in-Ok-clause-row
 returns-in-Ok-clause-row c = λ rows held.
-    let few : length (numbers (words c.args.text.now)) ≤ 80 = rw c.in-Some.ensures.at_most at c.in-Some.ensures.short in
-    deck-more c.args.line rows _ c.args.self.now.cards.items _ c.card.result held few (c.card.ensures.row ∙ ap card_of_row c.in-Some.ensures.at_most) c.in-Ok.ensures.items
+    let fits : length (numbers (words c.args.text.now)) ≤ 80 = rw c.in-Some.ensures.at_most at c.in-Some.ensures.short in
+    deck-more c.args.line rows _ c.args.self.now.cards.items _ c.card.result held fits (c.card.ensures.row ∙ ap card_of_row c.in-Some.ensures.at_most) c.in-Ok.ensures.items
