@@ -105,7 +105,7 @@ def known(calls):
     for crate, text in sources():
         bare = SKIPPED.sub(" ", text)
         code.setdefault(crate, set()).update(re.findall(r"\w+", bare))
-        clauses.update(re.findall(r"\b(?:ensures|requires)\s+(\w+)\s*\{", bare))
+        clauses.update(re.findall(r"\b(?:ensures|requires)\*?\s+(\w+)\s*\{", bare))
         ghosts.update(re.findall(r"\bghost (\w+)\s*[:=]", bare))
         for quoted in SKIPPED.findall(text):
             words.update(re.findall(r"[A-Z]+", quoted))
