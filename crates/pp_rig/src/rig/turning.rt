@@ -376,7 +376,7 @@ impl Rig {
         let tail = tails.newest().unwrap();
         match &mut tail.back {
             Some(RigRecord::Turn(turn)) => self.turn(turn),
-            back => *back = Some(self.act(&Action::Turn)),
+            _ => unreachable!(),
         }
     }
 
