@@ -2,8 +2,9 @@
 
 A proof cites only the contract of a function that it calls. So mutants in the bodies of different functions do not mix.
 Nor do mutants in different arms of one match, since a goal's name has the arm, nor one in the contract of a function that
-nothing calls. Any other mutant is checked alone: one of specs/ or proofs/, of a constant, a type or a macro, of another
-contract, of a const function, or of functions that have one proof for all.
+nothing calls. A mutant of a constant is in each function whose body names it, if nothing else does, and a function that a
+mutant adds, which nothing else names, is a place of its own. Any other mutant is checked alone: one of specs/ or proofs/, of
+another constant, of a type or a macro, of another contract, of a const function, or of functions that have one proof for all.
 """
 
 import os
@@ -18,6 +19,9 @@ Mutant = namedtuple("Mutant", "crate name pairs places fault")
 EDIT_NAME = re.compile(r"[A-Za-z0-9_-][A-Za-z0-9_.-]*\.edit")
 TEXTS = re.compile(r'//[^\n]*|/\*.*?\*/|b?"(?:\\.|[^"\\])*"|(?<!\w)b?\'(?:\\[^\']*|[^\'\\])\'', re.S)
 CLAUSE = re.compile(r"\b(?:requires|ensures|ghost|decreases|invariant)\b")
+CONSTANT = re.compile(r"^(?:pub(?:\([^)]*\))? )?const (\w+)\b(?:[^=;\[]|\[[^\]]*\])*=([^;]*);", re.M)
+IMPORT = re.compile(r"^[ \t]*use\b[^;]*;", re.M)
+ADDED = re.compile(r"\s*(?:pub(?:\([^)]*\))?\s+)?fn\s+(\w+)")
 CLOSES = {"{": "}", "(": ")", "[": "]"}
 
 
@@ -71,7 +75,7 @@ def reader(folder):
 
 def mutants_of(crate, folder):
     """Returns the crate's mutants, by name. One that does not apply has a fault."""
-    found = []
+    found, sources = [], sources_of(folder)
     for name in sorted(os.listdir(os.path.join(folder, "must-fail"))):
         if name.endswith(".md"):
             continue
@@ -79,7 +83,7 @@ def mutants_of(crate, folder):
         pairs, fault = pairs_of(text) if text is not None else ([], "it is no text file")
         fault = fault if EDIT_NAME.fullmatch(name) else "its name is not letters, digits, _, - and . with .edit at the end"
         fault = fault or apply(pairs, reader(folder))[1]
-        places = set() if fault else places_of(pairs, folder)
+        places = set() if fault else places_of(pairs, folder, sources)
         found.append(Mutant(crate, name[:-len(".edit")] if name.endswith(".edit") else name, pairs, places, fault))
     return found
 
@@ -189,44 +193,107 @@ def depth_at(text, place):
     return sum((letter in CLOSES) - (letter in CLOSES.values()) for letter in text[:place])
 
 
+def module_of(path):
+    return "::".join(part for part in path[len("src/"):-len(".rt")].split("/") if part not in ("lib", "main", "mod"))
+
+
+def owner_at(hidden, start):
+    return next((owner for first, last, owner in reversed(list(owners(hidden))) if first <= start < last), "")
+
+
 def place_in(path, text, start, end, is_called):
     """Returns the place of a part of a source, or None if an edit there may change more than one function."""
     hidden = blanked(text)
-    module = "::".join(part for part in path[len("src/"):-len(".rt")].split("/") if part not in ("lib", "main", "mod"))
-    around = [owner for first, last, owner in owners(hidden) if first <= start < last]
+    owner = owner_at(hidden, start)
     for begun, body, name, is_plain in functions(hidden):
         if begun <= start and end < body[1] and is_plain:
             if body[0] < start:
-                return Place(module, around[-1] if around else "", name, arm_of(hidden, body, start, end))
-            is_contract = CLAUSE.search(hidden, begun, start) and not around and not is_called(name)
-            return Place(module, "", name, "") if is_contract else None
+                return Place(module_of(path), owner, name, arm_of(hidden, body, start, end))
+            is_contract = CLAUSE.search(hidden, begun, start) and not owner and not is_called(name)
+            return Place(module_of(path), "", name, "") if is_contract else None
     return None
 
 
-def caller_test(folder):
-    """Returns a function that says whether a function's name is anywhere in the crate but at its definition, in imports and in its proofs."""
-    texts = []
+def users_of(name, sources):
+    """Returns the places of the functions whose bodies name a constant, or nothing if anything else of the crate may name it."""
+    places = set()
+    for path, text in sources.items():
+        text = IMPORT.sub(lambda found: " " * len(found.group()), text)
+        bodies = [(body, function) for _, body, function, is_plain in functions(text) if is_plain]
+        for found in re.finditer(rf"\b{name}\b", text):
+            if re.search(r"\bconst $", text[:found.start()]):
+                continue
+            function = next((function for body, function in bodies if body[0] < found.start() < body[1]), None)
+            if not path.endswith(".rt") or not function:
+                return set()
+            places.add(Place(module_of(path), owner_at(text, found.start()), function, ""))
+    return places
+
+
+def constant_at(text, start, end):
+    """Returns the name of the constant whose value has this part of a source, or nothing."""
+    return next((found.group(1) for found in CONSTANT.finditer(blanked(text)) if found.start(2) <= start and end <= found.end(2)), "")
+
+
+def added_by(path, text, old, new, sources):
+    """Returns the places of the functions that a pair of an edit adds, if that is all it does and nothing named them, else none."""
+    at, old, new = text.index(old), blanked(old).strip(), blanked(new).strip()
+    added = new[:-len(old)] if old and new.endswith(old) else new[len(old):] if new.startswith(old) else ""
+    hidden, names = blanked(text), []
+    if not added or any(begun < at < body[1] for begun, body, _, _ in functions(hidden)):
+        return set()
+    while added.strip():
+        head = ADDED.match(added)
+        body = head and body_of(added, head.end())
+        if not body or any(re.search(rf"\b{head.group(1)}\b", source) for source in sources.values()):
+            return set()
+        names.append(head.group(1))
+        added = added[body[1]:]
+    return {Place(module_of(path), owner_at(hidden, at), name, "") for name in names}
+
+
+def sources_of(folder):
+    """Returns the texts of the crate by their paths, those of its sources without comments and strings."""
+    sources = {}
     for part in ("src", "specs", "proofs"):
         for at, _, names in os.walk(os.path.join(folder, part)):
             for name in names:
                 text = read_file(os.path.join(at, name)) or ""
-                texts.append((at, re.sub(r"\buse\b[^;]*;", "", blanked(text)) if name.endswith(".rt") else text))
-    is_own = lambda name, at: os.path.basename(at) == name
-    return lambda name: sum(len(re.findall(rf"\b{name}\b", text)) for at, text in texts if not is_own(name, at)) > 1
+                path = os.path.relpath(os.path.join(at, name), folder)
+                sources[path] = blanked(text) if name.endswith(".rt") else text
+    return sources
 
 
-def places_of(pairs, folder):
+def caller_test(sources):
+    """Returns a function that says whether a function's name is anywhere in the crate but at its definition, in imports and in its proofs."""
+    texts = {path: re.sub(r"\buse\b[^;]*;", "", text) if path.endswith(".rt") else text for path, text in sources.items()}
+    is_own = lambda name, path: os.path.basename(os.path.dirname(path)) == name
+    return lambda name: sum(len(re.findall(rf"\b{name}\b", text)) for path, text in texts.items() if not is_own(name, path)) > 1
+
+
+def places_of(pairs, folder, sources):
     """Returns the places of an edit, or none if it has to be checked alone."""
     places, texts = set(), {}
     for path, old, new in pairs:
         if not path.startswith("src/"):
             return set()
         text = texts.get(path) or reader(folder)(path)
-        start = text.index(old)
-        same = len(os.path.commonprefix([old, new]))
-        places.add(place_in(path, text, start + same, start + len(old.rstrip()), caller_test(folder)))
+        found = places_of_pair(path, text, old, new, sources)
+        if not found:
+            return set()
+        places |= found
         texts[path] = text.replace(old, new)
-    return set() if None in places else places
+    return places
+
+
+def places_of_pair(path, text, old, new, sources):
+    start, same = text.index(old), len(os.path.commonprefix([old, new]))
+    start, end = start + same, start + len(old.rstrip())
+    place = place_in(path, text, start, end, caller_test(sources))
+    if place:
+        return {place}
+    constant = constant_at(text, start, end - 1 if old.rstrip().endswith(";") else end)
+    return users_of(constant, sources) if constant else added_by(path, text, old, new, sources)
 
 
 # ---- groups
