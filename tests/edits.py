@@ -3,13 +3,13 @@
 A proof cites only the contract of a function that it calls. So mutants in the bodies of different functions do not mix.
 Nor do mutants in different arms of one match, since a goal's name has the arm, nor one in the contract of a function that
 nothing calls. A mutant of a constant is in each function whose body names it, if nothing else does, and a function that a
-mutant adds, which nothing else names, is a place of its own. Any other mutant is checked alone: one of specs/ or proofs/, of
+mutant adds, which nothing else names, is a place of its own. What another mutant of the crate names counts too. Any other mutant is checked alone: one of specs/ or proofs/, of
 another constant, of a type or a macro, of another contract, of a const function, or of functions that have one proof for all.
 """
 
 import os
 import re
-from collections import namedtuple
+from collections import Counter, namedtuple
 
 # Where an edit is: the module, the owner ('Type', 'TypeTrait' or '' for a free function), the function, and its arm or ''.
 Place = namedtuple("Place", "module owner function arm")
@@ -73,17 +73,31 @@ def reader(folder):
     return lambda path: read_file(os.path.join(folder, path))
 
 
+def read_edits(folder):
+    """Returns by file name the pairs of each edit, and what is wrong with it."""
+    edits = {}
+    for name in sorted(os.listdir(os.path.join(folder, "must-fail"))):
+        if not name.endswith(".md"):
+            text = read_file(os.path.join(folder, "must-fail", name))
+            edits[name] = pairs_of(text) if text is not None else ([], "it is no text file")
+    return edits
+
+
+def added_words(pairs):
+    """Returns the words that the new texts have more often than the old ones."""
+    return {word for _, old, new in pairs for word in Counter(re.findall(r"\w+", new)) - Counter(re.findall(r"\w+", old))}
+
+
 def mutants_of(crate, folder):
     """Returns the crate's mutants, by name. One that does not apply has a fault."""
-    found, sources = [], sources_of(folder)
-    for name in sorted(os.listdir(os.path.join(folder, "must-fail"))):
-        if name.endswith(".md"):
-            continue
-        text = read_file(os.path.join(folder, "must-fail", name))
-        pairs, fault = pairs_of(text) if text is not None else ([], "it is no text file")
+    edits = read_edits(folder)
+    names = Counter(word for pairs, _ in edits.values() for word in added_words(pairs))
+    found, crate_names = [], Names(sources_of(folder))
+    for name, (pairs, fault) in edits.items():
         fault = fault if EDIT_NAME.fullmatch(name) else "its name is not letters, digits, _, - and . with .edit at the end"
         fault = fault or apply(pairs, reader(folder))[1]
-        places = set() if fault else places_of(pairs, folder, sources)
+        crate_names.of_others = names - Counter(added_words(pairs))
+        places = set() if fault else places_of(pairs, folder, crate_names)
         found.append(Mutant(crate, name[:-len(".edit")] if name.endswith(".edit") else name, pairs, places, fault))
     return found
 
@@ -214,42 +228,9 @@ def place_in(path, text, start, end, is_called):
     return None
 
 
-def users_of(name, sources):
-    """Returns the places of the functions whose bodies name a constant, or nothing if anything else of the crate may name it."""
-    places = set()
-    for path, text in sources.items():
-        text = IMPORT.sub(lambda found: " " * len(found.group()), text)
-        bodies = [(body, function) for _, body, function, is_plain in functions(text) if is_plain]
-        for found in re.finditer(rf"\b{name}\b", text):
-            if re.search(r"\bconst $", text[:found.start()]):
-                continue
-            function = next((function for body, function in bodies if body[0] < found.start() < body[1]), None)
-            if not path.endswith(".rt") or not function:
-                return set()
-            places.add(Place(module_of(path), owner_at(text, found.start()), function, ""))
-    return places
-
-
 def constant_at(text, start, end):
     """Returns the name of the constant whose value has this part of a source, or nothing."""
     return next((found.group(1) for found in CONSTANT.finditer(blanked(text)) if found.start(2) <= start and end <= found.end(2)), "")
-
-
-def added_by(path, text, old, new, sources):
-    """Returns the places of the functions that a pair of an edit adds, if that is all it does and nothing named them, else none."""
-    at, old, new = text.index(old), blanked(old).strip(), blanked(new).strip()
-    added = new[:-len(old)] if old and new.endswith(old) else new[len(old):] if new.startswith(old) else ""
-    hidden, names = blanked(text), []
-    if not added or any(begun < at < body[1] for begun, body, _, _ in functions(hidden)):
-        return set()
-    while added.strip():
-        head = ADDED.match(added)
-        body = head and body_of(added, head.end())
-        if not body or any(re.search(rf"\b{head.group(1)}\b", source) for source in sources.values()):
-            return set()
-        names.append(head.group(1))
-        added = added[body[1]:]
-    return {Place(module_of(path), owner_at(hidden, at), name, "") for name in names}
 
 
 def sources_of(folder):
@@ -264,21 +245,45 @@ def sources_of(folder):
     return sources
 
 
-def caller_test(sources):
-    """Returns a function that says whether a function's name is anywhere in the crate but at its definition, in imports and in its proofs."""
-    texts = {path: re.sub(r"\buse\b[^;]*;", "", text) if path.endswith(".rt") else text for path, text in sources.items()}
-    is_own = lambda name, path: os.path.basename(os.path.dirname(path)) == name
-    return lambda name: sum(len(re.findall(rf"\b{name}\b", text)) for path, text in texts.items() if not is_own(name, path)) > 1
+class Names:
+    """Where the crate names a constant or a function, and how many mutants beside the one in hand add a name."""
+
+    def __init__(self, sources):
+        self.sources = sources
+        self.of_others = Counter()
+        self.texts = {path: re.sub(r"\buse\b[^;]*;", "", text) if path.endswith(".rt") else text for path, text in sources.items()}
+
+    def is_called(self, name):
+        """Whether a function's name is anywhere but at its definition, in imports and in its proofs."""
+        is_own = lambda path: os.path.basename(os.path.dirname(path)) == name
+        count = sum(len(re.findall(rf"\b{name}\b", text)) for path, text in self.texts.items() if not is_own(path))
+        return count > 1 or self.of_others[name] > 0
+
+    def is_new(self, name):
+        return not self.of_others[name] and not any(re.search(rf"\b{name}\b", text) for text in self.sources.values())
+
+    def users_of(self, name):
+        """Returns the places of the functions whose bodies name a constant, or nothing if anything else may name it."""
+        places = set()
+        for path, text in self.sources.items():
+            text = IMPORT.sub(lambda found: " " * len(found.group()), text)
+            bodies = [(body, function) for _, body, function, is_plain in functions(text) if is_plain]
+            for found in re.finditer(rf"(?<!\bconst )\b{name}\b", text):
+                function = next((function for body, function in bodies if body[0] < found.start() < body[1]), None)
+                if not path.endswith(".rt") or not function:
+                    return set()
+                places.add(Place(module_of(path), owner_at(text, found.start()), function, ""))
+        return set() if self.of_others[name] else places
 
 
-def places_of(pairs, folder, sources):
+def places_of(pairs, folder, names):
     """Returns the places of an edit, or none if it has to be checked alone."""
     places, texts = set(), {}
     for path, old, new in pairs:
         if not path.startswith("src/"):
             return set()
         text = texts.get(path) or reader(folder)(path)
-        found = places_of_pair(path, text, old, new, sources)
+        found = places_of_pair(path, text, old, new, names)
         if not found:
             return set()
         places |= found
@@ -286,14 +291,31 @@ def places_of(pairs, folder, sources):
     return places
 
 
-def places_of_pair(path, text, old, new, sources):
+def places_of_pair(path, text, old, new, names):
     start, same = text.index(old), len(os.path.commonprefix([old, new]))
     start, end = start + same, start + len(old.rstrip())
-    place = place_in(path, text, start, end, caller_test(sources))
+    place = place_in(path, text, start, end, names.is_called)
     if place:
         return {place}
     constant = constant_at(text, start, end - 1 if old.rstrip().endswith(";") else end)
-    return users_of(constant, sources) if constant else added_by(path, text, old, new, sources)
+    return names.users_of(constant) if constant else added_by(path, text, old, new, names)
+
+
+def added_by(path, text, old, new, names):
+    """Returns the places of the functions that a pair of an edit adds, if that is all it does and nothing else names them, else none."""
+    at, old, new = text.index(old), blanked(old).strip(), blanked(new).strip()
+    added = new[:-len(old)] if old and new.endswith(old) else new[len(old):] if new.startswith(old) else ""
+    hidden, found = blanked(text), set()
+    if not added or any(begun < at < body[1] for begun, body, _, _ in functions(hidden)):
+        return set()
+    while added.strip():
+        head = ADDED.match(added)
+        body = head and body_of(added, head.end())
+        if not body or not names.is_new(head.group(1)):
+            return set()
+        found.add(Place(module_of(path), owner_at(hidden, at), head.group(1), ""))
+        added = added[body[1]:]
+    return found
 
 
 # ---- groups
