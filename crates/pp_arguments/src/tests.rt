@@ -107,18 +107,20 @@ fn each_option_is_its_own(rt: HostRuntime) -> Result<(), Fail> {
     Ok(())
 }
 
+fn text(name: &Option<String>) -> Option<&str> {
+    match name {
+        Some(name) => Some(name.as_str()),
+        None => None,
+    }
+}
+
+/// The example of the crate's page.
 #[test]
 fn a_value_may_follow_an_equals_sign(rt: HostRuntime) -> Result<(), Fail> {
-    let line = "pp6600 --deck=F --history=00005 --reader=0012";
-    let numbers = Numbers {
-        history: 5,
-        ..USUAL
-    };
-    let names = Names {
-        deck: Some("F"),
-        ..NO_NAMES
-    };
-    assert!(rt; asks(rt.alloc(), line, numbers, names)?);
+    let options = read(rt.alloc(), "pp6600 --deck=F --history=00005 --reader=0012")??;
+    assert_eq!(rt; text(&options.deck), Some("F"));
+    assert_eq!(rt; options.history, 5);
+    assert_eq!(rt; options.reader, 0o12);
     Ok(())
 }
 

@@ -2,12 +2,14 @@
 use super::*;
 use std::process::Abort;
 
+/// Returns why a line is rejected, if it is.
+fn fault_of(line: &[u8]) -> Option<LineFault> {
+    parse(line).err()
+}
+
 /// Returns whether a line is rejected for this reason.
-fn is_rejected(line: &[u8], wanted: LineFault) -> bool {
-    match parse(line) {
-        Ok(_) => false,
-        Err(fault) => fault == wanted,
-    }
+fn is_rejected(line: &[u8], fault: LineFault) -> bool {
+    fault_of(line) == Some(fault)
 }
 
 /// Checks that each line is rejected for this reason.
