@@ -19,7 +19,11 @@ history_read word = option_and_then (λ count. if nat_le 1 count then Some count
 
 -- a size of central memory by its thousands of words
 abbrev pub size_of : ℕ → Option CentralSize
-size_of thousands = if thousands == 32 then Some K32 else (if thousands == 64 then Some K64 else (if thousands == 128 then Some K128 else None))
+size_of thousands =
+    if thousands == 32 then Some K32
+    else (if thousands == 64 then Some K64
+    else (if thousands == 128 then Some K128
+    else None))
 
 abbrev pub central_read : Text → Option CentralSize
 central_read word = option_and_then size_of (decimal_read word 128)

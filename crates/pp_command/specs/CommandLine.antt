@@ -41,7 +41,9 @@ makes make read given = read given >>= λ x. Ok (make x)
 unfoldable pub set_cells : Words → Result Request LineFault
 set_cells (n ∷ a ∷ v ∷ more) =
     if nat_lt 7 (length more) then Err WordCount
-    else if_octal (n ∷ a ∷ v ∷ more) (number 0o11 n >>= λ pp. number 0o7777 a >>= λ cell. numbers 0o7777 (v ∷ more) >>= λ values. Ok (Act (SetCells pp cell values)))
+    else if_octal (n ∷ a ∷ v ∷ more)
+    (number 0o11 n >>= λ pp. number 0o7777 a >>= λ cell. numbers 0o7777 (v ∷ more) >>= λ values.
+    Ok (Act (SetCells pp cell values)))
 set_cells _ = Err WordCount
 
 -- I (inactive), E (active, empty) or F (active, full)

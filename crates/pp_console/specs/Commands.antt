@@ -72,11 +72,15 @@ moved name actions v = answered v (moved_text name actions (present v).slot)
 
 -- BACK: undoes actions, if the undo history has as many
 unfoldable pub back_answer : ℕ → Value → Answer
-back_answer actions v = if nat_lt v.kept actions then rejected v too_few_text else moved back_name actions (after_back v actions)
+back_answer actions v =
+    if nat_lt v.kept actions then rejected v too_few_text
+    else moved back_name actions (after_back v actions)
 
 -- FORWARD: redoes actions, if the redo list has as many
 unfoldable pub forward_answer : ℕ → Value → Answer
-forward_answer actions v = if nat_lt (length v.ahead) actions then rejected v too_few_ahead_text else moved forward_name actions (after_forward v actions)
+forward_answer actions v =
+    if nat_lt (length v.ahead) actions then rejected v too_few_ahead_text
+    else moved forward_name actions (after_forward v actions)
 
 -- undoes actions back to before a change, if there is one
 abbrev pub back_or : Option ℕ → Value → Answer

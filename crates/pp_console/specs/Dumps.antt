@@ -29,7 +29,8 @@ cells_text s n first last = each (row_at s n first last) 0 ((last + 8 - first) /
 unfoldable pub processor_text : Machine → ℕ → List ℕ
 processor_text s n =
     field (codes "PP ") 2 n ++ field (codes " P ") 4 (number s (RegP n)) ++ field (codes " A ") 6 (number s (RegA n))
-    ++ field (codes " Q ") 4 (number s (RegQ n)) ++ field (codes " PHASE ") 4 (number s (Phase n)) ++ field (codes " SLOT ") 2 (number s Slot) ++ 10 ∷ []
+    ++ field (codes " Q ") 4 (number s (RegQ n)) ++ field (codes " PHASE ") 4 (number s (Phase n))
+    ++ field (codes " SLOT ") 2 (number s Slot) ++ 10 ∷ []
 
 -- inactive, empty, full, or with a function code
 unfoldable pub state_text : ℕ → List ℕ
@@ -41,7 +42,8 @@ state_text state =
 
 -- DUMP H: a channel
 unfoldable pub channel_line : Machine → ℕ → List ℕ
-channel_line s c = field (codes "H ") 2 c ++ state_text (number s (ChannelMode c)) ++ field [] 4 (number s (ChannelWord c)) ++ 10 ∷ []
+channel_line s c =
+    field (codes "H ") 2 c ++ state_text (number s (ChannelMode c)) ++ field [] 4 (number s (ChannelWord c)) ++ 10 ∷ []
 
 unfoldable pub channels_text : Machine → List ℕ
 channels_text s = each (channel_line s) 0 12 ++ field (codes "H 14 F ") 4 (number s Clock) ++ 10 ∷ []
@@ -71,8 +73,9 @@ mode_text active mode =
 -- DUMP CR
 unfoldable pub reader_text : Machine → List ℕ
 reader_text s =
-    field (codes "CR H ") 2 s.setup.reader_channel ++ field (codes " CARD ") 4 (number s Card) ++ field (codes " OF ") 4 (length s.reader.deck)
-    ++ field (codes " COLUMN ") 3 (number s CardColumn) ++ mode_text (codes " MODE READING\n") (number s ReaderMode)
+    field (codes "CR H ") 2 s.setup.reader_channel ++ field (codes " CARD ") 4 (number s Card)
+    ++ field (codes " OF ") 4 (length s.reader.deck) ++ field (codes " COLUMN ") 3 (number s CardColumn)
+    ++ mode_text (codes " MODE READING\n") (number s ReaderMode)
 
 -- DUMP LP: the printer, and its paper
 unfoldable pub printer_line : Machine → List ℕ

@@ -11,7 +11,9 @@ marked mark line = mark ++ line ++ 10 ∷ []
 
 -- each line that has a line end, after a bar, and the symbols after the last line end, if any, after a slash
 unfoldable pub lines_of_paper : List ℕ → List ℕ
-lines_of_paper characters = flat_map (marked (codes "|")) (finished characters) ++ flat_map (marked (codes "/")) (last_line (unfinished characters))
+lines_of_paper characters =
+    flat_map (marked (codes "|")) (finished characters)
+    ++ flat_map (marked (codes "/")) (last_line (unfinished characters))
 
 -- the symbols on the paper
 abbrev pub paper : Machine → List ℕ

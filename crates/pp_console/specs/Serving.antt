@@ -52,7 +52,8 @@ Stops LineLimit session text origin bytes left =
     Performed session text origin (finished_within LINE_LIMIT BYTE_LIMIT bytes)
     × ((BYTE_LIMIT < length bytes) ⊎ (LINE_LIMIT < length (lines bytes)))
 Stops WriteFailed session text origin bytes left =
-    (done : List (List ℕ)) × (line : List ℕ) × (later : List (List ℕ)) × IsAnswered bytes left done line later × Breaks session text origin done line
+    (done : List (List ℕ)) × (line : List ℕ) × (later : List (List ℕ)) × IsAnswered bytes left done line later
+    × Breaks session text origin done line
 
 -- the sink's count of failures after a fault
 abbrev pub writes_after : IoFault → ℕ → ℕ

@@ -33,4 +33,6 @@ watches_text (watched ∷ others) = flat_map watch_text (watched ∷ others)
 -- the change that ended a run, if there is one: the place, the number before and the number after
 unfoldable pub hit_text : Option Hit → List ℕ
 hit_text None = []
-hit_text (Some hit) = codes "HIT " ++ place_text hit.place ++ field (codes " ") (digits_of hit.place) hit.was ++ field (codes " ") (digits_of hit.place) hit.now ++ 10 ∷ []
+hit_text (Some hit) =
+    codes "HIT " ++ place_text hit.place ++ field (codes " ") (digits_of hit.place) hit.was
+    ++ field (codes " ") (digits_of hit.place) hit.now ++ 10 ∷ []

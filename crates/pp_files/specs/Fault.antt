@@ -29,7 +29,8 @@ BreaksOff rule limit taken = (length taken ≤ limit) × HasNoFault rule (finish
 -- memory ran out or a read failed before any fault of the file.
 abbrev pub IsCauseOf : {A : Type 0} → Rule → (List ℕ → Result A LoadFault) → List ℕ → List ℕ → LoadFault → Type 0
 IsCauseOf rule file taken bytes fault =
-    (file bytes ≡ Err fault) ⊎ (((fault ≡ NoMemory) × RunsOut rule file_limit bytes) ⊎ ((fault ≡ ReadFailed) × BreaksOff rule file_limit taken))
+    (file bytes ≡ Err fault)
+    ⊎ (((fault ≡ NoMemory) × RunsOut rule file_limit bytes) ⊎ ((fault ≡ ReadFailed) × BreaksOff rule file_limit taken))
 
 -- the source's count of failures after a fault
 abbrev pub reads_after : LoadFault → ℕ → ℕ

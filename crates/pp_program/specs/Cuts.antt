@@ -56,7 +56,8 @@ IsReadOf (Some path) taken typed read = taken ≡ Some read
 -- The script was cut short, given its content if a script is named, and standard input, and what was read of either.
 abbrev pub IsCutPerforming : Option Text → Option (List ℕ) → List ℕ → Option (List ℕ) → List ℕ → Value → Course → Type 0
 IsCutPerforming path content input taken typed start course =
-    (bytes : List ℕ) × (script_at path content input ≡ Ok bytes) × (read : List ℕ) × IsReadOf path taken typed read × IsCutServing start bytes read course
+    (bytes : List ℕ) × (script_at path content input ≡ Ok bytes) × (read : List ℕ) × IsReadOf path taken typed read
+    × IsCutServing start bytes read course
 
 -- the script was performed, or it could not be opened, or it was cut short
 abbrev pub IsPerformed : Option Text → Option (List ℕ) → List ℕ → Option (List ℕ) → List ℕ → Value → Course → Type 0

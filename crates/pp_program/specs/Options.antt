@@ -57,13 +57,13 @@ unfoldable pub asked_by : List Text → Result Asked Trouble
 asked_by words = with_numbers words (history_of words) (central_of words)
 
 -- the command line reports one of its errors with this fault
-abbrev pub IsRefusal : List Text → ArgFault → Type 0
-IsRefusal words argument.NoMemory = ⊥
-IsRefusal words fault = IsFaultOf (faults_of words) fault
+abbrev pub IsRejection : List Text → ArgFault → Type 0
+IsRejection words argument.NoMemory = ⊥
+IsRejection words fault = IsFaultOf (faults_of words) fault
 
 -- What the words mean: what they ask for, or a fault. If the command line has several errors, any one may be reported.
 abbrev pub Means : Option (List Text) → Result Asked Trouble → Type 0
 Means None meaning = meaning ≡ Err BadArguments
 Means (Some words) meaning =
     ((faults_of words ≡ []) × (meaning ≡ asked_by words))
-    ⊎ ((fault : ArgFault) × IsRefusal words fault × (meaning ≡ Err (of_arguments fault)))
+    ⊎ ((fault : ArgFault) × IsRejection words fault × (meaning ≡ Err (of_arguments fault)))

@@ -16,7 +16,8 @@ IsKnown files None content = ⊤
 IsKnown files (Some path) content = Agrees (files path) content
 
 abbrev pub AreKnown : (Text → Option (Option (List ℕ))) → Given → Asked → Type 0
-AreKnown files given asked = IsKnown files asked.deck given.deck × IsKnown files asked.panel given.panel × IsKnown files asked.script given.script
+AreKnown files given asked =
+    IsKnown files asked.deck given.deck × IsKnown files asked.panel given.panel × IsKnown files asked.script given.script
 
 -- the course of rejected words is that of the program; that of accepted words may be cut short
 abbrev pub Takes : (Text → Option (Option (List ℕ))) → Given → Result Asked Trouble → List Reading → List ℕ → Course → Type 0

@@ -71,6 +71,6 @@ pub fn printed_words()
     ensures no_room { PrinterLeads
         ((AtState, 2) ∷ (AtWord, 0o0102) ∷ (AtOwn PrinterMode, 1) ∷ (AtOwn Length, 0o177777) ∷ [])
         ((AtState, 2) ∷ (AtWord, 0o0102) ∷ (AtOwn PrinterMode, 1) ∷ (AtOwn Length, 0o177777) ∷ []) }
-    ensures no_room_told { PrinterLeads ((AtState, 1) ∷ (AtOwn PrinterMode, 2) ∷ (AtOwn Length, 0o177777) ∷ [])
+    ensures no_room_status { PrinterLeads ((AtState, 1) ∷ (AtOwn PrinterMode, 2) ∷ (AtOwn Length, 0o177777) ∷ [])
         ((AtState, 2) ∷ (AtWord, 1) ∷ (AtOwn PrinterMode, 3) ∷ []) }
 {}
