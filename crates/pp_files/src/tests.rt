@@ -2,14 +2,30 @@ use crate::{LoadFault, load_deck, load_panel};
 use pp_lines::{Endless, Feed, Log, Source};
 use std::test::Fail;
 
-/// Returns the fault of a deck file, if it has one.
-fn deck_fault(rt: HostRuntime, bytes: &[u8]) -> Option<LoadFault> {
-    load_deck(rt.alloc(), &mut Feed::new(bytes, 4096)).err()
+/// Returns whether a deck file has this fault, or none.
+fn deck_has(rt: HostRuntime, bytes: &[u8], wanted: Option<LoadFault>) -> bool {
+    load_deck(rt.alloc(), &mut Feed::new(bytes, 4096)).err() == wanted
 }
 
-/// Returns the fault of a panel file, if it has one.
-fn panel_fault(bytes: &[u8]) -> Option<LoadFault> {
-    load_panel(&mut Feed::new(bytes, 4096)).err()
+/// Returns whether a panel file has this fault, or none.
+fn panel_has(bytes: &[u8], wanted: Option<LoadFault>) -> bool {
+    load_panel(&mut Feed::new(bytes, 4096)).err() == wanted
+}
+
+/// Returns whether a source is a deck of as many cards.
+fn has_cards<S: Source>(rt: HostRuntime, source: &mut S, cards: usize) -> bool {
+    match load_deck(rt.alloc(), source) {
+        Ok(deck) => deck.len() == cards,
+        Err(_) => false,
+    }
+}
+
+/// Returns whether loading a deck from a source fails for this reason.
+fn fails<S: Source>(rt: HostRuntime, source: &mut S, wanted: LoadFault) -> bool {
+    match load_deck(rt.alloc(), source) {
+        Ok(_) => false,
+        Err(fault) => fault == wanted,
+    }
 }
 
 /// Returns a text repeated `times` times, followed by `end`.
@@ -22,15 +38,28 @@ fn repeated(rt: HostRuntime, text: &str, times: usize, end: &str) -> Result<Stri
     Ok(all)
 }
 
-/// Returns the fault of a deck file with a text repeated `times` times, followed by `end`.
-fn repeated_deck_fault(
-    rt: HostRuntime,
-    text: &str,
+/// A file of a text repeated a number of times, followed by an end, and its fault, if it has one.
+#[derive(Clone, Copy, Drop)]
+struct LongFile {
+    text: &'static str,
     times: usize,
-    end: &str,
-) -> Result<Option<LoadFault>, Fail> {
-    let file = repeated(rt, text, times, end)?;
-    Ok(deck_fault(rt, file.as_bytes()))
+    end: &'static str,
+    fault: Option<LoadFault>,
+}
+
+impl LongFile {
+    /// Returns whether the deck has that fault, or none.
+    fn is_right(&self, rt: HostRuntime) -> Result<bool, Fail> {
+        let file = repeated(rt, self.text, self.times, self.end)?;
+        Ok(deck_has(rt, file.as_bytes(), self.fault))
+    }
+}
+
+/// A file, and its fault, if it has one.
+#[derive(Clone, Copy, Drop)]
+struct Row {
+    file: &'static [u8],
+    fault: Option<LoadFault>,
 }
 
 #[test]
@@ -69,34 +98,75 @@ fn skipped_lines_returns_and_tabs(rt: HostRuntime) {
 
 #[test]
 fn decks_of_no_card_and_of_many(rt: HostRuntime) -> Result<(), Fail> {
-    assert_eq!(rt;
-        load_deck(rt.alloc(), &mut Feed::new(b"", 1)).map(|deck| deck.len()),
-        Ok(0)
-    );
+    assert!(rt; has_cards(rt, &mut Feed::new(b"", 1), 0));
     let zeros = repeated(rt, "0\n", 2001, "")?;
-    let deck = load_deck(rt.alloc(), &mut Feed::new(zeros.as_bytes(), 4096));
-    assert_eq!(rt; deck.map(|deck| deck.len()), Ok(2001));
+    assert!(rt; has_cards(rt, &mut Feed::new(zeros.as_bytes(), 4096), 2001));
     Ok(())
 }
 
+const DAMAGED: [Row; 7] = [
+    Row {
+        file: b"1 10000",
+        fault: Some(LoadFault::TooLarge(1)),
+    },
+    Row {
+        file: b"1 10000 8",
+        fault: Some(LoadFault::NotOctal(1)),
+    },
+    Row {
+        file: b"* deck\n1 8",
+        fault: Some(LoadFault::NotOctal(2)),
+    },
+    Row {
+        file: b"1\n\xc3\n",
+        fault: Some(LoadFault::NotOctal(2)),
+    },
+    Row {
+        file: b"* \xc3\n",
+        fault: None,
+    },
+    Row {
+        file: b"1\r2\n",
+        fault: Some(LoadFault::NotOctal(1)),
+    },
+    Row {
+        file: b"8\n10000\n",
+        fault: Some(LoadFault::NotOctal(1)),
+    },
+];
+
 #[test]
-fn damaged_decks(rt: HostRuntime) -> Result<(), Fail> {
-    assert_eq!(rt; deck_fault(rt, b"1 10000"), Some(LoadFault::TooLarge(1)));
-    assert_eq!(rt; deck_fault(rt, b"1 10000 8"), Some(LoadFault::NotOctal(1)));
-    assert_eq!(rt;
-        deck_fault(rt, b"* deck\n1 8"),
-        Some(LoadFault::NotOctal(2))
-    );
-    assert_eq!(rt; deck_fault(rt, b"1\n\xc3\n"), Some(LoadFault::NotOctal(2)));
-    assert_eq!(rt; deck_fault(rt, b"* \xc3\n"), None);
-    assert_eq!(rt; deck_fault(rt, b"1\r2\n"), Some(LoadFault::NotOctal(1)));
-    assert_eq!(rt; deck_fault(rt, b"8\n10000\n"), Some(LoadFault::NotOctal(1)));
-    for (times, end, fault) in [
-        (80, "\n", None),
-        (81, "\n8\n", Some(LoadFault::TooManyWords(1))),
-        (80, "10000", Some(LoadFault::TooLarge(1))),
-    ] {
-        assert_eq!(rt; repeated_deck_fault(rt, "1 ", times, end)?, fault);
+fn damaged_decks(rt: HostRuntime) {
+    for row in DAMAGED {
+        assert!(rt; deck_has(rt, row.file, row.fault));
+    }
+}
+
+const MANY_WORDS: [LongFile; 3] = [
+    LongFile {
+        text: "1 ",
+        times: 80,
+        end: "\n",
+        fault: None,
+    },
+    LongFile {
+        text: "1 ",
+        times: 81,
+        end: "\n8\n",
+        fault: Some(LoadFault::TooManyWords(1)),
+    },
+    LongFile {
+        text: "1 ",
+        times: 80,
+        end: "10000",
+        fault: Some(LoadFault::TooLarge(1)),
+    },
+];
+
+#[test]
+fn decks_of_many_words(rt: HostRuntime) -> Result<(), Fail> {
+    for row in MANY_WORDS {
+        assert!(rt; row.is_right(rt)?);
     }
     Ok(())
 }
@@ -107,49 +177,62 @@ fn a_comment_then_too_many_words(rt: HostRuntime) -> Result<(), Fail> {
     let mut file = String::new(rt.alloc());
     file.push_str("* eighty-one words\n")?;
     file.push_str(words.as_str())?;
-    assert_eq!(rt;
-        deck_fault(rt, file.as_bytes()),
-        Some(LoadFault::TooManyWords(2))
-    );
+    assert!(rt; deck_has(rt, file.as_bytes(), Some(LoadFault::TooManyWords(2))));
     Ok(())
 }
 
+const LONG_LINES: [LongFile; 3] = [
+    LongFile {
+        text: " ",
+        times: 1022,
+        end: "1\r\n",
+        fault: None,
+    },
+    LongFile {
+        text: " ",
+        times: 1023,
+        end: "1",
+        fault: Some(LoadFault::LineTooLong(1)),
+    },
+    LongFile {
+        text: "*",
+        times: 1023,
+        end: "\r\r\n",
+        fault: Some(LoadFault::LineTooLong(1)),
+    },
+];
+
 #[test]
 fn long_lines(rt: HostRuntime) -> Result<(), Fail> {
-    let too_long = Some(LoadFault::LineTooLong(1));
-    assert_eq!(rt; repeated_deck_fault(rt, " ", 1022, "1\r\n")?, None);
-    assert_eq!(rt; repeated_deck_fault(rt, " ", 1023, "1")?, too_long);
+    for row in LONG_LINES {
+        assert!(rt; row.is_right(rt)?);
+    }
     let comment = repeated(rt, "*", 1023, "\r\r\n")?;
-    assert_eq!(rt; deck_fault(rt, comment.as_bytes()), too_long);
-    assert_eq!(rt; panel_fault(comment.as_bytes()), too_long);
+    assert!(rt; panel_has(comment.as_bytes(), Some(LoadFault::LineTooLong(1))));
     Ok(())
 }
 
 #[test]
 fn long_files(rt: HostRuntime) -> Result<(), Fail> {
     let feeds = repeated(rt, "\n", 1_048_576, "")?;
-    let deck = load_deck(rt.alloc(), &mut Feed::new(feeds.as_bytes(), 4096));
-    assert_eq!(rt; deck.map(|deck| deck.len()), Ok(0));
-    assert_eq!(rt;
-        repeated_deck_fault(rt, "\n", 1_048_577, "")?,
-        Some(LoadFault::FileTooLong)
-    );
-    let mut ones = Endless {
-        byte: b'1',
-        log: Log::new(),
-    };
-    assert_eq!(rt;
-        load_deck(rt.alloc(), &mut ones).err(),
-        Some(LoadFault::FileTooLong)
-    );
-    assert_eq!(rt;
-        load_panel(&mut Endless {
-            byte: b'\n',
-            log: Log::new()
-        }),
-        Err(LoadFault::FileTooLong)
-    );
+    assert!(rt; has_cards(rt, &mut Feed::new(feeds.as_bytes(), 4096), 0));
+    let feeds = repeated(rt, "\n", 1_048_577, "")?;
+    assert!(rt; deck_has(rt, feeds.as_bytes(), Some(LoadFault::FileTooLong)));
     Ok(())
+}
+
+/// A source that always reads this byte.
+fn endless(byte: u8) -> Endless {
+    Endless {
+        byte,
+        log: Log::new(),
+    }
+}
+
+#[test]
+fn files_without_end(rt: HostRuntime) {
+    assert!(rt; fails(rt, &mut endless(b'1'), LoadFault::FileTooLong));
+    assert!(rt; load_panel(&mut endless(b'\n')).err() == Some(LoadFault::FileTooLong));
 }
 
 #[test]
@@ -159,33 +242,46 @@ fn panels(rt: HostRuntime) {
     for piece in [1, 7, 4096] {
         assert_eq!(rt; load_panel(&mut Feed::new(file, piece)), Ok(panel));
     }
-    assert_eq!(rt; panel_fault(b""), Some(LoadFault::PanelCount));
-    assert_eq!(rt;
-        panel_fault(b"1 2 3 4 5 6 7 1 2 3 4"),
-        Some(LoadFault::PanelCount)
-    );
-    assert_eq!(rt;
-        panel_fault(b"0 0 0 0 0 0 0 0 0 0 0 0\n8"),
-        Some(LoadFault::NotOctal(2))
-    );
-    assert_eq!(rt;
-        panel_fault(b"0 0 0 0 0 0 0 0 0 0 0 0\n1\n8"),
-        Some(LoadFault::PanelCount)
-    );
-    assert_eq!(rt;
-        panel_fault(b"0 0 0 0 0 0 0 0 0 0 0 0 1 8"),
-        Some(LoadFault::NotOctal(1))
-    );
-    assert_eq!(rt;
-        panel_fault(b"0 0 0 0 0 0 0 0 0 0 0 0 1 10000"),
-        Some(LoadFault::TooLarge(1))
-    );
+}
+
+const DAMAGED_PANELS: [Row; 6] = [
+    Row {
+        file: b"",
+        fault: Some(LoadFault::PanelCount),
+    },
+    Row {
+        file: b"1 2 3 4 5 6 7 1 2 3 4",
+        fault: Some(LoadFault::PanelCount),
+    },
+    Row {
+        file: b"0 0 0 0 0 0 0 0 0 0 0 0\n8",
+        fault: Some(LoadFault::NotOctal(2)),
+    },
+    Row {
+        file: b"0 0 0 0 0 0 0 0 0 0 0 0\n1\n8",
+        fault: Some(LoadFault::PanelCount),
+    },
+    Row {
+        file: b"0 0 0 0 0 0 0 0 0 0 0 0 1 8",
+        fault: Some(LoadFault::NotOctal(1)),
+    },
+    Row {
+        file: b"0 0 0 0 0 0 0 0 0 0 0 0 1 10000",
+        fault: Some(LoadFault::TooLarge(1)),
+    },
+];
+
+#[test]
+fn damaged_panels(rt: HostRuntime) {
+    for row in DAMAGED_PANELS {
+        assert!(rt; panel_has(row.file, row.fault));
+    }
 }
 
 #[test]
 fn a_panel_line_of_many_words(rt: HostRuntime) -> Result<(), Fail> {
     let words = repeated(rt, "1 ", 81, "")?;
-    assert_eq!(rt; panel_fault(words.as_bytes()), Some(LoadFault::PanelCount));
+    assert!(rt; panel_has(words.as_bytes(), Some(LoadFault::PanelCount)));
     Ok(())
 }
 
@@ -194,38 +290,40 @@ fn a_source_that_fails_at_any_call(rt: HostRuntime) {
     // Two lines in pieces of one byte are five calls, the last one at the end.
     for call in 1..6 {
         let mut source = Feed::failing(b"1\n2\n", 1, call);
-        let deck = load_deck(rt.alloc(), &mut source);
-        assert_eq!(rt; deck.map(|deck| deck.len()), Err(LoadFault::ReadFailed));
-        assert_eq!(rt; source.failures(), 1);
+        assert!(rt; fails(rt, &mut source, LoadFault::ReadFailed));
+        assert!(rt; source.failures() == 1);
     }
     for call in 1..3 {
         let mut source = Feed::failing(b"1\n2\n", 4096, call);
-        let deck = load_deck(rt.alloc(), &mut source);
-        assert_eq!(rt; deck.map(|deck| deck.len()), Err(LoadFault::ReadFailed));
+        assert!(rt; fails(rt, &mut source, LoadFault::ReadFailed));
     }
+}
+
+#[test]
+fn a_source_that_would_fail_later(rt: HostRuntime) {
     let mut source = Feed::failing(b"1\n2\n", 1, 6);
-    let deck = load_deck(rt.alloc(), &mut source);
-    assert_eq!(rt; deck.map(|deck| deck.len()), Ok(2));
-    assert_eq!(rt; source.failures(), 0);
+    assert!(rt; has_cards(rt, &mut source, 2));
+    assert!(rt; source.failures() == 0);
+}
+
+/// Returns whether a panel of a damaged line whose source fails at this call has this fault.
+fn failing_panel_has(call: u64, fault: LoadFault) -> bool {
+    load_panel(&mut Feed::failing(b"8\n1", 1, call)).err() == Some(fault)
 }
 
 #[test]
 fn a_failing_source_and_faults_of_lines(rt: HostRuntime) -> Result<(), Fail> {
-    assert_eq!(rt;
-        load_panel(&mut Feed::failing(b"8\n1", 1, 3)),
-        Err(LoadFault::NotOctal(1))
-    );
-    assert_eq!(rt;
-        load_panel(&mut Feed::failing(b"8\n1", 1, 2)),
-        Err(LoadFault::ReadFailed)
-    );
+    assert!(rt; failing_panel_has(3, LoadFault::NotOctal(1)));
+    assert!(rt; failing_panel_has(2, LoadFault::ReadFailed));
     let begun = repeated(rt, "1", 2000, "")?;
-    let deck = load_deck(rt.alloc(), &mut Feed::failing(begun.as_bytes(), 4096, 2));
-    assert_eq!(rt; deck.err(), Some(LoadFault::ReadFailed));
-    assert_eq!(rt;
-        deck_fault(rt, begun.as_bytes()),
-        Some(LoadFault::LineTooLong(1))
+    assert!(rt;
+        fails(
+            rt,
+            &mut Feed::failing(begun.as_bytes(), 4096, 2),
+            LoadFault::ReadFailed
+        )
     );
+    assert!(rt; deck_has(rt, begun.as_bytes(), Some(LoadFault::LineTooLong(1))));
     Ok(())
 }
 
