@@ -5,12 +5,14 @@ ghost use Rattle.circular_buffer.specs.Buffer.{buffer};
 ghost use Rattle.std.specs.List.{All};
 ghost use Rattle.pp_history.specs.Joining.{IsActed, IsNext, first_of, left_by};
 ghost use Rattle.pp_history.specs.LogValue.{IsPerformed, IsUndone, LogValue, log_of};
+ghost use Rattle.pp_history.specs.Marks.{AreCovered};
 ghost use Rattle.pp_history.specs.Search.{changes, first_changing, differs_from};
 ghost use Rattle.pp_history.specs.UndoRecord.{whole_record};
 ghost use Rattle.pp_history.specs.Tails.{in_tail, pushed};
 ghost use Rattle.std.specs.Option.{IsSome, option_map};
 
 use crate::looks::Looks;
+use crate::marks::Marks;
 use crate::reversible::{Reversible, UndoRecord};
 use crate::tails::{Tails, push};
 use circular_buffer::HeapCircularBuffer;
@@ -142,11 +144,12 @@ impl<T: Reversible> Log<T> {
         ensures looks_at_each { 1 ≤ length places.now → MatchOption result (looks.old.count + length self.now.records ≤ looks.new.count) (λ k. looks.old.count + k ≤ looks.new.count) }
         ensures kept { IfSome result (λ k. k ≤ length self.now.records) }
     {
+        let marks = Marks::of::<T>(places);
         let mut tail = 0;
         for k in 0..self.kept() {
             let head = self.heads.get(self.ahead + k as usize).unwrap();
             let back = undo_record(head, &self.tails, tail).unwrap();
-            if is_changed(machine, &back, places, looks) {
+            if is_changed(machine, &back, places, &marks, looks) {
                 return Some(k + 1);
             }
             match head {
@@ -218,20 +221,27 @@ fn has_other<T: Reversible>(
     false
 }
 
-/// Does what `has_other` does. Here the kind of the record is tested once, and not for each place.
+/// Does what `has_other` does. Here a record without a marked place is skipped, as one look, and the kind of a record is
+/// tested once, and not for each place.
 #[inline(always)]
 fn is_changed<T: Reversible>(
     machine: &T,
     back: &UndoRecord<T>,
     places: &[T::Place],
+    marks: &Marks,
     looks: &mut Looks,
 ) -> bool
-    requires { All (λ place. T.has_place machine.now place) places.now }
+    requires has_places { All (λ place. T.has_place machine.now place) places.now }
+    requires covers { AreCovered T.mark_of marks.now places.now }
     ensures value { result ≡ changes T.Reversible (λ place. T.value_at machine.now place) places.now (whole_record T.unpacked back.now) }
     ensures counts_up { looks.old.count ≤ looks.new.count }
     ensures cost { looks.new.count ≤ looks.old.count + length places.now }
     ensures looks_at_each { 1 ≤ length places.now → looks.old.count + 1 ≤ looks.new.count }
 {
+    if !T::may_have(back, marks) {
+        looks.count_skipped(places);
+        return false;
+    }
     match *back {
         UndoRecord::Head(head) => has_other(machine, &UndoRecord::Head(head), places, looks),
         UndoRecord::Tail(back) => has_other(machine, &UndoRecord::Tail(back), places, looks),

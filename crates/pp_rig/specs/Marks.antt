@@ -1,43 +1,30 @@
--- Marks of watched places, a Bloom filter with one hash. They show for most turns that the undo record has no watched place.
-use Rattle.std.specs.Prelude.{ℕ, Bool, true, false, ◌≡◌, ◌+◌, ◌*◌, ◌%◌, ◌||◌, List, Option, Some, None, get_or}
-use Rattle.std.specs.List.{All}
+-- The marks of places, and the places of undo records without a mark.
+use Rattle.std.specs.Prelude.{ℕ, Bool, true, false, ◌≡◌, ◌+◌, ◌*◌, ◌/◌, ◌%◌, Option, Some, None}
+use Rattle.pp_history.specs.Marks.{is_marked}
+use Rattle.pp_history.specs.declared.marks.Marks.{Marks}
 use Rattle.pp_machine.specs.Writes.{AllPlaces, Writes}
 use Rattle.pp_machine.specs.declared.place.Place.{Place}
 use Rattle.pp_machine.specs.declared.place.Place.TheVariants.{Cell, ChannelWord, Central}
-use Rattle.pp_rig.specs.Watches.{watched_place}
-use Rattle.pp_rig.specs.declared.rig.marks.WatchMarks.{WatchMarks}
-use Rattle.pp_rig.specs.declared.watched.Watched.{Watched}
+use Rattle.pp_step.specs.View.{PpPlace, pp_place}
 
-abbrev pub cell_index : ℕ → ℕ → ℕ
-cell_index n a = (n * 16 + a % 16) % 256
+-- by processor and block of eight cells
+abbrev pub cell_mark : ℕ → ℕ → ℕ
+cell_mark n a = n % 16 * 16 + a / 8 % 16
 
-abbrev pub central_index : ℕ → ℕ
-central_index a = 160 + a % 16
+-- by block of sixteen words
+abbrev pub central_mark : ℕ → ℕ
+central_mark a = 192 + a / 16 % 64
 
-abbrev pub channel_index : ℕ → ℕ
-channel_index c = 176 + c % 16
+abbrev pub channel_mark : ℕ → ℕ
+channel_mark c = 176 + c % 16
 
--- the index of the mark of a cell, a central word or a channel's register; several places may share a mark
-abbrev pub mark_index : Place → Option ℕ
-mark_index (Cell n a) = Some (cell_index n a)
-mark_index (Central a) = Some (central_index a)
-mark_index (ChannelWord c) = Some (channel_index c)
-mark_index _ = None
+-- the number of the mark of a cell, a central word or a channel's register; several places may share a mark
+abbrev pub mark_of : Place → Option ℕ
+mark_of (Cell n a) = Some (cell_mark n a)
+mark_of (Central a) = Some (central_mark a)
+mark_of (ChannelWord c) = Some (channel_mark c)
+mark_of _ = None
 
-abbrev pub marked_at : List Bool → Option ℕ → Bool
-marked_at marks None = false
-marked_at marks (Some i) = get_or marks i false
-
-abbrev pub is_marked : WatchMarks → Place → Bool
-is_marked m p = marked_at m.marks (mark_index p)
-
--- the place is marked, or a place without a mark is watched, and then every record is searched
-abbrev pub covers : WatchMarks → Place → Bool
-covers m p = m.has_unmarked || is_marked m p
-
-abbrev pub CoversAll : WatchMarks → List Watched → Type 0
-CoversAll m watches = All (λ watched. covers m (watched_place watched) ≡ true) watches
-
--- no place of the list is marked
-abbrev pub AreUnmarked : WatchMarks → Writes Place → Type 0
-AreUnmarked m ws = AllPlaces (λ p. is_marked m p ≡ false) ws
+-- no place that a step of processor n wrote is marked
+abbrev pub AreUnmarked : Marks → ℕ → Writes PpPlace → Type 0
+AreUnmarked m n = AllPlaces (λ x. is_marked m (mark_of (pp_place n x)) ≡ false)

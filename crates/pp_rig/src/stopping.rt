@@ -1,20 +1,20 @@
 //! Runs of turns that stop at the first change of a watched number.
-ghost use Rattle.std.specs.Prelude.{◌≡◌, true};
+ghost use Rattle.std.specs.Prelude.{◌≡◌, map, true};
+ghost use Rattle.pp_history.specs.Marks.{AreCovered};
 ghost use Rattle.pp_history.specs.SessionValue.{SessionValue, IsAt, after_act, replay};
 ghost use Rattle.pp_history.specs.UndoRecord.{whole_record};
 ghost use Rattle.pp_machine.specs.Machine.{Machine};
 ghost use Rattle.pp_rig.specs.Action.{FitsRecord, before};
-ghost use Rattle.pp_rig.specs.Marks.{CoversAll};
+ghost use Rattle.pp_rig.specs.Marks.{mark_of};
 ghost use Rattle.pp_rig.specs.Rules.{rules};
 ghost use Rattle.pp_rig.specs.Short.{unpacked};
 ghost use Rattle.pp_rig.specs.Stopping.{first_change, stopped, after_turns};
-ghost use Rattle.pp_rig.specs.Watches.{watches_of};
+ghost use Rattle.pp_rig.specs.Watches.{watched_place, watches_of};
 
 use crate::action::Action;
 use crate::rig::Rig;
-use crate::rig::marks::WatchMarks;
 use crate::watched::Watched;
-use pp_history::{Reversible, Session, UndoRecord};
+use pp_history::{Marks, Reversible, Session, UndoRecord};
 
 /// A change of a watched number in one turn.
 #[derive(Clone, Copy, Debug, PartialEq, Eq, Drop)]
@@ -62,8 +62,8 @@ fn first_changed(machine: &Rig, back: &UndoRecord<Rig>) -> Option<Hit>
 /// Returns the first watched place, in watch order, whose number the newest action, a turn, changed. After most turns the
 /// marks say that there is none.
 #[inline(always)]
-fn first_change(session: &Session<Rig>, marks: &WatchMarks) -> Option<Hit>
-    requires { CoversAll marks.now (watches_of session.now.machine) }
+fn first_change(session: &Session<Rig>, marks: &Marks) -> Option<Hit>
+    requires { AreCovered mark_of marks.now (map watched_place (watches_of session.now.machine)) }
     ensures { (v : SessionValue Machine Action) → IsAt rules session.now (after_act v Action.Turn) →
         result ≡ first_change (replay rules v.start v.standing) session.now.machine (watches_of session.now.machine) }
 {
@@ -72,10 +72,8 @@ fn first_change(session: &Session<Rig>, marks: &WatchMarks) -> Option<Hit>
         return None;
     }
     let back = session.newest()?;
-    if let UndoRecord::Head(turn) = &back {
-        if !marks.may_match(turn) {
-            return None;
-        }
+    if !Rig::may_have(&back, marks) {
+        return None;
     }
     first_changed(machine, &back)
 }
@@ -93,7 +91,7 @@ pub fn run(session: &mut Session<Rig>, n: u32) -> Stopped
         IsAt rules session.new (after_turns result.turns v) }
 {
     session.has_session_value();
-    let marks = WatchMarks::new(session.machine().watches());
+    let marks = Marks::of::<Rig>(session.machine().watched_places().as_slice());
     for turns in 0..n {
         session.act(Action::Turn);
         if let Some(hit) = first_change(session, &marks) {

@@ -63,3 +63,65 @@ const DROPS_A_WATCH: [Step; 7] = [
 fn a_dropped_watch_comes_back_where_it_stood(rt: HostRuntime) -> Result<(), Fail> {
     follow_anew(&rt, rt.alloc(), &DROPS_A_WATCH)
 }
+
+/// Processor 0 performs a program at 0o100 in turns 1, 0o13 and 0o25: it loads 5 into A first. Then a place is watched,
+/// and the session goes back to its latest change.
+fn search(
+    rt: &impl Abort,
+    alloc: Global,
+    program: &'static [u16],
+    turns: u32,
+    watched: Watched,
+    actions: u32,
+) -> Result<(), Fail> {
+    let mut session = session_of(alloc, make_rig(alloc)?)?;
+    follow(rt, &mut session, &SEARCHED);
+    let steps = [
+        Step::Cells(0, 0o100, program),
+        Step::Runs(turns),
+        Step::Watch(watched),
+        Step::BackToChange(Ok(actions)),
+    ];
+    follow(rt, &mut session, &steps);
+    Ok(())
+}
+
+const SEARCHED: [Step; 5] = [
+    Step::SetChannel(3, ChannelState::Empty, None),
+    Step::SetWord(0o5, 0o77),
+    Step::SetWord(0o24, 0o77),
+    Step::Cells(0, 0o50, &[1]),
+    Step::SetP(0, 0o100),
+];
+
+const STORED_CELL: Watched = Watched::Cell { pp: 0, a: 0o51 };
+
+// Each program below changes the place in turn 0o13, with two turns and the watch after it.
+#[test]
+fn the_search_finds_a_stored_cell(rt: HostRuntime) -> Result<(), Fail> {
+    search(&rt, rt.alloc(), &[0o1405, 0o3451], 0o15, STORED_CELL, 4)
+}
+
+#[test]
+fn the_search_finds_an_output(rt: HostRuntime) -> Result<(), Fail> {
+    let register = Watched::Register { c: 3 };
+    search(&rt, rt.alloc(), &[0o1405, 0o7203], 0o15, register, 4)
+}
+
+/// An exchange at 5 writes central words 5 to 0o24.
+#[test]
+fn the_search_finds_both_ends_of_an_exchange(rt: HostRuntime) -> Result<(), Fail> {
+    let first = Watched::Central { a: 0o5 };
+    let last = Watched::Central { a: 0o24 };
+    search(&rt, rt.alloc(), &[0o1405, 0o2600], 0o15, first, 4)?;
+    search(&rt, rt.alloc(), &[0o1405, 0o2600], 0o15, last, 4)
+}
+
+/// The move of turn 0o25 writes central word 5 to cells 0o7775 to 0o7777, 0 and 1. Three turns and the watch follow.
+#[test]
+fn the_search_finds_both_ends_of_a_block_over_cell_7777(rt: HostRuntime) -> Result<(), Fail> {
+    let low = Watched::Cell { pp: 0, a: 1 };
+    search(&rt, rt.alloc(), &[0o1405, 0o6150, 0o7775], 0o30, low, 5)?;
+    let high = Watched::Cell { pp: 0, a: 0o7777 };
+    search(&rt, rt.alloc(), &[0o1405, 0o6150, 0o7773], 0o30, high, 5)
+}

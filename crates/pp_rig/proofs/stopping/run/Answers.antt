@@ -1,9 +1,10 @@
-use Rattle.std.proofs.Common.{◌≡◌, ◌∙◌, ap, refl, subst, sym}
+use Rattle.std.proofs.Common.{◌≡◌, ◌∙◌, ap, map, refl, subst, sym}
+use Rattle.pp_history.specs.Marks.{AreCovered}
 use Rattle.pp_history.specs.SessionLaws.{machine_at}
 use Rattle.pp_machine.specs.Machine.{Machine}
-use Rattle.pp_rig.specs.Marks.{CoversAll}
+use Rattle.pp_rig.specs.Marks.{mark_of}
 use Rattle.pp_rig.specs.Rules.{rules}
-use Rattle.pp_rig.specs.Watches.{watches_of}
+use Rattle.pp_rig.specs.Watches.{watched_place, watches_of}
 use Rattle.pp_rig.specs.Stopping.{after_turns}
 use Rattle.pp_rig.proofs.Runs.{stopped-start, stopped-on, stopped-hit, stopped-end, after_turns-none, after_turns-more, hit-found, turned-watches}
 use Rattle.pp_rig.proofs.stopping.run.Goals as goal
@@ -20,7 +21,9 @@ pub first_change-requires : goal.first_change-requires
 first_change-requires c =
     let same : watches_of c.act.new.self.machine ≡ watches_of c.args.session.now.machine =
     turned-watches c.loop-turns.session.machine c.act.new.self.machine c.act.ensures.machine ∙ c.loop-turns.invariant.watches in
-    subst (CoversAll c.new-marks.result) (c.watches.ensures.value ∙ (ap (λ (m : Machine). watches_of m) c.machine.ensures.value ∙ sym same)) c.new-marks.ensures
+    let listed : c.as_slice.result.now ≡ map watched_place (watches_of c.act.new.self.machine) =
+    c.as_slice.ensures.value ∙ c.watched_places.ensures.value ∙ ap (map watched_place) (ap (λ (m : Machine). watches_of m) c.machine.ensures.value ∙ sym same) in
+    subst (AreCovered mark_of c.of-marks.result) listed c.of-marks.ensures
 
 pub returns-in-Some-clause-stops : goal.returns-in-Some-clause-stops
 returns-in-Some-clause-stops c =

@@ -1,0 +1,21 @@
+-- Marks cover the places that were added.
+use Rattle.std.proofs.Common.{ℕ, Bool, true, false, ◌≡◌, ◌+◌, ◌<◌, ◌||◌, List, Option, Some, None, IfSome, get_or, length, refl, take}
+use Rattle.std.proofs.lemmas.List.Elements.{All-from_get_or, All-get_or, All-more}
+use Rattle.pp_history.specs.Marks.{AreCovered, covers, is_covered}
+use Rattle.pp_history.specs.declared.marks.Marks.{Marks}
+
+without : (u b : Bool) → (u || false) ≡ true → (u || b) ≡ true
+without true b h = refl
+without false b h = cc
+
+-- a place is covered if the mark that is returned for it was added
+covered_by : (m : Marks) (mark own : Option ℕ) → IfSome mark (λ i. own ≡ Some i) → is_covered m mark ≡ true → is_covered m own ≡ true
+covered_by m None own same h = without m.has_unmarked _ h
+covered_by m (Some i) own same h = rw same h
+
+-- what covers some places, and then one more
+pub covers_more : {P : Type 0} (mark_of : P → Option ℕ) (old new : Marks) (mark : Option ℕ) (places : List P) (i : ℕ) (d item : P) → item ≡ get_or places i d → ((k : Option ℕ) → is_covered old k ≡ true → is_covered new k ≡ true) → is_covered new mark ≡ true → IfSome mark (λ k. mark_of item ≡ Some k) → i < length places → AreCovered mark_of old (take i places) → AreCovered mark_of new (take (i + 1) places)
+covers_more mark_of old new mark places i d item here keeps covered same within all =
+    All-more (λ p. covers mark_of new p ≡ true) places i d within
+    (All-from_get_or (λ p. covers mark_of new p ≡ true) (take i places) d (λ k few. keeps _ (All-get_or (λ p. covers mark_of old p ≡ true) (take i places) k d few all)))
+    (rw here at (covered_by new mark (mark_of item) same covered))

@@ -1,0 +1,22 @@
+-- Marks of places, a Bloom filter with one hash. They show of most undo records that they have none of the places.
+use Rattle.std.specs.Prelude.{ℕ, Bool, true, false, ◌≡◌, ◌||◌, List, Option, Some, None, get_or}
+use Rattle.std.specs.List.{All}
+use Rattle.pp_history.specs.declared.marks.Marks.{Marks}
+
+abbrev pub is_set : Marks → ℕ → Bool
+is_set m i = get_or m.marks i false
+
+abbrev pub is_marked : Marks → Option ℕ → Bool
+is_marked m None = false
+is_marked m (Some i) = is_set m i
+
+-- the mark is set, or a place without a mark was given, and then every record is searched
+abbrev pub is_covered : Marks → Option ℕ → Bool
+is_covered m mark = m.has_unmarked || is_marked m mark
+
+module _ {P : Type 0} (mark_of : P → Option ℕ) where
+  abbrev pub covers : Marks → P → Bool
+  covers m p = is_covered m (mark_of p)
+
+  abbrev pub AreCovered : Marks → List P → Type 0
+  AreCovered m places = All (λ p. covers m p ≡ true) places
