@@ -3,9 +3,9 @@ use Rattle.std.specs.Cmp.Derive.{both_true}
 use Rattle.std.proofs.Common.{eq-eqb, ℕ, ◌≡◌, ◌≢◌, ◌<◌, ◌∙◌, Bool, true, false, if◌then◌else◌, ◌⊎◌, inl, inr, ap, refl, sym, List, get_or, length, set}
 use Rattle.std.specs.List.{AllPairs}
 use Rattle.std.proofs.lemmas.List.{get_or-set_same, set-set, set-get_or}
-use Rattle.pp_machine.specs.Attached.{Attached, of_device, view_of, with_view}
+use Rattle.pp_machine.specs.Attached.{IsAttached, of_device, with_channels}
 use Rattle.pp_machine.specs.Prelude.{Machine, over, old_values, number, put, Has, HasAll, same_place, ChannelNumbers, state_number, with_channel}
-use Rattle.pp_machine.specs.Device.{DeviceModel, DevicePlace, DeviceView, AtOwn, AtState, AtWord, device_place, device_view, number_at, device_old_values, over_device, place_at, put_at, view_on}
+use Rattle.pp_machine.specs.Device.{DeviceModel, IsWritten, DevicePlace, DeviceView, AtOwn, AtState, AtWord, device_place, device_view, number_at, device_old_values, over_device, place_at, put_at, replace, view_of, view_on, with_view}
 use Rattle.pp_machine.specs.WriteLaws.{AllPlaces-renamed, Commute, IsStore, old_values-renamed, over-renamed, places-old_values, undone-by-old-values}
 use Rattle.pp_machine.specs.Writes.{AllPlaces, Writes, places, renamed}
 use Rattle.pp_machine.specs.declared.channel.Channel.{Channel}
@@ -52,14 +52,19 @@ module _ {Numbers : Type 0} (c : ℕ) (channels : ChannelNumbers) (n : Numbers) 
   pub view-handed : state_number channel.state ≡ get_or channels.states c 0 → channel.word ≡ get_or channels.registers c 0 → device_view n channel ≡ view_on c n channels
   view-handed state word = rw (state, word) refl
 
-  pub view-device : (s : DeviceView Numbers) → device_view n channel ≡ s → n ≡ s.device
-  view-device s e = ap (λ (v : DeviceView Numbers). v.device) e
-
-  pub view-channels : (s : DeviceView Numbers) → device_view n channel ≡ s → with_channel channels c (state_number channel.state) channel.word ≡ with_channel channels c s.state s.word
-  view-channels s e = ap (λ (v : DeviceView Numbers). with_channel channels c v.state v.word) e
-
   pub view-put_back : c < length channels.states → c < length channels.registers → view_on c n (with_channel channels c (state_number channel.state) channel.word) ≡ device_view n channel
   view-put_back in_modes in_words = simp get_or-set_same
+
+-- a device and its channel after a write list, and the channel put back
+pub written : {Numbers Own Record : Type 0} (d : DeviceModel Numbers Own Record) (w : DeviceView Numbers → Writes (DevicePlace Own)) (c : ℕ) (n later : Numbers) (channels after : ChannelNumbers) (old channel : Channel) →
+    device_view n old ≡ view_on c n channels → device_view later channel ≡ over_device d (device_view n old) (w (device_view n old)) → after ≡ with_channel channels c (state_number channel.state) channel.word →
+    IsWritten d (w (view_on c n channels)) c n channels later after
+written d w c n later channels after old channel seen step back =
+    let e : device_view later channel ≡ over_device d (view_on c n channels) (w (view_on c n channels)) = step ∙ ap (λ v. over_device d v (w v)) seen in
+    record {
+      device = ap (λ (v : DeviceView _). v.device) e;
+      channels = back ∙ ap (λ (v : DeviceView _). with_channel channels c v.state v.word) e;
+    }
 
 -- ---- write lists that write no place twice, and only places that the machine has
 
@@ -90,35 +95,22 @@ module _ {Own : Type 0} (name : Own → Place) (size c : ℕ) where
 
 -- ---- a device in the machine
 
-abbrev with_channels : Machine → ChannelNumbers → Machine
-with_channels m channels = record m { channels = channels }
-
 abbrev with_modes : ChannelNumbers → List ℕ → ChannelNumbers
 with_modes channels states = record channels { states = states }
 
 abbrev with_words : ChannelNumbers → List ℕ → ChannelNumbers
 with_words channels registers = record channels { registers = registers }
 
--- The machine has the device's numbers at the device's own places, and nothing else is there.
-pub record IsAttached {Numbers Own Record : Type 0} (a : Attached Numbers Own Record) : Type 0 where
-  pub number_named : (m : Machine) (x : Own) → a.model.number (a.get m) x ≡ number m (a.model.name x)
-  pub put_named : (m : Machine) (n : Numbers) (x : Own) (v : ℕ) → a.replace m (a.model.put n x v) ≡ put (a.replace m n) (a.model.name x) v
-  pub same : (m : Machine) → a.replace m (a.get m) ≡ m
-  pub channels : (m : Machine) (n : Numbers) → (a.replace m n).channels ≡ m.channels
-  pub apart : (m : Machine) (n : Numbers) (channels : ChannelNumbers) → with_channels (a.replace m n) channels ≡ a.replace (with_channels m channels) n
-  pub watches : (m : Machine) (n : Numbers) → (a.replace m n).watches ≡ m.watches
-  pub devices : (x : Own) → of_device (a.model.name x) ≡ true
-
-module _ {Numbers Own Record : Type 0} (a : Attached Numbers Own Record) (laws : IsAttached a) (m : Machine) (c : ℕ) where
+module _ {Numbers Own Record : Type 0} (d : DeviceModel Numbers Own Record) (laws : IsAttached d) (m : Machine) (c : ℕ) where
   -- a change of the channels, beside the device
   beside : (before after : ChannelNumbers) (n : Numbers) (f : ChannelNumbers → ChannelNumbers) → f before ≡ after →
-      a.replace (with_channels m after) n ≡ with_channels (a.replace (with_channels m before) n) (f (a.replace (with_channels m before) n).channels)
+      replace d (with_channels m after) n ≡ with_channels (replace d (with_channels m before) n) (f (replace d (with_channels m before) n).channels)
   beside before after n f e =
-      let beside_it = with_channels (a.replace (with_channels m before) n) in
-      sym (ap (λ channels. beside_it (f channels)) (laws.channels (with_channels m before) n) ∙ (ap beside_it e ∙ laws.apart (with_channels m before) n after))
+      let beside_it = with_channels (replace d (with_channels m before) n) in
+      sym (ap (λ channels. beside_it (f channels)) (laws.channels (with_channels m before) (d.channel m.setup) n) ∙ (ap beside_it e ∙ laws.apart (with_channels m before) (d.channel m.setup) n after))
 
-  put-with_view : (s : DeviceView Numbers) (p : DevicePlace Own) (v : ℕ) → with_view a m c (put_at a.model.put s p v) ≡ put (with_view a m c s) (device_place a.model c p) v
-  put-with_view s (AtOwn x) v = laws.put_named _ s.device x v
+  put-with_view : (s : DeviceView Numbers) (p : DevicePlace Own) (v : ℕ) → with_view d m c (put_at d.put s p v) ≡ put (with_view d m c s) (device_place d c p) v
+  put-with_view s (AtOwn x) v = laws.put_named _ (d.channel m.setup) s.device x v
   put-with_view s AtState v =
       let before = with_channel m.channels c s.state s.word in
       beside before _ s.device (λ (x : ChannelNumbers). with_modes x (set x.states c v)) (ap (with_modes before) (set-set m.channels.states c s.state v))
@@ -126,33 +118,31 @@ module _ {Numbers Own Record : Type 0} (a : Attached Numbers Own Record) (laws :
       let before = with_channel m.channels c s.state s.word in
       beside before _ s.device (λ (x : ChannelNumbers). with_words x (set x.registers c v)) (ap (with_words before) (set-set m.channels.registers c s.word v))
 
-  with_view-same : with_view a m c (view_of a c m) ≡ m
+  with_view-same : with_view d m c (view_of d c m) ≡ m
   with_view-same =
-      ap (λ states. a.replace (with_channels m (with_words (with_modes m.channels states) (set m.channels.registers c (get_or m.channels.registers c 0)))) (a.get m)) (set-get_or m.channels.states c 0)
-      ∙ (ap (λ registers. a.replace (with_channels m (with_words m.channels registers)) (a.get m)) (set-get_or m.channels.registers c 0) ∙ laws.same m)
+      ap (λ states. replace d (with_channels m (with_words (with_modes m.channels states) (set m.channels.registers c (get_or m.channels.registers c 0)))) (d.get m)) (set-get_or m.channels.states c 0)
+      ∙ (ap (λ registers. replace d (with_channels m (with_words m.channels registers)) (d.get m)) (set-get_or m.channels.registers c 0) ∙ laws.same m)
 
   -- the device's writes are writes of the machine
-  pub lifted : (s : DeviceView Numbers) (w : Writes (DevicePlace Own)) → s ≡ over_device a.model (view_of a c m) w → with_view a m c s ≡ over m (renamed (device_place a.model c) w)
+  pub lifted : (s : DeviceView Numbers) (w : Writes (DevicePlace Own)) → s ≡ over_device d (view_of d c m) w → with_view d m c s ≡ over m (renamed (device_place d c) w)
   lifted s w e =
-      ap (with_view a m c) e ∙ (over-renamed (put_at a.model.put) put (with_view a m c) (device_place a.model c) put-with_view (view_of a c m) w ∙ ap (λ x. over x (renamed (device_place a.model c) w)) with_view-same)
+      ap (with_view d m c) e ∙ (over-renamed (put_at d.put) put (with_view d m c) (device_place d c) put-with_view (view_of d c m) w ∙ ap (λ x. over x (renamed (device_place d c) w)) with_view-same)
 
-  named-at : (p : DevicePlace Own) → number_at a.model.number (view_of a c m) p ≡ number m (device_place a.model c p)
+  named-at : (p : DevicePlace Own) → number_at d.number (view_of d c m) p ≡ number m (device_place d c p)
   named-at (AtOwn x) = laws.number_named m x
   named-at AtState = refl
   named-at AtWord = refl
 
   -- and its old values are those of the machine
-  pub lifted-old_values : (w : Writes (DevicePlace Own)) → renamed (device_place a.model c) (device_old_values a.model (view_of a c m) w) ≡ old_values m (renamed (device_place a.model c) w)
-  lifted-old_values = old_values-renamed (number_at a.model.number) number (device_place a.model c) (view_of a c m) m named-at
+  pub lifted-old_values : (w : Writes (DevicePlace Own)) → renamed (device_place d c) (device_old_values d (view_of d c m) w) ≡ old_values m (renamed (device_place d c) w)
+  lifted-old_values = old_values-renamed (number_at d.number) number (device_place d c) (view_of d c m) m named-at
 
   -- a device and channels that a write list leads to, put into the machine
-  pub lifted-parts : (n : Numbers) (channels : ChannelNumbers) (w : Writes (DevicePlace Own)) →
-      n ≡ (over_device a.model (view_of a c m) w).device →
-      channels ≡ with_channel m.channels c (over_device a.model (view_of a c m) w).state (over_device a.model (view_of a c m) w).word →
-      a.replace (with_channels m channels) n ≡ over m (renamed (device_place a.model c) w)
-  lifted-parts n channels w device shared =
-      ap (λ x. a.replace (with_channels m channels) x) device
-      ∙ (ap (λ x. a.replace (with_channels m x) (over_device a.model (view_of a c m) w).device) shared ∙ lifted (over_device a.model (view_of a c m) w) w refl)
+  pub lifted-parts : (n : Numbers) (channels : ChannelNumbers) (w : Writes (DevicePlace Own)) → IsWritten d w c (d.get m) m.channels n channels →
+      replace d (with_channels m channels) n ≡ over m (renamed (device_place d c) w)
+  lifted-parts n channels w done =
+      ap (λ x. replace d (with_channels m channels) x) done.device
+      ∙ (ap (λ x. replace d (with_channels m x) (over_device d (view_of d c m) w).device) done.channels ∙ lifted (over_device d (view_of d c m) w) w refl)
 
 -- a device's place and one that no device has
 not_shared : (q p : Place) → of_device q ≡ true → of_device p ≡ false → same_place q p ≡ false
@@ -160,17 +150,17 @@ not_shared Slot Slot h k = absurd (cc)
 not_shared _ Slot h k = cc
 not_shared _ _ h k = cc
 
-module _ {Numbers Own Record : Type 0} (a : Attached Numbers Own Record) (laws : IsAttached a) where
+module _ {Numbers Own Record : Type 0} (d : DeviceModel Numbers Own Record) (laws : IsAttached d) where
   -- the device writes no watch entry
-  pub watches-kept : (c : ℕ) (m : Machine) (p : DevicePlace Own) (v : ℕ) → (put m (device_place a.model c p) v).watches ≡ m.watches
+  pub watches-kept : (c : ℕ) (m : Machine) (p : DevicePlace Own) (v : ℕ) → (put m (device_place d c p) v).watches ≡ m.watches
   watches-kept c m (AtOwn x) v =
-      ap (λ (s : Machine). (put s (a.model.name x) v).watches) (sym (laws.same m))
-      ∙ (ap (λ (s : Machine). s.watches) (sym (laws.put_named m (a.get m) x v)) ∙ laws.watches m (a.model.put (a.get m) x v))
+      ap (λ (s : Machine). (put s (d.name x) v).watches) (sym (laws.same m))
+      ∙ (ap (λ (s : Machine). s.watches) (sym (laws.put_named m (d.channel m.setup) (d.get m) x v)) ∙ laws.watches m (d.channel m.setup) (d.put (d.get m) x v))
   watches-kept c m AtState v = refl
   watches-kept c m AtWord v = refl
 
   -- a place that no device has
-  pub not_at : (c : ℕ) (p : Place) → of_device p ≡ false → (x : DevicePlace Own) → same_place (device_place a.model c x) p ≡ false
-  not_at c p e (AtOwn x) = not_shared (a.model.name x) p (laws.devices x) e
+  pub not_at : (c : ℕ) (p : Place) → of_device p ≡ false → (x : DevicePlace Own) → same_place (device_place d c x) p ≡ false
+  not_at c p e (AtOwn x) = not_shared (d.name x) p (laws.devices x) e
   not_at c p e AtState = not_shared (ChannelMode c) p refl e
   not_at c p e AtWord = not_shared (ChannelWord c) p refl e

@@ -1,6 +1,11 @@
+pub mod AllDevices
 pub mod ChannelRanges
 pub mod DeviceLaws
+pub mod DevicesLaws
+pub mod Joined
+pub mod MachineStore
 pub mod Once
+pub mod Parts
 pub mod PrinterLaws
 pub mod ReaderLaws
 pub mod Same

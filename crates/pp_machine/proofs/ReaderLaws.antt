@@ -1,22 +1,25 @@
 -- The laws of the card reader.
-use Rattle.std.proofs.Common.{ℕ, ◌≡◌, ◌≢◌, ◌≤◌, ◌<◌, length, lit≤, refl, arith}
+use Rattle.std.proofs.Common.{ℕ, [], ◌≡◌, ◌≢◌, ◌≤◌, ◌<◌, length, lit≤, refl, arith}
 use Rattle.std.specs.List.{AllPairs}
-use Rattle.pp_machine.specs.Attached.{the_reader}
+use Rattle.pp_machine.specs.Attached.{IsAttached, IsDevice}
 use Rattle.pp_machine.specs.Device.{device_old_values}
 use Rattle.pp_machine.specs.Reader.{ReaderPlace, ReaderView, Card, Column, Mode, name_own, reader_model, reader_pairs, reader_place, reader_writes}
 use Rattle.pp_machine.specs.Prelude.{Writes, renamed, places, HasAll}
 use Rattle.pp_machine.specs.declared.reader.ReaderRecord.{ReaderRecord}
 use Rattle.pp_machine.specs.declared.reader.ReaderRecord.TheVariants as back
-use Rattle.pp_machine.proofs.DeviceLaws.{IsAttached, IsSound, old_places, sound, sound-has, sound-if, sound-once}
+use Rattle.pp_machine.proofs.DeviceLaws.{IsSound, old_places, sound, sound-has, sound-if, sound-once}
 
-pub reader-attached : IsAttached the_reader
+reader-attached : IsAttached reader_model
 reader-attached = record {
   number_named = λ m. elim [ Card ↦ refl | Column ↦ refl | Mode ↦ refl ];
-  put_named = λ m n. elim [ Card ↦ λ v. refl | Column ↦ λ v. refl | Mode ↦ λ v. refl ];
+  put_named = λ m c n. elim [ Card ↦ λ v. refl | Column ↦ λ v. refl | Mode ↦ λ v. refl ];
   same = λ m. refl;
-  channels = λ m n. refl;
-  apart = λ m n channels. refl;
-  watches = λ m n. refl;
+  got = λ m c n. refl;
+  got_channel = λ m c n. refl;
+  again = λ m c k n x. refl;
+  channels = λ m c n. refl;
+  apart = λ m c n channels. refl;
+  watches = λ m c n. refl;
   devices = elim [ Card ↦ refl | Column ↦ refl | Mode ↦ refl ];
 }
 
@@ -45,3 +48,17 @@ module _ (size c : ℕ) (small : c < 12) where
 
 pub reader_distinct : (s : ReaderView) → AllPairs (λ one other. one ≢ other) (places (reader_writes s))
 reader_distinct s = sound-once name_own 0 0 (reader_writes s) (sound-step 0 0 (omega arith) s)
+
+-- ---- the device
+
+reader-idle : (s : ReaderView) → s.state ≡ 0 → reader_writes s ≡ []
+reader-idle s e = rw e refl
+
+pub reader-device : IsDevice reader_model
+reader-device = record {
+  attached = reader-attached;
+  idle = reader-idle;
+  writes_has = λ size c s small. HasAll-reader_writes size c small s;
+  pairs_has = λ size c r s small fits. HasAll-reader size c r small;
+  few = reader_few;
+}

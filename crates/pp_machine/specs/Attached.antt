@@ -1,47 +1,12 @@
--- The devices in the machine, each on a channel of its own.
-use Rattle.std.specs.Prelude.{ℕ, Bool, true, false}
-use Rattle.pp_machine.specs.ChannelNumbers.{with_channel}
-use Rattle.pp_machine.specs.Device.{DeviceModel, DeviceView, device_place, view_on}
-use Rattle.pp_machine.specs.Machine.{Machine, Setup}
-use Rattle.pp_machine.specs.Printer.{PrinterOwn, printer_model}
-use Rattle.pp_machine.specs.PrinterNumbers.{PrinterNumbers}
-use Rattle.pp_machine.specs.Reader.{ReaderOwn, reader_model}
-use Rattle.pp_machine.specs.ReaderNumbers.{ReaderNumbers}
-use Rattle.pp_machine.specs.Writes.{Writes, renamed}
+-- What holds of a device in a machine.
+use Rattle.std.specs.Prelude.{ℕ, Bool, true, false, [], ◌≡◌, ◌<◌, ◌≤◌, length}
+use Rattle.pp_machine.specs.ChannelNumbers.{ChannelNumbers, inactive}
+use Rattle.pp_machine.specs.Device.{DeviceModel, DeviceView, device_pairs, device_place}
+use Rattle.pp_machine.specs.Machine.{Machine, number, put}
+use Rattle.pp_machine.specs.Shape.{HasAll}
+use Rattle.pp_machine.specs.Writes.{renamed}
 use Rattle.pp_machine.specs.declared.place.Place.{Place}
 use Rattle.pp_machine.specs.declared.place.Place.TheVariants.{Cell, RegA, RegP, RegQ, Phase, Clock, Central, FrameWord, Slot, WatchEntry}
-use Rattle.pp_machine.specs.declared.printer.PrinterRecord.{PrinterRecord}
-use Rattle.pp_machine.specs.declared.reader.ReaderRecord.{ReaderRecord}
-
--- where the machine has a device, and on which channel
-pub record Attached (Numbers Own Record : Type 0) : Type 1 where
-  pub model : DeviceModel Numbers Own Record
-  pub get : Machine → Numbers
-  pub replace : Machine → Numbers → Machine
-  pub channel : Setup → ℕ
-
-abbrev pub the_reader : Attached ReaderNumbers ReaderOwn ReaderRecord
-the_reader = record { model = reader_model; get = λ m. m.reader; replace = λ m r. record m { reader = r }; channel = λ s. s.reader_channel }
-
-abbrev pub the_printer : Attached PrinterNumbers PrinterOwn PrinterRecord
-the_printer = record { model = printer_model; get = λ m. m.printer; replace = λ m p. record m { printer = p }; channel = λ s. s.printer_channel }
-
-module _ {Numbers Own Record : Type 0} (a : Attached Numbers Own Record) where
-  -- the view of the device on channel c
-  abbrev pub view_of : ℕ → Machine → DeviceView Numbers
-  view_of c m = view_on c (a.get m) m.channels
-
-  -- the machine with a view put back
-  abbrev pub with_view : Machine → ℕ → DeviceView Numbers → Machine
-  with_view m c s = a.replace (record m { channels = with_channel m.channels c s.state s.word }) s.device
-
-  -- one step as a write list of the machine
-  abbrev pub device_step_writes : Machine → Writes Place
-  device_step_writes m = renamed (device_place a.model (a.channel m.setup)) (a.model.writes (view_of (a.channel m.setup) m))
-
-  -- the undo record of a device on channel c as places of the machine with their old numbers
-  abbrev pub device_pairs : ℕ → Record → Writes Place
-  device_pairs c r = renamed (device_place a.model c) (a.model.pairs r)
 
 -- whether a device may have the place: it is a device's own, or its channel's
 abbrev pub of_device : Place → Bool
@@ -56,3 +21,27 @@ of_device (FrameWord i) = false
 of_device Slot = false
 of_device (WatchEntry i) = false
 of_device _ = true
+
+abbrev pub with_channels : Machine → ChannelNumbers → Machine
+with_channels m channels = record m { channels = channels }
+
+-- The machine has the device's numbers at the device's own places, and nothing else is there.
+pub record IsAttached {Numbers Own Record : Type 0} (d : DeviceModel Numbers Own Record) : Type 0 where
+  pub number_named : (m : Machine) (x : Own) → d.number (d.get m) x ≡ number m (d.name x)
+  pub put_named : (m : Machine) (c : ℕ) (n : Numbers) (x : Own) (v : ℕ) → d.attach m c (d.put n x v) ≡ put (d.attach m c n) (d.name x) v
+  pub same : (m : Machine) → d.attach m (d.channel m.setup) (d.get m) ≡ m
+  pub got : (m : Machine) (c : ℕ) (n : Numbers) → d.get (d.attach m c n) ≡ n
+  pub got_channel : (m : Machine) (c : ℕ) (n : Numbers) → d.channel (d.attach m c n).setup ≡ c
+  pub again : (m : Machine) (c k : ℕ) (n x : Numbers) → d.attach (d.attach m c n) k x ≡ d.attach m k x
+  pub channels : (m : Machine) (c : ℕ) (n : Numbers) → (d.attach m c n).channels ≡ m.channels
+  pub apart : (m : Machine) (c : ℕ) (n : Numbers) (channels : ChannelNumbers) → with_channels (d.attach m c n) channels ≡ d.attach (with_channels m channels) c n
+  pub watches : (m : Machine) (c : ℕ) (n : Numbers) → (d.attach m c n).watches ≡ m.watches
+  pub devices : (x : Own) → of_device (d.name x) ≡ true
+
+-- A device in a machine: on an inactive channel it does nothing, and it writes only places of the machine.
+pub record IsDevice {Numbers Own Record : Type 0} (d : DeviceModel Numbers Own Record) : Type 0 where
+  pub attached : IsAttached d
+  pub idle : (s : DeviceView Numbers) → s.state ≡ inactive → d.writes s ≡ []
+  pub writes_has : (size c : ℕ) (s : DeviceView Numbers) → c < 12 → HasAll size (renamed (device_place d c) (d.writes s))
+  pub pairs_has : (size c : ℕ) (r : Record) (s : DeviceView Numbers) → c < 12 → d.Fits r s → HasAll size (device_pairs d c r)
+  pub few : (r : Record) → length (d.pairs r) ≤ d.most

@@ -1,9 +1,10 @@
-//! What the machine asks of a device.
-ghost use Rattle.std.specs.Prelude.{◌≡◌};
-ghost use Rattle.pp_machine.specs.Device.{DeviceModel, device_place, device_view, device_old_values, over_device};
+//! What the machine asks of a device, and one step of any device, and its undoing.
+ghost use Rattle.std.specs.Prelude.{◌≡◌, ◌<◌};
+ghost use Rattle.pp_machine.specs.Device.{DeviceModel, IsWritten, device_place, device_view, device_old_values, over_device, view_on};
 ghost use Rattle.pp_machine.specs.Prelude.{renamed, lookup};
 
 use crate::channel::Channel;
+use crate::channels::Channels;
 use crate::place::Place;
 
 /// A device on a data channel. It sees its own numbers, and the state and the register of its channel.
@@ -14,8 +15,11 @@ pub trait Device: Drop {
     /// The names of the device's own numbers.
     ghost Own: { Type 0 };
 
-    /// What a step writes, and what an undo record has.
+    /// What a step writes, what an undo record has, and where a machine has the device.
     ghost model: { DeviceModel Self Own Self.Record };
+
+    /// Returns a record to overwrite.
+    fn blank() -> Self::Record;
 
     /// Makes one step of the device with its channel, and returns the undo record. The record holds the old number of
     /// each place that was written, and of no other place.
@@ -33,4 +37,35 @@ pub trait Device: Drop {
     /// Returns the old number of a place, or `None` if the record, of a device on channel c, does not have that place.
     fn was(back: &Self::Record, c: u8, place: &Place) -> Option<u64>
         ensures { result ≡ lookup (renamed (device_place model c) (model.pairs back.now)) place.now };
+}
+
+/// Makes one step of a device on channel c, and returns its undo record.
+#[inline(always)]
+pub(crate) fn step_device<D: Device>(device: &mut D, channels: &mut Channels, c: u8) -> D::Record
+    requires { c < 12 }
+    ensures step { IsWritten D.model (D.model.writes (view_on c device.old channels.old)) c device.old channels.old device.new channels.new }
+    ensures old_values { let old = view_on c device.old channels.old in D.model.pairs result ≡ device_old_values D.model old (D.model.writes old) }
+    ensures fits { D.model.Fits result (view_on c device.new channels.new) }
+{
+    let mut channel = channels.get(c);
+    let record = device.step(&mut channel);
+    channels.set(c, channel);
+    record
+}
+
+/// Undoes a step of a device on channel c. The record must fit the device and its channel.
+#[inline(always)]
+pub(crate) fn undo_device<D: Device>(
+    device: &mut D,
+    channels: &mut Channels,
+    c: u8,
+    back: D::Record,
+)
+    requires c { c < 12 }
+    requires fits { D.model.Fits back (view_on c device.old channels.old) }
+    ensures { IsWritten D.model (D.model.pairs back) c device.old channels.old device.new channels.new }
+{
+    let mut channel = channels.get(c);
+    device.undo(back, &mut channel);
+    channels.set(c, channel);
 }

@@ -2,10 +2,8 @@ pub mod Admitting
 pub mod Cards
 pub mod Deadstart
 pub mod Devices
-pub mod MachineStore
 pub mod Marks
 pub mod Overwritten
-pub mod Parts
 pub mod Runs
 pub mod Shortest
 pub mod Stepped

@@ -4,13 +4,14 @@ use Rattle.std.proofs.lemmas.Bool.{and_parts, cases_lt, or_parts}
 use Rattle.std.proofs.lemmas.Bool.Decides.{nat_tests}
 use Rattle.pp_history.specs.Marks.{covers, is_marked, is_set}
 use Rattle.pp_history.specs.declared.marks.Marks.{Marks}
+use Rattle.pp_machine.specs.AllDevices.{all_model}
 use Rattle.pp_machine.specs.Prelude.{Writes, renamed, lookup, same_place, words_of}
 use Rattle.pp_machine.specs.Writes.{AllPlaces}
 use Rattle.pp_machine.specs.WriteLaws.{AllPlaces-append, AllPlaces-if, AllPlaces-renamed}
 use Rattle.pp_machine.specs.declared.place.Place.{Place}
 use Rattle.pp_machine.specs.declared.place.Place.TheVariants.{Cell, Central, ChannelWord, Clock, Slot}
 use Rattle.pp_rig.specs.Marks.{cell_mark, central_mark, channel_mark, mark_of, AreUnmarked}
-use Rattle.pp_rig.specs.Turn.{clock_part, device_pairs_of, rest_pairs, turn_pairs}
+use Rattle.pp_rig.specs.Turn.{clock_part, rest_pairs, turn_pairs}
 use Rattle.pp_rig.specs.declared.rig.TurnRecord.{TurnRecord}
 use Rattle.pp_step.specs.Exchange.{frame_pairs, word_pairs}
 use Rattle.pp_step.specs.Pairs.{pairs, pairs_as, exchange_pairs, target_pairs, writes_p, written}
@@ -108,7 +109,7 @@ unfolding turn_pairs rest_pairs
 turn_unmarked m r idle step =
     let U = λ (p : Place). is_marked m (mark_of p) ≡ false in
     AllPlaces-append U (renamed (pp_place r.rest.slot) (pp_pairs r.pp)) _ (AllPlaces-renamed (pp_place r.rest.slot) U (pp_pairs r.pp) step)
-    (AllPlaces-append U (if r.rest.are_devices_called then device_pairs_of r.rest.devices else []) _ (rw idle tt)
+    (AllPlaces-append U (if r.rest.are_devices_called then all_model.pairs r.rest.devices else []) _ (rw idle tt)
     (AllPlaces-append U (clock_part r.rest.slot r.rest.clock) ((Slot, r.rest.slot) ∷ []) (AllPlaces-if U (r.rest.slot == 9) ((Clock, r.rest.clock) ∷ []) [] (λ e. (refl, tt)) (λ e. tt)) (refl, tt)))
 
 -- a record without a marked place has none that the marks cover

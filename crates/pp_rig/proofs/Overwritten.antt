@@ -13,9 +13,9 @@ use Rattle.pp_rig.specs.declared.action.Action.{Action}
 use Rattle.pp_rig.specs.declared.action.Action.TheVariants.{Turn}
 use Rattle.pp_rig.specs.declared.rig.TurnRecord.{TurnRecord}
 use Rattle.pp_rig.proofs.Devices.{devices-few}
-use Rattle.pp_rig.proofs.MachineStore.{taken_back}
-use Rattle.pp_rig.proofs.Parts.{parts-taken_back, same_places}
-use Rattle.pp_rig.proofs.WriteLists.{length-renamed}
+use Rattle.pp_machine.proofs.MachineStore.{taken_back}
+use Rattle.pp_machine.proofs.Parts.{parts-taken_back, same_places}
+use Rattle.pp_machine.specs.WriteLaws.{length-renamed}
 
 turn-taken_back : (m : Machine) → over (turn m) (turn_old_values m) ≡ m
 unfolding turn_writes turn_old_values

@@ -1,6 +1,10 @@
 -- The parts of a turn: what each does to the machine, and what its undo record then has.
 use Rattle.std.proofs.Common.{ℕ, Bool, true, false, [], ◌∷◌, ◌<◌, ◌≡◌, ◌==◌, ◌∙◌, if◌then◌else◌, refl, ap, get_or, subst, sym}
 use Rattle.std.proofs.lemmas.List.{get_or_read}
+use Rattle.pp_machine.proofs.AllDevices.{all-laws}
+use Rattle.pp_machine.specs.AllDevices.{all_model}
+use Rattle.pp_machine.specs.NumberLaws.{setup-over}
+use Rattle.pp_machine.specs.Parts.{ArePerformed}
 use Rattle.pp_machine.specs.Prelude.{Machine, ProcessorNumbers, over, no_processor, Writes, renamed, Has, HasAll}
 use Rattle.pp_step.specs.Step.{pp_pairs, pp_writes, FitsPp}
 use Rattle.pp_step.specs.View.{PpPlace, PpView, over as over_pp, pp_place}
@@ -8,19 +12,17 @@ use Rattle.pp_step.specs.declared.record.PpRecord.{PpRecord}
 use Rattle.pp_rig.specs.IsMachine.{IsMachine}
 use Rattle.pp_rig.specs.Lift.{pp_of, step_view, with_pp}
 use Rattle.pp_rig.specs.LiftLaws.{step-pp, record-pp}
-use Rattle.pp_rig.specs.MachineLaws.{has_processor, IsMachine-with_pp, setup-over}
+use Rattle.pp_rig.specs.MachineLaws.{has_processor, IsMachine-with_pp}
 use Rattle.pp_machine.specs.WriteLaws.{AllPlaces-append, AllPlaces-if, over-append}
 use Rattle.pp_machine.specs.declared.place.Place.TheVariants.{Clock}
 use Rattle.pp_step.specs.PpPlaces.{HasAll-pp}
 use Rattle.pp_rig.specs.IsSetup.{IsSetup}
-use Rattle.pp_rig.specs.Parts.{ArePerformed}
 use Rattle.pp_rig.specs.Short.{IsTurned}
-use Rattle.pp_rig.specs.Turn.{AreDevicesStepped, FitsDevices, FitsRest, FitsTurn, IsSlotStep, IsStep, device_parts, end_part, end_parts, pp_step_writes, rest_of_turn, rest_pairs, turn_old_values, turn_pairs, turn_parts, turn_writes}
+use Rattle.pp_rig.specs.Turn.{AreDevicesStepped, FitsRest, FitsTurn, IsSlotStep, IsStep, device_parts, end_part, end_parts, pp_step_writes, rest_of_turn, rest_pairs, turn_old_values, turn_pairs, turn_parts, turn_writes}
 use Rattle.pp_rig.specs.declared.rig.TurnRecord.{TurnRecord}
 use Rattle.pp_rig.specs.declared.rig.TurnRest.{TurnRest}
-use Rattle.pp_rig.proofs.Devices.{HasAll-device_pairs}
 use Rattle.pp_rig.proofs.Overwritten.{few-turn}
-use Rattle.pp_rig.proofs.Parts.{both-performed, led_back, one-performed, over-parts}
+use Rattle.pp_machine.proofs.Parts.{both-performed, led_back, one-performed, over-parts}
 
 -- processor n, as it is read from the list, and as it is put back
 module _ (m : Machine) (n : ℕ) (x : ProcessorNumbers) (ok : IsMachine m) (in_slot : n < 10) (read : x ≡ get_or m.processors n x) where
@@ -73,8 +75,8 @@ module _ (m m3 new : Machine) (stepped back : TurnRest) (devices : AreDevicesSte
     slot = in_slot;
     clock = in_clock;
     devices = λ were_called.
-        let after = subst (FitsDevices stepped.devices) (sym (led_back end_parts m3 new _ ended)) (devices.fits (sym called ∙ were_called)) in
-        subst (λ d. FitsDevices d (over new (end_part back))) (sym records) after;
+        let after = subst (all_model.Fits stepped.devices) (sym (led_back end_parts m3 new _ ended)) (devices.fits (sym called ∙ were_called)) in
+        subst (λ d. all_model.Fits d (over new (end_part back))) (sym records) after;
   }
 
 -- ---- a turn
@@ -90,7 +92,7 @@ HasAll-turn r s ok f =
     let size = s.setup.central_words in
     AllPlaces-append (Has size) _ _ (HasAll-pp size r.rest.slot f.rest.slot r.pp f.pp)
     (AllPlaces-append (Has size) _ _
-    (AllPlaces-if (Has size) r.rest.are_devices_called _ _ (λ called. HasAll-device_pairs size r.rest.devices _ (rw (setup-over s (end_part r.rest)) ok) (f.rest.devices called)) (λ idle. tt))
+    (AllPlaces-if (Has size) r.rest.are_devices_called _ _ (λ called. all-laws.pairs_has size r.rest.devices (over s (end_part r.rest)) (rw (setup-over s (end_part r.rest)) ok.channels) (f.rest.devices called)) (λ idle. tt))
     (AllPlaces-append (Has size) _ _ (HasAll-clock size (r.rest.slot == 9) r.rest.clock) (tt, tt)))
 
 turn-performed : (m m1 new : Machine) (r : TurnRecord) → IsSlotStep m m1 r.pp → ArePerformed rest_of_turn m1 new (rest_pairs r.rest) → r.rest.slot ≡ m1.slot → ArePerformed turn_parts m new (turn_pairs r)

@@ -5,10 +5,11 @@ use Rattle.pp_machine.specs.declared.place.Place.TheVariants.{Clock}
 use Rattle.pp_step.specs.View.{PpPlace, pp_place}
 use Rattle.pp_step.specs.View as stepped
 use Rattle.pp_step.specs.Step.{pp_writes}
-use Rattle.pp_rig.proofs.Devices.{devices-keep_watches, watches-over}
-use Rattle.pp_rig.proofs.Parts.{each-append, kept-after, over-parts}
+use Rattle.pp_machine.proofs.AllDevices.{all-laws}
+use Rattle.pp_machine.proofs.DevicesLaws.{watches-over}
+use Rattle.pp_machine.proofs.Parts.{each-append, kept-after, over-parts}
 use Rattle.pp_rig.specs.Lift.{pp_of}
-use Rattle.pp_rig.specs.Parts.{after_parts}
+use Rattle.pp_machine.specs.Parts.{after_parts}
 use Rattle.pp_rig.specs.Turn.{device_parts, end_parts, pp_step_writes, turn, turn_parts, turn_writes}
 
 keeps-pp : (n : ℕ) (m : Machine) (p : PpPlace) (v : ℕ) → (put m (pp_place n p) v).watches ≡ m.watches
@@ -28,5 +29,5 @@ turn-watches m =
     ap (λ (s : Machine). s.watches) (over-parts turn_parts m)
     ∙ kept-after (λ s. s.watches) turn_parts m (
       watches-over (pp_place m.slot) (keeps-pp m.slot) m (pp_writes (pp_of m.slot m)),
-      each-append (λ part s. (over s (part s)).watches ≡ s.watches) device_parts end_parts m1 (devices-keep_watches m1) (keeps-clock m3 (m3.slot == 9) ((m3.channels.clock + 1) % 4096), (refl, tt)),
+      each-append (λ part s. (over s (part s)).watches ≡ s.watches) device_parts end_parts m1 (all-laws.watches m1) (keeps-clock m3 (m3.slot == 9) ((m3.channels.clock + 1) % 4096), (refl, tt)),
     )

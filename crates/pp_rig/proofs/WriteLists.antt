@@ -1,7 +1,7 @@
 -- Places and numbers of write lists.
 use Rattle.std.proofs.Common.{arith, suc, ap, ◌∙◌, sym, append_assoc, ℕ, ◌≡◌, ◌+◌, ◌-◌, ◌<◌, ◌≤◌, false, Option, List, [], ◌∷◌, ◌++◌, drop, take, get_or, length, map, refl}
 use Rattle.std.proofs.lemmas.List.{append-nil, drop_all, drop_more, take_more}
-use Rattle.pp_machine.specs.Prelude.{Machine, old_values, number, Writes, renamed, places, write_list, write_list-append, lookup, same_place, old_values-append}
+use Rattle.pp_machine.specs.Prelude.{Machine, old_values, number, Writes, places, write_list, write_list-append, lookup, same_place, old_values-append}
 use Rattle.pp_machine.specs.declared.place.Write.{Write}
 use Rattle.pp_machine.specs.declared.place.Place.TheVariants.{ChannelMode, WatchEntry}
 use Rattle.pp_rig.specs.Deadstart.{all_waiting, waiting}
@@ -14,10 +14,6 @@ use Rattle.pp_rig.specs.WriteLists.{cell_writes, state_writes, entry_writes}
 pub length-old_values : (m : Machine) (w : Writes Place) → length (old_values m w) ≡ length w
 length-old_values m [] = refl
 length-old_values m (pair ∷ w) = ap suc (length-old_values m w)
-
-pub length-renamed : {P : Type 0} (name : P → Place) (w : Writes P) → length (renamed name w) ≡ length w
-length-renamed name [] = refl
-length-renamed name (pair ∷ w) = ap suc (length-renamed name w)
 
 -- the places of a list, with the numbers of another list of the same places, are that other list
 pub with_new_numbers-numbers : (w old_values : Writes Place) → places w ≡ places old_values → with_new_numbers w (numbers old_values) ≡ old_values

@@ -7,17 +7,17 @@ use Rattle.pp_machine.specs.declared.place.Place.TheVariants.{Clock}
 use Rattle.pp_step.proofs.StepPlaces.{HasAll-step}
 use Rattle.pp_rig.proofs.Admitting.{IsSet, is_set, is_watch}
 use Rattle.pp_rig.proofs.Deadstart.{AreSettings-deadstart}
-use Rattle.pp_rig.proofs.Devices.{HasAll-devices}
-use Rattle.pp_rig.proofs.Parts.{HasAll-parts, each-append}
+use Rattle.pp_machine.proofs.AllDevices.{all-laws}
+use Rattle.pp_machine.proofs.Parts.{HasAll-parts, each-append}
 use Rattle.pp_rig.proofs.Unwatching.{HasAll-entries}
 use Rattle.pp_rig.specs.Action.{moved_up, set_list, without_entry, writes}
 use Rattle.pp_rig.specs.Admitting.{first_fault}
 use Rattle.pp_rig.specs.Deadstart.{deadstart_writes, deadstart_write_list}
 use Rattle.pp_rig.specs.IsSetup.{IsPanel}
 use Rattle.pp_rig.specs.Lift.{pp_of}
-use Rattle.pp_rig.specs.MachineLaws.{setup-over}
+use Rattle.pp_machine.specs.NumberLaws.{setup-over}
 use Rattle.pp_rig.specs.Settings.{HasAll-settings}
-use Rattle.pp_rig.specs.Parts.{after_parts}
+use Rattle.pp_machine.specs.Parts.{after_parts}
 use Rattle.pp_rig.specs.Turn.{device_parts, end_parts, pp_step_writes, turn_parts, turn_writes}
 use Rattle.pp_rig.specs.WatchCodes.{watch_code}
 use Rattle.pp_rig.specs.WellFormed.{IsProcessor, IsWellFormed}
@@ -41,7 +41,7 @@ HasAll-turn_writes s ok =
     let low : (processor s s.slot).p < 4096 = omega (arith, stepped.p) in
     HasAll-parts size turn_parts s (
       HasAll-step size s.slot ok.slot (pp_of s.slot s) low stepped.cells ok.sizes.central,
-      each-append (λ part m. HasAll size (part m)) device_parts end_parts s1 (HasAll-devices size s1 (rw (setup-over s (pp_step_writes s)) ok.setup))
+      each-append (λ part m. HasAll size (part m)) device_parts end_parts s1 (all-laws.writes_has size s1 (rw (setup-over s (pp_step_writes s)) ok.setup.channels))
           (HasAll-clock_writes size ((s3.channels.clock + 1) % 4096) (s3.slot == 9), ((tt, tt), tt)),
     )
 

@@ -5,7 +5,7 @@ ghost use Rattle.pp_history.specs.SessionValue.{SessionValue};
 ghost use Rattle.pp_machine.specs.Prelude.{Machine, places, HasAll};
 ghost use Rattle.pp_rig.specs.Action.{most_places, next, writes};
 ghost use Rattle.pp_rig.specs.Admitting.{first_fault};
-ghost use Rattle.pp_rig.specs.Parts.{after_parts};
+ghost use Rattle.pp_machine.specs.Parts.{after_parts};
 ghost use Rattle.pp_rig.specs.Stopping.{stopped, after_turns, IsShortest};
 ghost use Rattle.pp_rig.specs.Turn.{turn_parts};
 ghost use Rattle.pp_rig.specs.WellFormed.{IsWellFormed};

@@ -4,6 +4,7 @@ ghost use Rattle.pp_rig.specs.WellFormed.{IsProcessor, IsWellFormed};
 
 use super::Rig;
 use crate::processor::Processor;
+use pp_machine::devices_keep_ranges;
 
 /// Theorem: each processor is well formed.
 fn keep_ranges(processors: &[Processor])
@@ -26,7 +27,6 @@ impl Rig {
         let _clock = self.channels.clock();
         let _word = self.central.get(0);
         let _package = self.frame.package();
-        let _cards = self.reader.cards();
-        let _paper = self.printer.paper();
+        devices_keep_ranges(&self.devices);
     }
 }

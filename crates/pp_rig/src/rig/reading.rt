@@ -26,14 +26,14 @@ impl Rig {
     pub fn cards(&self) -> u32
         ensures { result ≡ length self.now.reader.deck }
     {
-        self.reader.cards()
+        self.devices.device().cards()
     }
 
     /// Returns what the printer has printed: symbols 0 to 0o77 in display code, and 0o100 for the end of a line.
     pub fn paper(&self) -> &[u8]
         ensures { result.now ≡ take self.now.printer.length self.now.printer.symbols }
     {
-        self.printer.paper()
+        self.devices.others().device().paper()
     }
 
     /// Returns the channel of the reader, 0 to 0o13.
@@ -41,7 +41,7 @@ impl Rig {
         ensures value { result ≡ self.now.setup.reader_channel }
         ensures in_range { result < 12 }
     {
-        self.reader_channel
+        self.devices.channel()
     }
 
     /// Returns the channel of the printer, 0 to 0o13.
@@ -49,7 +49,7 @@ impl Rig {
         ensures value { result ≡ self.now.setup.printer_channel }
         ensures in_range { result < 12 }
     {
-        self.printer_channel
+        self.devices.others().channel()
     }
 
     /// Returns whether the machine has a dead start panel.
@@ -76,13 +76,13 @@ impl Rig {
             Place::Clock => u64::from(self.channels.clock()),
             Place::Central { a } => self.central.get(a),
             Place::FrameWord { i } => self.frame.pack(i),
-            Place::Card => u64::from(self.reader.card()),
-            Place::CardColumn => u64::from(self.reader.column()),
-            Place::ReaderMode => self.reader.mode() as u64,
-            Place::PaperLength => u64::from(self.printer.length()),
-            Place::PaperColumn => u64::from(self.printer.column()),
-            Place::PrinterMode => self.printer.mode() as u64,
-            Place::PaperSymbol { k } => u64::from(self.printer.symbol(k)),
+            Place::Card => u64::from(self.devices.device().card()),
+            Place::CardColumn => u64::from(self.devices.device().column()),
+            Place::ReaderMode => self.devices.device().mode() as u64,
+            Place::PaperLength => u64::from(self.devices.others().device().length()),
+            Place::PaperColumn => u64::from(self.devices.others().device().column()),
+            Place::PrinterMode => self.devices.others().device().mode() as u64,
+            Place::PaperSymbol { k } => u64::from(self.devices.others().device().symbol(k)),
             Place::Slot => u64::from(self.slot),
             Place::WatchEntry { i } => self.watches.entry(i),
         }

@@ -7,8 +7,8 @@ mod whole;
 
 use super::*;
 use crate::lists::list_of;
-use crate::setup::Setup;
-use crate::tests::{Step, action_of, check_numbers, deck_of, perform_all};
+use crate::tests::{Step, action_of, check_numbers, deck_of, perform_all, setup_of};
+use pp_machine::OnRecords;
 use std::alloc::{AllocError, Global};
 use std::process::Abort;
 use std::test::Fail;
@@ -26,11 +26,14 @@ fn made_anew(back: RigRecord) -> RigRecord
                     slot,
                     are_devices_called,
                     clock,
-                    devices: DeviceRecords {
-                        reader_channel,
-                        printer_channel,
-                        reader,
-                        printer,
+                    devices: OnRecords {
+                        channel: reader_channel,
+                        own: reader,
+                        others: OnRecords {
+                            channel: printer_channel,
+                            own: printer,
+                            others,
+                        },
                     },
                 },
             },
@@ -40,11 +43,14 @@ fn made_anew(back: RigRecord) -> RigRecord
                 slot,
                 are_devices_called,
                 clock,
-                devices: DeviceRecords {
-                    reader_channel,
-                    printer_channel,
-                    reader,
-                    printer,
+                devices: OnRecords {
+                    channel: reader_channel,
+                    own: reader,
+                    others: OnRecords {
+                        channel: printer_channel,
+                        own: printer,
+                        others,
+                    },
                 },
             },
         }),
@@ -63,13 +69,8 @@ fn made_anew(back: RigRecord) -> RigRecord
 /// Returns a machine with one card in the reader, on channel 0o10, and the printer on channel 0o11.
 fn make(alloc: Global) -> Result<Rig, Fail> {
     let deck = deck_of(alloc, 1, 0o1234)?;
-    let setup = Setup {
-        central: CentralSize::K32,
-        reader: 8,
-        printer: 9,
-        deck,
-        panel: Some([0o1405, 0o3420, 0o300, 0, 0, 0, 0, 0, 0, 0, 0, 0]),
-    };
+    let panel = [0o1405, 0o3420, 0o300, 0, 0, 0, 0, 0, 0, 0, 0, 0];
+    let setup = setup_of(8, 9, deck, Some(panel));
     match Rig::new(alloc, setup) {
         Ok(rig) => Ok(rig),
         Err(_) => Err("refused".into()),

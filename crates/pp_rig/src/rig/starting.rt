@@ -8,7 +8,9 @@ use super::Rig;
 use crate::processor::Processor;
 use crate::setup::{Setup, SetupFault};
 use crate::watched::WatchList;
-use pp_machine::{Central, CentralSize, Channels, Frame, MakeFault, Printer, Reader};
+use pp_machine::{
+    Central, CentralSize, Channels, Frame, MakeFault, Printer, Reader, all_devices,
+};
 use std::alloc::Global;
 
 /// Creates ten processors whose numbers are all 0.
@@ -74,14 +76,11 @@ impl Rig {
             channels: Channels::new(),
             central,
             frame: Frame::new(),
-            reader,
-            printer,
+            devices: all_devices(reader_channel, reader, printer_channel, printer),
             slot: 0,
             watches: WatchList::new(),
             central_size,
             panel,
-            reader_channel,
-            printer_channel,
         })
     }
 }

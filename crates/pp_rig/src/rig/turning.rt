@@ -1,20 +1,20 @@
 //! One turn of the barrel, and its undoing.
 ghost use Rattle.std.specs.Prelude.{◌≡◌, ◌<◌, ◌≤◌, true, false, None, [], ◌∷◌, length};
 ghost use Rattle.pp_history.specs.Tails.{IsKept};
+ghost use Rattle.pp_machine.specs.AllDevices.{all_model};
+ghost use Rattle.pp_machine.specs.Parts.{AreIdle, ArePerformed};
 ghost use Rattle.pp_machine.specs.Prelude.{over, renamed, first_of_two, lookup};
 ghost use Rattle.pp_rig.specs.IsMachine.{IsMachine};
 ghost use Rattle.pp_rig.specs.Lift.{pp_of};
-ghost use Rattle.pp_rig.specs.Parts.{AreIdle, ArePerformed};
 ghost use Rattle.pp_rig.specs.Short.{IsTurned, unpacked, whole, whole_turn};
-ghost use Rattle.pp_rig.specs.Turn.{AreDevicesStepped, FitsDevices, FitsRest, FitsTurn, IsSlotStep, KeepsSlot, device_pairs_of, device_parts, devices_part, end_part, end_parts, rest_of_turn, rest_pairs, turn_pairs};
+ghost use Rattle.pp_rig.specs.Turn.{AreDevicesStepped, FitsRest, FitsTurn, IsSlotStep, KeepsSlot, device_parts, devices_part, end_part, end_parts, rest_of_turn, rest_pairs, turn_pairs};
 ghost use Rattle.pp_step.specs.Step.{FitsPp, IsExchange, pp_pairs};
 ghost use Rattle.pp_step.specs.View.{pp_place};
 
-use super::devices::{step_device, undo_device};
-use super::{DeviceRecords, Rig, RigRecord, ShortTurn, TurnRecord, TurnRest};
+use super::{Rig, RigRecord, ShortTurn, TurnRecord, TurnRest};
 use crate::action::Action;
 use pp_history::{Reversible, Tails};
-use pp_machine::{CentralSize, ChannelState, Place, PrinterRecord, ReaderRecord};
+use pp_machine::{AllDevices, AllRecords, CentralSize, Devices, Place};
 use pp_step::{ExchangeRecord, PpRecord, StepRecord};
 
 impl TurnRest {
@@ -25,12 +25,7 @@ impl TurnRest {
             slot: 0,
             are_devices_called: false,
             clock: 0,
-            devices: DeviceRecords {
-                reader_channel: 0,
-                printer_channel: 0,
-                reader: ReaderRecord::Nothing,
-                printer: PrinterRecord::Nothing,
-            },
+            devices: AllDevices::blank(),
         }
     }
 
@@ -40,7 +35,7 @@ impl TurnRest {
         ensures { result ≡ lookup (devices_part self.now) place.now }
     {
         if self.are_devices_called {
-            self.devices.was(place)
+            devices_was(&self.devices, place)
         } else {
             None
         }
@@ -64,31 +59,18 @@ impl TurnRest {
             Place::Clock if self.slot == 9 => Some(u64::from(self.clock)),
             Place::Clock => None,
             Place::Slot => Some(u64::from(self.slot)),
-            Place::ChannelMode { .. }
-            | Place::ChannelWord { .. }
-            | Place::Card
-            | Place::CardColumn
-            | Place::ReaderMode
-            | Place::PaperLength
-            | Place::PaperColumn
-            | Place::PrinterMode
-            | Place::PaperSymbol { .. } => self.device_was(place),
+            _ => self.device_was(place),
         }
     }
 }
 
-impl DeviceRecords {
-    /// Returns the old number of a place, or `None` if no device overwrote it. This is a separate function, so other
-    /// lookups need not save the registers that it needs.
-    #[inline(never)]
-    #[tactic(auto, using(crate::proofs::Devices::lookup_devices))]
-    fn was(&self, place: &Place) -> Option<u64>
-        ensures { result ≡ lookup (device_pairs_of self.now) place.now }
-    {
-        let reader = self.reader.was(self.reader_channel, place);
-        let printer = self.printer.was(self.printer_channel, place);
-        reader.or(printer)
-    }
+/// Returns the old number of a place, or `None` if no device overwrote it. This is a separate function, so other lookups
+/// need not save the registers that it needs.
+#[inline(never)]
+fn devices_was(back: &AllRecords, place: &Place) -> Option<u64>
+    ensures { result ≡ lookup (all_model.pairs back.now) place.now }
+{
+    AllDevices::was(back, place)
 }
 
 impl TurnRecord {
@@ -211,11 +193,7 @@ impl Rig {
         ensures { AreDevicesStepped self.old self.new back.new }
     {
         back.are_devices_called = true;
-        back.devices.reader_channel = self.reader_channel;
-        back.devices.printer_channel = self.printer_channel;
-        let channels = &mut self.channels;
-        back.devices.reader = step_device(&mut self.reader, channels, self.reader_channel);
-        back.devices.printer = step_device(&mut self.printer, channels, self.printer_channel);
+        back.devices = self.devices.step(&mut self.channels);
     }
 
     /// Returns whether the channel of a device is active. If none is, the devices do nothing.
@@ -223,8 +201,7 @@ impl Rig {
     fn are_devices_called(&self) -> bool
         ensures { result ≡ false → AreIdle device_parts self.now }
     {
-        self.channels.get(self.reader_channel).state != ChannelState::Inactive
-            || self.channels.get(self.printer_channel).state != ChannelState::Inactive
+        self.devices.are_called(&self.channels)
     }
 
     /// Steps the devices, if the channel of one is active.
@@ -240,19 +217,12 @@ impl Rig {
     }
 
     #[inline(never)]
-    fn undo_devices(&mut self, back: &DeviceRecords)
-        requires { FitsDevices back.now self.old }
-        ensures undoes { self.new ≡ over self.old (device_pairs_of back.now) }
+    fn undo_devices(&mut self, back: &AllRecords)
+        requires { all_model.Fits back.now self.old }
+        ensures undoes { self.new ≡ over self.old (all_model.pairs back.now) }
         ensures keeps_slot { KeepsSlot self.old self.new }
     {
-        let channels = &mut self.channels;
-        undo_device(
-            &mut self.printer,
-            channels,
-            self.printer_channel,
-            back.printer,
-        );
-        undo_device(&mut self.reader, channels, self.reader_channel, back.reader);
+        self.devices.undo(back, &mut self.channels);
     }
 
     /// Advances the clock, in the turn of the last processor alone, and then the slot. Writes what they were over `back`,

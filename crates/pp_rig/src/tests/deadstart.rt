@@ -7,13 +7,7 @@ const PANEL: [u16; 12] = [0o1405, 0o3420, 0o300, 0, 0, 0, 0, 0, 0, 0, 0, 0];
 
 /// Returns a machine with this panel, with the reader on channel 5 and one card.
 fn make_with_panel(alloc: Global) -> Result<Rig, Fail> {
-    let setup = Setup {
-        central: CentralSize::K32,
-        reader: 5,
-        printer: 9,
-        deck: deck_of(alloc, 1, 1)?,
-        panel: Some(PANEL),
-    };
+    let setup = setup_of(5, 9, deck_of(alloc, 1, 1)?, Some(PANEL));
     match Rig::new(alloc, setup) {
         Ok(rig) => Ok(rig),
         Err(_) => Err("refused".into()),

@@ -11,14 +11,7 @@ fn make_of(alloc: Global, cards: usize, reader: u8, printer: u8) -> Result<Rig, 
     let Ok(deck) = deck_of(alloc, cards, 0) else {
         return Err(SetupFault::NoMemory);
     };
-    let setup = Setup {
-        central: CentralSize::K32,
-        reader,
-        printer,
-        deck,
-        panel: None,
-    };
-    Rig::new(alloc, setup)
+    Rig::new(alloc, setup_of(reader, printer, deck, None))
 }
 
 #[test]
@@ -40,13 +33,8 @@ fn makes_a_machine_of_the_longest_deck(rt: HostRuntime) -> Result<(), Fail> {
 
 /// Makes a machine with an empty reader and a panel.
 fn make_empty(alloc: Global, central: CentralSize) -> Result<Rig, SetupFault> {
-    let setup = Setup {
-        central,
-        reader: 8,
-        printer: 9,
-        deck: Vec::new(alloc),
-        panel: Some([0o7777; 12]),
-    };
+    let mut setup = setup_of(8, 9, Vec::new(alloc), Some([0o7777; 12]));
+    setup.central = central;
     Rig::new(alloc, setup)
 }
 

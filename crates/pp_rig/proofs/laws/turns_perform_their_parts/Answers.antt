@@ -1,4 +1,4 @@
-use Rattle.pp_rig.proofs.Parts.{over-parts}
+use Rattle.pp_machine.proofs.Parts.{over-parts}
 use Rattle.pp_rig.specs.Turn.{turn_parts, turn_writes}
 use Rattle.pp_rig.proofs.laws.turns_perform_their_parts.Goals as goal
 

@@ -1,6 +1,6 @@
 use Rattle.std.proofs.Common.{false, true, ◌≡◌, refl}
 use Rattle.pp_rig.specs.Turn.{device_parts}
-use Rattle.pp_rig.proofs.Parts.{none-performed}
+use Rattle.pp_machine.proofs.Parts.{none-performed}
 use Rattle.pp_rig.proofs.rig.Rig.step_devices.Goals as goal
 
 pub returns-else-are_devices_called : goal.returns-else-are_devices_called

@@ -1,6 +1,7 @@
 -- An action in parts, performed one after another.
 use Rattle.std.specs.Prelude.{◌≡◌, List, [], ◌∷◌, ◌++◌}
-use Rattle.pp_machine.specs.Prelude.{Machine, over, old_values, Writes}
+use Rattle.pp_machine.specs.Machine.{Machine, over, old_values}
+use Rattle.pp_machine.specs.Writes.{Writes}
 use Rattle.pp_machine.specs.declared.place.Place.{Place}
 
 -- a part of an action: what it writes, in the machine that the parts before it left
@@ -31,3 +32,8 @@ pub record ArePerformed (parts : List Part) (old new : Machine) (back : Writes P
 abbrev pub AreIdle : List Part → Machine → Type 0
 AreIdle [] s = Unit {0}
 AreIdle (part ∷ parts) s = (part s ≡ []) × AreIdle parts s
+
+-- each part has the property, in the machine that the parts before it left
+abbrev pub EachPart : (Part → Machine → Type 0) → List Part → Machine → Type 0
+EachPart P [] s = Unit {0}
+EachPart P (part ∷ parts) s = P part s × EachPart P parts (over s (part s))

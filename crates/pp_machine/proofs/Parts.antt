@@ -1,11 +1,10 @@
 -- What holds of the parts of any action.
 use Rattle.std.proofs.Common.{ℕ, ◌≡◌, ◌∙◌, List, [], ◌∷◌, ◌++◌, IsPermutation, ap, refl, sym, append_assoc, append-nil}
 use Rattle.std.proofs.lemmas.List.Sorted.{IsPermutation-append_comm, IsPermutation-append_right, IsPermutation-refl, IsPermutation-trans}
-use Rattle.pp_machine.specs.Prelude.{Machine, over, old_values, number, put, Writes, places, Has, HasAll, IsShaped, over-append, AllPlaces-append, places-append, places-old_values}
-use Rattle.pp_machine.specs.NumberLaws.{IsShaped-over}
+use Rattle.pp_machine.specs.Prelude.{Machine, over, old_values, number, put, Writes, places, Has, HasAll, over-append, AllPlaces-append, places-append, places-old_values}
 use Rattle.pp_machine.specs.declared.place.Place.{Place}
-use Rattle.pp_rig.specs.Parts.{AreIdle, ArePerformed, Part, after_parts, parts_old_values, parts_writes}
-use Rattle.pp_rig.proofs.MachineStore.{taken_back}
+use Rattle.pp_machine.specs.Parts.{AreIdle, ArePerformed, EachPart, Part, after_parts, parts_old_values, parts_writes}
+use Rattle.pp_machine.proofs.MachineStore.{taken_back}
 
 -- their write list leads to the machine after them
 pub over-parts : (parts : List Part) (s : Machine) → over s (parts_writes parts s) ≡ after_parts parts s
@@ -35,11 +34,6 @@ same_places (part ∷ parts) s =
 
 -- ---- each part
 
--- each part has the property, in the machine that the parts before it left
-abbrev pub EachPart : (Part → Machine → Type 0) → List Part → Machine → Type 0
-EachPart P [] s = Unit {0}
-EachPart P (part ∷ parts) s = P part s × EachPart P parts (over s (part s))
-
 pub HasAll-parts : (size : ℕ) (parts : List Part) (s : Machine) → EachPart (λ part m. HasAll size (part m)) parts s → HasAll size (parts_writes parts s)
 HasAll-parts size [] s each = tt
 HasAll-parts size (part ∷ parts) s each =
@@ -54,10 +48,6 @@ each-append P (part ∷ a) b s first second = (first.0, each-append P a b (over 
 pub kept-after : {X : Type 0} (f : Machine → X) (parts : List Part) (s : Machine) → EachPart (λ part m. f (over m (part m)) ≡ f m) parts s → f (after_parts parts s) ≡ f s
 kept-after f [] s each = refl
 kept-after f (part ∷ parts) s each = kept-after f parts (over s (part s)) each.1 ∙ each.0
-
-pub IsShaped-parts : (size : ℕ) (parts : List Part) (s : Machine) → IsShaped size s → IsShaped size (after_parts parts s)
-IsShaped-parts size [] s shaped = shaped
-IsShaped-parts size (part ∷ parts) s shaped = IsShaped-parts size parts (over s (part s)) (IsShaped-over size s (part s) shaped)
 
 -- ---- parts that were performed
 

@@ -66,24 +66,6 @@ apart-cells n k a b =
 apart-named : (name : ℕ → Place) → ((s : Machine) (i j v w : ℕ) → i ≢ j → put (put s (name i) v) (name j) w ≡ put (put s (name j) w) (name i) v) → (i j : ℕ) → (name i ≡ name j) ⊎ Commute put (name i) (name j)
 apart-named name swap i j = elim (cases_eq i j) [ inl e ↦ inl (ap name e) | inr ne ↦ inr (λ s v w. swap s i j v w ne) ]
 
-abbrev with_states : Machine → List ℕ → Machine
-with_states s xs = record s { channels = record s.channels { states = xs } }
-
-abbrev with_registers : Machine → List ℕ → Machine
-with_registers s xs = record s { channels = record s.channels { registers = xs } }
-
-abbrev with_central : Machine → List ℕ → Machine
-with_central s xs = record s { central = xs }
-
-abbrev with_frame : Machine → List ℕ → Machine
-with_frame s xs = record s { frame = xs }
-
-abbrev with_symbols : Machine → List ℕ → Machine
-with_symbols s xs = record s { printer = record s.printer { symbols = xs } }
-
-abbrev with_watches : Machine → List ℕ → Machine
-with_watches s xs = record s { watches = xs }
-
 apart : (x y : Place) → (x ≡ y) ⊎ Commute put x y
 apart (Cell n a) (Cell k b) = apart-cells n k a b
 apart (RegA n) (RegA k) = apart-named RegA (λ s i j v w ne. ap (with_processors s) (changed-apart (with_a v) (with_a w) s.processors i j ne)) n k
@@ -110,12 +92,12 @@ apart (Phase n) (Cell k b) = inr (λ s v w. ap (with_processors s) (changed-swap
 apart (Phase n) (RegA k) = inr (λ s v w. ap (with_processors s) (changed-swap (with_phase v) (with_a w) (λ x. refl) s.processors n k))
 apart (Phase n) (RegP k) = inr (λ s v w. ap (with_processors s) (changed-swap (with_phase v) (with_p w) (λ x. refl) s.processors n k))
 apart (Phase n) (RegQ k) = inr (λ s v w. ap (with_processors s) (changed-swap (with_phase v) (with_q w) (λ x. refl) s.processors n k))
-apart (ChannelMode i) (ChannelMode j) = apart-named ChannelMode (λ s k l v w ne. ap (with_states s) (set_comm s.channels.states k l v w ne)) i j
-apart (ChannelWord i) (ChannelWord j) = apart-named ChannelWord (λ s k l v w ne. ap (with_registers s) (set_comm s.channels.registers k l v w ne)) i j
-apart (Central i) (Central j) = apart-named Central (λ s k l v w ne. ap (with_central s) (set_comm s.central k l v w ne)) i j
-apart (FrameWord i) (FrameWord j) = apart-named FrameWord (λ s k l v w ne. ap (with_frame s) (set_comm s.frame k l v w ne)) i j
-apart (PaperSymbol i) (PaperSymbol j) = apart-named PaperSymbol (λ s k l v w ne. ap (with_symbols s) (set_comm s.printer.symbols k l v w ne)) i j
-apart (WatchEntry i) (WatchEntry j) = apart-named WatchEntry (λ s k l v w ne. ap (with_watches s) (set_comm s.watches k l v w ne)) i j
+apart (ChannelMode i) (ChannelMode j) = apart-named ChannelMode (λ s k l v w ne. rw (set_comm s.channels.states k l v w ne) refl) i j
+apart (ChannelWord i) (ChannelWord j) = apart-named ChannelWord (λ s k l v w ne. rw (set_comm s.channels.registers k l v w ne) refl) i j
+apart (Central i) (Central j) = apart-named Central (λ s k l v w ne. rw (set_comm s.central k l v w ne) refl) i j
+apart (FrameWord i) (FrameWord j) = apart-named FrameWord (λ s k l v w ne. rw (set_comm s.frame k l v w ne) refl) i j
+apart (PaperSymbol i) (PaperSymbol j) = apart-named PaperSymbol (λ s k l v w ne. rw (set_comm s.printer.symbols k l v w ne) refl) i j
+apart (WatchEntry i) (WatchEntry j) = apart-named WatchEntry (λ s k l v w ne. rw (set_comm s.watches k l v w ne) refl) i j
 apart Clock Clock = inl refl
 apart Card Card = inl refl
 apart CardColumn CardColumn = inl refl
@@ -132,13 +114,7 @@ again s (RegA n) v w = ap (with_processors s) (changed-again (with_a v) (with_a 
 again s (RegP n) v w = ap (with_processors s) (changed-again (with_p v) (with_p w) (λ x. refl) s.processors n)
 again s (RegQ n) v w = ap (with_processors s) (changed-again (with_q v) (with_q w) (λ x. refl) s.processors n)
 again s (Phase n) v w = ap (with_processors s) (changed-again (with_phase v) (with_phase w) (λ x. refl) s.processors n)
-again s (ChannelMode i) v w = ap (with_states s) (set-set s.channels.states i v w)
-again s (ChannelWord i) v w = ap (with_registers s) (set-set s.channels.registers i v w)
-again s (Central i) v w = ap (with_central s) (set-set s.central i v w)
-again s (FrameWord i) v w = ap (with_frame s) (set-set s.frame i v w)
-again s (PaperSymbol i) v w = ap (with_symbols s) (set-set s.printer.symbols i v w)
-again s (WatchEntry i) v w = ap (with_watches s) (set-set s.watches i v w)
-again s x v w = refl
+again s x v w = search set-set
 
 own : (s : Machine) (x : Place) → put s x (number s x) ≡ s
 own s (Cell n a) =
@@ -148,13 +124,7 @@ own s (RegA n) = ap (with_processors s) (set-get_or s.processors n no_processor)
 own s (RegP n) = ap (with_processors s) (set-get_or s.processors n no_processor)
 own s (RegQ n) = ap (with_processors s) (set-get_or s.processors n no_processor)
 own s (Phase n) = ap (with_processors s) (set-get_or s.processors n no_processor)
-own s (ChannelMode i) = ap (with_states s) (set-get_or s.channels.states i 0)
-own s (ChannelWord i) = ap (with_registers s) (set-get_or s.channels.registers i 0)
-own s (Central i) = ap (with_central s) (set-get_or s.central i 0)
-own s (FrameWord i) = ap (with_frame s) (set-get_or s.frame i 0)
-own s (PaperSymbol i) = ap (with_symbols s) (set-get_or s.printer.symbols i 0)
-own s (WatchEntry i) = ap (with_watches s) (set-get_or s.watches i 0)
-own s x = refl
+own s x = search set-get_or
 
 -- the old values undo a list of writes
 pub taken_back : (m : Machine) (w : Writes Place) → over (over m w) (old_values m w) ≡ m

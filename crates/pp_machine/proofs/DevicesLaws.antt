@@ -1,0 +1,82 @@
+-- What holds of the devices of a machine, from the laws of each.
+use Rattle.std.proofs.Common.{ℕ, false, ◌+◌, ◌≡◌, ◌≤◌, ◌∙◌, [], ◌∷◌, ◌++◌, None, length, ap, arith, refl, sym}
+use Rattle.std.proofs.lemmas.List.{length-append}
+use Rattle.pp_machine.proofs.DeviceLaws.{lifted-old_values, lifted-parts, not_at, watches-kept}
+use Rattle.pp_machine.proofs.Parts.{one-performed}
+use Rattle.pp_machine.specs.Attached.{IsAttached, IsDevice, of_device, with_channels}
+use Rattle.pp_machine.specs.Device.{DeviceModel, IsWritten, device_old_values, device_pairs, device_place, device_step_writes, replace, view_of}
+use Rattle.pp_machine.specs.Devices.{AreDevices, AreOnChannels, DevicesModel, FitsOn, no_devices, on}
+use Rattle.pp_machine.specs.NumberLaws.{setup-over}
+use Rattle.pp_machine.specs.Parts.{ArePerformed}
+use Rattle.pp_machine.specs.Prelude.{Machine, over, old_values, put, Writes, first_of_two, renamed, Has, HasAll, lookup, same_place, ChannelNumbers}
+use Rattle.pp_machine.specs.WriteLaws.{AllPlaces-append, length-renamed, lookup-append}
+use Rattle.pp_machine.specs.declared.devices.OnRecords.{OnRecords}
+use Rattle.pp_machine.specs.declared.place.Place.{Place}
+
+-- a list of other places does not have a place
+not_among : {P : Type 0} (name : P → Place) (ws : Writes P) (p : Place) → ((x : P) → same_place (name x) p ≡ false) → lookup (renamed name ws) p ≡ None
+not_among name [] p other = refl
+not_among name (w ∷ ws) p other = rw (other w.0) (not_among name ws p other)
+
+-- a list of writes without a watch entry
+pub watches-over : {P : Type 0} (name : P → Place) → ((m : Machine) (p : P) (v : ℕ) → (put m (name p) v).watches ≡ m.watches) → (m : Machine) (w : Writes P) → (over m (renamed name w)).watches ≡ m.watches
+watches-over name keeps m [] = refl
+watches-over name keeps m (pair ∷ w) = keeps (over m (renamed name w)) pair.0 pair.1 ∙ watches-over name keeps m w
+
+-- ---- one device
+
+module _ {Numbers Own Record : Type 0} (d : DeviceModel Numbers Own Record) (laws : IsAttached d) where
+  keeps : (m : Machine) → (over m (device_step_writes d m)).watches ≡ m.watches
+  keeps m = watches-over (device_place d (d.channel m.setup)) (watches-kept d laws (d.channel m.setup)) m (d.writes (view_of d (d.channel m.setup) m))
+
+  not_by_one : (c : ℕ) (r : Record) (p : Place) → of_device p ≡ false → lookup (device_pairs d c r) p ≡ None
+  not_by_one c r p e = not_among (device_place d c) (d.pairs r) p (not_at d laws c p e)
+
+  -- a step on the device's own numbers and its channel is a step of the machine
+  pub device-performed : (m : Machine) (c : ℕ) (n : Numbers) (channels : ChannelNumbers) (r : Record) → d.channel m.setup ≡ c →
+      IsWritten d (d.writes (view_of d c m)) c (d.get m) m.channels n channels → d.pairs r ≡ device_old_values d (view_of d c m) (d.writes (view_of d c m)) →
+      ArePerformed (device_step_writes d ∷ []) m (replace d (with_channels m channels) n) (device_pairs d c r)
+  device-performed m c n channels r on_channel step named =
+      let w = d.writes (view_of d c m) in
+      one-performed (device_step_writes d) m _ _
+      (lifted-parts d laws m c n channels w step ∙ ap (λ at. over m (renamed (device_place d at) (d.writes (view_of d at m)))) (sym on_channel))
+      (ap (renamed (device_place d c)) named ∙ (lifted-old_values d laws m c w ∙ ap (λ at. old_values m (renamed (device_place d at) (d.writes (view_of d at m)))) (sym on_channel)))
+
+-- ---- no device, and one device more
+
+pub no-laws : AreDevices no_devices
+no-laws = record {
+  channels = λ m n. refl;
+  apart = λ m n channels. refl;
+  watches = λ s. tt;
+  writes_has = λ size s ok. tt;
+  pairs_has = λ size r s ok fits. tt;
+  few = λ r. omega arith;
+  not_by = λ r p e. refl;
+}
+
+module _ {Numbers Own Record Others Records : Type 0} (d : DeviceModel Numbers Own Record) (o : DevicesModel Others Records) (device : IsDevice d) (others : AreDevices o) where
+  on-pairs_has : (size : ℕ) (r : OnRecords Record Records) (s : Machine) → AreOnChannels (d.channel s.setup ∷ o.channels s.setup) → FitsOn d o r s → HasAll size (device_pairs d r.channel r.own ++ o.pairs r.others)
+  on-pairs_has size r s ok f =
+      AllPlaces-append (Has size) _ _ (device.pairs_has size r.channel r.own _ (rw f.channel ok.0) f.own) (others.pairs_has size r.others s ok.1 f.others)
+
+  on-few : (r : OnRecords Record Records) → length (device_pairs d r.channel r.own ++ o.pairs r.others) ≤ d.most + o.most
+  on-few r =
+      let here = length-renamed (device_place d r.channel) (d.pairs r.own) in
+      simp length-append (omega (arith, device.few r.own, others.few r.others))
+
+  pub on-laws : AreDevices (on d o)
+  on-laws = record {
+    channels = λ m n. others.channels (d.attach m n.channel n.device) n.others ∙ device.attached.channels m n.channel n.device;
+    apart = λ m n channels. others.apart (d.attach m n.channel n.device) n.others channels ∙ ap (λ s. o.attach s n.others) (device.attached.apart m n.channel n.device channels);
+    watches = λ s. (keeps d device.attached s, others.watches (over s (device_step_writes d s)));
+    writes_has = λ size s ok. (device.writes_has size (d.channel s.setup) (view_of d (d.channel s.setup) s) ok.0, others.writes_has size (over s (device_step_writes d s)) (rw (setup-over s (device_step_writes d s)) ok.1));
+    pairs_has = on-pairs_has;
+    few = on-few;
+    not_by = λ r p e. lookup-append same_place (device_pairs d r.channel r.own) (o.pairs r.others) p ∙ rw (not_by_one d device.attached r.channel r.own p e) (others.not_by r.others p e);
+  }
+
+-- the first pair for a place in the records
+pub lookup_on : {Numbers Own Record Others Records : Type 0} (d : DeviceModel Numbers Own Record) (o : DevicesModel Others Records) (r : OnRecords Record Records) (p : Place) →
+    lookup (device_pairs d r.channel r.own ++ o.pairs r.others) p ≡ first_of_two (lookup (device_pairs d r.channel r.own) p) (lookup (o.pairs r.others) p)
+lookup_on d o r p = lookup-append same_place (device_pairs d r.channel r.own) (o.pairs r.others) p

@@ -1,0 +1,225 @@
+//! The devices of a machine, one after another, each on a channel of its own.
+ghost use Rattle.std.specs.Prelude.{◌≡◌, ◌<◌, false};
+ghost use Rattle.pp_machine.specs.Devices.{AreJoined, AreStepped, DevicesModel, attached, no_devices, on};
+ghost use Rattle.pp_machine.specs.Parts.{AreIdle};
+ghost use Rattle.pp_machine.specs.Prelude.{Machine, over, lookup};
+ghost use Rattle.pp_machine.specs.PrinterNumbers.{IsPrinter};
+ghost use Rattle.pp_machine.specs.ReaderNumbers.{IsReader};
+
+use crate::channel::ChannelState;
+use crate::channels::Channels;
+use crate::device::{Device, step_device, undo_device};
+use crate::place::Place;
+use crate::printer::{Printer, PrinterRecord};
+use crate::reader::{Reader, ReaderRecord};
+use std::marker::Model;
+
+/// The devices of a machine.
+pub trait Devices: Drop {
+    /// The undo records of one step of each device.
+    type Records: Copy;
+
+    /// What the steps write, what the undo records have, and where a machine has the devices.
+    ghost model: { DevicesModel Self Self.Records };
+
+    /// Returns records to overwrite.
+    fn blank() -> Self::Records;
+
+    /// Returns whether the channel of a device is active. If none is, the devices do nothing.
+    fn are_called(&self, channels: &Channels) -> bool
+        ensures { result ≡ false → (m : Machine) → AreIdle model.parts (attached model m self.now channels.now) };
+
+    /// Makes one step of each device, one after another, and returns the undo records.
+    fn step(&mut self, channels: &mut Channels) -> Self::Records
+        ensures { (m : Machine) → AreStepped model (attached model m self.old channels.old) (attached model m self.new channels.new) result };
+
+    /// Undoes a step of each device, the last one first. The records must fit the devices, as they do right after the
+    /// `step` that returned them.
+    fn undo(&mut self, back: &Self::Records, channels: &mut Channels)
+        requires fits { (m : Machine) × model.Fits back.now (attached model m self.old channels.old) }
+        ensures undoes { (m : Machine) → attached model m self.new channels.new ≡ over (attached model m self.old channels.old) (model.pairs back.now) };
+
+    /// Returns the old number of a place, or `None` if no record has that place.
+    fn was(back: &Self::Records, place: &Place) -> Option<u64>
+        ensures { result ≡ lookup (model.pairs back.now) place.now };
+}
+
+/// No device. It ends the list of devices.
+#[derive(Clone, Copy, Drop)]
+pub struct NoDevices;
+
+/// A device on its channel, and the devices after it.
+#[derive(Drop)]
+pub struct On<D: Device, R: Devices> {
+    channel: u8,
+    device: D,
+    others: R,
+}
+
+/// The undo record of a device with the channel that it was on, and those of the devices after it.
+#[derive(Clone, Copy, Drop)]
+pub struct OnRecords<D, R> {
+    pub channel: u8,
+    pub own: D,
+    pub others: R,
+}
+
+impl<D: Device, R: Devices> Model for On<D, R> {
+    ghost use Rattle.std.specs.Prelude.{◌<◌};
+    ghost use Rattle.pp_machine.specs.Devices.{AreJoined, OnNumbers};
+
+    ghost Value = { OnNumbers D R };
+
+    ghost view = { λ o. record { channel = o.channel; device = o.device; others = o.others } };
+
+    ghost invariant = { λ o. (o.channel < 12) × AreJoined D.model R.model };
+}
+
+impl<D: Device, R: Devices> On<D, R> {
+    /// Puts a device on a channel, 0 to 0o13, before other devices.
+    pub fn new(channel: u8, device: D, others: R) -> On<D, R>
+        requires channel { channel < 12 }
+        requires joined { AreJoined D.model R.model }
+        ensures { result ≡ record { channel = channel; device = device; others = others } }
+    {
+        On {
+            channel,
+            device,
+            others,
+        }
+    }
+
+    /// Returns the channel of the device, 0 to 0o13.
+    #[inline(always)]
+    pub fn channel(&self) -> u8
+        ensures value { result ≡ self.now.channel }
+        ensures in_range { result < 12 }
+    {
+        self.channel
+    }
+
+    /// Returns the device.
+    #[inline(always)]
+    pub fn device(&self) -> &D
+        ensures { result.now ≡ self.now.device }
+    {
+        &self.device
+    }
+
+    /// Returns the devices after it.
+    #[inline(always)]
+    pub fn others(&self) -> &R
+        ensures { result.now ≡ self.now.others }
+    {
+        &self.others
+    }
+}
+
+impl Devices for NoDevices {
+    type Records = NoDevices;
+
+    ghost model = { no_devices };
+
+    #[inline(always)]
+    fn blank() -> NoDevices {
+        NoDevices
+    }
+
+    #[inline(always)]
+    fn are_called(&self, _channels: &Channels) -> bool {
+        false
+    }
+
+    #[inline(always)]
+    fn step(&mut self, _channels: &mut Channels) -> NoDevices {
+        NoDevices
+    }
+
+    #[inline(always)]
+    fn undo(&mut self, _back: &NoDevices, _channels: &mut Channels) {}
+
+    #[inline(always)]
+    fn was(_back: &NoDevices, _place: &Place) -> Option<u64> {
+        None
+    }
+}
+
+impl<D: Device, R: Devices> Devices for On<D, R> {
+    type Records = OnRecords<D::Record, R::Records>;
+
+    ghost model = { on D.model R.model };
+
+    #[inline(always)]
+    fn blank() -> OnRecords<D::Record, R::Records> {
+        OnRecords {
+            channel: 0,
+            own: D::blank(),
+            others: R::blank(),
+        }
+    }
+
+    #[inline(always)]
+    fn are_called(&self, channels: &Channels) -> bool {
+        match channels.get(self.channel).state {
+            ChannelState::Inactive => self.others.are_called(channels),
+            _ => true,
+        }
+    }
+
+    #[inline(always)]
+    fn step(&mut self, channels: &mut Channels) -> OnRecords<D::Record, R::Records> {
+        let own = step_device(&mut self.device, channels, self.channel);
+        let others = self.others.step(channels);
+        OnRecords {
+            channel: self.channel,
+            own,
+            others,
+        }
+    }
+
+    #[inline(always)]
+    fn undo(&mut self, back: &OnRecords<D::Record, R::Records>, channels: &mut Channels) {
+        self.others.undo(&back.others, channels);
+        undo_device(&mut self.device, channels, self.channel, back.own);
+    }
+
+    #[inline(always)]
+    #[tactic(auto, using(crate::proofs::DevicesLaws::lookup_on))]
+    fn was(back: &OnRecords<D::Record, R::Records>, place: &Place) -> Option<u64> {
+        D::was(&back.own, back.channel, place).or(R::was(&back.others, place))
+    }
+}
+
+/// The devices of every machine, in the order of their steps.
+pub type AllDevices = On<Reader, On<Printer, NoDevices>>;
+
+/// Their undo records.
+pub type AllRecords = OnRecords<ReaderRecord, OnRecords<PrinterRecord, NoDevices>>;
+
+/// Puts the devices on their channels, each 0 to 0o13.
+#[tactic(auto, using(crate::proofs::AllDevices::printer_joined, crate::proofs::AllDevices::reader_joined))]
+pub fn all_devices(
+    reader_channel: u8,
+    reader: Reader,
+    printer_channel: u8,
+    printer: Printer,
+) -> AllDevices
+    requires reads { reader_channel < 12 }
+    requires prints { printer_channel < 12 }
+    ensures { result ≡ record { channel = reader_channel; device = reader; others = record { channel = printer_channel; device = printer; others = record {} } } }
+{
+    On::new(
+        reader_channel,
+        reader,
+        On::new(printer_channel, printer, NoDevices),
+    )
+}
+
+/// Theorem: the numbers of each device are in range. The function does nothing.
+pub fn devices_keep_ranges(devices: &AllDevices)
+    ensures reader { IsReader devices.now.device }
+    ensures printer { IsPrinter devices.now.others.device }
+{
+    let _cards = devices.device().cards();
+    let _paper = devices.others().device().paper();
+}
