@@ -216,3 +216,10 @@ fn admits_what_the_machine_admits(rt: HostRuntime) -> Result<(), Fail> {
     assert!(rt; !session.machine().admits(&Set { dial: 3, to: 1 }));
     Ok(())
 }
+
+#[test]
+fn a_place_has_no_mark(rt: HostRuntime) -> Result<(), Fail> {
+    assert!(rt; !Marks::of::<Dials>(&[]).has_unmarked());
+    assert!(rt; Marks::of::<Dials>(&[2]).has_unmarked());
+    Ok(())
+}

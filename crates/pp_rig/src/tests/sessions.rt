@@ -64,29 +64,12 @@ fn a_dropped_watch_comes_back_where_it_stood(rt: HostRuntime) -> Result<(), Fail
     follow_anew(&rt, rt.alloc(), &DROPS_A_WATCH)
 }
 
-/// Processor 0 performs a program at 0o100 in turns 1, 0o13 and 0o25: it loads 5 into A first. Then a place is watched,
-/// and the session goes back to its latest change.
-fn search(
-    rt: &impl Abort,
-    alloc: Global,
-    program: &'static [u16],
-    turns: u32,
-    watched: Watched,
-    actions: u32,
-) -> Result<(), Fail> {
-    let mut session = session_of(alloc, make_rig(alloc)?)?;
-    follow(rt, &mut session, &SEARCHED);
-    let steps = [
-        Step::Cells(0, 0o100, program),
-        Step::Runs(turns),
-        Step::Watch(watched),
-        Step::BackToChange(Ok(actions)),
-    ];
-    follow(rt, &mut session, &steps);
-    Ok(())
-}
+/// A program of processor 0, a number of turns, a place that is watched after them, and what the search for its latest
+/// change returns. The program loads 5 into A in turn 1, and performs its other words in turns 0o13 and 0o25. The watch
+/// counts as an action.
+struct Search(&'static [u16], u32, Watched, Result<u32, BackFault>);
 
-const SEARCHED: [Step; 5] = [
+const BEFORE_THE_SEARCH: [Step; 5] = [
     Step::SetChannel(3, ChannelState::Empty, None),
     Step::SetWord(0o5, 0o77),
     Step::SetWord(0o24, 0o77),
@@ -94,34 +77,144 @@ const SEARCHED: [Step; 5] = [
     Step::SetP(0, 0o100),
 ];
 
-const STORED_CELL: Watched = Watched::Cell { pp: 0, a: 0o51 };
+/// Makes the search of a row on a new machine.
+fn search(rt: &impl Abort, alloc: Global, row: &Search, i: usize) -> Result<(), Fail> {
+    let mut session = session_of(alloc, make_rig(alloc)?)?;
+    follow(rt, &mut session, &BEFORE_THE_SEARCH);
+    let Search(program, turns, watched, found) = *row;
+    let steps = [
+        Step::Cells(0, 0o100, program),
+        Step::Runs(turns),
+        Step::Watch(watched),
+    ];
+    follow(rt, &mut session, &steps);
+    assert!(rt; back_to_change(&mut session) == found, "search {i}");
+    Ok(())
+}
 
-// Each program below changes the place in turn 0o13, with two turns and the watch after it.
+/// Makes the searches of a table.
+fn search_all(rt: &impl Abort, alloc: Global, rows: &[Search]) -> Result<(), Fail> {
+    for i in 0..rows.len() {
+        search(rt, alloc, &rows[i], i)?;
+    }
+    Ok(())
+}
+
+const CELL_1: Watched = Watched::Cell { pp: 0, a: 1 };
+
+const CELL_51: Watched = Watched::Cell { pp: 0, a: 0o51 };
+
+const CELL_52: Watched = Watched::Cell { pp: 0, a: 0o52 };
+
+const CELL_7777: Watched = Watched::Cell { pp: 0, a: 0o7777 };
+
+const WORD_5: Watched = Watched::Central { a: 0o5 };
+
+const WORD_24: Watched = Watched::Central { a: 0o24 };
+
+const WORD_25: Watched = Watched::Central { a: 0o25 };
+
+const WORD_40: Watched = Watched::Central { a: 0o40 };
+
+const CHANNEL_3: Watched = Watched::Register { c: 3 };
+
+const READER: Watched = Watched::Register { c: 8 };
+
+const REGISTER_14: Watched = Watched::Register { c: 0o14 };
+
+const STORES: [Search; 3] = [
+    Search(&[0o1405, 0o3451], 0o15, CELL_51, Ok(4)),
+    // Ten turns and an exchange follow.
+    Search(&[0o1405, 0o3451, 0o2600], 0o27, CELL_51, Ok(0o16)),
+    // The cell after it, in the same block.
+    Search(
+        &[0o1405, 0o3451],
+        0o15,
+        CELL_52,
+        Err(BackFault::NoChange { kept: 0o24 }),
+    ),
+];
+
 #[test]
 fn the_search_finds_a_stored_cell(rt: HostRuntime) -> Result<(), Fail> {
-    search(&rt, rt.alloc(), &[0o1405, 0o3451], 0o15, STORED_CELL, 4)
+    search_all(&rt, rt.alloc(), &STORES)
 }
+
+// The last row's register is that of the reader, which puts its status there.
+const OUTPUTS: [Search; 3] = [
+    Search(&[0o1405, 0o7203], 0o15, CHANNEL_3, Ok(4)),
+    Search(&[0o1405, 0o7203, 0o2600], 0o27, CHANNEL_3, Ok(0o16)),
+    Search(&[0o1405, 0o7710, 2, 0o7410], 0o27, READER, Ok(4)),
+];
 
 #[test]
 fn the_search_finds_an_output(rt: HostRuntime) -> Result<(), Fail> {
-    let register = Watched::Register { c: 3 };
-    search(&rt, rt.alloc(), &[0o1405, 0o7203], 0o15, register, 4)
+    search_all(&rt, rt.alloc(), &OUTPUTS)
 }
 
-/// An exchange at 5 writes central words 5 to 0o24.
+// An exchange at 5 writes central words 5 to 0o24. In the last two rows nothing writes the word, once in a block that
+// the exchange writes to.
+const EXCHANGES: [Search; 5] = [
+    Search(&[0o1405, 0o2600], 0o15, WORD_5, Ok(4)),
+    Search(&[0o1405, 0o2600], 0o15, WORD_24, Ok(4)),
+    Search(&[0o1405, 0o2600, 0o3451], 0o27, WORD_24, Ok(0o16)),
+    Search(
+        &[0o1405, 0o2600],
+        0o15,
+        WORD_25,
+        Err(BackFault::NoChange { kept: 0o24 }),
+    ),
+    Search(
+        &[0o1405, 0o2600],
+        0o15,
+        WORD_40,
+        Err(BackFault::NoChange { kept: 0o24 }),
+    ),
+];
+
 #[test]
 fn the_search_finds_both_ends_of_an_exchange(rt: HostRuntime) -> Result<(), Fail> {
-    let first = Watched::Central { a: 0o5 };
-    let last = Watched::Central { a: 0o24 };
-    search(&rt, rt.alloc(), &[0o1405, 0o2600], 0o15, first, 4)?;
-    search(&rt, rt.alloc(), &[0o1405, 0o2600], 0o15, last, 4)
+    search_all(&rt, rt.alloc(), &EXCHANGES)
 }
 
-/// The move of turn 0o25 writes central word 5 to cells 0o7775 to 0o7777, 0 and 1. Three turns and the watch follow.
+// The first row writes cells 0o50 to 0o54 to a central word. The move of turn 0o25 writes central word 5 to cells 0o7775
+// to 0o7777, 0 and 1, or to 0o7773 to 0o7777; three turns follow.
+const BLOCKS: [Search; 3] = [
+    Search(&[0o1405, 0o6250], 0o15, WORD_5, Ok(4)),
+    Search(&[0o1405, 0o6150, 0o7775], 0o30, CELL_1, Ok(5)),
+    Search(&[0o1405, 0o6150, 0o7773], 0o30, CELL_7777, Ok(5)),
+];
+
 #[test]
 fn the_search_finds_both_ends_of_a_block_over_cell_7777(rt: HostRuntime) -> Result<(), Fail> {
-    let low = Watched::Cell { pp: 0, a: 1 };
-    search(&rt, rt.alloc(), &[0o1405, 0o6150, 0o7775], 0o30, low, 5)?;
-    let high = Watched::Cell { pp: 0, a: 0o7777 };
-    search(&rt, rt.alloc(), &[0o1405, 0o6150, 0o7773], 0o30, high, 5)
+    search_all(&rt, rt.alloc(), &BLOCKS)
+}
+
+// The clock changed in turn 0o12.
+const UNMARKED: [Search; 2] = [
+    Search(&[0o1405, 0o2600], 0o15, WATCHED_A, Ok(0o16)),
+    Search(&[0o1405, 0o2600], 0o15, REGISTER_14, Ok(5)),
+];
+
+#[test]
+fn the_search_finds_a_place_without_a_mark(rt: HostRuntime) -> Result<(), Fail> {
+    search_all(&rt, rt.alloc(), &UNMARKED)
+}
+
+/// The store is in turn 0o13, the output in turn 0o25. A search also takes back the watches behind the change.
+const SEARCHES_FOR_TWO: [Step; 9] = [
+    Step::SetChannel(3, ChannelState::Empty, None),
+    Step::Cells(0, 0o100, &[0o1405, 0o3451, 0o7203]),
+    Step::SetP(0, 0o100),
+    Step::Runs(0o27),
+    Step::Watch(CELL_51),
+    Step::Watch(CHANNEL_3),
+    Step::BackToChange(Ok(5)),
+    Step::Watch(CELL_51),
+    Step::BackToChange(Ok(0o13)),
+];
+
+#[test]
+fn the_search_finds_the_latest_of_two_changes(rt: HostRuntime) -> Result<(), Fail> {
+    follow_anew(&rt, rt.alloc(), &SEARCHES_FOR_TWO)
 }
