@@ -14,8 +14,12 @@ covered_by m None own same h = without m.has_unmarked _ h
 covered_by m (Some i) own same h = rw same h
 
 -- what covers some places, and then one more
-pub covers_more : {P : Type 0} (mark_of : P → Option ℕ) (old new : Marks) (mark : Option ℕ) (places : List P) (i : ℕ) (d item : P) → item ≡ get_or places i d → ((k : Option ℕ) → is_covered old k ≡ true → is_covered new k ≡ true) → is_covered new mark ≡ true → IfSome mark (λ k. mark_of item ≡ Some k) → i < length places → AreCovered mark_of old (take i places) → AreCovered mark_of new (take (i + 1) places)
+pub covers_more : {P : Type 0} (mark_of : P → Option ℕ) (old new : Marks) (mark : Option ℕ) (places : List P) (i : ℕ) (d item : P) →
+    item ≡ get_or places i d → ((k : Option ℕ) → is_covered old k ≡ true → is_covered new k ≡ true) → is_covered new mark ≡ true →
+    IfSome mark (λ k. mark_of item ≡ Some k) → i < length places → AreCovered mark_of old (take i places) →
+    AreCovered mark_of new (take (i + 1) places)
 covers_more mark_of old new mark places i d item here keeps covered same within all =
     All-more (λ p. covers mark_of new p ≡ true) places i d within
-    (All-from_get_or (λ p. covers mark_of new p ≡ true) (take i places) d (λ k few. keeps _ (All-get_or (λ p. covers mark_of old p ≡ true) (take i places) k d few all)))
+    (All-from_get_or (λ p. covers mark_of new p ≡ true) (take i places) d
+    (λ k few. keeps _ (All-get_or (λ p. covers mark_of old p ≡ true) (take i places) k d few all)))
     (rw here at (covered_by new mark (mark_of item) same covered))

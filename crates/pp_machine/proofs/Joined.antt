@@ -42,7 +42,7 @@ module _ {Numbers Own Record Others Records : Type 0} (d : DeviceModel Numbers O
   replaced : (n later : Numbers) (x : Others) (channels after : ChannelNumbers) → replace d (with_channels (whole n x channels) after) later ≡ whole later x after
   replaced n later x channels after =
       let changed : with_channels (whole n x channels) after ≡ whole n x after =
-          joined.others.apart (d.attach (with_channels m channels) c n) x after ∙ ap (λ s. o.attach s x) (joined.device.attached.apart (with_channels m channels) c n after) in
+      joined.others.apart (d.attach (with_channels m channels) c n) x after ∙ ap (λ s. o.attach s x) (joined.device.attached.apart (with_channels m channels) c n after) in
       ap (λ at. d.attach (with_channels (whole n x channels) after) at later) (on_channel n x channels)
       ∙ (ap (λ s. d.attach s c later) (changed ∙ device_last n x after)
       ∙ (joined.device.attached.again (o.attach (with_channels m after) x) c c n later ∙ sym (device_last later x after)))
@@ -114,6 +114,6 @@ module _ {Numbers Own Record Others Records : Type 0} (d : DeviceModel Numbers O
   pub idle : (n : Numbers) (x : Others) (channels : ChannelNumbers) → get_or channels.states c 0 ≡ inactive → ((s : Machine) → AreIdle o.parts (attached o s x channels)) → AreIdle (device_step_writes d ∷ o.parts) (whole n x channels)
   idle n x channels state others = (
     ap (λ at. renamed (device_place d at) (d.writes (view_of d at (whole n x channels)))) (on_channel n x channels)
-    ∙ ap (renamed (device_place d c)) (of_whole (λ k z. d.writes (view_on c k z) ≡ []) n x channels (joined.device.idle (view_on c n channels) state)),
+        ∙ ap (renamed (device_place d c)) (of_whole (λ k z. d.writes (view_on c k z) ≡ []) n x channels (joined.device.idle (view_on c n channels) state)),
     subst (AreIdle o.parts) (others_last n x channels) (others (d.attach m c n)),
   )

@@ -105,7 +105,9 @@ record-told m back place fits named e =
     subst (λ o. MatchOption o (number (before back m) place ≡ number m place) (λ was. number (before back m) place ≡ was)) (sym e) (record_restores back m place fits)
 
 -- an action whose record has no watched place changed none
-pub none_changed : (m : Machine) (back : RigRecord) (Watches : Place → Type 0) (watches : List Watched) → FitsRecord back m → ((p : Place) → Watches p → lookup (record_pairs back) p ≡ None) → AllByRecursion Watches (map watched_place watches) → first_change (before back m) m watches ≡ None
+pub none_changed : (m : Machine) (back : RigRecord) (Watches : Place → Type 0) (watches : List Watched) → FitsRecord back m →
+    ((p : Place) → Watches p → lookup (record_pairs back) p ≡ None) → AllByRecursion Watches (map watched_place watches) →
+    first_change (before back m) m watches ≡ None
 none_changed m back Watches [] fits none all = refl
 none_changed m back Watches (w ∷ ws) fits none all =
     let same : number (before back m) (watched_place w) ≡ number m (watched_place w) = record-told m back (watched_place w) fits None (sym (none (watched_place w) all.0)) in

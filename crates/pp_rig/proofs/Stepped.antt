@@ -75,7 +75,8 @@ module _ (m m3 new : Machine) (stepped back : TurnRest) (devices : AreDevicesSte
     slot = in_slot;
     clock = in_clock;
     devices = λ were_called.
-        let after = subst (all_model.Fits stepped.devices) (sym (led_back end_parts m3 new _ ended)) (devices.fits (sym called ∙ were_called)) in
+        let after = subst (all_model.Fits stepped.devices) (sym (led_back end_parts m3 new _ ended))
+        (devices.fits (sym called ∙ were_called)) in
         subst (λ d. all_model.Fits d (over new (end_part back))) (sym records) after;
   }
 

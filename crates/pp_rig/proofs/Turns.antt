@@ -29,5 +29,6 @@ turn-watches m =
     ap (λ (s : Machine). s.watches) (over-parts turn_parts m)
     ∙ kept-after (λ s. s.watches) turn_parts m (
       watches-over (pp_place m.slot) (keeps-pp m.slot) m (pp_writes (pp_of m.slot m)),
-      each-append (λ part s. (over s (part s)).watches ≡ s.watches) device_parts end_parts m1 (all-laws.watches m1) (keeps-clock m3 (m3.slot == 9) ((m3.channels.clock + 1) % 4096), (refl, tt)),
+      each-append (λ part s. (over s (part s)).watches ≡ s.watches) device_parts end_parts m1 (all-laws.watches m1)
+          (keeps-clock m3 (m3.slot == 9) ((m3.channels.clock + 1) % 4096), (refl, tt)),
     )

@@ -41,7 +41,8 @@ HasAll-turn_writes s ok =
     let low : (processor s s.slot).p < 4096 = omega (arith, stepped.p) in
     HasAll-parts size turn_parts s (
       HasAll-step size s.slot ok.slot (pp_of s.slot s) low stepped.cells ok.sizes.central,
-      each-append (λ part m. HasAll size (part m)) device_parts end_parts s1 (all-laws.writes_has size s1 (rw (setup-over s (pp_step_writes s)) ok.setup.channels))
+      each-append (λ part m. HasAll size (part m)) device_parts end_parts s1
+          (all-laws.writes_has size s1 (rw (setup-over s (pp_step_writes s)) ok.setup.channels))
           (HasAll-clock_writes size ((s3.channels.clock + 1) % 4096) (s3.slot == 9), ((tt, tt), tt)),
     )
 

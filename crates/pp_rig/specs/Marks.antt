@@ -1,5 +1,5 @@
 -- The marks of places, and the places of undo records without a mark.
-use Rattle.std.specs.Prelude.{ℕ, Bool, true, false, ◌≡◌, ◌+◌, ◌*◌, ◌/◌, ◌%◌, Option, Some, None}
+use Rattle.std.specs.Prelude.{ℕ, false, ◌≡◌, ◌+◌, ◌*◌, ◌/◌, ◌%◌, Option, Some, None}
 use Rattle.pp_history.specs.Marks.{is_marked}
 use Rattle.pp_history.specs.declared.marks.Marks.{Marks}
 use Rattle.pp_machine.specs.Writes.{AllPlaces, Writes}

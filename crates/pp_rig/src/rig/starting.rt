@@ -8,9 +8,7 @@ use super::Rig;
 use crate::processor::Processor;
 use crate::setup::{Setup, SetupFault};
 use crate::watched::WatchList;
-use pp_machine::{
-    Central, CentralSize, Channels, Frame, MakeFault, Printer, Reader, all_devices,
-};
+use pp_machine::{Central, CentralSize, Channels, Frame, MakeFault, Printer, Reader, all_devices};
 use std::alloc::Global;
 
 /// Creates ten processors whose numbers are all 0.

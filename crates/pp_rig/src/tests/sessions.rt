@@ -67,7 +67,7 @@ fn a_dropped_watch_comes_back_where_it_stood(rt: HostRuntime) -> Result<(), Fail
 /// A program of processor 0, a number of turns, a place that is watched after them, and what the search for its latest
 /// change returns. The program loads 5 into A in turn 1, and performs its other words in turns 0o13 and 0o25. The watch
 /// counts as an action.
-struct Search(&'static [u16], u32, Watched, Result<u32, BackFault>);
+struct Row(&'static [u16], u32, Watched, Result<u32, BackFault>);
 
 const BEFORE_THE_SEARCH: [Step; 5] = [
     Step::SetChannel(3, ChannelState::Empty, None),
@@ -78,10 +78,10 @@ const BEFORE_THE_SEARCH: [Step; 5] = [
 ];
 
 /// Makes the search of a row on a new machine.
-fn search(rt: &impl Abort, alloc: Global, row: &Search, i: usize) -> Result<(), Fail> {
+fn search(rt: &impl Abort, alloc: Global, row: &Row, i: usize) -> Result<(), Fail> {
     let mut session = session_of(alloc, make_rig(alloc)?)?;
     follow(rt, &mut session, &BEFORE_THE_SEARCH);
-    let Search(program, turns, watched, found) = *row;
+    let Row(program, turns, watched, found) = *row;
     let steps = [
         Step::Cells(0, 0o100, program),
         Step::Runs(turns),
@@ -93,7 +93,7 @@ fn search(rt: &impl Abort, alloc: Global, row: &Search, i: usize) -> Result<(), 
 }
 
 /// Makes the searches of a table.
-fn search_all(rt: &impl Abort, alloc: Global, rows: &[Search]) -> Result<(), Fail> {
+fn search_all(rt: &impl Abort, alloc: Global, rows: &[Row]) -> Result<(), Fail> {
     for i in 0..rows.len() {
         search(rt, alloc, &rows[i], i)?;
     }
@@ -122,12 +122,12 @@ const READER: Watched = Watched::Register { c: 8 };
 
 const REGISTER_14: Watched = Watched::Register { c: 0o14 };
 
-const STORES: [Search; 3] = [
-    Search(&[0o1405, 0o3451], 0o15, CELL_51, Ok(4)),
+const STORES: [Row; 3] = [
+    Row(&[0o1405, 0o3451], 0o15, CELL_51, Ok(4)),
     // Ten turns and an exchange follow.
-    Search(&[0o1405, 0o3451, 0o2600], 0o27, CELL_51, Ok(0o16)),
+    Row(&[0o1405, 0o3451, 0o2600], 0o27, CELL_51, Ok(0o16)),
     // The cell after it, in the same block.
-    Search(
+    Row(
         &[0o1405, 0o3451],
         0o15,
         CELL_52,
@@ -141,10 +141,10 @@ fn the_search_finds_a_stored_cell(rt: HostRuntime) -> Result<(), Fail> {
 }
 
 // The last row's register is that of the reader, which puts its status there.
-const OUTPUTS: [Search; 3] = [
-    Search(&[0o1405, 0o7203], 0o15, CHANNEL_3, Ok(4)),
-    Search(&[0o1405, 0o7203, 0o2600], 0o27, CHANNEL_3, Ok(0o16)),
-    Search(&[0o1405, 0o7710, 2, 0o7410], 0o27, READER, Ok(4)),
+const OUTPUTS: [Row; 3] = [
+    Row(&[0o1405, 0o7203], 0o15, CHANNEL_3, Ok(4)),
+    Row(&[0o1405, 0o7203, 0o2600], 0o27, CHANNEL_3, Ok(0o16)),
+    Row(&[0o1405, 0o7710, 2, 0o7410], 0o27, READER, Ok(4)),
 ];
 
 #[test]
@@ -154,17 +154,17 @@ fn the_search_finds_an_output(rt: HostRuntime) -> Result<(), Fail> {
 
 // An exchange at 5 writes central words 5 to 0o24. In the last two rows nothing writes the word, once in a block that
 // the exchange writes to.
-const EXCHANGES: [Search; 5] = [
-    Search(&[0o1405, 0o2600], 0o15, WORD_5, Ok(4)),
-    Search(&[0o1405, 0o2600], 0o15, WORD_24, Ok(4)),
-    Search(&[0o1405, 0o2600, 0o3451], 0o27, WORD_24, Ok(0o16)),
-    Search(
+const EXCHANGES: [Row; 5] = [
+    Row(&[0o1405, 0o2600], 0o15, WORD_5, Ok(4)),
+    Row(&[0o1405, 0o2600], 0o15, WORD_24, Ok(4)),
+    Row(&[0o1405, 0o2600, 0o3451], 0o27, WORD_24, Ok(0o16)),
+    Row(
         &[0o1405, 0o2600],
         0o15,
         WORD_25,
         Err(BackFault::NoChange { kept: 0o24 }),
     ),
-    Search(
+    Row(
         &[0o1405, 0o2600],
         0o15,
         WORD_40,
@@ -179,10 +179,10 @@ fn the_search_finds_both_ends_of_an_exchange(rt: HostRuntime) -> Result<(), Fail
 
 // The first row writes cells 0o50 to 0o54 to a central word. The move of turn 0o25 writes central word 5 to cells 0o7775
 // to 0o7777, 0 and 1, or to 0o7773 to 0o7777; three turns follow.
-const BLOCKS: [Search; 3] = [
-    Search(&[0o1405, 0o6250], 0o15, WORD_5, Ok(4)),
-    Search(&[0o1405, 0o6150, 0o7775], 0o30, CELL_1, Ok(5)),
-    Search(&[0o1405, 0o6150, 0o7773], 0o30, CELL_7777, Ok(5)),
+const BLOCKS: [Row; 3] = [
+    Row(&[0o1405, 0o6250], 0o15, WORD_5, Ok(4)),
+    Row(&[0o1405, 0o6150, 0o7775], 0o30, CELL_1, Ok(5)),
+    Row(&[0o1405, 0o6150, 0o7773], 0o30, CELL_7777, Ok(5)),
 ];
 
 #[test]
@@ -191,9 +191,9 @@ fn the_search_finds_both_ends_of_a_block_over_cell_7777(rt: HostRuntime) -> Resu
 }
 
 // The clock changed in turn 0o12.
-const UNMARKED: [Search; 2] = [
-    Search(&[0o1405, 0o2600], 0o15, WATCHED_A, Ok(0o16)),
-    Search(&[0o1405, 0o2600], 0o15, REGISTER_14, Ok(5)),
+const UNMARKED: [Row; 2] = [
+    Row(&[0o1405, 0o2600], 0o15, WATCHED_A, Ok(0o16)),
+    Row(&[0o1405, 0o2600], 0o15, REGISTER_14, Ok(5)),
 ];
 
 #[test]

@@ -5,4 +5,6 @@ use Rattle.pp_history.proofs.log.is_changed.Goals as goal
 
 pub returns-then-not-may_have-clause-value : goal.returns-then-not-may_have-clause-value
 returns-then-not-may_have-clause-value g c =
-    sym (unmarked_unchanged g.T.Reversible (λ place. g.T.Reversible.value_at c.args.machine.now place) c.args.marks.now (whole_record g.T.Reversible.unpacked c.args.back.now) c.args.places.now (c.may_have.ensures c.if-not-may_have.true) c.requires.covers)
+    let T = g.T.Reversible in
+    sym (unmarked_unchanged T (λ place. T.value_at c.args.machine.now place) c.args.marks.now
+    (whole_record T.unpacked c.args.back.now) c.args.places.now (c.may_have.ensures c.if-not-may_have.true) c.requires.covers)

@@ -22,7 +22,8 @@ first_change-requires c =
     let same : watches_of c.act.new.self.machine ≡ watches_of c.args.session.now.machine =
     turned-watches c.loop-turns.session.machine c.act.new.self.machine c.act.ensures.machine ∙ c.loop-turns.invariant.watches in
     let listed : c.as_slice.result.now ≡ map watched_place (watches_of c.act.new.self.machine) =
-    c.as_slice.ensures.value ∙ c.watched_places.ensures.value ∙ ap (map watched_place) (ap (λ (m : Machine). watches_of m) c.machine.ensures.value ∙ sym same) in
+    c.as_slice.ensures.value ∙ c.watched_places.ensures.value ∙ ap (map watched_place)
+    (ap (λ (m : Machine). watches_of m) c.machine.ensures.value ∙ sym same) in
     subst (AreCovered mark_of c.of-marks.result) listed c.of-marks.ensures
 
 pub returns-in-Some-clause-stops : goal.returns-in-Some-clause-stops

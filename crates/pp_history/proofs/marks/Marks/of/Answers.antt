@@ -6,7 +6,10 @@ use Rattle.pp_history.proofs.marks.Marks.of.Goals as goal
 
 pub loop-place-preserved : goal.loop-place-preserved
 loop-place-preserved g c =
-    covers_more g.T.Reversible.mark_of c.loop-place.marks c.add.new.self c.mark.result c.args.places.now c.loop-place.place-index _ c.place-item.result c.place-item.is c.add.ensures.keeps_covered c.add.ensures.covers c.mark.ensures c.loop-place-test.true c.loop-place.invariant
+    let added = c.add.ensures in
+    covers_more g.T.Reversible.mark_of c.loop-place.marks c.add.new.self c.mark.result c.args.places.now c.loop-place.place-index _
+    c.place-item.result c.place-item.is added.keeps_covered added.covers c.mark.ensures c.loop-place-test.true c.loop-place.invariant
 
 pub returns : goal.returns
-returns g c = subst (AreCovered g.T.Reversible.mark_of c.loop-place.marks) (take_all c.loop-place.place-index c.args.places.now c.loop-place-test.false) c.loop-place.invariant
+returns g c = subst (AreCovered g.T.Reversible.mark_of c.loop-place.marks)
+    (take_all c.loop-place.place-index c.args.places.now c.loop-place-test.false) c.loop-place.invariant

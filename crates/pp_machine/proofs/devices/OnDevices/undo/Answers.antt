@@ -18,6 +18,8 @@ pub returns : goal.returns
 returns g c =
     let fits = rw (← c.self.view_is) at c.requires.fits in
     let at = channel_fits g.D.Device.model g.R.Devices.model c.self.invariant.1 fits.0 c.self.inside.channel c.self.inside.device c.self.inside.others c.undo.new.self c.args.channels.now c.undo.new.channels c.args.back.now fits.1 in
-    rw (← c.self.view_is) (record { undoes = λ m.
-        undone g.D.Device.model g.R.Devices.model c.self.invariant.1 m c.self.inside.channel c.self.inside.device c.self.inside.others c.undo.new.self c.args.channels.now c.undo.new.channels c.args.back.now
-        c.undo_device.new.device c.undo_device.new.channels at c.undo.ensures.undoes c.undo_device.ensures })
+    rw (← c.self.view_is) (record {
+      undoes = λ m.
+          undone g.D.Device.model g.R.Devices.model c.self.invariant.1 m c.self.inside.channel c.self.inside.device c.self.inside.others c.undo.new.self c.args.channels.now c.undo.new.channels c.args.back.now
+          c.undo_device.new.device c.undo_device.new.channels at c.undo.ensures.undoes c.undo_device.ensures;
+    })

@@ -8,4 +8,5 @@ returns-else-must_search c = λ none.
     let turn = c.args.self.now in
     let exchange = c.in-Exchange.exchange in
     let words = c.are_words_marked.ensures none turn.rest.slot (words_of exchange.size) in
-    not_in_turn c.args.marks.now turn (sym c.must_search.ensures ∙ c.if-must_search.false) (rw c.in-Exchange.is (exchange_unmarked c.args.marks.now turn.rest.slot _ words))
+    not_in_turn c.args.marks.now turn (sym c.must_search.ensures ∙ c.if-must_search.false)
+    (rw c.in-Exchange.is (exchange_unmarked c.args.marks.now turn.rest.slot _ words))
