@@ -1,8 +1,12 @@
 //! Sessions of a gauge: a machine with short and long undo records. It overwrites a record in place, and undoes by a
 //! record without moving it.
 
+ghost use Rattle.std.specs.Prelude.{◌≤◌};
+
 use super::super::*;
 use super::{before_newest, session_of};
+use std::alloc::Global;
+use std::process::Abort;
 use std::test::Fail;
 
 /// One number, which can be set.
@@ -104,79 +108,129 @@ impl Reversible for Gauge {
     }
 }
 
-#[test]
-fn goes_back_and_forward_in_place(rt: HostRuntime) -> Result<(), Fail> {
-    let mut session = session_of(rt.alloc(), Gauge { number: 0 }, 3)?;
-    session.act(5);
-    session.act(6);
-    session.act(6);
-    session.act(7);
-    assert_eq!(rt; session.back(2), Ok(()));
-    assert_eq!(rt; session.machine().number, 6);
-    assert_eq!(rt; session.forward(1), Ok(()));
-    assert_eq!(rt; session.machine().number, 6);
-    assert_eq!(rt; session.forward(1), Ok(()));
-    assert_eq!(rt; session.machine().number, 7);
-    assert_eq!(rt; session.back(3), Ok(()));
-    assert_eq!(rt; session.machine().number, 5);
-    assert_eq!(rt; session.back(1), Err(BackFault::TooFew { kept: 0 }));
-    assert_eq!(rt; session.forward(2), Ok(()));
-    session.act(9);
-    assert_eq!(rt; (session.kept(), session.ahead()), (3, 0));
-    assert_eq!(rt; session.back_to_change(&[()]), Ok(1));
-    assert_eq!(rt; session.back_to_change(&[()]), Ok(2));
-    assert_eq!(rt; session.machine().number, 5);
-    assert_eq!(rt;
-        session.back_to_change(&[()]),
-        Err(BackFault::NoChange { kept: 0 })
-    );
+/// A call, and what it returns.
+enum Call {
+    Act(u64),
+    Back(u32, Result<(), BackFault>),
+    Forward(u32, Result<(), BackFault>),
+    /// Goes back to the latest change.
+    BackTo(Result<u32, BackFault>),
+    /// Returns the number before the newest action.
+    Before(Option<u64>),
+    /// Finds the latest change.
+    Find(Option<u32>),
+}
+
+use Call::{Act, Back, BackTo, Before, Find, Forward};
+
+/// A call, and afterwards the number, how many actions are kept, and how many are ahead.
+type Row = (Call, u64, u32, u32);
+
+/// Makes a call. Returns whether the result is the expected one.
+fn returns(session: &mut Session<Gauge>, call: &Call) -> bool {
+    match *call {
+        Act(to) => {
+            session.act(to);
+            true
+        }
+        Back(n, result) => session.back(n) == result,
+        Forward(n, result) => session.forward(n) == result,
+        BackTo(result) => session.back_to_change(&[()]) == result,
+        Before(number) => before_newest(session, &()) == number,
+        Find(change) => session.find_change(&[()], &mut Looks::new()) == change,
+    }
+}
+
+fn is_right(session: &mut Session<Gauge>, row: &Row) -> bool {
+    let (call, number, kept, ahead) = row;
+    let is_done = returns(session, call) && session.machine().number == *number;
+    is_done && session.kept() == *kept && session.ahead() == *ahead
+}
+
+fn follow(rt: &impl Abort, session: &mut Session<Gauge>, rows: &[Row]) {
+    for i in 0..rows.len() {
+        assert!(rt; is_right(session, &rows[i]), "row {i}");
+    }
+}
+
+/// Follows rows in a new session whose undo history holds this many actions, 1 to 10,000 (decimal).
+fn follow_anew(rt: &impl Abort, alloc: Global, capacity: u32, rows: &[Row]) -> Result<(), Fail>
+    requires { (1 ≤ capacity) × (capacity ≤ 10000) }
+{
+    let mut session = session_of(alloc, Gauge { number: 0 }, capacity)?;
+    follow(rt, &mut session, rows);
+    drop(session);
     Ok(())
 }
+
+const IN_PLACE: [Row; 14] = [
+    (Act(5), 5, 1, 0),
+    (Act(6), 6, 2, 0),
+    (Act(6), 6, 3, 0),
+    (Act(7), 7, 3, 0),
+    (Back(2, Ok(())), 6, 1, 2),
+    (Forward(1, Ok(())), 6, 2, 1),
+    (Forward(1, Ok(())), 7, 3, 0),
+    (Back(3, Ok(())), 5, 0, 3),
+    (Back(1, Err(BackFault::TooFew { kept: 0 })), 5, 0, 3),
+    (Forward(2, Ok(())), 6, 2, 1),
+    (Act(9), 9, 3, 0),
+    (BackTo(Ok(1)), 6, 2, 1),
+    (BackTo(Ok(2)), 5, 0, 3),
+    (BackTo(Err(BackFault::NoChange { kept: 0 })), 5, 0, 3),
+];
+
+#[test]
+fn goes_back_and_forward_in_place(rt: HostRuntime) -> Result<(), Fail> {
+    follow_anew(&rt, rt.alloc(), 3, &IN_PLACE)
+}
+
+const SHORT_AND_LONG: [Row; 21] = [
+    (Act(5), 5, 1, 0),
+    (Act(300), 300, 2, 0),
+    (Act(301), 301, 3, 0),
+    (Act(6), 6, 3, 0),
+    (Act(7), 7, 3, 0),
+    (Act(1000), 1000, 3, 0),
+    (Act(8), 8, 3, 0),
+    (Act(1001), 1001, 3, 0),
+    (Act(9), 9, 3, 0),
+    (Before(Some(1001)), 9, 3, 0),
+    (Back(1, Ok(())), 1001, 2, 1),
+    (Back(1, Ok(())), 8, 1, 2),
+    (Back(1, Ok(())), 1000, 0, 3),
+    (Back(1, Err(BackFault::TooFew { kept: 0 })), 1000, 0, 3),
+    (Before(None), 1000, 0, 3),
+    (Forward(2, Ok(())), 1001, 2, 1),
+    (Before(Some(8)), 1001, 2, 1),
+    (Act(2000), 2000, 3, 0),
+    (Act(10), 10, 3, 0),
+    (Back(3, Ok(())), 8, 0, 3),
+    (Forward(3, Ok(())), 10, 3, 0),
+];
 
 #[test]
 fn keeps_short_and_long_records_in_order(rt: HostRuntime) -> Result<(), Fail> {
-    let mut session = session_of(rt.alloc(), Gauge { number: 0 }, 3)?;
-    for to in [5, 300, 301, 6, 7, 1000, 8, 1001, 9] {
-        session.act(to);
-    }
-    assert_eq!(rt; before_newest(&session, &()), Some(1001));
-    for number in [1001, 8, 1000] {
-        assert_eq!(rt; session.back(1), Ok(()));
-        assert_eq!(rt; session.machine().number, number);
-    }
-    assert_eq!(rt; session.back(1), Err(BackFault::TooFew { kept: 0 }));
-    assert_eq!(rt; before_newest(&session, &()), None);
-    assert_eq!(rt; session.forward(2), Ok(()));
-    assert_eq!(rt; session.machine().number, 1001);
-    assert_eq!(rt; before_newest(&session, &()), Some(8));
-    session.act(2000);
-    session.act(10);
-    assert_eq!(rt; session.back(3), Ok(()));
-    assert_eq!(rt; session.machine().number, 8);
-    assert_eq!(rt; session.forward(3), Ok(()));
-    assert_eq!(rt; session.machine().number, 10);
-    Ok(())
+    follow_anew(&rt, rt.alloc(), 3, &SHORT_AND_LONG)
 }
+
+const SEARCHED: [Row; 13] = [
+    (Act(300), 300, 1, 0),
+    (Act(400), 400, 2, 0),
+    (Act(400), 400, 3, 0),
+    (Act(400), 400, 4, 0),
+    (Act(7), 7, 5, 0),
+    (Act(7), 7, 5, 0),
+    (Find(Some(2)), 7, 5, 0),
+    (BackTo(Ok(2)), 400, 3, 2),
+    (BackTo(Ok(3)), 300, 0, 5),
+    (BackTo(Err(BackFault::NoChange { kept: 0 })), 300, 0, 5),
+    (Forward(5, Ok(())), 7, 5, 0),
+    (Back(1, Ok(())), 7, 4, 1),
+    (BackTo(Ok(1)), 400, 3, 2),
+];
 
 #[test]
 fn searches_short_and_long_records(rt: HostRuntime) -> Result<(), Fail> {
-    let mut session = session_of(rt.alloc(), Gauge { number: 0 }, 5)?;
-    for to in [300, 400, 400, 400, 7, 7] {
-        session.act(to);
-    }
-    let mut looks = Looks::new();
-    assert_eq!(rt; session.find_change(&[()], &mut looks), Some(2));
-    assert_eq!(rt; session.back_to_change(&[()]), Ok(2));
-    assert_eq!(rt; session.machine().number, 400);
-    assert_eq!(rt; session.back_to_change(&[()]), Ok(3));
-    assert_eq!(rt; session.machine().number, 300);
-    assert_eq!(rt;
-        session.back_to_change(&[()]),
-        Err(BackFault::NoChange { kept: 0 })
-    );
-    assert_eq!(rt; session.forward(5), Ok(()));
-    assert_eq!(rt; session.back(1), Ok(()));
-    assert_eq!(rt; session.back_to_change(&[()]), Ok(1));
-    assert_eq!(rt; session.machine().number, 400);
-    Ok(())
+    follow_anew(&rt, rt.alloc(), 5, &SEARCHED)
 }

@@ -1,12 +1,12 @@
 //! Worked steps of the printer and its channel.
 
-use super::PrinterMode::{Idle, Printing};
+use super::PrinterMode::{Idle, Printing, Sent, Status};
 use super::PrinterRecord::{
     Called, LineEnded, Nothing, StatusEnded, StatusSent, UpperPrinted, WordDropped, WordPrinted,
 };
 use super::{Printer, PrinterMode, PrinterRecord};
-use crate::channel::Channel;
 use crate::channel::ChannelState::{Empty, Full, Function, Inactive};
+use crate::channel::{Channel, ChannelState};
 use crate::tests::channel;
 use std::process::Abort;
 use std::test::Fail;
@@ -16,106 +16,185 @@ fn numbers(printer: &Printer) -> (u32, u32, PrinterMode) {
     (printer.length(), printer.column(), printer.mode())
 }
 
-/// Makes a step, undoes it by the expected record and makes it again. Checks the record.
-fn step(rt: &impl Abort, printer: &mut Printer, line: &mut Channel, record: PrinterRecord) {
+/// A step: the channel before it, the undo record, and afterwards the channel, the printer's length, column and mode, and
+/// the end of its paper.
+type Step = (
+    (ChannelState, u16),
+    PrinterRecord,
+    (ChannelState, u16),
+    (u32, u32, PrinterMode),
+    &'static [u8],
+);
+
+/// Returns whether the two symbols after the paper's end, if there is room for them, are 0.
+fn is_blank_past_the_end(printer: &Printer) -> bool {
+    let length = printer.length();
+    length >= 65535 || (printer.symbol(length) == 0 && printer.symbol(length + 1) == 0)
+}
+
+/// Makes a step and undoes it. Returns whether the record is the expected one, and all is as before.
+fn is_undone(printer: &mut Printer, line: &mut Channel, record: PrinterRecord) -> bool {
     let (before, earlier) = (*line, numbers(printer));
     let back = printer.step(line);
-    assert_eq!(rt; back, record);
-    printer.undo(record, line);
-    assert_eq!(rt; numbers(printer), earlier);
-    assert_eq!(rt; *line, before);
-    let length = printer.length();
-    if length < 65535 {
-        assert_eq!(rt; printer.symbol(length), 0);
-        assert_eq!(rt; printer.symbol(length + 1), 0);
-    }
-    assert_eq!(rt; printer.step(line), record);
+    printer.undo(back, line);
+    let is_as_before = *line == before && numbers(printer) == earlier;
+    back == record && is_as_before && is_blank_past_the_end(printer)
 }
+
+/// Makes a step, undoes it and makes it again. Returns whether its row is right.
+fn is_right(printer: &mut Printer, step: &Step) -> bool {
+    let ((state, word), record, after, left, paper) = *step;
+    let mut line = channel(state, word & 0o7777);
+    let is_undone = is_undone(printer, &mut line, record);
+    let is_made = printer.step(&mut line) == record && (line.state, line.word) == after;
+    is_undone && is_made && numbers(printer) == left && printer.paper().ends_with(paper)
+}
+
+fn follow(rt: &impl Abort, printer: &mut Printer, steps: &[Step]) {
+    for i in 0..steps.len() {
+        assert!(rt; is_right(printer, &steps[i]), "row {i}");
+    }
+}
+
+const PRINTED: [Step; 3] = [
+    (
+        (Function, 1),
+        Called { mode: Idle },
+        (Inactive, 1),
+        (0, 0, Printing),
+        &[],
+    ),
+    (
+        (Full, 0o0102),
+        WordPrinted {
+            length: 0,
+            column: 0,
+        },
+        (Empty, 0o0102),
+        (2, 2, Printing),
+        &[0o01, 0o02],
+    ),
+    (
+        (Function, 3),
+        LineEnded {
+            length: 2,
+            column: 2,
+        },
+        (Inactive, 3),
+        (3, 0, Printing),
+        &[0o01, 0o02, 0o100],
+    ),
+];
 
 #[test]
 fn prints_words_and_line_ends(rt: HostRuntime) -> Result<(), Fail> {
     let mut printer = Printer::new(rt.alloc())?;
-    let mut line = channel(Function, 1);
-    step(&rt, &mut printer, &mut line, Called { mode: Idle });
-    assert_eq!(rt; line, channel(Inactive, 1));
-    assert_eq!(rt; printer.mode(), Printing);
-
-    line = channel(Full, 0o0102);
-    let (length, column) = (0, 0);
-    let printed = WordPrinted { length, column };
-    step(&rt, &mut printer, &mut line, printed);
-    assert_eq!(rt; line, channel(Empty, 0o0102));
-    assert_eq!(rt; printer.paper(), [0o01, 0o02].as_slice());
-
-    line = channel(Function, 3);
-    let (length, column) = (2, 2);
-    let ended = LineEnded { length, column };
-    step(&rt, &mut printer, &mut line, ended);
-    assert_eq!(rt; line, channel(Inactive, 3));
-    assert_eq!(rt; printer.paper(), [0o01, 0o02, 0o100].as_slice());
-    assert_eq!(rt; numbers(&printer), (3, 0, Printing));
+    follow(&rt, &mut printer, &PRINTED);
+    drop(printer);
     Ok(())
 }
+
+const DROPPED: [Step; 2] = [
+    (
+        (Full, 0o0304),
+        UpperPrinted {
+            length: 0,
+            column: 135,
+        },
+        (Empty, 0o0304),
+        (1, 136, Printing),
+        &[0o03],
+    ),
+    (
+        (Full, 0o0304),
+        WordDropped {
+            length: 1,
+            column: 136,
+        },
+        (Empty, 0o0304),
+        (1, 136, Printing),
+        &[0o03],
+    ),
+];
 
 #[test]
 fn drops_what_is_past_the_line(rt: HostRuntime) -> Result<(), Fail> {
     let mut printer = Printer::new(rt.alloc())?;
     printer.mode = Printing;
     printer.column = 135;
-    let mut line = channel(Full, 0o0304);
-    let (length, column) = (0, 135);
-    let upper = UpperPrinted { length, column };
-    step(&rt, &mut printer, &mut line, upper);
-    assert_eq!(rt; line.state, Empty);
-    assert_eq!(rt; printer.paper(), [0o03].as_slice());
-    assert_eq!(rt; printer.column(), 136);
-
-    line.state = Full;
-    let (length, column) = (1, 136);
-    let dropped = WordDropped { length, column };
-    step(&rt, &mut printer, &mut line, dropped);
-    assert_eq!(rt; line.state, Empty);
-    assert_eq!(rt; printer.paper(), [0o03].as_slice());
-    assert_eq!(rt; printer.column(), 136);
+    follow(&rt, &mut printer, &DROPPED);
+    drop(printer);
     Ok(())
+}
+
+/// The paper has room for one more symbol.
+const FULL_PAPER: [Step; 7] = [
+    (
+        (Function, 1),
+        Called { mode: Idle },
+        (Inactive, 1),
+        (65535, 0, Printing),
+        &[0o100],
+    ),
+    (
+        (Full, 0o0102),
+        Nothing,
+        (Full, 0o0102),
+        (65535, 0, Printing),
+        &[0o100],
+    ),
+    (
+        (Function, 2),
+        Called { mode: Printing },
+        (Inactive, 2),
+        (65535, 0, Status),
+        &[0o100],
+    ),
+    (
+        (Empty, 2),
+        StatusSent { word: 2 },
+        (Full, 1),
+        (65535, 0, Sent),
+        &[0o100],
+    ),
+    (
+        (Empty, 1),
+        StatusEnded,
+        (Inactive, 1),
+        (65535, 0, Idle),
+        &[0o100],
+    ),
+    (
+        (Function, 3),
+        LineEnded {
+            length: 65535,
+            column: 0,
+        },
+        (Inactive, 3),
+        (65536, 0, Idle),
+        &[0o100],
+    ),
+    (
+        (Function, 3),
+        Nothing,
+        (Function, 3),
+        (65536, 0, Idle),
+        &[0o100],
+    ),
+];
+
+fn end_lines(printer: &mut Printer, lines: u32) {
+    for _line in 0..lines {
+        let _ = printer.step(&mut channel(Function, 3));
+    }
 }
 
 #[test]
 fn tells_whether_the_paper_is_full(rt: HostRuntime) -> Result<(), Fail> {
     let mut printer = Printer::new(rt.alloc())?;
-    let mut line = channel(Function, 3);
-    for _line in 0..65535u32 {
-        line.state = Function;
-        let _ = printer.step(&mut line);
-    }
-    assert_eq!(rt; printer.length(), 65535);
-    line = channel(Function, 1);
-    let _ = printer.step(&mut line);
-
-    line = channel(Full, 0o0102);
-    step(&rt, &mut printer, &mut line, Nothing);
-    assert_eq!(rt; line, channel(Full, 0o0102));
-
-    line = channel(Function, 2);
-    let called = Called { mode: Printing };
-    step(&rt, &mut printer, &mut line, called);
-    line.state = Empty;
-    let sent = StatusSent { word: 2 };
-    step(&rt, &mut printer, &mut line, sent);
-    assert_eq!(rt; line, channel(Full, 1));
-    line.state = Empty;
-    step(&rt, &mut printer, &mut line, StatusEnded);
-    assert_eq!(rt; line.state, Inactive);
-
-    line = channel(Function, 3);
-    let (length, column) = (65535, 0);
-    let last = LineEnded { length, column };
-    step(&rt, &mut printer, &mut line, last);
-    assert_eq!(rt; line.state, Inactive);
-    line.state = Function;
-    step(&rt, &mut printer, &mut line, Nothing);
-    assert_eq!(rt; line.state, Function);
-    assert_eq!(rt; printer.length(), 65536);
+    end_lines(&mut printer, 65535);
+    follow(&rt, &mut printer, &FULL_PAPER);
+    drop(printer);
     Ok(())
 }
 

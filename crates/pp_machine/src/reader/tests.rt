@@ -1,15 +1,15 @@
 //! Worked steps of the card reader and its channel.
 
-ghost use Rattle.std.specs.Prelude.{◌≡◌, All, IfOk};
+ghost use Rattle.std.specs.Prelude.{All, IfOk};
 ghost use Rattle.pp_machine.specs.ReaderNumbers.{IsCard};
 
-use super::ReaderMode::{Idle, Reading, Sent};
+use super::ReaderMode::{Idle, Reading, Sent, Status};
 use super::ReaderRecord::{
     CardEnded, ColumnSent, Nothing, Skipped, Started, StatusCalled, StatusEnded, StatusSent,
 };
 use super::{Reader, ReaderMode, ReaderRecord};
-use crate::channel::Channel;
 use crate::channel::ChannelState::{Empty, Full, Function, Inactive};
+use crate::channel::{Channel, ChannelState};
 use crate::fault::MakeFault;
 use crate::tests::channel;
 use std::alloc::{AllocError, Global};
@@ -47,107 +47,145 @@ fn numbers(reader: &Reader) -> (u32, u32, ReaderMode) {
     (reader.card(), reader.column(), reader.mode())
 }
 
-/// Returns the expected record, if it is the one that a step returned.
-fn expected(rt: &impl Abort, back: ReaderRecord, record: ReaderRecord) -> ReaderRecord
-    ensures { result ≡ back }
-{
-    assert_eq!(rt; back, record);
-    record
-}
+/// A step: the channel before it, the undo record, and afterwards the channel, and the reader's card, column and mode.
+type Step = (
+    (ChannelState, u16),
+    ReaderRecord,
+    (ChannelState, u16),
+    (u32, u32, ReaderMode),
+);
 
-/// Makes a step, undoes it by the expected record and makes it again. Checks the record.
-fn step(rt: &impl Abort, reader: &mut Reader, line: &mut Channel, record: ReaderRecord) {
+/// Makes a step and undoes it. Returns whether the record is the expected one, and all is as before.
+fn is_undone(reader: &mut Reader, line: &mut Channel, record: ReaderRecord) -> bool {
     let (before, earlier) = (*line, numbers(reader));
     let back = reader.step(line);
-    reader.undo(expected(rt, back, record), line);
-    assert_eq!(rt; numbers(reader), earlier);
-    assert_eq!(rt; *line, before);
-    assert_eq!(rt; reader.step(line), record);
+    reader.undo(back, line);
+    back == record && *line == before && numbers(reader) == earlier
 }
+
+/// Makes a step, undoes it and makes it again. Returns whether its row is right.
+fn is_right(reader: &mut Reader, step: &Step) -> bool {
+    let ((state, word), record, after, left) = *step;
+    let mut line = channel(state, word & 0o7777);
+    let is_undone = is_undone(reader, &mut line, record);
+    let is_made = reader.step(&mut line) == record && (line.state, line.word) == after;
+    is_undone && is_made && numbers(reader) == left
+}
+
+/// Makes the steps of a reader with this many cards.
+fn follow(rt: &impl Abort, reader: &mut Reader, cards: u32, steps: &[Step]) {
+    assert!(rt; reader.cards() == cards);
+    for i in 0..steps.len() {
+        assert!(rt; is_right(reader, &steps[i]), "row {i}");
+    }
+}
+
+const ONE_CARD: [Step; 4] = [
+    (
+        (Function, 1),
+        Started { mode: Idle },
+        (Inactive, 1),
+        (0, 0, Reading),
+    ),
+    (
+        (Empty, 1),
+        ColumnSent { word: 1, column: 0 },
+        (Full, 1),
+        (0, 1, Reading),
+    ),
+    ((Full, 1), Nothing, (Full, 1), (0, 1, Reading)),
+    (
+        (Function, 1),
+        Skipped {
+            card: 0,
+            column: 1,
+            mode: Reading,
+        },
+        (Inactive, 1),
+        (1, 0, Idle),
+    ),
+];
 
 #[test]
 fn reads_one_card(rt: HostRuntime) -> Result<(), Fail> {
     let mut reader = one_card(rt.alloc())?;
-    assert_eq!(rt; reader.cards(), 1);
-    let mut line = channel(Function, 1);
-    step(&rt, &mut reader, &mut line, Started { mode: Idle });
-    assert_eq!(rt; line, channel(Inactive, 1));
-    assert_eq!(rt; numbers(&reader), (0, 0, Reading));
-
-    line.state = Empty;
-    let first = ColumnSent { word: 1, column: 0 };
-    step(&rt, &mut reader, &mut line, first);
-    assert_eq!(rt; line, channel(Full, 1));
-    assert_eq!(rt; numbers(&reader), (0, 1, Reading));
-
-    step(&rt, &mut reader, &mut line, Nothing);
-
-    line = channel(Function, 1);
-    let (card, column, mode) = (0, 1, Reading);
-    let skipped = Skipped { card, column, mode };
-    step(&rt, &mut reader, &mut line, skipped);
-    assert_eq!(rt; line, channel(Inactive, 1));
-    assert_eq!(rt; numbers(&reader), (1, 0, Idle));
+    follow(&rt, &mut reader, 1, &ONE_CARD);
+    drop(reader);
     Ok(())
 }
+
+const NO_CARD: [Step; 3] = [
+    (
+        (Function, 2),
+        StatusCalled { mode: Idle },
+        (Inactive, 2),
+        (0, 0, Status),
+    ),
+    ((Empty, 2), StatusSent { word: 2 }, (Full, 1), (0, 0, Sent)),
+    ((Empty, 1), StatusEnded, (Inactive, 1), (0, 0, Idle)),
+];
 
 #[test]
 fn tells_that_no_card_is_left(rt: HostRuntime) -> Result<(), Fail> {
     let mut reader = Reader::new(deck_of(rt.alloc(), 0)?)?;
-    assert_eq!(rt; reader.cards(), 0);
-    let mut line = channel(Function, 2);
-    let called = StatusCalled { mode: Idle };
-    step(&rt, &mut reader, &mut line, called);
-    assert_eq!(rt; line, channel(Inactive, 2));
-
-    line.state = Empty;
-    let sent = StatusSent { word: 2 };
-    step(&rt, &mut reader, &mut line, sent);
-    assert_eq!(rt; line, channel(Full, 1));
-    assert_eq!(rt; reader.mode(), Sent);
-
-    line.state = Empty;
-    step(&rt, &mut reader, &mut line, StatusEnded);
-    assert_eq!(rt; line, channel(Inactive, 1));
-    assert_eq!(rt; reader.mode(), Idle);
+    follow(&rt, &mut reader, 0, &NO_CARD);
+    drop(reader);
     Ok(())
 }
+
+/// Reads the columns of a card. Returns whether each one comes.
+fn reads_columns(reader: &mut Reader) -> bool {
+    let _ = reader.step(&mut channel(Function, 1));
+    for _column in 0..80 {
+        let mut line = channel(Empty, 0);
+        let _ = reader.step(&mut line);
+        if line.state != Full {
+            return false;
+        }
+    }
+    reader.column() == 80
+}
+
+const CARD_ENDS: [Step; 1] = [(
+    (Empty, 0),
+    CardEnded { card: 0 },
+    (Inactive, 0),
+    (1, 0, Idle),
+)];
 
 #[test]
 fn ends_a_card_after_its_last_column(rt: HostRuntime) -> Result<(), Fail> {
     let mut reader = one_card(rt.alloc())?;
-    let mut line = channel(Function, 1);
-    let _ = reader.step(&mut line);
-    for _column in 0..80 {
-        line.state = Empty;
-        let _ = reader.step(&mut line);
-        assert_eq!(rt; line.state, Full);
-    }
-    assert_eq!(rt; reader.column(), 80);
-    line.state = Empty;
-    let ended = CardEnded { card: 0 };
-    step(&rt, &mut reader, &mut line, ended);
-    assert_eq!(rt; line.state, Inactive);
-    assert_eq!(rt; numbers(&reader), (1, 0, Idle));
+    assert!(rt; reads_columns(&mut reader));
+    follow(&rt, &mut reader, 1, &CARD_ENDS);
+    drop(reader);
     Ok(())
 }
+
+const OTHER_FUNCTION: [Step; 1] = [((Function, 4), Nothing, (Function, 4), (0, 0, Idle))];
 
 #[test]
 fn leaves_other_functions_alone(rt: HostRuntime) -> Result<(), Fail> {
     let mut reader = one_card(rt.alloc())?;
-    let mut line = channel(Function, 4);
-    step(&rt, &mut reader, &mut line, Nothing);
-    assert_eq!(rt; line, channel(Function, 4));
-    assert_eq!(rt; reader.mode(), Idle);
+    follow(&rt, &mut reader, 1, &OTHER_FUNCTION);
+    drop(reader);
     Ok(())
+}
+
+/// Returns why no reader is made with so many cards, or `None` if one is made.
+fn fault_of(alloc: Global, cards: u16) -> Result<Option<MakeFault>, Fail> {
+    Ok(Reader::new(deck_of(alloc, cards)?).err())
 }
 
 #[test]
 fn refuses_a_deck_over_2000_cards(rt: HostRuntime) -> Result<(), Fail> {
-    assert!(rt; Reader::new(deck_of(rt.alloc(), 0)?).is_ok());
-    assert!(rt; Reader::new(deck_of(rt.alloc(), 2000)?).is_ok());
-    let refused = Reader::new(deck_of(rt.alloc(), 2001)?).err();
-    assert_eq!(rt; refused, Some(MakeFault::DeckTooLong));
+    for (cards, fault) in [
+        (0, None),
+        (2000, None),
+        (2001, Some(MakeFault::DeckTooLong)),
+    ] {
+        assert!(rt; fault_of(rt.alloc(), cards)? == fault, "{cards} cards");
+    }
     Ok(())
 }
 
