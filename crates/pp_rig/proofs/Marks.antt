@@ -17,7 +17,8 @@ use Rattle.pp_step.specs.Exchange.{frame_pairs, word_pairs}
 use Rattle.pp_step.specs.Pairs.{target_pairs, writes_p, written}
 use Rattle.pp_step.specs.Rows.{five_cells}
 use Rattle.pp_step.specs.Step.{pp_pairs}
-use Rattle.pp_step.specs.View.{PpPlace, A, P, Q, Phase, Word, pp_place}
+use Rattle.pp_step.specs.View as stepped
+use Rattle.pp_step.specs.View.{PpPlace, A, P, Q, Phase, pp_place}
 use Rattle.pp_step.specs.Words.{cell_after, central_after}
 use Rattle.pp_step.specs.declared.record.ExchangeRecord.{ExchangeRecord}
 use Rattle.pp_step.specs.declared.record.PpRecord.TheVariants.{Step, Exchange}
@@ -90,7 +91,7 @@ module _ (m : Marks) (n : ℕ) where
       is_set m (central_mark (a + 15)) ≡ false → AreUnmarked m n (word_pairs size a i ws)
   words_unmarked size a i [] few first last = tt
   words_unmarked size a i (w ∷ ws) few first last =
-      if_written (nat_lt (central_after a i) size) (Word (central_after a i)) w (word_pairs size a (i + 1) ws)
+      if_written (nat_lt (central_after a i) size) (stepped.Central (central_after a i)) w (word_pairs size a (i + 1) ws)
       (word_unmarked a i (omega arith) first last) (words_unmarked size a (i + 1) ws (omega arith) first last)
 
   -- ---- a step: registers of processors and frame words have no marks

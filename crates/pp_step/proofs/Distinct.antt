@@ -15,7 +15,7 @@ use Rattle.pp_step.specs.InstructionTable.{effect, code_of, instruction_at}
 use Rattle.pp_step.specs.Rows.{five_cells}
 use Rattle.pp_step.specs.Seen.{same_place, lookup}
 use Rattle.pp_step.specs.Step.{pp_writes}
-use Rattle.pp_step.specs.View.{PpView, PpPlace, P, Cell, Mode, Channel, Word, FrameWord}
+use Rattle.pp_step.specs.View.{PpView, PpPlace, P, Cell, State, Register, Central, FrameWord}
 use Rattle.pp_step.specs.Words.{cell_after, central_after}
 use Rattle.pp_step.specs.declared.code.Code.{Code}
 use Rattle.pp_step.specs.declared.code.Code.TheVariants as code
@@ -23,9 +23,9 @@ use Rattle.pp_step.proofs.ExchangeLookup.{absent, none, in_neither}
 
 self : (x : PpPlace) → same_place x x ≡ true
 self (Cell i) = eq-eqb i i refl
-self (Mode i) = eq-eqb i i refl
-self (Channel i) = eq-eqb i i refl
-self (Word i) = eq-eqb i i refl
+self (State i) = eq-eqb i i refl
+self (Register i) = eq-eqb i i refl
+self (Central i) = eq-eqb i i refl
 self (FrameWord i) = eq-eqb i i refl
 self _ = refl
 
@@ -50,13 +50,13 @@ five-once address parts =
 -- sixteen central words in a row
 words-once : (size a : ℕ) (ws : List ℕ) → length ws ≤ 16 → once same_place (word_pairs size a 0 ws) ≡ true
 words-once size a ws few =
-    rw append-nil at (once-from (λ i. Word (central_after a i)) (λ i. nat_lt (central_after a i) size) 0 ws [] (λ j k low less high. ne_eqb (central_after a k) (central_after a j) (λ same. omega (arith, same, less, high, few))) (λ k. refl) refl)
+    rw append-nil at (once-from (λ i. Central (central_after a i)) (λ i. nat_lt (central_after a i) size) 0 ws [] (λ j k low less high. ne_eqb (central_after a k) (central_after a j) (λ same. omega (arith, same, less, high, few))) (λ k. refl) refl)
 
 exchange-once : (next a : ℕ) (words frame : List ℕ) → length frame ≡ 16 → once same_place (exchange next a words frame) ≡ true
 exchange-once next a words frame size =
     rw (in_neither (length words) a (loaded a words) frame P (λ k. refl) (λ k. refl))
     (once-from FrameWord (λ i. true) 0 (loaded a words) (word_pairs (length words) a 0 frame) (λ j k low less high. ne_eqb k j (λ same. omega (arith, same, less)))
-    (λ k. none (λ i. Word (central_after a i)) (λ i. nat_lt (central_after a i) (length words)) 0 frame (FrameWord k) (λ j low high. refl))
+    (λ k. none (λ i. Central (central_after a i)) (λ i. nat_lt (central_after a i) (length words)) 0 frame (FrameWord k) (λ j low high. refl))
     (words-once (length words) a frame (omega (arith, size))))
 
 effect-once : (c : Code) (i : InstructionNumbers) (s : PpView) → length s.frame ≡ 16 → IsOnce same_place (effect c i s)

@@ -6,7 +6,7 @@ use Rattle.pp_machine.specs.Frame.{frame_word}
 use Rattle.pp_step.proofs.Exchanged.{over-swap, length-stored_over}
 use Rattle.pp_step.specs.Exchange.{exchange, loaded, loaded_word}
 use Rattle.pp_step.specs.Inner.{stored_over}
-use Rattle.pp_step.specs.View.{PpView, FrameWord, Word, number, over}
+use Rattle.pp_step.specs.View.{PpView, FrameWord, Central, number, over}
 use Rattle.pp_step.specs.Words.{central_after}
 
 pub length-loaded : (a : ℕ) (words : List ℕ) → length (loaded a words) ≡ 16
@@ -36,14 +36,14 @@ stored-at a k (suc j) words (w ∷ ws) few below within =
     ∙ ap (λ n. slice_index (stored_over a (k + 1) words ws) (central_after a n)) next
     ∙ later
 
-pub frame-exchange : (s : PpView) (next i : ℕ) → length s.frame ≡ 16 → i < 16 → number (over s (exchange next s.a s.central s.frame)) (FrameWord i) ≡ frame_word i (number s (Word (central_after s.a i)))
+pub frame-exchange : (s : PpView) (next i : ℕ) → length s.frame ≡ 16 → i < 16 → number (over s (exchange next s.a s.central s.frame)) (FrameWord i) ≡ frame_word i (number s (Central (central_after s.a i)))
 frame-exchange s next i size below =
     ap (λ v. number v (FrameWord i)) (over-swap s next s.a (loaded s.a s.central) s.frame (size ∙ sym (length-loaded s.a s.central)))
     ∙ loaded-at s.a s.central i below
 
-pub central-exchange : (s : PpView) (next i : ℕ) → length s.frame ≡ 16 → i < 16 → central_after s.a i < length s.central → number (over s (exchange next s.a s.central s.frame)) (Word (central_after s.a i)) ≡ number s (FrameWord i)
+pub central-exchange : (s : PpView) (next i : ℕ) → length s.frame ≡ 16 → i < 16 → central_after s.a i < length s.central → number (over s (exchange next s.a s.central s.frame)) (Central (central_after s.a i)) ≡ number s (FrameWord i)
 central-exchange s next i size below within =
     let here : 0 + i ≡ i = zero-add i in
     let at = stored-at s.a 0 i s.central s.frame (omega (arith, size)) (omega (arith, size)) (subst (λ n. central_after s.a n < length s.central) (sym here) within) in
-    ap (λ v. number v (Word (central_after s.a i))) (over-swap s next s.a (loaded s.a s.central) s.frame (size ∙ sym (length-loaded s.a s.central)))
+    ap (λ v. number v (Central (central_after s.a i))) (over-swap s next s.a (loaded s.a s.central) s.frame (size ∙ sym (length-loaded s.a s.central)))
     ∙ subst (λ n. slice_index (stored_over s.a 0 s.central s.frame) (central_after s.a n) ≡ slice_index s.frame i) here at

@@ -8,7 +8,7 @@ use Rattle.pp_machine.specs.declared.channel.ChannelState.TheVariants.{Empty, Fu
 use Rattle.pp_step.specs.Channels.{is_clock, is_in, is_active}
 use Rattle.pp_step.specs.Instruction.{InstructionNumbers}
 use Rattle.pp_step.specs.Rows.{five_cells}
-use Rattle.pp_step.specs.View.{PpView, PpPlace, A, P, Q, Phase, Cell, Mode, Channel, Word}
+use Rattle.pp_step.specs.View.{PpView, PpPlace, A, P, Q, Phase, Cell, State, Register, Central}
 use Rattle.pp_step.specs.Words.{cell_after, central_after, joined_cells}
 use Rattle.pp_step.specs.declared.code.Code.{Code}
 use Rattle.pp_step.specs.declared.code.Code.TheVariants.{Crm, Cwm, Iam, Oam}
@@ -40,7 +40,7 @@ abbrev pub central_output : PpView → Writes PpPlace
 central_output s =
     if s.q == 0 then finish s else
     (if nat_lt s.a (length s.central)
-    then (P, cell_after s.p 5) ∷ (A, central_after s.a 1) ∷ (Q, s.q - 1) ∷ (Word s.a, joined_cells s.p s.cells) ∷ []
+    then (P, cell_after s.p 5) ∷ (A, central_after s.a 1) ∷ (Q, s.q - 1) ∷ (Central s.a, joined_cells s.p s.cells) ∷ []
     else (P, cell_after s.p 5) ∷ (A, central_after s.a 1) ∷ (Q, s.q - 1) ∷ [])
 
 -- 71: if the count is 0, the transfer ends; channel 14 supplies the clock; if the channel is inactive, cell P becomes 0
@@ -56,7 +56,7 @@ channel_input d s =
     then (P, cell_after (slice_index (slice_set s.cells s.p 0) 0) 1) ∷ (Phase, 0) ∷ (Cell s.p, 0) ∷ []
     else
     (if is_in Full d s.states
-    then (P, cell_after s.p 1) ∷ (A, s.a - 1) ∷ (Cell s.p, slice_index s.registers d) ∷ (Mode d, state_number Empty) ∷ []
+    then (P, cell_after s.p 1) ∷ (A, s.a - 1) ∷ (Cell s.p, slice_index s.registers d) ∷ (State d, state_number Empty) ∷ []
     else [])))
 
 -- 73: if the count is 0 or the channel is inactive, the transfer ends; if the channel is empty, cell P fills it. So the
@@ -65,7 +65,7 @@ abbrev pub channel_output : ℕ → PpView → Writes PpPlace
 channel_output d s =
     if s.a == 0 || not (is_active d s.states) then finish s else
     (if is_in Empty d s.states
-    then (P, cell_after s.p 1) ∷ (A, s.a - 1) ∷ (Mode d, state_number Full) ∷ (Channel d, slice_index s.cells s.p) ∷ []
+    then (P, cell_after s.p 1) ∷ (A, s.a - 1) ∷ (State d, state_number Full) ∷ (Register d, slice_index s.cells s.p) ∷ []
     else [])
 
 abbrev pub block : Code → ℕ → PpView → Writes PpPlace

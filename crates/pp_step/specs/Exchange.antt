@@ -3,7 +3,7 @@ use Rattle.std.specs.Prelude.{ℕ, Bool, true, List, [], ◌∷◌, ◌++◌, �
 use Rattle.std.specs.List.{range_with_len}
 use Rattle.pp_machine.specs.Frame.{frame_word}
 use Rattle.pp_machine.specs.Writes.{Writes}
-use Rattle.pp_step.specs.View.{PpPlace, P, Word, FrameWord}
+use Rattle.pp_step.specs.View.{PpPlace, P, Central, FrameWord}
 use Rattle.pp_step.specs.Words.{central_after}
 
 -- numbers for the places from place i on, as far as they are there
@@ -18,7 +18,7 @@ frame_pairs = pairs_from FrameWord (λ i. true)
 
 -- numbers for the central words from i words behind a on; a word past the size is not written
 abbrev pub word_pairs : ℕ → ℕ → ℕ → List ℕ → Writes PpPlace
-word_pairs size a = pairs_from (λ i. Word (central_after a i)) (λ i. nat_lt (central_after a i) size)
+word_pairs size a = pairs_from (λ i. Central (central_after a i)) (λ i. nat_lt (central_after a i) size)
 
 -- the new frame word i: the central word i words behind a, which is zero past the size; word 0 loses the bits in the
 -- place of B0

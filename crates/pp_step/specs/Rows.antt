@@ -7,7 +7,7 @@ use Rattle.pp_machine.specs.Prelude.{Writes, state_number}
 use Rattle.pp_machine.specs.declared.channel.ChannelState.{ChannelState}
 use Rattle.pp_machine.specs.declared.channel.ChannelState.TheVariants.{Empty}
 use Rattle.pp_step.specs.Instruction.{InstructionNumbers}
-use Rattle.pp_step.specs.View.{PpPlace, A, P, Cell, Mode, Channel, Word}
+use Rattle.pp_step.specs.View.{PpPlace, A, P, Cell, State, Register, Central}
 use Rattle.pp_step.specs.Words.{cell_after, lower12, joined_cells}
 
 abbrev pub jump : ℕ → Writes PpPlace
@@ -54,19 +54,19 @@ word_to_cells i word = (P, i.next) ∷ five_cells i.d (split60 word)
 -- the five cells from d on go to the central word at a, in a memory of this size
 abbrev pub cells_to_word : InstructionNumbers → ℕ → List ℕ → ℕ → Writes PpPlace
 cells_to_word i a cells size =
-    if nat_lt a size then (P, i.next) ∷ (Word a, joined_cells i.d cells) ∷ [] else jump i.next
+    if nat_lt a size then (P, i.next) ∷ (Central a, joined_cells i.d cells) ∷ [] else jump i.next
 
 -- ---- if channel d is not ready, the processor waits: it writes nothing, and P is unchanged
 
 -- a number goes from channel d to A, and leaves the channel empty
 abbrev pub input : Bool → InstructionNumbers → ℕ → Writes PpPlace
-input ready i a = if ready then (P, i.next) ∷ (A, a) ∷ (Mode i.d, state_number Empty) ∷ [] else []
+input ready i a = if ready then (P, i.next) ∷ (A, a) ∷ (State i.d, state_number Empty) ∷ [] else []
 
 -- channel d gets a state, and a number in its register
 abbrev pub output : Bool → InstructionNumbers → ChannelState → ℕ → Writes PpPlace
 output ready i state register =
-    if ready then (P, i.next) ∷ (Mode i.d, state_number state) ∷ (Channel i.d, register) ∷ [] else []
+    if ready then (P, i.next) ∷ (State i.d, state_number state) ∷ (Register i.d, register) ∷ [] else []
 
 -- channel d gets a state, and its register is unchanged
 abbrev pub activity : Bool → InstructionNumbers → ChannelState → Writes PpPlace
-activity ready i state = if ready then (P, i.next) ∷ (Mode i.d, state_number state) ∷ [] else []
+activity ready i state = if ready then (P, i.next) ∷ (State i.d, state_number state) ∷ [] else []
