@@ -6,7 +6,7 @@ use Rattle.pp_machine.specs.AllDevices.{all_model}
 use Rattle.pp_machine.specs.NumberLaws.{setup-over}
 use Rattle.pp_machine.specs.Parts.{ArePerformed}
 use Rattle.pp_machine.specs.Prelude.{Machine, ProcessorNumbers, over, no_processor, Writes, renamed, Has, HasAll}
-use Rattle.pp_step.specs.Step.{pp_pairs, pp_writes, FitsPp}
+use Rattle.pp_step.specs.Step.{pp_pairs, pp_writes, FitsPp, IsStep}
 use Rattle.pp_step.specs.View.{PpPlace, PpView, over as over_pp, pp_place}
 use Rattle.pp_step.specs.declared.record.PpRecord.{PpRecord}
 use Rattle.pp_rig.specs.IsMachine.{IsMachine}
@@ -18,7 +18,7 @@ use Rattle.pp_machine.specs.declared.place.Place.TheVariants.{Clock}
 use Rattle.pp_step.specs.PpPlaces.{HasAll-pp}
 use Rattle.pp_rig.specs.IsSetup.{IsSetup}
 use Rattle.pp_rig.specs.Short.{IsTurned}
-use Rattle.pp_rig.specs.Turn.{AreDevicesStepped, FitsRest, FitsTurn, IsSlotStep, IsStep, device_parts, end_part, end_parts, pp_step_writes, rest_of_turn, rest_pairs, turn_old_values, turn_pairs, turn_parts, turn_writes}
+use Rattle.pp_rig.specs.Turn.{AreDevicesStepped, FitsRest, FitsTurn, IsSlotStep, device_parts, end_part, end_parts, pp_step_writes, rest_of_turn, rest_pairs, turn_old_values, turn_pairs, turn_parts, turn_writes}
 use Rattle.pp_rig.specs.declared.rig.TurnRecord.{TurnRecord}
 use Rattle.pp_rig.specs.declared.rig.TurnRest.{TurnRest}
 use Rattle.pp_rig.proofs.Overwritten.{few-turn}
@@ -51,7 +51,7 @@ module _ (m : Machine) (x : ProcessorNumbers) (new : PpView) (back : PpRecord) (
         step = step-pp m m.slot (has_processor m m.slot ok ok.slot) new (pp_writes (pp_of m.slot m)) here.step;
         old_values = ap (renamed (pp_place m.slot)) here.old_values ∙ record-pp m m.slot (pp_writes (pp_of m.slot m));
         fits = subst (λ n. FitsPp n back) (IsMachine-stepped e).shaped.central e.fits;
-        few = e.few;
+        few = e.at_most;
         kept = record { slot = refl; setup = refl };
       }
 

@@ -1,17 +1,22 @@
-use Rattle.std.proofs.Common.{rules}
+use Rattle.std.proofs.Common.{rules, ◌≡◌}
 use Rattle.pp_step.proofs.Store.{leads_back}
+use Rattle.pp_step.specs.Step.{pp_pairs, pp_writes}
+use Rattle.pp_step.specs.View.{old_values, over, pp_view}
 use Rattle.pp_step.proofs.stepping.step_into.Goals as goal
 
-pub returns-then-is_exchange-clause-step : goal.returns-then-is_exchange-clause-step
-returns-then-is_exchange-clause-step c = search rules
-
-pub returns-then-is_exchange-clause-old_values : goal.returns-then-is_exchange-clause-old_values
-returns-then-is_exchange-clause-old_values c = search rules
-
-pub returns-then-is_exchange-clause-leads_back : goal.returns-then-is_exchange-clause-leads_back
-returns-then-is_exchange-clause-leads_back c =
-    leads_back _ _ _ _ (returns-then-is_exchange-clause-step c) (returns-then-is_exchange-clause-old_values c)
-
-pub returns-else-is_exchange-clause-leads_back : goal.returns-else-is_exchange-clause-leads_back
-returns-else-is_exchange-clause-leads_back c =
-    leads_back _ _ _ _ c.step_other.ensures.step c.step_other.ensures.old_values
+pub returns-then-is_exchange : goal.returns-then-is_exchange
+unfolding pp_writes
+returns-then-is_exchange c =
+    let old = pp_view c.args.pp.now c.args.memory.now c.args.channels.now c.args.central.now c.args.frame.now in
+    let e = c.exchange_into.new in
+    let new = pp_view e.pp c.args.memory.now c.args.channels.now e.central e.frame in
+    let writes : new ≡ over old (pp_writes old) = search rules in
+    let kept : pp_pairs e.back ≡ old_values old (pp_writes old) = search rules in
+    record {
+      step = writes;
+      old_values = kept;
+      leads_back = leads_back old new (pp_writes old) (pp_pairs e.back) writes kept;
+      fits = search rules;
+      at_most = search rules;
+      issue = search rules;
+    }
