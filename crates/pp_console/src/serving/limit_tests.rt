@@ -46,14 +46,19 @@ fn ends_at_the_limit(
     assert!(rt; out.text() == text);
 }
 
+fn pieces_end_at_the_limit(rt: &impl Abort, session: &mut Session<Rig>) {
+    for i in 0..PIECES.len() {
+        let (piece, fits, text) = PIECES[i];
+        ends_at_the_limit(rt, session, piece, fits, text);
+    }
+}
+
 /// Three bytes are left of the 268,435,456 (decimal). A line that they do not end is not performed, and the lines that
 /// they end are performed first.
 #[test]
 fn bytes_are_limited(rt: HostRuntime) -> Result<(), Fail> {
     let mut session = session_of(rt.alloc(), With::LittleMemory, 1)?;
-    for i in 0..PIECES.len() {
-        let (piece, fits, text) = PIECES[i];
-        ends_at_the_limit(&rt, &mut session, piece, fits, text);
-    }
+    pieces_end_at_the_limit(&rt, &mut session);
+    drop(session);
     Ok(())
 }
