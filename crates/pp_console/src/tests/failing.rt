@@ -264,20 +264,28 @@ fn fails_at_each_put(
 
 const SCRIPTS: [&[Exchange]; 3] = [&LOAD, &CHANGE, &REFUSED];
 
+fn source_fails(rt: &impl Abort, alloc: Global, exchanges: &[Exchange]) -> Result<(), Fail> {
+    fails_at_each_take(rt, alloc, exchanges, 1)?;
+    fails_at_each_take(rt, alloc, exchanges, 4096)
+}
+
 #[test]
 fn source_fails_at_each_call(rt: HostRuntime) -> Result<(), Fail> {
     for i in 0..SCRIPTS.len() {
-        fails_at_each_take(&rt, rt.alloc(), SCRIPTS[i], 1)?;
-        fails_at_each_take(&rt, rt.alloc(), SCRIPTS[i], 4096)?;
+        source_fails(&rt, rt.alloc(), SCRIPTS[i])?;
     }
     Ok(())
+}
+
+fn sink_fails(rt: &impl Abort, alloc: Global, exchanges: &[Exchange]) -> Result<(), Fail> {
+    fails_at_each_put(rt, alloc, exchanges, 1)?;
+    fails_at_each_put(rt, alloc, exchanges, 4096)
 }
 
 #[test]
 fn sink_fails_at_each_call(rt: HostRuntime) -> Result<(), Fail> {
     for i in 0..SCRIPTS.len() {
-        fails_at_each_put(&rt, rt.alloc(), SCRIPTS[i], 1)?;
-        fails_at_each_put(&rt, rt.alloc(), SCRIPTS[i], 4096)?;
+        sink_fails(&rt, rt.alloc(), SCRIPTS[i])?;
     }
     Ok(())
 }

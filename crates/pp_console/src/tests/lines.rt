@@ -95,7 +95,9 @@ fn words_and_ranges(rt: HostRuntime) -> Result<(), Fail> {
 }
 
 /// A script, its answers, its number of lines, and how many of them are rejected.
-const SCRIPTS: [(&[u8], &[u8], u32, u32); 8] = [
+type Script = (&'static [u8], &'static [u8], u32, u32);
+
+const SCRIPTS: [Script; 8] = [
     // Nothing in, nothing out.
     (b"", b"", 0, 0),
     // Lines that are rejected, a note, and a last line without an end.
@@ -160,12 +162,15 @@ fn script_follows(
     compare(rt, alloc, &case)
 }
 
+fn row_follows(rt: &impl Abort, alloc: Global, row: &Script) -> Result<(), Fail> {
+    let (script, answers, lines, refused) = *row;
+    script_follows(rt, alloc, script, answers, Summary { lines, refused })
+}
+
 #[test]
 fn scripts(rt: HostRuntime) -> Result<(), Fail> {
     for i in 0..SCRIPTS.len() {
-        let (script, answers, lines, refused) = SCRIPTS[i];
-        let summary = Summary { lines, refused };
-        script_follows(&rt, rt.alloc(), script, answers, summary)?;
+        row_follows(&rt, rt.alloc(), &SCRIPTS[i])?;
     }
     Ok(())
 }
@@ -241,14 +246,18 @@ fn performs(
     }
 }
 
-/// Performs commands in one session, and compares the results, what is written, and the length of the undo history.
+/// Performs the command of a row. Returns whether the result, what is written, and the length of the undo history are
+/// right.
+fn is_performed(session: &mut Session<Rig>, out: &mut Tray, row: &Performed) -> bool {
+    let (line, expected, text, kept) = *row;
+    performs(session, line, out, expected) && out.text() == text && session.kept() == kept
+}
+
+/// Performs commands in one session.
 fn performs_each(rt: &impl Abort, session: &mut Session<Rig>) {
     let mut out = Tray::failing(100, 3);
     for i in 0..COMMANDS.len() {
-        let (line, expected, text, kept) = COMMANDS[i];
-        assert!(rt; performs(session, line, &mut out, expected), "row {i}");
-        assert!(rt; out.text() == text, "row {i}");
-        assert!(rt; session.kept() == kept, "row {i}");
+        assert!(rt; is_performed(session, &mut out, &COMMANDS[i]), "row {i}");
     }
 }
 
