@@ -118,21 +118,29 @@ fn text(name: &Option<String>) -> Option<&str> {
 #[test]
 fn a_value_may_follow_an_equals_sign(rt: HostRuntime) -> Result<(), Fail> {
     let options = read(rt.alloc(), "pp6600 --deck=F --history=00005 --reader=0012")??;
-    assert_eq!(rt; text(&options.deck), Some("F"));
-    assert_eq!(rt; options.history, 5);
-    assert_eq!(rt; options.reader, 0o12);
+    assert!(rt; text(&options.deck) == Some("F"));
+    assert!(rt; options.history == 5);
+    assert!(rt; options.reader == 0o12);
+    drop(options);
     Ok(())
+}
+
+/// Lines, and the scripts that they name.
+const SCRIPTS: [(&str, &str); 2] = [("pp6600 -- --help", "--help"), ("pp6600 help", "help")];
+
+fn names_script(alloc: Global, line: &str, name: &str) -> Result<bool, AllocError> {
+    let names = Names {
+        script: Some(name),
+        ..NO_NAMES
+    };
+    asks(alloc, line, USUAL, names)
 }
 
 #[test]
 fn a_script_may_be_named_as_an_option(rt: HostRuntime) -> Result<(), Fail> {
-    let rows = [("pp6600 -- --help", "--help"), ("pp6600 help", "help")];
-    for (line, name) in rows {
-        let names = Names {
-            script: Some(name),
-            ..NO_NAMES
-        };
-        assert!(rt; asks(rt.alloc(), line, USUAL, names)?, "{line}");
+    for i in 0..SCRIPTS.len() {
+        let (line, name) = SCRIPTS[i];
+        assert!(rt; names_script(rt.alloc(), line, name)?, "{line}");
     }
     Ok(())
 }

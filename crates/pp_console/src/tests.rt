@@ -112,11 +112,13 @@ pub(crate) fn session_of(alloc: Global, with: With, capacity: u32) -> Result<Ses
     if capacity < 1 || capacity > 10000 {
         return Err("capacity".into());
     }
-    let machine = machine_of(alloc, with)?;
-    match Session::new(alloc, machine, capacity) {
-        Ok(session) => Ok(session),
-        Err(_) => Err("no session".into()),
-    }
+    let session = Session::new(alloc, machine_of(alloc, with)?, capacity).ok();
+    Ok(session.ok_or("no session")?)
+}
+
+/// Checks what a run did, `what`, after some calls of its devices.
+fn is_right(rt: &impl Abort, right: bool, what: &str, (reads, writes): (u64, u64)) {
+    assert!(rt; right, "{what} after {reads} reads and {writes} writes");
 }
 
 /// Performs a script, and compares the result and what is written.
@@ -129,15 +131,9 @@ fn ends(
     text: &[u8],
 ) {
     let ended = serve(session, source, out);
-    let (reads, writes) = (source.calls.made, out.calls.made);
-    assert!(rt;
-        ended == expected,
-        "after {reads} reads and {writes} writes"
-    );
-    assert!(rt;
-        out.text() == text,
-        "after {reads} reads and {writes} writes"
-    );
+    let calls = (source.calls.made, out.calls.made);
+    is_right(rt, ended == expected, "the result", calls);
+    is_right(rt, out.text() == text, "the answers", calls);
 }
 
 /// A script, and its answers on a new machine.
@@ -165,6 +161,7 @@ fn compare_in_pieces(rt: &impl Abort, alloc: Global, case: &Case, piece: usize) 
         Ok(case.summary),
         case.answers,
     );
+    drop(session);
     Ok(())
 }
 
@@ -215,6 +212,24 @@ fn lines_of(alloc: Global, session: &str) -> Result<Transcript, Fail> {
     Ok(lines)
 }
 
+/// Performs the lines of a session on a new machine, and compares their answers.
+fn follows_lines(
+    rt: &impl Abort,
+    alloc: Global,
+    with: With,
+    capacity: u32,
+    lines: &Transcript,
+) -> Result<(), Fail> {
+    let case = Case {
+        with,
+        capacity,
+        script: lines.script.as_slice(),
+        answers: lines.answers.as_slice(),
+        summary: lines.summary,
+    };
+    compare(rt, alloc, &case)
+}
+
 /// Performs a session on a new machine, and compares it.
 fn follows(
     rt: &impl Abort,
@@ -224,14 +239,7 @@ fn follows(
     session: &str,
 ) -> Result<(), Fail> {
     let lines = lines_of(alloc, session)?;
-    let case = Case {
-        with,
-        capacity,
-        script: lines.script.as_slice(),
-        answers: lines.answers.as_slice(),
-        summary: lines.summary,
-    };
-    compare(rt, alloc, &case)
+    follows_lines(rt, alloc, with, capacity, &lines)
 }
 
 /// Performs each session on a new machine, and compares it.

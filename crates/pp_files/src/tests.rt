@@ -1,3 +1,5 @@
+ghost use Rattle.std.specs.Prelude.{◌<◌};
+
 use crate::{LoadFault, load_deck, load_panel};
 use pp_lines::{Endless, Feed, Log, Source};
 use std::test::Fail;
@@ -62,20 +64,40 @@ struct Row {
     fault: Option<LoadFault>,
 }
 
+/// Returns whether a file is a deck of the one card `1 2 3`.
+fn has_one_card(rt: HostRuntime, file: &[u8], piece: usize) -> bool
+    requires { 0 < piece }
+{
+    let mut card = [0; 80];
+    card[0] = 1;
+    card[1] = 2;
+    card[2] = 3;
+    match load_deck(rt.alloc(), &mut Feed::new(file, piece)) {
+        Ok(deck) => deck.len() == 1 && deck[0] == card,
+        Err(_) => false,
+    }
+}
+
 #[test]
 fn a_card_is_a_line_of_words(rt: HostRuntime) {
     for piece in [1, 2, 3, 4096] {
-        match load_deck(rt.alloc(), &mut Feed::new(b"1 2 3", piece)) {
-            Ok(deck) => {
-                assert_eq!(rt; deck.len(), 1);
-                let mut card = [0; 80];
-                card[0] = 1;
-                card[1] = 2;
-                card[2] = 3;
-                assert!(rt; deck[0] == card);
-            }
-            Err(_) => assert!(rt; false),
+        assert!(rt; has_one_card(rt, b"1 2 3", piece), "in pieces of {piece}");
+    }
+}
+
+/// Returns whether a file is a deck of two cards, which begin with `1 2 0` and `7777`.
+fn has_two_cards(rt: HostRuntime, file: &[u8], piece: usize) -> bool
+    requires { 0 < piece }
+{
+    match load_deck(rt.alloc(), &mut Feed::new(file, piece)) {
+        Ok(deck) => {
+            deck.len() == 2
+                && deck[0][0] == 1
+                && deck[0][1] == 2
+                && deck[0][2] == 0
+                && deck[1][0] == 0o7777
         }
+        Err(_) => false,
     }
 }
 
@@ -83,24 +105,25 @@ fn a_card_is_a_line_of_words(rt: HostRuntime) {
 fn skipped_lines_returns_and_tabs(rt: HostRuntime) {
     let file = b"* two cards\r\n\n \t\r\n 1\t02 \r\n\t* 9\n0007777\r";
     for piece in 1..40 {
-        match load_deck(rt.alloc(), &mut Feed::new(file, piece)) {
-            Ok(deck) => {
-                assert_eq!(rt; deck.len(), 2);
-                assert_eq!(rt; deck[0][0], 1);
-                assert_eq!(rt; deck[0][1], 2);
-                assert_eq!(rt; deck[0][2], 0);
-                assert_eq!(rt; deck[1][0], 0o7777);
-            }
-            Err(_) => assert!(rt; false),
-        }
+        assert!(rt; has_two_cards(rt, file, piece), "in pieces of {piece}");
     }
+}
+
+/// Returns whether a file of such a text is a deck of as many cards.
+fn repeated_has_cards(
+    rt: HostRuntime,
+    text: &str,
+    times: usize,
+    cards: usize,
+) -> Result<bool, Fail> {
+    let file = repeated(rt, text, times, "")?;
+    Ok(has_cards(rt, &mut Feed::new(file.as_bytes(), 4096), cards))
 }
 
 #[test]
 fn decks_of_no_card_and_of_many(rt: HostRuntime) -> Result<(), Fail> {
     assert!(rt; has_cards(rt, &mut Feed::new(b"", 1), 0));
-    let zeros = repeated(rt, "0\n", 2001, "")?;
-    assert!(rt; has_cards(rt, &mut Feed::new(zeros.as_bytes(), 4096), 2001));
+    assert!(rt; repeated_has_cards(rt, "0\n", 2001, 2001)?);
     Ok(())
 }
 
@@ -171,13 +194,21 @@ fn decks_of_many_words(rt: HostRuntime) -> Result<(), Fail> {
     Ok(())
 }
 
+/// Returns a text, and then one that is repeated.
+fn with_front(rt: HostRuntime, front: &str, text: &str, times: usize) -> Result<String, Fail> {
+    let mut all = String::new(rt.alloc());
+    all.push_str(front)?;
+    for _ in 0..times {
+        all.push_str(text)?;
+    }
+    Ok(all)
+}
+
 #[test]
 fn a_comment_then_too_many_words(rt: HostRuntime) -> Result<(), Fail> {
-    let words = repeated(rt, "1 ", 81, "")?;
-    let mut file = String::new(rt.alloc());
-    file.push_str("* eighty-one words\n")?;
-    file.push_str(words.as_str())?;
-    assert!(rt; deck_has(rt, file.as_bytes(), Some(LoadFault::TooManyWords(2))));
+    let file = with_front(rt, "* eighty-one words\n", "1 ", 81)?;
+    let fault = Some(LoadFault::TooManyWords(2));
+    assert!(rt; deck_has(rt, file.as_bytes(), fault));
     Ok(())
 }
 
@@ -207,17 +238,27 @@ fn long_lines(rt: HostRuntime) -> Result<(), Fail> {
     for row in LONG_LINES {
         assert!(rt; row.is_right(rt)?);
     }
+    Ok(())
+}
+
+#[test]
+fn a_long_panel_line(rt: HostRuntime) -> Result<(), Fail> {
     let comment = repeated(rt, "*", 1023, "\r\r\n")?;
     assert!(rt; panel_has(comment.as_bytes(), Some(LoadFault::LineTooLong(1))));
     Ok(())
 }
 
+const TOO_LONG_FILE: LongFile = LongFile {
+    text: "\n",
+    times: 1_048_577,
+    end: "",
+    fault: Some(LoadFault::FileTooLong),
+};
+
 #[test]
 fn long_files(rt: HostRuntime) -> Result<(), Fail> {
-    let feeds = repeated(rt, "\n", 1_048_576, "")?;
-    assert!(rt; has_cards(rt, &mut Feed::new(feeds.as_bytes(), 4096), 0));
-    let feeds = repeated(rt, "\n", 1_048_577, "")?;
-    assert!(rt; deck_has(rt, feeds.as_bytes(), Some(LoadFault::FileTooLong)));
+    assert!(rt; repeated_has_cards(rt, "\n", 1_048_576, 0)?);
+    assert!(rt; TOO_LONG_FILE.is_right(rt)?);
     Ok(())
 }
 
@@ -235,12 +276,19 @@ fn files_without_end(rt: HostRuntime) {
     assert!(rt; load_panel(&mut endless(b'\n')).err() == Some(LoadFault::FileTooLong));
 }
 
+/// Returns whether a file is this panel.
+fn is_panel(file: &[u8], piece: usize, panel: [u16; 12]) -> bool
+    requires { 0 < piece }
+{
+    load_panel(&mut Feed::new(file, piece)) == Ok(panel)
+}
+
 #[test]
 fn panels(rt: HostRuntime) {
     let panel = [0o1405, 0o3420, 0o300, 0, 0, 0, 0, 0, 0, 0, 0, 0];
     let file = b"1405 3420 300 0 0 0\n* half\n0 0 0 0 0 0";
     for piece in [1, 7, 4096] {
-        assert_eq!(rt; load_panel(&mut Feed::new(file, piece)), Ok(panel));
+        assert!(rt; is_panel(file, piece, panel), "in pieces of {piece}");
     }
 }
 
@@ -285,17 +333,22 @@ fn a_panel_line_of_many_words(rt: HostRuntime) -> Result<(), Fail> {
     Ok(())
 }
 
+/// Returns whether loading a deck fails if the source fails at this call.
+fn fails_at(rt: HostRuntime, piece: usize, call: u64) -> bool
+    requires { 0 < piece }
+{
+    let mut source = Feed::failing(b"1\n2\n", piece, call);
+    fails(rt, &mut source, LoadFault::ReadFailed) && source.failures() == 1
+}
+
 #[test]
 fn a_source_that_fails_at_any_call(rt: HostRuntime) {
     // Two lines in pieces of one byte are five calls, the last one at the end.
     for call in 1..6 {
-        let mut source = Feed::failing(b"1\n2\n", 1, call);
-        assert!(rt; fails(rt, &mut source, LoadFault::ReadFailed));
-        assert!(rt; source.failures() == 1);
+        assert!(rt; fails_at(rt, 1, call), "at call {call}");
     }
     for call in 1..3 {
-        let mut source = Feed::failing(b"1\n2\n", 4096, call);
-        assert!(rt; fails(rt, &mut source, LoadFault::ReadFailed));
+        assert!(rt; fails_at(rt, 4096, call), "at call {call}");
     }
 }
 
@@ -312,34 +365,45 @@ fn failing_panel_has(call: u64, fault: LoadFault) -> bool {
 }
 
 #[test]
-fn a_failing_source_and_faults_of_lines(rt: HostRuntime) -> Result<(), Fail> {
+fn a_failing_source_and_faults_of_lines(rt: HostRuntime) {
     assert!(rt; failing_panel_has(3, LoadFault::NotOctal(1)));
     assert!(rt; failing_panel_has(2, LoadFault::ReadFailed));
+}
+
+/// Returns whether loading a deck of a text fails at the second call of its source.
+fn fails_at_the_second_call(rt: HostRuntime, file: &[u8]) -> bool {
+    fails(rt, &mut Feed::failing(file, 4096, 2), LoadFault::ReadFailed)
+}
+
+#[test]
+fn a_failing_source_and_a_long_line(rt: HostRuntime) -> Result<(), Fail> {
     let begun = repeated(rt, "1", 2000, "")?;
-    assert!(rt;
-        fails(
-            rt,
-            &mut Feed::failing(begun.as_bytes(), 4096, 2),
-            LoadFault::ReadFailed
-        )
-    );
+    assert!(rt; fails_at_the_second_call(rt, begun.as_bytes()));
     assert!(rt; deck_has(rt, begun.as_bytes(), Some(LoadFault::LineTooLong(1))));
     Ok(())
 }
 
+const TEXTS: [(LoadFault, &str); 8] = [
+    (LoadFault::NoMemory, "NO MEMORY"),
+    (LoadFault::ReadFailed, "READ FAILED"),
+    (LoadFault::FileTooLong, "FILE TOO LONG"),
+    (LoadFault::LineTooLong(1), "LINE 1 TOO LONG"),
+    (LoadFault::NotOctal(2), "LINE 2 NOT OCTAL"),
+    (LoadFault::TooLarge(10), "LINE 10 TOO LARGE"),
+    (LoadFault::TooManyWords(80), "LINE 80 TOO MANY WORDS"),
+    (LoadFault::PanelCount, "PANEL COUNT"),
+];
+
+fn is_text(rt: HostRuntime, fault: LoadFault, text: &str) -> Result<bool, Fail> {
+    let found = format!(in rt.alloc(); "{fault}")?;
+    Ok(found.as_str() == text)
+}
+
 #[test]
 fn texts_of_faults(rt: HostRuntime) -> Result<(), Fail> {
-    for (fault, text) in [
-        (LoadFault::NoMemory, "NO MEMORY"),
-        (LoadFault::ReadFailed, "READ FAILED"),
-        (LoadFault::FileTooLong, "FILE TOO LONG"),
-        (LoadFault::LineTooLong(1), "LINE 1 TOO LONG"),
-        (LoadFault::NotOctal(2), "LINE 2 NOT OCTAL"),
-        (LoadFault::TooLarge(10), "LINE 10 TOO LARGE"),
-        (LoadFault::TooManyWords(80), "LINE 80 TOO MANY WORDS"),
-        (LoadFault::PanelCount, "PANEL COUNT"),
-    ] {
-        assert_eq!(rt; format!(in rt.alloc(); "{fault}")?.as_str(), text);
+    for i in 0..TEXTS.len() {
+        let (fault, text) = TEXTS[i];
+        assert!(rt; is_text(rt, fault, text)?, "{text}");
     }
     Ok(())
 }

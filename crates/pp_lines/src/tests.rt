@@ -3,6 +3,7 @@ use crate::{
     is_ignored, next_line, next_word, push_text, put_all, without_return,
 };
 use arrayvec::ArrayVec;
+use std::alloc::Global;
 use std::collections::VecDeque;
 use std::io::{self, Error, ErrorKind, Read, Write};
 use std::process::Abort;
@@ -71,35 +72,41 @@ fn takes_all<W: Sink>(sink: &mut W, text: &[u8]) -> bool {
     put_all(sink, text).is_ok()
 }
 
+/// What is read after the first two bytes.
+const COUNTED: [Option<&[u8]>; 2] = [Some(b"c"), Some(b"")];
+
 #[test]
-fn a_counted_device_passes_bytes_on(rt: HostRuntime) -> Result<(), Fail> {
+fn a_counted_device_passes_bytes_on(rt: HostRuntime) {
     let mut queue = Counted::new(VecDeque::new(rt.alloc()));
-    assert_eq!(rt; put_all(&mut queue, b"abc"), Ok(()));
-    assert_eq!(rt; queue.device().len(), 3);
+    assert!(rt; put_all(&mut queue, b"abc").is_ok());
+    assert!(rt; queue.device().len() == 3);
     let mut piece = [0; 2];
-    assert_eq!(rt; queue.take(&mut piece), Ok(2));
-    assert_eq!(rt; piece, [b'a', b'b']);
-    assert_eq!(rt; queue.take(&mut piece), Ok(1));
-    assert_eq!(rt; queue.take(&mut piece), Ok(0));
-    assert_eq!(rt; Source::failures(&queue), 0);
-    Ok(())
+    assert!(rt; queue.take(&mut piece) == Ok(2));
+    assert!(rt; piece == [b'a', b'b']);
+    reads_each(&rt, &mut queue, &mut piece, &COUNTED);
+    assert!(rt; Source::failures(&queue) == 0);
+    drop(queue);
 }
+
+const INTERRUPTED: [Option<&[u8]>; 2] = [None, Some(b"x")];
 
 #[test]
 fn an_interrupted_call_is_a_failure(rt: HostRuntime) {
     let mut source = Counted::new(Uneasy { interrupted: false });
-    assert!(rt; reads(&mut source, &mut [0; 2], None));
-    assert!(rt; Source::failures(&source) == 1);
-    assert!(rt; reads(&mut source, &mut [0; 2], Some(b"x")));
+    reads_each(&rt, &mut source, &mut [0; 2], &INTERRUPTED);
     assert!(rt; Source::failures(&source) == 1);
 }
+
+/// Texts, and how many bytes are taken, or none if the call fails.
+const NOTHING_TAKEN: [(&[u8], Option<usize>); 3] = [(b"a", None), (b"a", None), (b"", Some(0))];
 
 #[test]
 fn a_write_that_takes_nothing_is_a_failure(rt: HostRuntime) {
     let mut sink = Counted::new(Uneasy { interrupted: false });
-    assert!(rt; writes(&mut sink, b"a", None));
-    assert!(rt; writes(&mut sink, b"a", None));
-    assert!(rt; writes(&mut sink, b"", Some(0)));
+    for i in 0..NOTHING_TAKEN.len() {
+        let (text, count) = NOTHING_TAKEN[i];
+        assert!(rt; writes(&mut sink, text, count), "row {i}");
+    }
     assert!(rt; Sink::failures(&sink) == 2);
 }
 
@@ -133,6 +140,7 @@ fn a_tray_fails_once(rt: HostRuntime) {
     assert!(rt; !takes_all(&mut tray, b"abcde"));
     assert!(rt; tray.text() == b"abcd".as_slice());
     assert!(rt; takes_all(&mut tray, b"e"));
+    drop(tray);
 }
 
 #[test]
@@ -142,6 +150,7 @@ fn a_tray_fails_when_it_is_full(rt: HostRuntime) {
     assert!(rt; !takes_all(&mut tray, b"bc"));
     assert!(rt; tray.text().len() == 4096);
     assert!(rt; Sink::failures(&tray) == 1);
+    drop(tray);
 }
 
 /// Returns whether a line has this first word, and this rest after it.
@@ -152,6 +161,12 @@ fn begins(line: &[u8], word: &[u8], rest: &[u8]) -> bool {
     }
 }
 
+#[test]
+fn words_stand_between_blanks_and_tabs(rt: HostRuntime) {
+    assert!(rt; begins(b" \tSET  M\t0 ", b"SET", b"  M\t0 "));
+    assert!(rt; next_word(b" \t ").is_none());
+}
+
 const IGNORED: [(&[u8], bool); 4] = [
     (b"", true),
     (b"\t ", true),
@@ -160,13 +175,15 @@ const IGNORED: [(&[u8], bool); 4] = [
 ];
 
 #[test]
-fn words_stand_between_blanks_and_tabs(rt: HostRuntime) {
-    assert!(rt; begins(b" \tSET  M\t0 ", b"SET", b"  M\t0 "));
-    assert!(rt; next_word(b" \t ").is_none());
+fn blank_lines_and_notes_are_ignored(rt: HostRuntime) {
     for i in 0..IGNORED.len() {
         let (line, ignored) = IGNORED[i];
         assert!(rt; is_ignored(line) == ignored, "row {i}");
     }
+}
+
+#[test]
+fn octal_words_stand_between_blanks_and_tabs(rt: HostRuntime) {
     assert!(rt; are_octal(b" 17\t0"));
     assert!(rt; !are_octal(b"17 8"));
 }
@@ -185,6 +202,7 @@ fn a_cutter_keeps_the_front_of_a_line(rt: HostRuntime) {
     assert!(rt; keeps(&cutter, b"abc"));
     cutter.end_line();
     assert!(rt; keeps(&cutter, b""));
+    drop(cutter);
 }
 
 #[test]
@@ -195,6 +213,7 @@ fn a_cutter_takes_a_text_up_to_its_room(rt: HostRuntime) {
     assert!(rt; keeps(&cutter, b"ab"));
     cutter.take_text(b"cd");
     assert!(rt; keeps(&cutter, b"abc"));
+    drop(cutter);
 }
 
 /// Returns whether a text is cut into this line and this rest.
@@ -212,12 +231,20 @@ fn a_text_is_cut_at_its_first_line_feed(rt: HostRuntime) {
     assert!(rt; next_line(b"ab").is_none());
 }
 
+/// Texts, and what is left of them.
+const RETURNS: [(&[u8], &[u8]); 4] = [
+    (b"a\r\r", b"a\r"),
+    (b"a\rb", b"a\rb"),
+    (b"\r", b""),
+    (b"", b""),
+];
+
 #[test]
 fn one_return_is_dropped(rt: HostRuntime) {
-    assert!(rt; without_return(b"a\r\r") == b"a\r".as_slice());
-    assert!(rt; without_return(b"a\rb") == b"a\rb".as_slice());
-    assert!(rt; without_return(b"\r").is_empty());
-    assert!(rt; without_return(b"").is_empty());
+    for i in 0..RETURNS.len() {
+        let (text, rest) = RETURNS[i];
+        assert!(rt; without_return(text) == rest, "row {i}");
+    }
 }
 
 #[test]
@@ -234,14 +261,16 @@ const FAULTS: [(IoFault, &str); 3] = [
     (IoFault::LineLimit, "LINE LIMIT"),
 ];
 
+fn is_text(alloc: Global, fault: IoFault, text: &str) -> Result<bool, Fail> {
+    let found = format!(in alloc; "{fault}")?;
+    Ok(found.as_str() == text)
+}
+
 #[test]
 fn texts_of_faults(rt: HostRuntime) -> Result<(), Fail> {
     for i in 0..FAULTS.len() {
         let (fault, text) = FAULTS[i];
-        assert!(rt;
-            format!(in rt.alloc(); "{fault}")?.as_str() == text,
-            "{text}"
-        );
+        assert!(rt; is_text(rt.alloc(), fault, text)?, "{text}");
     }
     Ok(())
 }

@@ -21,7 +21,9 @@ fn progress_at(bytes: u32) -> Progress
 }
 
 /// Bytes at the limit, whether they fit, and what is written.
-const PIECES: [(&[u8], bool, &[u8]); 7] = [
+type Piece = (&'static [u8], bool, &'static [u8]);
+
+const PIECES: [Piece; 7] = [
     (b"XYZ", true, b""),
     (b"WXYZ", false, b""),
     (b"XY\n", true, b"ERR 01 NOT A COMMAND\n"),
@@ -31,19 +33,20 @@ const PIECES: [(&[u8], bool, &[u8]); 7] = [
     (b"\n\n\n\n", false, b""),
 ];
 
-/// Processes bytes when three bytes are left, and compares the result and what is written.
-fn ends_at_the_limit(
-    rt: &impl Abort,
-    session: &mut Session<Rig>,
-    piece: &[u8],
-    fits: bool,
-    text: &[u8],
-) {
+/// Processes bytes when three bytes are left. Returns whether the result and what is written are right.
+fn ends_at_the_limit(session: &mut Session<Rig>, row: &Piece) -> bool {
+    let (piece, fits, text) = *row;
     let mut progress = progress_at(BYTE_LIMIT - 3);
     let mut out = Tray::new(100);
     let fault = feed(&mut progress, piece, session, &mut out).err();
-    assert!(rt; fault == if fits { None } else { Some(IoFault::LineLimit) });
-    assert!(rt; out.text() == text);
+    let expected = if fits { None } else { Some(IoFault::LineLimit) };
+    fault == expected && out.text() == text
+}
+
+fn pieces_end_at_the_limit(rt: &impl Abort, session: &mut Session<Rig>) {
+    for i in 0..PIECES.len() {
+        assert!(rt; ends_at_the_limit(session, &PIECES[i]), "row {i}");
+    }
 }
 
 /// Three bytes are left of the 268,435,456 (decimal). A line that they do not end is not performed, and the lines that
@@ -51,9 +54,7 @@ fn ends_at_the_limit(
 #[test]
 fn bytes_are_limited(rt: HostRuntime) -> Result<(), Fail> {
     let mut session = session_of(rt.alloc(), With::LittleMemory, 1)?;
-    for i in 0..PIECES.len() {
-        let (piece, fits, text) = PIECES[i];
-        ends_at_the_limit(&rt, &mut session, piece, fits, text);
-    }
+    pieces_end_at_the_limit(&rt, &mut session);
+    drop(session);
     Ok(())
 }

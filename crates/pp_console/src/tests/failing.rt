@@ -92,6 +92,18 @@ fn kept_after(exchanges: &[Exchange]) -> u32 {
     }
 }
 
+/// Returns the number of lines, and how many of them are rejected.
+fn summary_of(exchanges: &[Exchange]) -> Summary {
+    let (mut lines, mut refused) = (0u32, 0u32);
+    for i in 0..exchanges.len() {
+        lines = lines.saturating_add(1);
+        if exchanges[i].1.starts_with(b"ERR") {
+            refused = refused.saturating_add(1);
+        }
+    }
+    Summary { lines, refused }
+}
+
 /// Returns the exchanges whose lines end within the first bytes.
 fn finished_within(exchanges: &[Exchange], bytes: usize) -> &[Exchange] {
     let mut left = bytes;
@@ -106,69 +118,61 @@ fn finished_within(exchanges: &[Exchange], bytes: usize) -> &[Exchange] {
 }
 
 fn kept_is(rt: &impl Abort, session: &Session<Rig>, kept: u32) {
-    let found = session.kept();
-    assert!(rt; found == kept, "{found} kept, not {kept}");
+    assert!(rt; session.kept() == kept, "{kept} kept");
 }
 
-/// Performs a script on a new machine until a device fails, and compares the fault, what is written, and
-/// the length of the undo history.
-fn stops(
+/// Performs a script on a new machine, and compares the result, what is written, and the length of the undo history.
+fn script_stops(
     rt: &impl Abort,
     alloc: Global,
     source: &mut Feed,
     out: &mut Tray,
-    fault: IoFault,
+    expected: Result<Summary, IoFault>,
     text: &[u8],
     kept: u32,
 ) -> Result<(), Fail> {
     let mut session = session_of(alloc, With::LittleMemory, 100)?;
-    ends(rt, &mut session, source, out, Err(fault), text);
+    ends(rt, &mut session, source, out, expected, text);
     kept_is(rt, &session, kept);
+    drop(session);
     Ok(())
 }
 
-fn is_served(session: &mut Session<Rig>, source: &mut Feed, out: &mut Tray) -> bool {
-    serve(session, source, out).is_ok()
-}
-
-/// Performs a script on a new machine, and compares what is written.
-fn succeeds(
+/// Performs the lines of a source, and compares the result and the answers: those of the exchanges.
+fn source_stops(
     rt: &impl Abort,
     alloc: Global,
     source: &mut Feed,
-    out: &mut Tray,
-    text: &[u8],
+    exchanges: &[Exchange],
+    expected: Result<Summary, IoFault>,
 ) -> Result<(), Fail> {
-    let mut session = session_of(alloc, With::LittleMemory, 100)?;
-    assert!(rt; is_served(&mut session, source, out));
-    assert!(rt; out.text() == text);
-    Ok(())
+    let text = answers_of(alloc, exchanges)?;
+    let (text, kept) = (text.as_slice(), kept_after(exchanges));
+    let mut out = Tray::new(4096);
+    script_stops(rt, alloc, source, &mut out, expected, text, kept)
 }
 
-/// Makes the source fail at one call.
-fn fails_at_take(
+/// Makes the source of a script fail at each of its calls in turn, and then at none.
+fn script_fails_at_each_take(
     rt: &impl Abort,
     alloc: Global,
+    exchanges: &[Exchange],
     script: &[u8],
     piece: usize,
-    call: u64,
-    finished: &[Exchange],
 ) -> Result<(), Fail>
     requires { 0 < piece }
 {
-    let text = answers_of(alloc, finished)?;
-    let mut source = Feed::failing(script, piece, call);
-    let mut out = Tray::new(4096);
-    let kept = kept_after(finished);
-    stops(
-        rt,
-        alloc,
-        &mut source,
-        &mut out,
-        IoFault::ReadFailed,
-        text.as_slice(),
-        kept,
-    )
+    let calls = script.len().div_ceil(piece).saturating_add(1) as u64;
+    let mut taken = 0usize;
+    for call in 1..calls.saturating_add(1) {
+        let finished = finished_within(exchanges, taken);
+        let mut source = Feed::failing(script, piece, call);
+        source_stops(rt, alloc, &mut source, finished, Err(IoFault::ReadFailed))?;
+        taken = taken.saturating_add(piece);
+    }
+    let mut source = Feed::failing(script, piece, calls.saturating_add(1));
+    let summary = summary_of(exchanges);
+    source_stops(rt, alloc, &mut source, exchanges, Ok(summary))
 }
 
 /// Makes the source fail at each of its calls in turn, with pieces of the given length.
@@ -181,47 +185,21 @@ fn fails_at_each_take(
     requires { 0 < piece }
 {
     let script = lines_of(alloc, exchanges)?;
-    let text = answers_of(alloc, exchanges)?;
-    let calls = script.len().div_ceil(piece).saturating_add(1) as u64;
-    let mut taken = 0usize;
-    for call in 1..calls.saturating_add(1) {
-        let finished = finished_within(exchanges, taken);
-        fails_at_take(rt, alloc, script.as_slice(), piece, call, finished)?;
-        taken = taken.saturating_add(piece);
-    }
-    let mut source = Feed::failing(script.as_slice(), piece, calls.saturating_add(1));
-    succeeds(
-        rt,
-        alloc,
-        &mut source,
-        &mut Tray::new(4096),
-        text.as_slice(),
-    )
+    script_fails_at_each_take(rt, alloc, exchanges, script.as_slice(), piece)
 }
 
-/// Makes the sink fail at one call.
-fn fails_at_put(
+/// Makes the sink fail at one call, or at none, and compares what is written before.
+fn sink_stops(
     rt: &impl Abort,
     alloc: Global,
     script: &[u8],
-    piece: usize,
-    call: u64,
+    out: &mut Tray,
+    expected: Result<Summary, IoFault>,
     text: &[u8],
     kept: u32,
-) -> Result<(), Fail>
-    requires { 0 < piece }
-{
+) -> Result<(), Fail> {
     let mut source = Feed::new(script, 4096);
-    let mut out = Tray::failing(piece, call);
-    stops(
-        rt,
-        alloc,
-        &mut source,
-        &mut out,
-        IoFault::WriteFailed,
-        text,
-        kept,
-    )
+    script_stops(rt, alloc, &mut source, out, expected, text, kept)
 }
 
 /// Makes the sink fail at each call that writes a part of one answer. Returns the number of the next call.
@@ -236,14 +214,38 @@ fn fails_in_answer(
 ) -> Result<u64, Fail>
     requires { 0 < piece }
 {
-    let (_, answer, kept) = exchange;
+    let (_, answer, kept) = *exchange;
+    let failed = Err(IoFault::WriteFailed);
     let mut call = first;
     for part in answer.chunks(piece) {
-        fails_at_put(rt, alloc, script, piece, call, text.as_slice(), *kept)?;
+        let mut out = Tray::failing(piece, call);
+        sink_stops(rt, alloc, script, &mut out, failed, text.as_slice(), kept)?;
         text.extend_from_slice(part)?;
         call = call.saturating_add(1);
     }
     Ok(call)
+}
+
+/// Makes the sink of a script fail at each of its calls in turn, and then at none.
+fn script_fails_at_each_put(
+    rt: &impl Abort,
+    alloc: Global,
+    exchanges: &[Exchange],
+    script: &[u8],
+    piece: usize,
+    text: &mut Vec<u8>,
+) -> Result<(), Fail>
+    requires { 0 < piece }
+{
+    let mut call = 1u64;
+    for i in 0..exchanges.len() {
+        let exchange = &exchanges[i];
+        call = fails_in_answer(rt, alloc, script, piece, call, text, exchange)?;
+    }
+    let mut out = Tray::failing(piece, call);
+    let summary = Ok(summary_of(exchanges));
+    let kept = kept_after(exchanges);
+    sink_stops(rt, alloc, script, &mut out, summary, text.as_slice(), kept)
 }
 
 /// Makes the sink fail at each of its calls in turn. Each call takes at most `piece` bytes.
@@ -257,40 +259,33 @@ fn fails_at_each_put(
 {
     let script = lines_of(alloc, exchanges)?;
     let mut text = Vec::new(alloc);
-    let mut call = 1u64;
-    for i in 0..exchanges.len() {
-        let exchange = &exchanges[i];
-        call = fails_in_answer(
-            rt,
-            alloc,
-            script.as_slice(),
-            piece,
-            call,
-            &mut text,
-            exchange,
-        )?;
-    }
-    let mut source = Feed::new(script.as_slice(), 4096);
-    let mut out = Tray::failing(piece, call);
-    succeeds(rt, alloc, &mut source, &mut out, text.as_slice())
+    script_fails_at_each_put(rt, alloc, exchanges, script.as_slice(), piece, &mut text)
 }
 
 const SCRIPTS: [&[Exchange]; 3] = [&LOAD, &CHANGE, &REFUSED];
 
+fn source_fails(rt: &impl Abort, alloc: Global, exchanges: &[Exchange]) -> Result<(), Fail> {
+    fails_at_each_take(rt, alloc, exchanges, 1)?;
+    fails_at_each_take(rt, alloc, exchanges, 4096)
+}
+
 #[test]
 fn source_fails_at_each_call(rt: HostRuntime) -> Result<(), Fail> {
     for i in 0..SCRIPTS.len() {
-        fails_at_each_take(&rt, rt.alloc(), SCRIPTS[i], 1)?;
-        fails_at_each_take(&rt, rt.alloc(), SCRIPTS[i], 4096)?;
+        source_fails(&rt, rt.alloc(), SCRIPTS[i])?;
     }
     Ok(())
+}
+
+fn sink_fails(rt: &impl Abort, alloc: Global, exchanges: &[Exchange]) -> Result<(), Fail> {
+    fails_at_each_put(rt, alloc, exchanges, 1)?;
+    fails_at_each_put(rt, alloc, exchanges, 4096)
 }
 
 #[test]
 fn sink_fails_at_each_call(rt: HostRuntime) -> Result<(), Fail> {
     for i in 0..SCRIPTS.len() {
-        fails_at_each_put(&rt, rt.alloc(), SCRIPTS[i], 1)?;
-        fails_at_each_put(&rt, rt.alloc(), SCRIPTS[i], 4096)?;
+        sink_fails(&rt, rt.alloc(), SCRIPTS[i])?;
     }
     Ok(())
 }
@@ -355,12 +350,17 @@ fn part_ends(rt: &impl Abort, session: &mut Session<Rig>, part: &Part) {
     assert!(rt; session.machine().value(&Place::RegA { pp: 0 }) == part.a);
 }
 
+fn each_part_ends(rt: &impl Abort, session: &mut Session<Rig>, parts: &[Part]) {
+    for i in 0..parts.len() {
+        part_ends(rt, session, &parts[i]);
+    }
+}
+
 /// Performs scripts one after the other in one session.
 fn parts_end(rt: &impl Abort, alloc: Global, parts: &[Part]) -> Result<(), Fail> {
     let mut session = session_of(alloc, With::LittleMemory, 100)?;
-    for i in 0..parts.len() {
-        part_ends(rt, &mut session, &parts[i]);
-    }
+    each_part_ends(rt, &mut session, parts);
+    drop(session);
     Ok(())
 }
 
@@ -439,29 +439,38 @@ fn endless_lines_end(rt: &impl Abort, session: &mut Session<Rig>) {
     assert!(rt; out.text().is_empty());
 }
 
+/// Returns a script of blank lines and an end.
+fn blank_lines(alloc: Global, lines: usize, end: &[u8]) -> Result<Vec<u8>, Fail> {
+    let mut script = vec![in alloc; b'\n'; lines]?;
+    script.extend_from_slice(end)?;
+    Ok(script)
+}
+
+/// Performs a script of a million blank lines and an end.
+fn blank_lines_end(
+    rt: &impl Abort,
+    alloc: Global,
+    session: &mut Session<Rig>,
+    end: &[u8],
+    expected: Result<Summary, IoFault>,
+) -> Result<(), Fail> {
+    let script = blank_lines(alloc, 1_000_000, end)?;
+    script_ends(rt, session, script.as_slice(), Fails::Never, expected, b"");
+    Ok(())
+}
+
 /// Performs a script of a million lines, and then with one byte more.
 fn million_lines_end(
     rt: &impl Abort,
     alloc: Global,
     session: &mut Session<Rig>,
 ) -> Result<(), Fail> {
-    let mut script = vec![in alloc; b'\n'; 1_000_000]?;
     let summary = Summary {
         lines: 1_000_000,
         refused: 0,
     };
-    script_ends(
-        rt,
-        session,
-        script.as_slice(),
-        Fails::Never,
-        Ok(summary),
-        b"",
-    );
-    script.extend_from_slice(b"X")?;
-    let limit = Err(IoFault::LineLimit);
-    script_ends(rt, session, script.as_slice(), Fails::Never, limit, b"");
-    Ok(())
+    blank_lines_end(rt, alloc, session, b"", Ok(summary))?;
+    blank_lines_end(rt, alloc, session, b"X", Err(IoFault::LineLimit))
 }
 
 /// A script has at most a million lines, and any further byte begins one more.
@@ -469,33 +478,28 @@ fn million_lines_end(
 fn lines_are_limited(rt: HostRuntime) -> Result<(), Fail> {
     let mut session = session_of(rt.alloc(), With::LittleMemory, 1)?;
     endless_lines_end(&rt, &mut session);
-    million_lines_end(&rt, rt.alloc(), &mut session)?;
+    let ended = million_lines_end(&rt, rt.alloc(), &mut session);
     kept_is(&rt, &session, 0);
-    Ok(())
+    drop(session);
+    ended
 }
 
 /// Lines are performed in order: an answer that can't be written is reported before a limit in the same piece.
-fn last_line_ends(rt: &impl Abort, session: &mut Session<Rig>, script: &[u8]) {
+fn last_line_ends(rt: &impl Abort, alloc: Global, script: &[u8]) -> Result<(), Fail> {
+    let mut session = session_of(alloc, With::LittleMemory, 1)?;
     let failed = Err(IoFault::WriteFailed);
-    script_ends(rt, session, script, Fails::Writing(1), failed, b"");
+    script_ends(rt, &mut session, script, Fails::Writing(1), failed, b"");
     let limit = Err(IoFault::LineLimit);
-    script_ends(
-        rt,
-        session,
-        script,
-        Fails::Never,
-        limit,
-        b"ERR 01 NOT A COMMAND\n",
-    );
+    let text = b"ERR 01 NOT A COMMAND\n";
+    script_ends(rt, &mut session, script, Fails::Never, limit, text);
+    drop(session);
+    Ok(())
 }
 
 #[test]
 fn answers_come_before_limits(rt: HostRuntime) -> Result<(), Fail> {
-    let mut session = session_of(rt.alloc(), With::LittleMemory, 1)?;
-    let mut script = vec![in rt.alloc(); b'\n'; 999_999]?;
-    script.extend_from_slice(b"GO\nX")?;
-    last_line_ends(&rt, &mut session, script.as_slice());
-    Ok(())
+    let script = blank_lines(rt.alloc(), 999_999, b"GO\nX")?;
+    last_line_ends(&rt, rt.alloc(), script.as_slice())
 }
 
 /// The status of a run that ended without a fault shows whether a line was rejected.

@@ -1,5 +1,7 @@
 //! Runs, watches, back and forward.
 use super::{With, follows, follows_all};
+use std::alloc::Global;
+use std::process::Abort;
 use std::test::Fail;
 
 const MOVES: [&str; 5] = [
@@ -281,7 +283,9 @@ fn watches(rt: HostRuntime) -> Result<(), Fail> {
 }
 
 /// The length of the undo history, and a session.
-const SHORT_HISTORIES: [(u32, &str); 5] = [
+type ShortHistory = (u32, &'static str);
+
+const SHORT_HISTORIES: [ShortHistory; 5] = [
     // A full undo history drops its oldest action.
     (
         4,
@@ -382,11 +386,15 @@ BACK 4 SLOT 00
     ),
 ];
 
+fn short_history_follows(rt: &impl Abort, alloc: Global, row: &ShortHistory) -> Result<(), Fail> {
+    let (capacity, session) = *row;
+    follows(rt, alloc, With::Nothing, capacity, session)
+}
+
 #[test]
 fn short_histories(rt: HostRuntime) -> Result<(), Fail> {
     for i in 0..SHORT_HISTORIES.len() {
-        let (capacity, session) = SHORT_HISTORIES[i];
-        follows(&rt, rt.alloc(), With::Nothing, capacity, session)?;
+        short_history_follows(&rt, rt.alloc(), &SHORT_HISTORIES[i])?;
     }
     Ok(())
 }

@@ -95,7 +95,9 @@ fn words_and_ranges(rt: HostRuntime) -> Result<(), Fail> {
 }
 
 /// A script, its answers, its number of lines, and how many of them are rejected.
-const SCRIPTS: [(&[u8], &[u8], u32, u32); 8] = [
+type Script = (&'static [u8], &'static [u8], u32, u32);
+
+const SCRIPTS: [Script; 8] = [
     // Nothing in, nothing out.
     (b"", b"", 0, 0),
     // Lines that are rejected, a note, and a last line without an end.
@@ -142,19 +144,33 @@ ERR 01 NOT A COMMAND\nTURNS 1 SLOT 01\n",
     ),
 ];
 
+/// Performs a script without a deck and a panel, and compares it.
+fn script_follows(
+    rt: &impl Abort,
+    alloc: Global,
+    script: &[u8],
+    answers: &[u8],
+    summary: Summary,
+) -> Result<(), Fail> {
+    let case = Case {
+        with: With::Nothing,
+        capacity: 10000,
+        script,
+        answers,
+        summary,
+    };
+    compare(rt, alloc, &case)
+}
+
+fn row_follows(rt: &impl Abort, alloc: Global, row: &Script) -> Result<(), Fail> {
+    let (script, answers, lines, refused) = *row;
+    script_follows(rt, alloc, script, answers, Summary { lines, refused })
+}
+
 #[test]
 fn scripts(rt: HostRuntime) -> Result<(), Fail> {
     for i in 0..SCRIPTS.len() {
-        let (script, answers, lines, refused) = SCRIPTS[i];
-        let summary = Summary { lines, refused };
-        let case = Case {
-            with: With::Nothing,
-            capacity: 10000,
-            script,
-            answers,
-            summary,
-        };
-        compare(&rt, rt.alloc(), &case)?;
+        row_follows(&rt, rt.alloc(), &SCRIPTS[i])?;
     }
     Ok(())
 }
@@ -164,7 +180,9 @@ const NOT_A_COMMAND: &[u8] = b"ERR 01 NOT A COMMAND\n";
 const TOO_LONG: &[u8] = b"ERR 05 LINE TOO LONG\n";
 
 /// The first byte of a line, the others, its length, its end, its answer, and how often it is rejected.
-const LONG_LINES: [(u8, u8, usize, &[u8], &[u8], u32); 6] = [
+type LongLine = (u8, u8, usize, &'static [u8], &'static [u8], u32);
+
+const LONG_LINES: [LongLine; 6] = [
     (b'X', b'X', 255, b"\n", NOT_A_COMMAND, 1),
     (b'X', b'X', 255, b"\r\n", NOT_A_COMMAND, 1),
     (b'X', b'X', 255, b"\r\r\n", TOO_LONG, 1),
@@ -173,70 +191,81 @@ const LONG_LINES: [(u8, u8, usize, &[u8], &[u8], u32); 6] = [
     (b'*', b' ', 256, b"", TOO_LONG, 1),
 ];
 
-/// Returns a line without its end.
-fn line_of(alloc: Global, first: u8, others: u8, length: usize) -> Result<Vec<u8>, Fail> {
-    let mut line = vec![in alloc; first]?;
-    for _ in 1..length {
-        line.extend_from_slice(&[others])?;
+/// Returns a line with its end.
+fn line_of(alloc: Global, line: &LongLine) -> Result<Vec<u8>, Fail> {
+    let (first, others, length, end, _, _) = *line;
+    let mut script = vec![in alloc; others; length]?;
+    if let Some(byte) = script.first_mut() {
+        *byte = first;
     }
-    Ok(line)
+    script.extend_from_slice(end)?;
+    Ok(script)
+}
+
+fn long_line_follows(rt: &impl Abort, alloc: Global, line: &LongLine) -> Result<(), Fail> {
+    let script = line_of(alloc, line)?;
+    let (_, _, _, _, answer, refused) = *line;
+    let summary = Summary { lines: 1, refused };
+    script_follows(rt, alloc, script.as_slice(), answer, summary)
 }
 
 /// The longest line has 255 bytes before its carriage return.
 #[test]
 fn long_lines(rt: HostRuntime) -> Result<(), Fail> {
     for i in 0..LONG_LINES.len() {
-        let (first, others, length, end, answers, refused) = LONG_LINES[i];
-        let mut script = line_of(rt.alloc(), first, others, length)?;
-        script.extend_from_slice(end)?;
-        let case = Case {
-            with: With::Nothing,
-            capacity: 1,
-            script: script.as_slice(),
-            answers,
-            summary: Summary { lines: 1, refused },
-        };
-        compare(&rt, rt.alloc(), &case)?;
+        long_line_follows(&rt, rt.alloc(), &LONG_LINES[i])?;
     }
     Ok(())
 }
 
-/// Performs a command, and compares the result, what is written, and the length of the undo history.
+/// A command, its result, all that is written so far, and the length of the undo history after it.
+type Performed = (&'static [u8], Result<bool, IoFault>, &'static [u8], u32);
+
+/// The third write fails. The command is performed even if its answer can't be written.
+const COMMANDS: [Performed; 3] = [
+    (b"SET A 0 5", Ok(true), b"OK\n", 1),
+    (b"BACK 2", Ok(false), b"OK\nERR 07 TOO FEW KEPT\n", 1),
+    (
+        b"SET A 0 5",
+        Err(IoFault::WriteFailed),
+        b"OK\nERR 07 TOO FEW KEPT\n",
+        2,
+    ),
+];
+
+/// Performs a command, and returns whether the result is the expected one.
 fn performs(
-    rt: &impl Abort,
     session: &mut Session<Rig>,
     line: &[u8],
     out: &mut Tray,
     expected: Result<bool, IoFault>,
-    text: &[u8],
-    kept: u32,
-) -> Result<(), Fail> {
-    let command = parse(line)?.ok_or("ignored")?;
-    let ended = perform(session, &command, out);
-    assert!(rt; ended == expected);
-    assert!(rt; out.text() == text);
-    assert!(rt; session.kept() == kept);
-    Ok(())
+) -> bool {
+    match parse(line) {
+        Ok(Some(command)) => perform(session, &command, out) == expected,
+        _ => false,
+    }
 }
 
-/// `perform` returns whether the command was rejected. The command is performed even if its answer
-/// can't be written.
+/// Performs the command of a row. Returns whether the result, what is written, and the length of the undo history are
+/// right.
+fn is_performed(session: &mut Session<Rig>, out: &mut Tray, row: &Performed) -> bool {
+    let (line, expected, text, kept) = *row;
+    performs(session, line, out, expected) && out.text() == text && session.kept() == kept
+}
+
+/// Performs commands in one session.
+fn performs_each(rt: &impl Abort, session: &mut Session<Rig>) {
+    let mut out = Tray::failing(100, 3);
+    for i in 0..COMMANDS.len() {
+        assert!(rt; is_performed(session, &mut out, &COMMANDS[i]), "row {i}");
+    }
+}
+
+/// `perform` returns whether the command was rejected.
 #[test]
 fn performs_single_commands(rt: HostRuntime) -> Result<(), Fail> {
     let mut session = session_of(rt.alloc(), With::LittleMemory, 100)?;
-    let mut out = Tray::new(100);
-    performs(
-        &rt,
-        &mut session,
-        b"SET A 0 5",
-        &mut out,
-        Ok(true),
-        b"OK\n",
-        1,
-    )?;
-    let both = b"OK\nERR 07 TOO FEW KEPT\n";
-    performs(&rt, &mut session, b"BACK 2", &mut out, Ok(false), both, 1)?;
-    let mut full = Tray::failing(100, 1);
-    let failed = Err(IoFault::WriteFailed);
-    performs(&rt, &mut session, b"SET A 0 5", &mut full, failed, b"", 2)
+    performs_each(&rt, &mut session);
+    drop(session);
+    Ok(())
 }
