@@ -191,6 +191,7 @@ PLACES = {
     "pp6600": (560, "the program"),
     "pp_program": (560, "the program over a host"),
     "pp_console": (560, "answers to a script"),
+    "pp_host": (770, "words and files"),
     "pp_command": (400, "what a line asks for"),
     "pp_trouble": (690, "what ends a run early"),
     "pp_rig": (330, "barrel and devices"),

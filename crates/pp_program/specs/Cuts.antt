@@ -4,29 +4,20 @@ use Rattle.pp_arguments.specs.CommandLine.{Text}
 use Rattle.pp_console.specs.Commands.{Value}
 use Rattle.pp_console.specs.Script.{run}
 use Rattle.pp_console.specs.declared.progress.TheConstants.{LINE_LIMIT, BYTE_LIMIT}
-use Rattle.pp_files.specs.Fault.{BreaksOff, RunsOut}
-use Rattle.pp_files.specs.Files.{Rule, card_rule, file_limit, panel_rule}
+use Rattle.pp_files.specs.Files.{card_rule, panel_rule}
 use Rattle.pp_files.specs.Rows.{Row}
 use Rattle.pp_lines.specs.Lines.{finished_within}
 use Rattle.pp_trouble.specs.declared.trouble.FileKind.{FileKind}
 use Rattle.pp_trouble.specs.declared.trouble.FileKind.TheVariants.{Deck, Panel, Script}
 use Rattle.pp_trouble.specs.declared.trouble.Trouble.{Trouble}
 use Rattle.pp_trouble.specs.declared.trouble.Trouble.TheVariants.{NoMemory, ReadFailed, WriteFailed}
+use Rattle.pp_host.specs.Events.{Reading}
+use Rattle.pp_host.specs.Loading.{deck_at, panel_at, readings}
+use Rattle.pp_host.specs.Options.{Asked}
 use Rattle.pp_program.specs.Course.{Course, after, ends, opening, openings, performing, stops}
-use Rattle.pp_program.specs.Events.{Reading}
-use Rattle.pp_program.specs.Loading.{readings}
-use Rattle.pp_program.specs.Options.{Asked}
-use Rattle.pp_program.specs.Program.{Given, console, deck_at, panel_at, script_at, served, session_with}
+use Rattle.pp_program.specs.Program.{Given, console, script_at, served, session_with}
 
 -- ---- a file that is loaded
-
--- A file was lost: of its bytes, these were read. Memory ran out at one of its rows, before any fault of the file; or a read failed, and
--- the lines that were read have no fault.
-abbrev pub IsLost : Rule → Option (List ℕ) → Option (List ℕ) → Trouble → Type 0
-IsLost rule None content trouble = ⊥
-IsLost rule (Some taken) None trouble = ⊥
-IsLost rule (Some taken) (Some bytes) trouble =
-    ((trouble ≡ NoMemory) × RunsOut rule file_limit bytes) ⊎ ((trouble ≡ ReadFailed) × BreaksOff rule file_limit taken)
 
 -- the named file is the last one that was asked for
 abbrev pub IsLast : FileKind → Option Text → Option (List ℕ) → List Reading → Type 0

@@ -3,11 +3,11 @@ use Rattle.std.specs.Prelude.{◌≡◌, ℕ, ◌⊎◌, false, List, [], map, A
 use Rattle.pp_arguments.specs.CommandLine.{Text}
 use Rattle.pp_trouble.specs.declared.trouble.Trouble.{Trouble}
 use Rattle.pp_trouble.specs.declared.trouble.Trouble.TheVariants.{NoMemory}
+use Rattle.pp_host.specs.Events.{Reading}
+use Rattle.pp_host.specs.Host.{Agrees, IsContent, IsInput, opening_of}
+use Rattle.pp_host.specs.Options.{Asked, Means}
 use Rattle.pp_program.specs.Course.{Course, stops}
 use Rattle.pp_program.specs.Cuts.{Follows}
-use Rattle.pp_program.specs.Events.{Reading}
-use Rattle.pp_program.specs.Host.{Agrees, IsContent, IsInput, opening_of}
-use Rattle.pp_program.specs.Options.{Asked, Means}
 use Rattle.pp_program.specs.Program.{Given, content_of, program}
 
 -- a named file has the content that the host knows, if it knows one

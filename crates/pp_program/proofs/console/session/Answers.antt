@@ -1,5 +1,5 @@
 use Rattle.std.proofs.Common.{inr, refl}
-use Rattle.pp_program.specs.Options.{asked_of}
+use Rattle.pp_host.specs.Options.{asked_of}
 use Rattle.pp_program.proofs.Coursing.{session-made}
 use Rattle.pp_program.proofs.console.session.Goals as goal
 

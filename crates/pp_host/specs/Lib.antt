@@ -1,0 +1,7 @@
+pub mod Events
+pub mod Failures
+pub mod FileEvent
+pub mod Host
+pub mod Loading
+pub mod Memory
+pub mod Options

@@ -1,0 +1,40 @@
+//! What happened to the files of a program, as contracts see it.
+ghost use Rattle.pp_host.specs.Events.{Event, coded_event};
+ghost use Rattle.pp_host.specs.FileEvent.{event_of};
+ghost use Rattle.std.specs.Borrow.{ftrue};
+ghost use Rattle.std.specs.Coded.{coded_list};
+ghost use Rattle.std.specs.Prelude.{◌≡◌, ◌∷◌, ◌++◌, [], List};
+
+use crate::file_event::FileEvent;
+use std::marker::Model;
+use std::mem::size_of;
+
+// Beside `pp_lines::Log`, and not one generic log: the logic stores ghost data by a code, and `coded_event` is that of
+// an event.
+/// What happened to the files of a program so far, in order. Only contracts see it. At run time the log has size zero.
+#[derive(Drop)]
+pub struct FileLog {
+    pub ghost events: { List Event } by { coded_list coded_event },
+}
+
+const _: () = prove!(size_of::<FileLog>() == 0);
+
+impl Model for FileLog {
+    ghost also_owns = { λ _. ftrue };
+}
+
+impl FileLog {
+    /// Returns an empty log.
+    pub fn new() -> FileLog
+        ensures { result.events ≡ [] }
+    {
+        FileLog {}
+    }
+
+    /// Returns the log with one more event.
+    pub fn with(_before: &FileLog, _event: &FileEvent) -> FileLog
+        ensures { result.events ≡ _before.now.events ++ event_of _event.now ∷ [] }
+    {
+        FileLog {}
+    }
+}

@@ -1,0 +1,93 @@
+//! Loads the files that the options name.
+ghost use Rattle.pp_files.specs.Files.{card_rule, panel_rule};
+ghost use Rattle.pp_host.specs.Events.{Missing, Opened};
+ghost use Rattle.pp_host.specs.Failures.{IsEarly, reads_by};
+ghost use Rattle.pp_host.specs.Host.{Agrees, IsOpened};
+ghost use Rattle.pp_host.specs.Loading.{IsLost, IsNamed, deck_at, events, panel_at, readings};
+ghost use Rattle.pp_trouble.specs.declared.trouble.Trouble.TheVariants.{CannotOpen, ReadFailed};
+ghost use Rattle.std.specs.Prelude.{◌≡◌, ◌⊎◌, ◌<◌, ◌≤◌, ◌++◌, ◌∷◌, [], All, Err, IfErr, IfOk, IfSome, List, MatchResult, None, Ok, Option, ℕ, option_map};
+ghost use Rattle.std.specs.String.{string_bytes};
+
+use crate::host::Host;
+use pp_files::{load_deck, load_panel};
+use pp_trouble::{FileKind, Trouble};
+use std::alloc::Global;
+
+/// Opens a file of the program.
+///
+/// # Errors
+/// `CannotOpen` if the host can't open it.
+pub fn open<H: Host>(host: &mut H, kind: FileKind, path: &str) -> Result<H::File, Trouble>
+    ensures files { H.known_files host.new ≡ H.known_files host.old }
+    ensures failures { H.failure_count host.new ≡ H.failure_count host.old }
+    ensures log { MatchResult result
+        (λ _. H.log host.new ≡ H.log host.old ++ Opened kind path.now ∷ [])
+        (λ _. H.log host.new ≡ H.log host.old ++ Missing kind path.now ∷ []) }
+    ensures content { MatchResult result
+        (λ file. IsOpened (H.known_files host.old path.now) (H.File.rest file))
+        (λ trouble. (trouble ≡ CannotOpen kind) × Agrees (H.known_files host.old path.now) None) }
+    ensures unread { IfOk result (λ file. (H.File.given file ≡ []) × (H.File.failure_count file ≡ 0)) }
+{
+    host.open(kind, path).ok_or(Trouble::CannotOpen(kind))
+}
+
+/// Loads the named deck. Without a name the deck is empty.
+///
+/// # Errors
+/// `CannotOpen`, `Load`, `ReadFailed` and `NoMemory`.
+pub fn deck<H: Host>(
+    alloc: Global,
+    host: &mut H,
+    path: &Option<String>,
+) -> Result<Vec<[u16; 80]>, Trouble>
+    ensures files { H.known_files host.new ≡ H.known_files host.old }
+    ensures deck { (taken : Option (List ℕ)) × (content : Option (List ℕ))
+        × (H.log host.new ≡ H.log host.old ++ events (readings FileKind.Deck (option_map string_bytes path.now) taken))
+        × IsNamed (H.known_files host.old) (option_map string_bytes path.now) taken content
+        × MatchResult result
+        (λ deck. deck_at (option_map string_bytes path.now) content ≡ Ok deck.items)
+        (λ trouble. (deck_at (option_map string_bytes path.now) content ≡ Err trouble) ⊎ IsLost card_rule taken content trouble) }
+    ensures reads { H.failure_count host.new ≡ reads_by result (H.failure_count host.old) }
+    ensures early { IfErr result IsEarly }
+    ensures within { IfOk result (λ deck. All (All (λ word. word < 0o10000)) deck.items) }
+{
+    let Some(path) = path else {
+        return Ok(Vec::new(alloc));
+    };
+    let mut file = open(host, FileKind::Deck, path.as_str())?;
+    let read = load_deck(alloc, &mut file);
+    host.close(file);
+    match read {
+        Ok(deck) => Ok(deck),
+        Err(fault) => Err(Trouble::load(FileKind::Deck, fault)),
+    }
+}
+
+/// Loads the named dead start panel, or returns `None` without a name.
+///
+/// # Errors
+/// `CannotOpen`, `Load` and `ReadFailed`.
+pub fn panel<H: Host>(host: &mut H, path: &Option<String>) -> Result<Option<[u16; 12]>, Trouble>
+    ensures files { H.known_files host.new ≡ H.known_files host.old }
+    ensures panel { (taken : Option (List ℕ)) × (content : Option (List ℕ))
+        × (H.log host.new ≡ H.log host.old ++ events (readings FileKind.Panel (option_map string_bytes path.now) taken))
+        × IsNamed (H.known_files host.old) (option_map string_bytes path.now) taken content
+        × MatchResult result
+        (λ panel. panel_at (option_map string_bytes path.now) content ≡ Ok panel)
+        (λ trouble. (panel_at (option_map string_bytes path.now) content ≡ Err trouble)
+        ⊎ ((trouble ≡ ReadFailed) × IsLost panel_rule taken content ReadFailed)) }
+    ensures reads { H.failure_count host.new ≡ reads_by result (H.failure_count host.old) }
+    ensures early { IfErr result IsEarly }
+    ensures within { IfOk result (λ panel. IfSome panel (All (λ word. word ≤ 0o7777))) }
+{
+    let Some(path) = path else {
+        return Ok(None);
+    };
+    let mut file = open(host, FileKind::Panel, path.as_str())?;
+    let read = load_panel(&mut file);
+    host.close(file);
+    match read {
+        Ok(panel) => Ok(Some(panel)),
+        Err(fault) => Err(Trouble::load(FileKind::Panel, fault)),
+    }
+}

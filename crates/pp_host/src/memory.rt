@@ -1,0 +1,47 @@
+//! The files of a system in memory, for tests. Their content is known beforehand.
+ghost use Rattle.pp_host.specs.Memory.{file_named};
+ghost use Rattle.std.specs.Prelude.{◌≡◌, Some, option_map};
+
+use crate::stored::StoredFile;
+use crate::system::FileSystem;
+use pp_lines::{Calls, Feed, Log};
+
+/// The largest number of bytes that one read of a stored file returns.
+const PIECE: usize = 512;
+
+/// The files of a system in memory.
+#[derive(Drop)]
+pub struct Memory<'a> {
+    pub files: &'a [StoredFile<'a>],
+    /// The number of files that were asked for.
+    pub asked: u32,
+}
+
+/// Returns the first file with this path.
+fn stored<'a>(files: &'a [StoredFile<'a>], path: &str) -> Option<&'a StoredFile<'a>>
+    ensures { option_map (λ file. file.now.bytes.now) result ≡ file_named files.now path.now }
+{
+    let (first, others) = files.split_first()?;
+    if first.path == path {
+        Some(first)
+    } else {
+        stored(others, path)
+    }
+}
+
+impl<'a> FileSystem for Memory<'a> {
+    type File = Feed<'a>;
+
+    ghost known_files = { λ memory path. Some (file_named memory.files.now path) };
+
+    fn open(&mut self, path: &str) -> Option<Feed<'a>> {
+        self.asked = self.asked.saturating_add(1);
+        let file = stored(self.files, path)?;
+        Some(Feed {
+            bytes: file.bytes,
+            piece: PIECE,
+            calls: Calls::new(file.failing),
+            log: Log::new(),
+        })
+    }
+}

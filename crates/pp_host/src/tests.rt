@@ -1,0 +1,143 @@
+//! What a host in memory has: its words, its files and its counts.
+
+use super::*;
+use pp_trouble::{FileKind, Trouble};
+use std::alloc::{AllocError, Global};
+use std::process::Abort;
+use std::test::Fail;
+
+const FILES: [StoredFile<'static>; 4] = [
+    StoredFile {
+        path: "cards",
+        bytes: b"1 2 3\n4\n",
+        failing: None,
+    },
+    StoredFile {
+        path: "bad",
+        bytes: b"* note\n1 2 8\n",
+        failing: None,
+    },
+    StoredFile {
+        path: "panel",
+        bytes: b"1\n2\n3\n4\n5\n6\n7\n10\n11\n12\n13\n7777\n",
+        failing: None,
+    },
+    StoredFile {
+        path: "torn",
+        bytes: b"1 2 3\n",
+        failing: Some(1),
+    },
+];
+
+/// Returns a host with these words over the files above.
+fn host(words: Result<Vec<String>, WordsFault>) -> System<Memory<'static>> {
+    System::new(
+        words,
+        Memory {
+            files: &FILES,
+            asked: 0,
+        },
+    )
+}
+
+/// Returns the words of a line. No word contains a blank.
+fn words(alloc: Global, line: &str) -> Result<Vec<String>, AllocError> {
+    let mut words = Vec::new(alloc);
+    for word in line.split_whitespace() {
+        words.push(String::from_str(alloc, word)?)?;
+    }
+    Ok(words)
+}
+
+/// Checks how a host's words are rejected, which asks for no file.
+fn check_words(
+    rt: &impl Abort,
+    alloc: Global,
+    words: Result<Vec<String>, WordsFault>,
+    trouble: Trouble,
+) {
+    let mut system = host(words);
+    assert!(rt; options_of(alloc, &mut system).err() == Some(trouble));
+    assert!(rt; system.files.asked == 0 && system.failures == 0);
+}
+
+#[test]
+fn words_ask_for_options(rt: HostRuntime) -> Result<(), Fail> {
+    let alloc = rt.alloc();
+    let mut system = host(Ok(words(alloc, "pp6600 --history 7 --deck cards lines")?));
+    let options = options_of(alloc, &mut system)?;
+    assert!(rt; options.history == 7);
+    assert!(rt; options.panel.is_none());
+    assert!(rt; options.script.is_some());
+    assert!(rt; deck(alloc, &mut system, &options.deck)?.len() == 2);
+    assert!(rt; system.files.asked == 1);
+    Ok(())
+}
+
+#[test]
+fn rejected_words_are_a_trouble(rt: HostRuntime) -> Result<(), Fail> {
+    let alloc = rt.alloc();
+    for (line, trouble) in [
+        ("pp6600 --history 0", Trouble::BadArguments),
+        ("pp6600 --reader 14", Trouble::BadChannel),
+        ("pp6600 --help", Trouble::Help),
+    ] {
+        let words = words(alloc, line)?;
+        check_words(&rt, alloc, Ok(words), trouble);
+    }
+    for (fault, trouble) in [
+        (WordsFault::NotText, Trouble::BadArguments),
+        (WordsFault::NoMemory, Trouble::NoMemory),
+    ] {
+        check_words(&rt, alloc, Err(fault), trouble);
+    }
+    Ok(())
+}
+
+#[test]
+fn a_deck_is_loaded_once(rt: HostRuntime) -> Result<(), Fail> {
+    let alloc = rt.alloc();
+    let mut system = host(Ok(Vec::new(alloc)));
+    assert!(rt; deck(alloc, &mut system, &None)?.is_empty());
+    assert!(rt; system.files.asked == 0);
+    let path = Some(String::from_str(alloc, "cards")?);
+    let cards = deck(alloc, &mut system, &path)?;
+    assert!(rt; cards[0][2] == 3);
+    assert!(rt; cards[1][0] == 4 && cards[1][1] == 0);
+    assert!(rt; system.files.asked == 1 && system.failures == 0);
+    Ok(())
+}
+
+#[test]
+fn a_panel_is_loaded(rt: HostRuntime) -> Result<(), Fail> {
+    let alloc = rt.alloc();
+    let mut system = host(Ok(Vec::new(alloc)));
+    assert!(rt; panel(&mut system, &None)?.is_none());
+    let path = Some(String::from_str(alloc, "panel")?);
+    let panel = panel(&mut system, &path)?;
+    assert!(rt; panel == Some([1, 2, 3, 4, 5, 6, 7, 8, 9, 10, 11, 4095]));
+    Ok(())
+}
+
+#[test]
+fn a_fault_of_a_file_is_a_trouble(rt: HostRuntime) -> Result<(), Fail> {
+    let alloc = rt.alloc();
+    for (path, asked, failures) in [("none", 1, 0), ("bad", 1, 0), ("torn", 1, 1)] {
+        let mut system = host(Ok(Vec::new(alloc)));
+        let named = Some(String::from_str(alloc, path)?);
+        let trouble = deck(alloc, &mut system, &named).err();
+        assert!(rt;
+            (trouble == Some(Trouble::CannotOpen(FileKind::Deck))) == (path == "none"),
+            "{path}"
+        );
+        assert!(rt;
+            (trouble == Some(Trouble::ReadFailed)) == (path == "torn"),
+            "{path}"
+        );
+        assert!(rt;
+            system.files.asked == asked && system.failures == failures,
+            "{path}"
+        );
+    }
+    Ok(())
+}
