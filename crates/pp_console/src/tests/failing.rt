@@ -118,7 +118,7 @@ fn finished_within(exchanges: &[Exchange], bytes: usize) -> &[Exchange] {
 }
 
 fn kept_is(rt: &impl Abort, session: &Session<Rig>, kept: u32) {
-    assert!(rt; session.kept() == kept, "{kept} kept");
+    assert!(rt; session.kept() == kept, "not {kept} kept");
 }
 
 /// Performs a script on a new machine, and compares the result, what is written, and the length of the undo history.
