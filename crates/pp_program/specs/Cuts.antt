@@ -12,7 +12,7 @@ use Rattle.pp_trouble.specs.declared.trouble.FileKind.TheVariants.{Deck, Panel, 
 use Rattle.pp_trouble.specs.declared.trouble.Trouble.{Trouble}
 use Rattle.pp_trouble.specs.declared.trouble.Trouble.TheVariants.{NoMemory, ReadFailed, WriteFailed}
 use Rattle.pp_host.specs.Events.{Reading}
-use Rattle.pp_host.specs.Loading.{deck_at, panel_at, readings}
+use Rattle.pp_host.specs.Loading.{IsLost, deck_at, panel_at, readings}
 use Rattle.pp_host.specs.Options.{Asked}
 use Rattle.pp_program.specs.Course.{Course, after, ends, opening, openings, performing, stops}
 use Rattle.pp_program.specs.Program.{Given, console, script_at, served, session_with}
