@@ -4,12 +4,12 @@ use Rattle.std.specs.Bool.{Decides}
 use Rattle.std.specs.List.{list_all}
 use Rattle.std.proofs.lemmas.Bool.Decides.{nat_tests, Decides-and, Decides-by_and, Decides-ltb}
 use Rattle.pp_command.specs.Ranges.{CanBeAsked, IsActionInRange, IsPlaceInRange, IsPlaceWithin, IsWithin, most_central_words}
-use Rattle.pp_rig.specs.Admitting.{is_in_range, is_watchable}
-use Rattle.pp_rig.specs.Ranges.{past_sixty_bits, twelve_bits}
-use Rattle.pp_rig.specs.declared.action.Action.{Action}
-use Rattle.pp_rig.specs.declared.action.Action.TheVariants.{SetWord, Watch, Unwatch}
-use Rattle.pp_rig.specs.declared.watched.Watched.{Watched}
-use Rattle.pp_rig.specs.declared.watched.Watched.TheVariants.{Central}
+use Rattle.pp_actions.specs.Admitting.{is_in_range, is_watchable}
+use Rattle.pp_actions.specs.Ranges.{past_sixty_bits, twelve_bits}
+use Rattle.pp_actions.specs.declared.action.Action.{Action}
+use Rattle.pp_actions.specs.declared.action.Action.TheVariants.{SetWord, Watch, Unwatch}
+use Rattle.pp_actions.specs.declared.watched.Watched.{Watched}
+use Rattle.pp_actions.specs.declared.watched.Watched.TheVariants.{Central}
 
 is_central : (a size v : ℕ) → Decides (nat_lt a size && nat_lt v past_sixty_bits) ((a < size) × (v < past_sixty_bits))
 is_central a size v = Decides-and (nat_lt a size) (nat_lt v past_sixty_bits) (Decides-ltb a size) (Decides-ltb v past_sixty_bits)

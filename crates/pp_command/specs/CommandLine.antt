@@ -6,9 +6,9 @@ use Rattle.pp_lines.specs.Lines.{without_return}
 use Rattle.pp_lines.specs.Words.{words, is_ignored}
 use Rattle.pp_machine.specs.declared.channel.ChannelState.{ChannelState}
 use Rattle.pp_machine.specs.declared.channel.ChannelState.TheVariants.{Inactive, Empty, Full}
-use Rattle.pp_rig.specs.declared.action.Action.TheVariants.{SetCells, SetA, SetP, SetQ, SetWord, SetChannel, Watch, Unwatch, Deadstart}
-use Rattle.pp_rig.specs.declared.watched.Watched.{Watched}
-use Rattle.pp_rig.specs.declared.watched.Watched.TheVariants.{Cell, RegA, RegP, RegQ, Central, Register}
+use Rattle.pp_actions.specs.declared.action.Action.TheVariants.{SetCells, SetA, SetP, SetQ, SetWord, SetChannel, Watch, Unwatch, Deadstart}
+use Rattle.pp_actions.specs.declared.watched.Watched.{Watched}
+use Rattle.pp_actions.specs.declared.watched.Watched.TheVariants.{Cell, RegA, RegP, RegQ, Central, Register}
 use Rattle.pp_command.specs.Numbers.{Words, ◌>>=◌, number, if_octal, none, one, pair, two, three, numbers, count}
 use Rattle.pp_command.specs.declared.fault.LineFault.{LineFault}
 use Rattle.pp_command.specs.declared.fault.LineFault.TheVariants.{NotACommand, WordCount, OutOfRange, TooLong, NotAscii}

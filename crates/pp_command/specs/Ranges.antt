@@ -1,11 +1,11 @@
 -- The ranges of a request's numbers, and what separates them from the ranges of a machine.
 use Rattle.std.specs.Prelude.{ℕ, ◌<◌, ◌≤◌, IsTrue, length}
-use Rattle.pp_rig.specs.Admitting.{is_in_range, is_watchable}
-use Rattle.pp_rig.specs.Ranges.{processor_count, cell_count}
-use Rattle.pp_rig.specs.declared.action.Action.{Action}
-use Rattle.pp_rig.specs.declared.action.Action.TheVariants as action
-use Rattle.pp_rig.specs.declared.watched.Watched.{Watched}
-use Rattle.pp_rig.specs.declared.watched.Watched.TheVariants as watched
+use Rattle.pp_actions.specs.Admitting.{is_in_range, is_watchable}
+use Rattle.pp_actions.specs.Ranges.{processor_count, cell_count}
+use Rattle.pp_actions.specs.declared.action.Action.{Action}
+use Rattle.pp_actions.specs.declared.action.Action.TheVariants as action
+use Rattle.pp_actions.specs.declared.watched.Watched.{Watched}
+use Rattle.pp_actions.specs.declared.watched.Watched.TheVariants as watched
 use Rattle.pp_command.specs.declared.request.Request.{Request}
 use Rattle.pp_command.specs.declared.request.Request.TheVariants.{Act, Step, Back, Forward, DumpCells, DumpProcessor, DumpCentral}
 

@@ -14,7 +14,7 @@ use crate::request::Request;
 use crate::settings::set;
 use crate::words::is_word;
 use pp_lines::{next_word, without_return};
-use pp_rig::Action;
+use pp_actions::Action;
 
 /// The largest number of bytes in a line, without a carriage return at its end.
 const LONGEST: usize = 255;

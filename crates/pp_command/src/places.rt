@@ -7,7 +7,7 @@ ghost use Rattle.pp_command.specs.Ranges.{IsPlaceInRange};
 use crate::fault::LineFault;
 use crate::numbers::{one, processor_and};
 use crate::words::{first_word, is_word};
-use pp_rig::Watched;
+use pp_actions::Watched;
 
 /// Parses a place, by its kind.
 ///

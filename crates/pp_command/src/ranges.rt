@@ -1,8 +1,8 @@
 //! The ranges of a line and those of a machine.
 ghost use Rattle.std.specs.Prelude.{◌≤◌, ℕ, IsTrue};
 ghost use Rattle.pp_command.specs.Ranges.{CanBeAsked, IsActionInRange, IsWithin, most_central_words};
-ghost use Rattle.pp_rig.specs.Admitting.{is_in_range};
-ghost use Rattle.pp_rig.specs.declared.action.Action.{Action};
+ghost use Rattle.pp_actions.specs.Admitting.{is_in_range};
+ghost use Rattle.pp_actions.specs.declared.action.Action.{Action};
 
 /// A line and a rig's machine have the same ranges, except for central memory. A line may name any of 400000 (octal)
 /// words, and a machine has as many as its size says. So a machine admits every action in a line's ranges, if it has

@@ -1,5 +1,5 @@
 //! What a line asks for.
-use pp_rig::Action;
+use pp_actions::Action;
 
 /// What a line asks for. Only a `Command` guarantees the ranges.
 #[derive(Drop)]

@@ -13,7 +13,7 @@ use crate::words::{first_word, is_word, no_words};
 use arrayvec::ArrayVec;
 use pp_lines::{are_octal, next_word};
 use pp_machine::ChannelState;
-use pp_rig::{Action, Values};
+use pp_actions::{Action, Values};
 
 /// Returns the number of words in the text.
 fn count_words(text: &[u8]) -> usize

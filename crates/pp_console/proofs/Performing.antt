@@ -7,7 +7,7 @@ use Rattle.pp_history.specs.Change.{change}
 use Rattle.pp_machine.specs.Machine.{Machine}
 use Rattle.pp_machine.specs.declared.place.Place.{Place}
 use Rattle.pp_rig.specs.Rules.{rules}
-use Rattle.pp_rig.specs.Watches.{watched_place, watches_of}
+use Rattle.pp_actions.specs.Watches.{watched_place, watches_of}
 use Rattle.pp_console.specs.Dumps.{central_text}
 use Rattle.pp_console.specs.Moves.{back_name, forward_name}
 use Rattle.pp_console.specs.Refusals.{range_text, no_change_text, nothing_watched_text}

@@ -8,12 +8,12 @@ use Rattle.pp_lines.specs.Output.{Writes}
 use Rattle.pp_lines.specs.declared.device.Sink.{Ghosts}
 use Rattle.pp_machine.specs.Machine.{Machine}
 use Rattle.pp_machine.specs.declared.place.Place.{Place}
-use Rattle.pp_rig.specs.Admitting.{first_fault}
+use Rattle.pp_actions.specs.Admitting.{first_fault}
 use Rattle.pp_rig.specs.Rules.{rules}
 use Rattle.pp_rig.specs.Stopping.{stopped, after_turns}
-use Rattle.pp_rig.specs.Watches.{watches_of, watched_place}
-use Rattle.pp_rig.specs.declared.action.Action.{Action}
-use Rattle.pp_rig.specs.declared.action.ActionFault.{ActionFault}
+use Rattle.pp_actions.specs.Watches.{watches_of, watched_place}
+use Rattle.pp_actions.specs.declared.action.Action.{Action}
+use Rattle.pp_actions.specs.declared.action.ActionFault.{ActionFault}
 use Rattle.pp_rig.specs.declared.rig.RigRecord.{RigRecord}
 use Rattle.pp_rig.specs.declared.stopping.Stopped.{Stopped}
 use Rattle.pp_command.specs.declared.request.Request.{Request}

@@ -2,8 +2,8 @@
 use Rattle.std.specs.Prelude.{ℕ, List, codes}
 use Rattle.pp_command.specs.declared.fault.LineFault.{LineFault}
 use Rattle.pp_command.specs.declared.fault.LineFault.TheVariants.{NotACommand, WordCount, NotANumber, OutOfRange, TooLong, NotAscii}
-use Rattle.pp_rig.specs.declared.action.ActionFault.{ActionFault}
-use Rattle.pp_rig.specs.declared.action.ActionFault.TheVariants.{Range, WatchesFull, AlreadyWatched, NotWatched, NoPanel}
+use Rattle.pp_actions.specs.declared.action.ActionFault.{ActionFault}
+use Rattle.pp_actions.specs.declared.action.ActionFault.TheVariants.{Range, WatchesFull, AlreadyWatched, NotWatched, NoPanel}
 use Rattle.pp_console.specs.Text.{line_text}
 
 unfoldable pub ok_text : List ℕ

@@ -7,7 +7,7 @@ ghost use Rattle.pp_console.specs.Moves.{moved_text};
 ghost use Rattle.pp_console.specs.Commands.{Performs, act_answer, step_answer, back_answer, forward_answer, change_answer, central_answer, shown, answer};
 ghost use Rattle.pp_console.specs.Script.{answer_line};
 ghost use Rattle.pp_console.specs.Watches.{watches_text};
-ghost use Rattle.pp_rig.specs.Watches.{watches_of};
+ghost use Rattle.pp_actions.specs.Watches.{watches_of};
 
 use crate::dumps::{
     channel_lines, frame_lines, processor_line, put_cells, put_central, reader_line,

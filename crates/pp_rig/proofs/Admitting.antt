@@ -5,20 +5,21 @@ use Rattle.std.proofs.lemmas.Bool.{and_parts}
 use Rattle.std.proofs.lemmas.Bool.Decides.{eqb_tells, nat_tests, Decides-by_and, Decides-ltb}
 use Rattle.pp_machine.specs.Prelude.{Machine, over, old_values, Has, state_number}
 use Rattle.pp_machine.specs.declared.channel.ChannelState.{ChannelState}
-use Rattle.pp_rig.specs.Action.{next, old_values_of, most_places, set_list}
-use Rattle.pp_rig.specs.Admitting.{first_fault, state_fault, is_in_range, is_watchable}
-use Rattle.pp_rig.specs.CellLaws.{AreSettings-cell_writes}
-use Rattle.pp_rig.specs.Ranges.{processor_count, cell_count, channel_count, twelve_bits, eighteen_bits, past_sixty_bits}
-use Rattle.pp_rig.specs.Settings.{AreSettings}
-use Rattle.pp_rig.specs.Watches.{is_watched, watched_place, watches_of}
-use Rattle.pp_rig.specs.WatchCodes.{first_zero}
-use Rattle.pp_rig.specs.WriteLists.{cell_writes}
-use Rattle.pp_rig.proofs.WatchCodes.{length-watched_in}
-use Rattle.pp_rig.specs.declared.watched.Watched.{Watched}
-use Rattle.pp_rig.specs.declared.watched.Watched.TheVariants.{Cell, RegA as WatchedA, RegP as WatchedP, RegQ as WatchedQ, Central, Register}
-use Rattle.pp_rig.specs.declared.action.Action.{Action}
-use Rattle.pp_rig.specs.declared.action.Action.TheVariants.{Turn, SetCells, SetA, SetP, SetQ, SetWord, SetChannel, Watch, Unwatch, Deadstart}
-use Rattle.pp_rig.specs.declared.action.ActionFault.TheVariants.{Range, WatchesFull, AlreadyWatched}
+use Rattle.pp_rig.specs.Action.{next, old_values_of, most_places}
+use Rattle.pp_actions.specs.Settings.{set_list}
+use Rattle.pp_actions.specs.Admitting.{first_fault, state_fault, is_in_range, is_watchable}
+use Rattle.pp_actions.specs.CellLaws.{AreSettings-cell_writes}
+use Rattle.pp_actions.specs.Ranges.{processor_count, cell_count, channel_count, twelve_bits, eighteen_bits, past_sixty_bits}
+use Rattle.pp_actions.specs.Settings.{AreSettings}
+use Rattle.pp_actions.specs.Watches.{is_watched, watched_place, watches_of}
+use Rattle.pp_actions.specs.WatchCodes.{first_zero}
+use Rattle.pp_actions.specs.WriteLists.{cell_writes}
+use Rattle.pp_actions.proofs.WatchCodes.{length-watched_in}
+use Rattle.pp_actions.specs.declared.watched.Watched.{Watched}
+use Rattle.pp_actions.specs.declared.watched.Watched.TheVariants.{Cell, RegA as WatchedA, RegP as WatchedP, RegQ as WatchedQ, Central, Register}
+use Rattle.pp_actions.specs.declared.action.Action.{Action}
+use Rattle.pp_actions.specs.declared.action.Action.TheVariants.{Turn, SetCells, SetA, SetP, SetQ, SetWord, SetChannel, Watch, Unwatch, Deadstart}
+use Rattle.pp_actions.specs.declared.action.ActionFault.TheVariants.{Range, WatchesFull, AlreadyWatched}
 
 less : (a b : ℕ) → nat_lt a b ≡ true → a < b
 less a b h = (Decides-ltb a b).0 h

@@ -7,15 +7,15 @@ use Rattle.pp_machine.specs.Phase.{is_phase}
 use Rattle.pp_machine.specs.declared.place.Write.{Write}
 use Rattle.pp_machine.specs.declared.place.Place.{Place}
 use Rattle.pp_machine.specs.declared.place.Place.TheVariants.{Cell, RegA, RegP, RegQ, Phase, ChannelMode, ChannelWord, Central, PaperSymbol, Slot}
-use Rattle.pp_rig.specs.CellLaws.{AreSettings-cell_writes}
-use Rattle.pp_rig.specs.Deadstart.{loading, waiting, all_waiting, all_states, states, deadstart_write_list, deadstart_place_count, deadstart_places}
-use Rattle.pp_rig.specs.Ranges.{IsInRange, twelve_bits, eighteen_bits}
-use Rattle.pp_rig.specs.Settings.{IsSetting, IsSettable, AreSettings, AreSettings-append}
-use Rattle.pp_rig.specs.RecordLists.{numbers, with_new_numbers}
-use Rattle.pp_rig.specs.WriteLists.{cell_writes, register_writes, state_writes}
+use Rattle.pp_actions.specs.CellLaws.{AreSettings-cell_writes}
+use Rattle.pp_actions.specs.Deadstart.{loading, waiting, all_waiting, all_states, states, deadstart_write_list, deadstart_place_count, deadstart_places}
+use Rattle.pp_actions.specs.Ranges.{IsInRange, twelve_bits, eighteen_bits}
+use Rattle.pp_actions.specs.Settings.{IsSetting, IsSettable, AreSettings, AreSettings-append}
+use Rattle.pp_actions.specs.RecordLists.{numbers, with_new_numbers}
+use Rattle.pp_actions.specs.WriteLists.{cell_writes, register_writes, state_writes}
 use Rattle.pp_rig.proofs.Admitting.{all_at_most}
 use Rattle.std.proofs.lemmas.List.{length-append}
-use Rattle.pp_rig.proofs.WriteLists.{places-cell_writes, with_new_numbers-numbers}
+use Rattle.pp_actions.proofs.WriteLists.{places-cell_writes, with_new_numbers-numbers}
 
 one : (size : ℕ) (p : Place) (v : ℕ) → Has size p → IsSettable p → IsInRange p v → IsSetting size p v
 one size p v has settable in_range = record { has = has; settable = settable; in_range = in_range }

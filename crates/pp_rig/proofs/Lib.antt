@@ -9,8 +9,5 @@ pub mod Shortest
 pub mod Stepped
 pub mod TurnNames
 pub mod Turns
-pub mod Unwatching
-pub mod WatchCodes
-pub mod WriteLists
 pub mod WrittenOnce
 pub mod WrittenPlaces

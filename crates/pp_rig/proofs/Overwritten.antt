@@ -9,8 +9,8 @@ use Rattle.pp_rig.specs.Action.{writes, next, old_values_of}
 use Rattle.pp_rig.specs.Turn.{most_turn_places, rest_pairs, turn, turn_old_values, turn_pairs, turn_parts, turn_writes}
 use Rattle.pp_machine.specs.declared.place.Place.{Place}
 use Rattle.pp_machine.specs.declared.place.Place.TheVariants.{Clock}
-use Rattle.pp_rig.specs.declared.action.Action.{Action}
-use Rattle.pp_rig.specs.declared.action.Action.TheVariants.{Turn}
+use Rattle.pp_actions.specs.declared.action.Action.{Action}
+use Rattle.pp_actions.specs.declared.action.Action.TheVariants.{Turn}
 use Rattle.pp_rig.specs.declared.rig.TurnRecord.{TurnRecord}
 use Rattle.pp_rig.proofs.Devices.{devices-few}
 use Rattle.pp_machine.proofs.MachineStore.{taken_back}

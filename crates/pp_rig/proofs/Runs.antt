@@ -8,12 +8,12 @@ use Rattle.pp_rig.specs.declared.rig.RigRecord.{RigRecord}
 use Rattle.pp_history.specs.SessionValue.{SessionValue, after_act}
 use Rattle.pp_rig.specs.Stopping.{first_change, hit_of, stopped, after_turns}
 use Rattle.pp_rig.specs.Turn.{turn}
-use Rattle.pp_rig.specs.Watches.{watches_of, watched_in, watched_place}
+use Rattle.pp_actions.specs.Watches.{watches_of, watched_in, watched_place}
 use Rattle.pp_rig.proofs.Turns.{turn-watches}
-use Rattle.pp_rig.specs.declared.action.Action.{Action}
-use Rattle.pp_rig.specs.declared.action.Action.TheVariants.{Turn}
-use Rattle.pp_rig.specs.declared.watched.Watched.{Watched}
-use Rattle.pp_rig.specs.declared.watched.Watched.TheVariants.{Cell}
+use Rattle.pp_actions.specs.declared.action.Action.{Action}
+use Rattle.pp_actions.specs.declared.action.Action.TheVariants.{Turn}
+use Rattle.pp_actions.specs.declared.watched.Watched.{Watched}
+use Rattle.pp_actions.specs.declared.watched.Watched.TheVariants.{Cell}
 use Rattle.pp_machine.specs.declared.place.Place.{Place}
 use Rattle.std.proofs.lemmas.List.{at_drop_more}
 use Rattle.pp_rig.specs.declared.stopping.Hit.{Hit}

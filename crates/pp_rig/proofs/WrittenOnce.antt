@@ -8,12 +8,13 @@ use Rattle.pp_machine.specs.declared.place.Place.TheVariants.{Cell, RegA, RegP, 
 use Rattle.pp_machine.proofs.DeviceLaws.{same-self}
 use Rattle.pp_machine.proofs.Once.{once, each-once}
 use Rattle.pp_rig.proofs.Deadstart.{length-cell_writes, length-deadstart_write_list}
-use Rattle.pp_rig.specs.Action.{most_places, writes, without_entry, moved_up}
-use Rattle.pp_rig.specs.Deadstart.{all_states, all_waiting, deadstart_place_count, deadstart_writes, deadstart_write_list}
-use Rattle.pp_rig.specs.WatchCodes.{watch_code}
-use Rattle.pp_rig.specs.WriteLists.{cell_writes, entry_writes}
-use Rattle.pp_rig.specs.declared.action.Action.{Action}
-use Rattle.pp_rig.specs.declared.action.Action.TheVariants as action
+use Rattle.pp_rig.specs.Action.{most_places, writes}
+use Rattle.pp_actions.specs.Unwatching.{without_entry, moved_up}
+use Rattle.pp_actions.specs.Deadstart.{all_states, all_waiting, deadstart_place_count, deadstart_writes, deadstart_write_list}
+use Rattle.pp_actions.specs.WatchCodes.{watch_code}
+use Rattle.pp_actions.specs.WriteLists.{cell_writes, entry_writes}
+use Rattle.pp_actions.specs.declared.action.Action.{Action}
+use Rattle.pp_actions.specs.declared.action.Action.TheVariants as action
 
 abbrev EachOnce : Writes Place → Type 0
 EachOnce w = AllPairs (λ one other. one ≢ other) (places w)

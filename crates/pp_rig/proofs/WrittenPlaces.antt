@@ -9,20 +9,22 @@ use Rattle.pp_rig.proofs.Admitting.{IsSet, is_set, is_watch}
 use Rattle.pp_rig.proofs.Deadstart.{AreSettings-deadstart}
 use Rattle.pp_machine.proofs.AllDevices.{all-laws}
 use Rattle.pp_machine.proofs.Parts.{HasAll-parts, each-append}
-use Rattle.pp_rig.proofs.Unwatching.{HasAll-entries}
-use Rattle.pp_rig.specs.Action.{moved_up, set_list, without_entry, writes}
-use Rattle.pp_rig.specs.Admitting.{first_fault}
-use Rattle.pp_rig.specs.Deadstart.{deadstart_writes, deadstart_write_list}
+use Rattle.pp_actions.proofs.Unwatching.{HasAll-entries}
+use Rattle.pp_rig.specs.Action.{writes}
+use Rattle.pp_actions.specs.Unwatching.{moved_up, without_entry}
+use Rattle.pp_actions.specs.Settings.{set_list}
+use Rattle.pp_actions.specs.Admitting.{first_fault}
+use Rattle.pp_actions.specs.Deadstart.{deadstart_writes, deadstart_write_list}
 use Rattle.pp_rig.specs.IsSetup.{IsPanel}
 use Rattle.pp_rig.specs.Lift.{pp_of}
 use Rattle.pp_machine.specs.NumberLaws.{setup-over}
-use Rattle.pp_rig.specs.Settings.{HasAll-settings}
+use Rattle.pp_actions.specs.Settings.{HasAll-settings}
 use Rattle.pp_machine.specs.Parts.{after_parts}
 use Rattle.pp_rig.specs.Turn.{device_parts, end_parts, pp_step_writes, turn_parts, turn_writes}
-use Rattle.pp_rig.specs.WatchCodes.{watch_code}
+use Rattle.pp_actions.specs.WatchCodes.{watch_code}
 use Rattle.pp_rig.specs.WellFormed.{IsProcessor, IsWellFormed}
-use Rattle.pp_rig.specs.declared.action.Action.{Action}
-use Rattle.pp_rig.specs.declared.action.Action.TheVariants as action
+use Rattle.pp_actions.specs.declared.action.Action.{Action}
+use Rattle.pp_actions.specs.declared.action.Action.TheVariants as action
 
 -- ---- a turn
 

@@ -3,7 +3,7 @@ use Rattle.std.specs.Prelude.{ℕ, List, ◌≤◌, ◌≡◌, All, IfSome, leng
 use Rattle.pp_machine.specs.AllDevices.{all_model}
 use Rattle.pp_machine.specs.Devices.{AreDistinct, AreOnChannels}
 use Rattle.pp_machine.specs.Machine.{Setup}
-use Rattle.pp_rig.specs.Ranges.{twelve_bits}
+use Rattle.pp_actions.specs.Ranges.{twelve_bits}
 
 -- the panel: twelve words of twelve bits
 pub record IsPanel (panel : List ℕ) : Type 0 where

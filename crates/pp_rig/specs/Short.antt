@@ -4,8 +4,8 @@ use Rattle.pp_machine.specs.Machine.{Machine}
 use Rattle.pp_rig.specs.Action.{FitsRecord}
 use Rattle.pp_rig.specs.Turn.{most_turn_places, turn, turn_old_values, turn_pairs}
 use Rattle.pp_step.specs.declared.record.PpRecord.TheVariants.{Step}
-use Rattle.pp_rig.specs.declared.action.Action.{Action}
-use Rattle.pp_rig.specs.declared.action.Action.TheVariants.{Turn}
+use Rattle.pp_actions.specs.declared.action.Action.{Action}
+use Rattle.pp_actions.specs.declared.action.Action.TheVariants.{Turn}
 use Rattle.pp_rig.specs.declared.rig.TurnRecord.{TurnRecord}
 use Rattle.pp_rig.specs.declared.rig.ShortTurn.{ShortTurn}
 use Rattle.pp_rig.specs.declared.rig.RigRecord.{RigRecord}

@@ -4,10 +4,10 @@ use Rattle.pp_history.specs.SessionValue.{SessionValue, after_act, replay}
 use Rattle.pp_machine.specs.Machine.{Machine, number}
 use Rattle.pp_rig.specs.Rules.{rules}
 use Rattle.pp_rig.specs.Turn.{turn}
-use Rattle.pp_rig.specs.Watches.{watched_place, watches_of}
-use Rattle.pp_rig.specs.declared.watched.Watched.{Watched}
-use Rattle.pp_rig.specs.declared.action.Action.{Action}
-use Rattle.pp_rig.specs.declared.action.Action.TheVariants.{Turn}
+use Rattle.pp_actions.specs.Watches.{watched_place, watches_of}
+use Rattle.pp_actions.specs.declared.watched.Watched.{Watched}
+use Rattle.pp_actions.specs.declared.action.Action.{Action}
+use Rattle.pp_actions.specs.declared.action.Action.TheVariants.{Turn}
 use Rattle.pp_rig.specs.declared.stopping.Hit.{Hit}
 use Rattle.pp_rig.specs.declared.stopping.Stopped.{Stopped}
 

@@ -6,8 +6,8 @@ use Rattle.pp_machine.specs.Frame.{IsPackage}
 use Rattle.pp_machine.specs.Prelude.{Machine, ProcessorNumbers, IsShaped}
 use Rattle.pp_machine.specs.Phase.{is_phase}
 use Rattle.pp_rig.specs.IsSetup.{IsSetup}
-use Rattle.pp_rig.specs.Ranges.{processor_count, twelve_bits, eighteen_bits, past_sixty_bits}
-use Rattle.pp_rig.specs.Watches.{AreWatches}
+use Rattle.pp_actions.specs.Ranges.{processor_count, twelve_bits, eighteen_bits, past_sixty_bits}
+use Rattle.pp_actions.specs.Watches.{AreWatches}
 
 -- registers, phase and cells of a processor
 pub record IsProcessor (x : ProcessorNumbers) : Type 0 where

@@ -4,14 +4,14 @@ ghost use Rattle.std.specs.List.{AllPairs};
 ghost use Rattle.pp_history.specs.SessionValue.{SessionValue};
 ghost use Rattle.pp_machine.specs.Prelude.{Machine, places, HasAll};
 ghost use Rattle.pp_rig.specs.Action.{most_places, next, writes};
-ghost use Rattle.pp_rig.specs.Admitting.{first_fault};
+ghost use Rattle.pp_actions.specs.Admitting.{first_fault};
 ghost use Rattle.pp_machine.specs.Parts.{after_parts};
 ghost use Rattle.pp_rig.specs.Stopping.{stopped, after_turns, IsShortest};
 ghost use Rattle.pp_rig.specs.Turn.{turn_parts};
 ghost use Rattle.pp_rig.specs.WellFormed.{IsWellFormed};
-ghost use Rattle.pp_rig.specs.declared.action.Action.TheVariants.{Turn};
+ghost use Rattle.pp_actions.specs.declared.action.Action.TheVariants.{Turn};
 
-use crate::action::Action;
+use pp_actions::Action;
 
 /// A run ends with the first turn that changes a watched number, and its turns are the newest actions of the session.
 pub fn runs_are_shortest()

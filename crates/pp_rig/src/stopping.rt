@@ -9,11 +9,10 @@ ghost use Rattle.pp_rig.specs.Marks.{mark_of};
 ghost use Rattle.pp_rig.specs.Rules.{rules};
 ghost use Rattle.pp_rig.specs.Short.{unpacked};
 ghost use Rattle.pp_rig.specs.Stopping.{first_change, stopped, after_turns};
-ghost use Rattle.pp_rig.specs.Watches.{watched_place, watches_of};
+ghost use Rattle.pp_actions.specs.Watches.{watched_place, watches_of};
 
-use crate::action::Action;
 use crate::rig::Rig;
-use crate::watched::Watched;
+use pp_actions::{Action, Watched};
 use pp_history::{Marks, Reversible, Session, UndoRecord};
 
 /// A change of a watched number in one turn.
@@ -82,7 +81,7 @@ fn first_change(session: &Session<Rig>, marks: &Marks) -> Option<Hit>
 ///
 /// If a turn changed several watched numbers, the hit is the first in watch order. A turn in which a processor waits is
 /// a turn like any other. If n is 0, no turn is performed (this project's choice).
-#[tactic(auto, unfolding(crate::specs::Admitting::first_fault))]
+#[tactic(auto, unfolding(pp_actions::specs::Admitting::first_fault))]
 pub fn run(session: &mut Session<Rig>, n: u32) -> Stopped
     ensures stops { result ≡ stopped n session.old.machine }
     ensures is_replay { (v : SessionValue Machine Action) → IsAt rules session.old v →

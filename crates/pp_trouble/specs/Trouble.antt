@@ -6,8 +6,8 @@ use Rattle.pp_files.specs.declared.fault.LoadFault.{LoadFault}
 use Rattle.pp_files.specs.declared.fault.LoadFault.TheVariants as loading
 use Rattle.pp_lines.specs.declared.fault.IoFault.{IoFault}
 use Rattle.pp_lines.specs.declared.fault.IoFault.TheVariants as serving
-use Rattle.pp_rig.specs.declared.setup.SetupFault.{SetupFault}
-use Rattle.pp_rig.specs.declared.setup.SetupFault.TheVariants as setup
+use Rattle.pp_actions.specs.declared.setup.SetupFault.{SetupFault}
+use Rattle.pp_actions.specs.declared.setup.SetupFault.TheVariants as setup
 use Rattle.pp_trouble.specs.declared.trouble.FileKind.{FileKind}
 use Rattle.pp_trouble.specs.declared.trouble.Trouble.{Trouble}
 use Rattle.pp_trouble.specs.declared.trouble.Trouble.TheVariants.{BadArguments, BadChannel, DeckTooLong, Help, LineLimit, Load, NoMemory, ReadFailed, SameChannel, WriteFailed}

@@ -5,7 +5,7 @@ ghost use Rattle.std.specs.Prelude.{◌≡◌, ◌≢◌};
 use pp_arguments::ArgFault;
 use pp_files::LoadFault;
 use pp_lines::IoFault;
-use pp_rig::SetupFault;
+use pp_actions::SetupFault;
 use thiserror::Error;
 
 /// A file that the program opens.

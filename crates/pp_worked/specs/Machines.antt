@@ -4,7 +4,7 @@ use Rattle.pp_machine.specs.Prelude.{Machine, over, old_values, Writes, words_of
 use Rattle.pp_machine.specs.declared.place.Place.{Place}
 use Rattle.pp_rig.specs.Starting.{blank_processor}
 use Rattle.pp_rig.specs.Turn.{turn}
-use Rattle.pp_rig.specs.declared.setup.Setup.{Setup}
+use Rattle.pp_actions.specs.declared.setup.Setup.{Setup}
 
 -- the starting machine with 100000 central words, this deck in the reader on channel 12, the printer on channel 13,
 -- and this panel

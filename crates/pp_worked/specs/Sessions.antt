@@ -5,11 +5,11 @@ use Rattle.pp_history.specs.SessionValue.{SessionValue, after_act, fresh, replay
 use Rattle.pp_machine.specs.Machine.{Machine}
 use Rattle.pp_machine.specs.declared.place.Place.{Place}
 use Rattle.pp_rig.specs.Rules.{rules}
-use Rattle.pp_rig.specs.declared.action.Action.{Action}
-use Rattle.pp_rig.specs.declared.action.Action.TheVariants.{SetCells, SetP, Watch}
+use Rattle.pp_actions.specs.declared.action.Action.{Action}
+use Rattle.pp_actions.specs.declared.action.Action.TheVariants.{SetCells, SetP, Watch}
 use Rattle.pp_rig.specs.declared.stopping.Hit.{Hit}
-use Rattle.pp_rig.specs.declared.watched.Watched.{Watched}
-use Rattle.pp_rig.specs.declared.watched.Watched.TheVariants.{Cell}
+use Rattle.pp_actions.specs.declared.watched.Watched.{Watched}
+use Rattle.pp_actions.specs.declared.watched.Watched.TheVariants.{Cell}
 use Rattle.pp_worked.specs.Machines.{blank}
 
 -- the session after these actions, the first one first, with room for this many records

@@ -5,8 +5,8 @@ ghost use Rattle.pp_history.specs.SessionValue.{after_back, after_forward};
 ghost use Rattle.pp_machine.specs.Machine.{number};
 ghost use Rattle.pp_machine.specs.declared.place.Place.TheVariants.{Cell, Clock, RegA, RegQ};
 ghost use Rattle.pp_rig.specs.Stopping.{stopped};
-ghost use Rattle.pp_rig.specs.declared.action.Action.TheVariants.{SetA, SetCells, SetP, SetQ, Turn};
-ghost use Rattle.pp_rig.specs.declared.watched.Watched.TheVariants.{Cell as WatchedCell};
+ghost use Rattle.pp_actions.specs.declared.action.Action.TheVariants.{SetA, SetCells, SetP, SetQ, Turn};
+ghost use Rattle.pp_actions.specs.declared.watched.Watched.TheVariants.{Cell as WatchedCell};
 ghost use Rattle.pp_worked.specs.Sessions.{back_w, machine, seen_to_change, session, storing};
 
 /// BACK undoes the newest actions in the undo history, and FORWARD redoes them.

@@ -19,10 +19,10 @@ ghost use Rattle.pp_machine.specs.declared.place.Place.TheVariants.{
 };
 ghost use Rattle.pp_machine.specs.Machine.{over};
 ghost use Rattle.pp_rig.specs.Action.{next};
-ghost use Rattle.pp_rig.specs.Deadstart.{deadstart_write_list};
+ghost use Rattle.pp_actions.specs.Deadstart.{deadstart_write_list};
 ghost use Rattle.pp_rig.specs.Starting.{starting};
-ghost use Rattle.pp_rig.specs.declared.action.Action.TheVariants.{Deadstart};
-ghost use Rattle.pp_rig.specs.declared.setup.Setup.{Setup};
+ghost use Rattle.pp_actions.specs.declared.action.Action.TheVariants.{Deadstart};
+ghost use Rattle.pp_actions.specs.declared.setup.Setup.{Setup};
 ghost use Rattle.pp_worked.specs.Devices.{card};
 ghost use Rattle.pp_worked.specs.Machines.{Leads, Shows, after, blank, blank_of};
 

@@ -3,12 +3,11 @@ ghost use Rattle.std.specs.Prelude.{◌≡◌, ◌&&◌, nat_le, nat_lt, length,
 ghost use Rattle.std.specs.List.{list_all};
 ghost use Rattle.pp_machine.specs.CentralSizes.{words_of};
 ghost use Rattle.pp_machine.specs.ChannelNumbers.{function, state_number};
-ghost use Rattle.pp_rig.specs.Ranges.{twelve_bits};
-ghost use Rattle.pp_rig.specs.Admitting.{first_fault, is_in_range, is_watchable, is_word_or_none, state_fault};
+ghost use Rattle.pp_actions.specs.Ranges.{twelve_bits};
+ghost use Rattle.pp_actions.specs.Admitting.{first_fault, is_in_range, is_watchable, is_word_or_none, state_fault};
 
 use super::Rig;
-use crate::action::{Action, ActionFault};
-use crate::watched::Watched;
+use pp_actions::{Action, ActionFault, Watched};
 use pp_machine::ChannelState;
 
 /// One past the greatest word of sixty bits.
@@ -121,7 +120,7 @@ impl Rig {
     /// - `AlreadyWatched` if the place to watch is watched already
     /// - `NotWatched` if the place to remove is not watched
     /// - `NoPanel` if a machine without a dead start panel is to be dead started
-    #[tactic(auto, unfolding(crate::specs::Admitting::first_fault))]
+    #[tactic(auto, unfolding(pp_actions::specs::Admitting::first_fault))]
     pub fn check(&self, action: &Action) -> Result<(), ActionFault>
         ensures { MatchResult result (λ _. first_fault self.now action.now ≡ None) (λ fault. first_fault self.now action.now ≡ Some fault) }
     {

@@ -1,52 +1,14 @@
 //! Performing an action of any kind.
 ghost use Rattle.std.specs.Prelude.{◌≡◌, ◌≤◌, None, IsPermutation, length};
 ghost use Rattle.pp_history.specs.Tails.{IsKept};
-ghost use Rattle.pp_machine.specs.Prelude.{places, write_list};
-ghost use Rattle.pp_rig.specs.Action.{FitsRecord, before, most_places, next, old_values_of, record_pairs, set_list, writes};
-ghost use Rattle.pp_rig.specs.Admitting.{first_fault};
+ghost use Rattle.pp_machine.specs.Prelude.{places};
+ghost use Rattle.pp_rig.specs.Action.{FitsRecord, before, most_places, next, old_values_of, record_pairs, writes};
+ghost use Rattle.pp_actions.specs.Admitting.{first_fault};
 ghost use Rattle.pp_rig.specs.Short.{unpacked};
 
-use super::settings::push_cells;
 use super::{Rig, RigRecord, TurnRecord};
-use crate::action::Action;
-use crate::lists::list_of;
-use arrayvec::ArrayVec;
+use pp_actions::{Action, settings_of};
 use pp_history::{Reversible, Tails};
-use pp_machine::{Place, Write};
-
-/// Returns the numbers that an action sets, by place.
-fn settings_of(action: &Action) -> ArrayVec<Write, 8>
-    ensures { write_list result.items ≡ set_list action.now }
-{
-    match action {
-        Action::SetCells { pp, a, values } => {
-            let mut list = ArrayVec::new();
-            push_cells(&mut list, *pp, *a, values.as_slice());
-            list
-        }
-        Action::SetA { pp, v } => list_of(&[Write::new(Place::RegA { pp: *pp }, u64::from(*v))]),
-        Action::SetP { pp, v } => list_of(&[
-            Write::new(Place::RegP { pp: *pp }, u64::from(*v)),
-            Write::new(Place::Phase { pp: *pp }, 0),
-        ]),
-        Action::SetQ { pp, v } => list_of(&[Write::new(Place::RegQ { pp: *pp }, u64::from(*v))]),
-        Action::SetWord { a, v } => list_of(&[Write::new(Place::Central { a: *a }, *v)]),
-        Action::SetChannel {
-            c,
-            state,
-            word: None,
-        } => list_of(&[Write::new(Place::ChannelMode { c: *c }, *state as u64)]),
-        Action::SetChannel {
-            c,
-            state,
-            word: Some(word),
-        } => list_of(&[
-            Write::new(Place::ChannelMode { c: *c }, *state as u64),
-            Write::new(Place::ChannelWord { c: *c }, u64::from(*word)),
-        ]),
-        Action::Turn | Action::Watch(_) | Action::Unwatch(_) | Action::Deadstart => ArrayVec::new(),
-    }
-}
 
 impl Rig {
     /// Performs an action that the rig admits, and keeps it with its undo record in a tail. This is a separate function,

@@ -1,7 +1,7 @@
 //! Calls that read the machine.
 ghost use Rattle.std.specs.Prelude.{◌≡◌, ◌<◌, ◌↔◌, IsSome, IsTrue, length, take};
 ghost use Rattle.pp_machine.specs.Prelude.{number, Has, words_of};
-ghost use Rattle.pp_rig.specs.Ranges.{IsInRange};
+ghost use Rattle.pp_actions.specs.Ranges.{IsInRange};
 
 use super::Rig;
 use pp_machine::{CentralSize, Place};

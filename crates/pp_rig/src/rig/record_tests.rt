@@ -6,8 +6,8 @@ ghost use Rattle.pp_rig.specs.Action.{FitsRecord};
 mod whole;
 
 use super::*;
-use crate::lists::list_of;
 use crate::tests::{Step, action_of, check_numbers, deck_of, perform_all, setup_of};
+use pp_actions::list_of;
 use pp_machine::OnRecords;
 use std::alloc::{AllocError, Global};
 use std::process::Abort;

@@ -2,15 +2,14 @@
 ghost use Rattle.std.specs.Prelude.{◌≡◌, ◌≤◌, length, map};
 ghost use Rattle.pp_machine.specs.Prelude.{over, lookup, same_place};
 ghost use Rattle.pp_rig.specs.Action.{FitsRecord, before, record_pairs};
-ghost use Rattle.pp_rig.specs.WatchCodes.{watch_code};
-ghost use Rattle.pp_rig.specs.Deadstart.{deadstart_places};
-ghost use Rattle.pp_rig.specs.Settings.{AreSettings};
-ghost use Rattle.pp_rig.specs.RecordLists.{with_new_numbers};
-ghost use Rattle.pp_rig.specs.WriteLists.{entry_writes};
+ghost use Rattle.pp_actions.specs.WatchCodes.{watch_code};
+ghost use Rattle.pp_actions.specs.Deadstart.{deadstart_places};
+ghost use Rattle.pp_actions.specs.Settings.{AreSettings};
+ghost use Rattle.pp_actions.specs.RecordLists.{with_new_numbers};
+ghost use Rattle.pp_actions.specs.WriteLists.{entry_writes};
 
-use super::deadstart::renumbered;
 use super::{Rig, RigRecord};
-use crate::watched::Watched;
+use pp_actions::{Watched, renumbered};
 use pp_machine::{Place, Write, first_write};
 
 /// Returns whether a place is watch entry n.

@@ -1,35 +1,12 @@
 //! Numbers that an action sets at places.
-ghost use Rattle.std.specs.Prelude.{◌≡◌, ◌+◌, ◌<◌, ◌≤◌, ◌++◌, length};
-ghost use Rattle.arrayvec.specs.ArrayVec.{array_vec_len};
+ghost use Rattle.std.specs.Prelude.{◌≡◌, ◌<◌, ◌≤◌, length};
 ghost use Rattle.pp_machine.specs.Prelude.{over, old_values, put, write_list, IsShaped};
 ghost use Rattle.pp_rig.specs.Action.{FitsRecord, record_pairs};
-ghost use Rattle.pp_rig.specs.Settings.{AreSettings, IsSetting};
-ghost use Rattle.pp_rig.specs.WriteLists.{cell_writes};
+ghost use Rattle.pp_actions.specs.Settings.{AreSettings, IsSetting};
 
 use super::{Rig, RigRecord};
 use arrayvec::ArrayVec;
 use pp_machine::{Channel, ChannelState, Place, Write};
-
-/// Appends the settings of values in cells from a on. The first cell of the memory follows the last.
-pub(super) fn push_cells<const N: usize>(
-    list: &mut ArrayVec<Write, N>,
-    pp: u8,
-    a: u16,
-    values: &[u16],
-)
-    requires at_most { length values.now ≤ 4096 }
-    requires room { array_vec_len list.old + length values.now ≤ N }
-    ensures items { write_list list.new.items ≡ write_list list.old.items ++ cell_writes pp a values.now }
-    ensures len { array_vec_len list.new ≡ array_vec_len list.old + length values.now }
-{
-    for (i, value) in values.iter().enumerate() {
-        let place = Place::Cell {
-            pp,
-            a: ((a as usize + i) % 4096) as u16,
-        };
-        list.push(Write::new(place, u64::from(*value)));
-    }
-}
 
 impl Rig {
     /// Theorem: the machine has the sizes of its setup. A field is read only because that opens the invariant.

@@ -6,8 +6,7 @@ ghost use Rattle.pp_rig.specs.Starting.{blank_processor, setup_fault, starting};
 
 use super::Rig;
 use crate::processor::Processor;
-use crate::setup::{Setup, SetupFault};
-use crate::watched::WatchList;
+use pp_actions::{Setup, SetupFault, WatchList};
 use pp_machine::{Central, CentralSize, Channels, Frame, MakeFault, Printer, Reader, all_devices};
 use std::alloc::Global;
 

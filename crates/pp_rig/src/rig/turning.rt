@@ -12,7 +12,7 @@ ghost use Rattle.pp_step.specs.Step.{FitsPp, IsExchange, pp_pairs};
 ghost use Rattle.pp_step.specs.View.{pp_place};
 
 use super::{Rig, RigRecord, ShortTurn, TurnRecord, TurnRest};
-use crate::action::Action;
+use pp_actions::Action;
 use pp_history::{Reversible, Tails};
 use pp_machine::{AllDevices, AllRecords, CentralSize, Devices, Place};
 use pp_step::{ExchangeRecord, PpRecord, StepRecord};

@@ -2,7 +2,7 @@ use Rattle.std.proofs.Common.{◌≡◌, ◌<◌, ◌∙◌, ap, arith, sym, ref
 use Rattle.std.proofs.lemmas.Bool.Decides.{nat_tests}
 use Rattle.pp_history.specs.SessionValue.{after_back}
 use Rattle.pp_machine.specs.Machine.{Machine}
-use Rattle.pp_rig.specs.Watches.{watched_place, watches_of}
+use Rattle.pp_actions.specs.Watches.{watched_place, watches_of}
 use Rattle.pp_console.specs.Commands.{change_answer, answered}
 use Rattle.pp_console.specs.Moves.{moved_text, back_name}
 use Rattle.pp_console.specs.Refusals.{no_change_text, nothing_watched_text}

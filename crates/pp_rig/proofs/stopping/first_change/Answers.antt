@@ -8,8 +8,8 @@ use Rattle.pp_rig.specs.Action.{before}
 use Rattle.pp_rig.specs.Marks.{mark_of}
 use Rattle.pp_rig.specs.Short.{unpacked}
 use Rattle.pp_rig.specs.Stopping.{first_change}
-use Rattle.pp_rig.specs.Watches.{watched_place, watches_of}
-use Rattle.pp_rig.specs.declared.action.Action.TheVariants.{Turn}
+use Rattle.pp_actions.specs.Watches.{watched_place, watches_of}
+use Rattle.pp_actions.specs.declared.action.Action.TheVariants.{Turn}
 use Rattle.pp_rig.proofs.Runs.{none_changed}
 use Rattle.pp_rig.proofs.stopping.first_change.Goals as goal
 

@@ -4,7 +4,7 @@ use Rattle.pp_history.specs.SessionLaws.{machine_at}
 use Rattle.pp_machine.specs.Machine.{Machine}
 use Rattle.pp_rig.specs.Marks.{mark_of}
 use Rattle.pp_rig.specs.Rules.{rules}
-use Rattle.pp_rig.specs.Watches.{watched_place, watches_of}
+use Rattle.pp_actions.specs.Watches.{watched_place, watches_of}
 use Rattle.pp_rig.specs.Stopping.{after_turns}
 use Rattle.pp_rig.proofs.Runs.{stopped-start, stopped-on, stopped-hit, stopped-end, after_turns-none, after_turns-more, hit-found, turned-watches}
 use Rattle.pp_rig.proofs.stopping.run.Goals as goal

@@ -1,10 +1,10 @@
 use Rattle.std.proofs.Common.{◌≡◌, ◌-◌}
 use Rattle.pp_history.specs.SessionValue.{SessionValue, IsAt}
 use Rattle.pp_machine.specs.Machine.{Machine}
-use Rattle.pp_rig.specs.declared.action.Action.{Action}
+use Rattle.pp_actions.specs.declared.action.Action.{Action}
 use Rattle.pp_rig.specs.Rules.{rules}
 use Rattle.pp_rig.specs.Stopping.{after_turns, stopped}
-use Rattle.pp_rig.specs.Watches.{watches_of}
+use Rattle.pp_actions.specs.Watches.{watches_of}
 use Rattle.pp_rig.proofs.Runs.{turns_before}
 use Rattle.pp_rig.proofs.stopping.run.Given as goal
 

@@ -1,10 +1,10 @@
 use Rattle.std.proofs.Common.{arith, lit<, ◌≡◌, Some}
 use Rattle.pp_machine.specs.Prelude.{old_values, write_list}
-use Rattle.pp_rig.specs.Deadstart.{deadstart_write_list, deadstart_places}
-use Rattle.pp_rig.specs.Settings.{AreSettings, HasAll-settings}
-use Rattle.pp_rig.specs.RecordLists.{with_new_numbers}
+use Rattle.pp_actions.specs.Deadstart.{deadstart_write_list, deadstart_places}
+use Rattle.pp_actions.specs.Settings.{AreSettings, HasAll-settings}
+use Rattle.pp_actions.specs.RecordLists.{with_new_numbers}
 use Rattle.pp_rig.proofs.Deadstart.{AreSettings-deadstart, length-deadstart, with_new_numbers-stood, short-stood}
-use Rattle.pp_rig.proofs.WriteLists.{length-old_values}
+use Rattle.pp_actions.proofs.WriteLists.{length-old_values}
 use Rattle.pp_rig.proofs.rig.Rig.deadstart.Goals as goal
 
 pub overwrite-old_values-requires : goal.overwrite-old_values-requires

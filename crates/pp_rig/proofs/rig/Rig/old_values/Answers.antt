@@ -1,7 +1,7 @@
 use Rattle.std.proofs.Common.{arith}
 use Rattle.pp_machine.specs.WriteList.{write_list-append}
-use Rattle.pp_rig.specs.Settings.{IsSetting-at, AreSettings-append}
-use Rattle.pp_rig.proofs.WriteLists.{push-stood}
+use Rattle.pp_actions.specs.Settings.{IsSetting-at, AreSettings-append}
+use Rattle.pp_actions.proofs.WriteLists.{push-stood}
 use Rattle.pp_rig.proofs.rig.Rig.old_values.Goals as goal
 
 pub number_at-requires : goal.number_at-requires

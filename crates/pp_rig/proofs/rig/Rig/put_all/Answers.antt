@@ -1,7 +1,7 @@
 use Rattle.std.proofs.Common.{◌≡◌, ◌<◌, ◌-◌, drop, length, arith, ap}
 use Rattle.pp_machine.specs.WriteList.{write_list}
 use Rattle.pp_machine.specs.NumberLaws.{setup-over}
-use Rattle.pp_rig.specs.Settings.{IsSetting-at}
+use Rattle.pp_actions.specs.Settings.{IsSetting-at}
 use Rattle.pp_rig.proofs.rig.Rig.put_all.Goals as goal
 
 pub set-requires : goal.set-requires

@@ -1,7 +1,7 @@
 use Rattle.std.proofs.Common.{sym, ◌∙◌, map}
 use Rattle.pp_rig.specs.RigView.{machine_of}
-use Rattle.pp_rig.specs.WatchCodes.{watch_code}
-use Rattle.pp_rig.proofs.Unwatching.{over-entries, length-with_entries, IsShaped-watches}
+use Rattle.pp_actions.specs.WatchCodes.{watch_code}
+use Rattle.pp_actions.proofs.Unwatching.{over-entries, length-with_entries, IsShaped-watches}
 use Rattle.pp_rig.proofs.rig.Rig.rewatch.Goals as goal
 
 pub invariant_of-self : goal.invariant_of-self

@@ -1,10 +1,10 @@
 use Rattle.std.proofs.Common.{arith, sym, ◌∙◌, ◌≡◌, ◌==◌, ◌≤◌, ◌+◌, Some, drop, length, map, position}
 use Rattle.std.proofs.lemmas.List.{length-map}
-use Rattle.pp_rig.specs.Action.{moved_up}
+use Rattle.pp_actions.specs.Unwatching.{moved_up}
 use Rattle.pp_rig.specs.RigView.{machine_of}
-use Rattle.pp_rig.specs.WatchCodes.{watch_code}
-use Rattle.pp_rig.proofs.Unwatching.{unwatched, unwatched-stood, length-entry_writes, length-with_entries, HasAll-entries, IsShaped-watches, AreWatches-removed}
-use Rattle.pp_rig.proofs.WatchCodes.{words_of-few}
+use Rattle.pp_actions.specs.WatchCodes.{watch_code}
+use Rattle.pp_actions.proofs.Unwatching.{unwatched, unwatched-stood, length-entry_writes, length-with_entries, HasAll-entries, IsShaped-watches, AreWatches-removed}
+use Rattle.pp_actions.proofs.WatchCodes.{words_of-few}
 use Rattle.pp_rig.proofs.rig.Rig.unwatch.Goals as goal
 
 found : (c : goal.After-remove-places) → position (λ code. code == watch_code c.args.watched) c.self.inside.watches ≡ Some c.in-Some.i

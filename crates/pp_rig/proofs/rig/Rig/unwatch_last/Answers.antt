@@ -1,9 +1,9 @@
 use Rattle.std.proofs.Common.{◌≡◌, ◌+◌, ◌<◌, ◌∷◌, [], ◌∙◌, arith, drop, refl}
-use Rattle.pp_rig.specs.Action.{moved_up}
+use Rattle.pp_actions.specs.Unwatching.{moved_up}
 use Rattle.pp_rig.specs.RigView.{machine_of}
-use Rattle.pp_rig.specs.WatchCodes.{first_zero}
-use Rattle.pp_rig.proofs.Unwatching.{AreWatches-removed, IsShaped-watches, length-with_entries, moved_up-last}
-use Rattle.pp_rig.proofs.WatchCodes.{words_of-few}
+use Rattle.pp_actions.specs.WatchCodes.{first_zero}
+use Rattle.pp_actions.proofs.Unwatching.{AreWatches-removed, IsShaped-watches, length-with_entries, moved_up-last}
+use Rattle.pp_actions.proofs.WatchCodes.{words_of-few}
 use Rattle.pp_rig.proofs.rig.Rig.unwatch_last.Goals as goal
 
 below : (c : goal.After-remove) → c.args.i < first_zero c.self.inside.watches

@@ -1,7 +1,7 @@
 use Rattle.std.proofs.Common.{take}
 use Rattle.std.proofs.lemmas.List.Elements.{All-map, All-take}
 use Rattle.pp_machine.specs.Shape.{Has}
-use Rattle.pp_rig.specs.Watches.{watched_place, watches_of}
+use Rattle.pp_actions.specs.Watches.{watched_place, watches_of}
 use Rattle.pp_rig.proofs.rig.Rig.watched_places.Goals as goal
 
 pub returns-clause-has_places : goal.returns-clause-has_places

@@ -1,6 +1,6 @@
 use Rattle.std.proofs.Common.{◌≡◌, take, map}
 use Rattle.arrayvec.specs.ArrayVec.{array_vec_len}
-use Rattle.pp_rig.specs.Watches.{watched_place, watches_of}
+use Rattle.pp_actions.specs.Watches.{watched_place, watches_of}
 use Rattle.pp_rig.proofs.rig.Rig.watched_places.Given as goal
 
 abbrev pub invariant-loop-watched : goal.invariant-loop-watched

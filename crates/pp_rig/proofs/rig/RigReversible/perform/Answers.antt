@@ -1,4 +1,4 @@
-use Rattle.pp_rig.specs.declared.action.Action.TheVariants.{Turn}
+use Rattle.pp_actions.specs.declared.action.Action.TheVariants.{Turn}
 use Rattle.pp_rig.specs.declared.rig.RigRecord.TheVariants as kept
 use Rattle.pp_rig.proofs.Overwritten.{action-taken_back, places-old_values_of}
 use Rattle.pp_rig.proofs.rig.RigReversible.perform.Goals as goal

@@ -1,6 +1,6 @@
 use Rattle.std.proofs.Common.{arith}
-use Rattle.pp_rig.specs.declared.watched.Watched.TheVariants.{RegA}
-use Rattle.pp_rig.proofs.WriteLists.{lookup-entry}
+use Rattle.pp_actions.specs.declared.watched.Watched.TheVariants.{RegA}
+use Rattle.pp_actions.proofs.WriteLists.{lookup-entry}
 use Rattle.pp_rig.proofs.rig.reversing.first_entry.Goals as goal
 
 pub loop-k-preserved : goal.loop-k-preserved

@@ -1,0 +1,3 @@
+pub mod Unwatching
+pub mod WatchCodes
+pub mod WriteLists

@@ -1,0 +1,10 @@
+pub mod Admitting
+pub mod CellLaws
+pub mod Deadstart
+pub mod Ranges
+pub mod RecordLists
+pub mod Settings
+pub mod Unwatching
+pub mod WatchCodes
+pub mod Watches
+pub mod WriteLists

@@ -1,0 +1,112 @@
+//! The numbers that a dead start sets.
+ghost use Rattle.std.specs.Prelude.{◌≡◌, ◌+◌, ◌<◌, ◌≤◌, ◌^◌, ◌++◌, All, length, replicate};
+ghost use Rattle.arrayvec.specs.ArrayVec.{array_vec_len};
+ghost use Rattle.pp_machine.specs.Prelude.{write_list};
+ghost use Rattle.pp_actions.specs.Deadstart.{all_states, all_waiting, deadstart_write_list, deadstart_places, states, waiting};
+ghost use Rattle.pp_actions.specs.RecordLists.{with_new_numbers, numbers};
+ghost use Rattle.pp_actions.specs.WriteLists.{register_writes, state_writes};
+
+use crate::lists::append;
+use crate::settings::push_cells;
+use arrayvec::ArrayVec;
+use pp_machine::{Place, Write};
+
+/// Returns the settings of the registers and the phase of a processor.
+fn registers(pp: u8, a: u64, p: u64, q: u64, phase: u64) -> [Write; 4]
+    ensures { write_list result ≡ register_writes pp a p q phase }
+{
+    [
+        Write::new(Place::RegA { pp }, a),
+        Write::new(Place::RegP { pp }, p),
+        Write::new(Place::RegQ { pp }, q),
+        Write::new(Place::Phase { pp }, phase),
+    ]
+}
+
+/// Appends the settings that make a processor wait for input on the channel of its number.
+fn push_waiting(list: &mut ArrayVec<Write, 76>, pp: u8)
+    requires { array_vec_len list.old + 5 ≤ 76 }
+    ensures items { write_list list.new.items ≡ write_list list.old.items ++ waiting pp }
+    ensures len { array_vec_len list.new ≡ array_vec_len list.old + 5 }
+{
+    list.push(Write::new(Place::Cell { pp, a: 0 }, 0));
+    append(list, &registers(pp, 0o10000, 0, 0, 0o7100 + u64::from(pp)));
+}
+
+/// Appends these settings for all processors except the first.
+fn push_all_waiting(list: &mut ArrayVec<Write, 76>)
+    requires { array_vec_len list.old + 45 ≤ 76 }
+    ensures items { write_list list.new.items ≡ write_list list.old.items ++ all_waiting 1 9 }
+    ensures len { array_vec_len list.new ≡ array_vec_len list.old + 45 }
+{
+    for n in 0..9u8 {
+        push_waiting(list, n + 1);
+    }
+}
+
+/// The states of the channels after a dead start.
+const STATES: [u64; 12] = [0, 1, 1, 1, 1, 1, 1, 1, 1, 1, 0, 0];
+
+/// Appends the states of the channels.
+fn push_states(list: &mut ArrayVec<Write, 76>, states: &[u64])
+    requires at_most { length states.now ≤ 12 }
+    requires room { array_vec_len list.old + length states.now ≤ 76 }
+    ensures items { write_list list.new.items ≡ write_list list.old.items ++ state_writes 0 states.now }
+    ensures len { array_vec_len list.new ≡ array_vec_len list.old + length states.now }
+{
+    for (c, state) in states.iter().enumerate() {
+        list.push(Write::new(Place::ChannelMode { c: c as u8 }, *state));
+    }
+}
+
+/// Returns all that a dead start by this panel writes.
+pub fn deadstart_settings(panel: &[u16; 12]) -> ArrayVec<Write, 76>
+    ensures list { write_list result.items ≡ deadstart_write_list panel.now }
+    ensures words { length panel.now ≡ 12 }
+{
+    let mut list = ArrayVec::new();
+    push_cells(&mut list, 0, 0, &[0]);
+    push_cells(&mut list, 0, 1, panel);
+    push_cells(&mut list, 0, 0o15, &[0]);
+    append(&mut list, &registers(0, 0, 1, 0, 0));
+    push_all_waiting(&mut list);
+    push_states(&mut list, &STATES);
+    append(&mut list, &[Write::new(Place::Slot, 0)]);
+    list
+}
+
+/// Returns the numbers of the pairs.
+pub fn numbers_of(pairs: &[Write]) -> ArrayVec<u32, 76>
+    requires at_most { length pairs.now ≤ 76 }
+    requires small { All (λ pair. pair.number < 2 ^ 32) pairs.now }
+    ensures { result.items ≡ numbers (write_list pairs.now) }
+{
+    let mut list = ArrayVec::new();
+    for pair in pairs {
+        list.push(pair.number as u32);
+    }
+    list
+}
+
+/// Returns as many of the first pairs as there are numbers, with these numbers.
+fn with_numbers(pairs: &[Write], numbers: &[u32]) -> ArrayVec<Write, 76>
+    requires { length pairs.now ≤ 76 }
+    ensures { write_list result.items ≡ with_new_numbers (write_list pairs.now) numbers.now }
+{
+    let mut list = ArrayVec::new();
+    for (i, pair) in pairs.iter().enumerate() {
+        if i >= numbers.len() {
+            return list;
+        }
+        list.push(Write::new(pair.place, u64::from(numbers[i])));
+    }
+    list
+}
+
+/// Returns the places of a dead start with these numbers.
+pub fn renumbered(numbers: &[u32]) -> ArrayVec<Write, 76>
+    ensures { write_list result.items ≡ with_new_numbers deadstart_places numbers.now }
+{
+    let list = deadstart_settings(&[0; 12]);
+    with_numbers(list.as_slice(), numbers)
+}
