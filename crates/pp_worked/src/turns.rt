@@ -83,7 +83,7 @@ pub fn line_through_a_program()
 
 /// A dead start writes 114 places, for any panel. Processor 00 begins at the panel, and each other one waits to read
 /// 10000 words from its own channel. The clock continues from its number.
-#[tactic(auto, unfolding(pp_step::specs::Step::pp_writes, pp_rig::specs::Turn::turn_writes, pp_rig::specs::Deadstart::deadstart_write_list, pp_rig::specs::Deadstart::all_waiting, pp_rig::specs::Deadstart::all_states))]
+#[tactic(auto, unfolding(pp_step::specs::Step::pp_writes, pp_rig::specs::Turn::turn_writes, pp_actions::specs::Deadstart::deadstart_write_list, pp_actions::specs::Deadstart::all_waiting, pp_actions::specs::Deadstart::all_states))]
 pub fn dead_start()
     ensures places { (a b c d e f g h i j k l : ℕ) →
         length (deadstart_write_list (a ∷ b ∷ c ∷ d ∷ e ∷ f ∷ g ∷ h ∷ i ∷ j ∷ k ∷ l ∷ [])) ≡ 0o114 }
