@@ -13,8 +13,8 @@ use crate::places::place;
 use crate::request::Request;
 use crate::settings::set;
 use crate::words::is_word;
-use pp_lines::{next_word, without_return};
 use pp_actions::Action;
+use pp_lines::{next_word, without_return};
 
 /// The largest number of bytes in a line, without a carriage return at its end.
 const LONGEST: usize = 255;

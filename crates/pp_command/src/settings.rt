@@ -11,9 +11,9 @@ use crate::numbers::{number, pair, processor_and, two};
 use crate::request::Request;
 use crate::words::{first_word, is_word, no_words};
 use arrayvec::ArrayVec;
+use pp_actions::{Action, Values};
 use pp_lines::{are_octal, next_word};
 use pp_machine::ChannelState;
-use pp_actions::{Action, Values};
 
 /// Returns the number of words in the text.
 fn count_words(text: &[u8]) -> usize

@@ -2,10 +2,10 @@
 
 use super::*;
 use crate::trouble::FileKind::{Deck, Panel, Script};
+use pp_actions::SetupFault;
 use pp_arguments::ArgFault;
 use pp_files::LoadFault;
 use pp_lines::{IoFault, Tray};
-use pp_actions::SetupFault;
 use std::alloc::Global;
 use std::process::Abort;
 use std::test::Fail;

@@ -2,10 +2,10 @@
 ghost use Rattle.pp_trouble.specs.Trouble.{of_arguments, of_load, of_serving, of_setup, status_of};
 ghost use Rattle.std.specs.Prelude.{◌≡◌, ◌≢◌};
 
+use pp_actions::SetupFault;
 use pp_arguments::ArgFault;
 use pp_files::LoadFault;
 use pp_lines::IoFault;
-use pp_actions::SetupFault;
 use thiserror::Error;
 
 /// A file that the program opens.
