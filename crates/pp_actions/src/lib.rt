@@ -6,6 +6,8 @@ mod deadstart;
 mod lists;
 mod settings;
 mod setup;
+#[cfg(test)]
+mod tests;
 mod values;
 mod watched;
 
