@@ -87,8 +87,19 @@ fn has_numbers(
     Ok(numbers_at(alloc, rig, places)?.as_slice() == numbers)
 }
 
-/// Performs an action, checks that its record has the old number of each place that changed, and undoes it by the rebuilt
-/// record. Returns the numbers after the action.
+/// Checks that an action changed a number, and that its record has the old number of each place that changed.
+fn check_record(
+    rt: &impl Abort,
+    record: &RigRecord,
+    places: &[Place],
+    before: &[u64],
+    after: &[u64],
+) {
+    assert!(rt; before != after);
+    assert!(rt; is_true_of(record, places, before, after));
+}
+
+/// Performs an action, checks its record, and undoes it by the rebuilt record. Returns the numbers after the action.
 fn act_and_undo(
     rt: &impl Abort,
     alloc: Global,
@@ -100,10 +111,8 @@ fn act_and_undo(
     assert!(rt; rig.admits(action));
     let record = rig.act(action);
     let after = numbers_at(alloc, rig, places)?;
-    assert!(rt; before != after.as_slice());
-    assert!(rt; is_true_of(&record, places, before, after.as_slice()));
+    check_record(rt, &record, places, before, after.as_slice());
     rig.undo(made_anew(record));
-    assert!(rt; has_numbers(alloc, rig, places, before)?);
     Ok(after)
 }
 
@@ -140,10 +149,47 @@ fn act_short_and_undo(
     if is_turn(action) && rig.turn_short(&mut short) {
         let after = numbers_at(alloc, rig, places)?;
         check_short(rt, &short, places, before, after.as_slice());
+        drop(after);
         rig.undo_head(&short);
         assert!(rt; has_numbers(alloc, rig, places, before)?);
     }
     Ok(())
+}
+
+/// Checks the numbers of a machine whose action is undone. Undoes the action by its short record too, performs it again,
+/// and checks the numbers each time.
+fn act_again(
+    rt: &impl Abort,
+    alloc: Global,
+    rig: &mut Rig,
+    places: &[Place],
+    action: &Action,
+    before: &[u64],
+    after: &[u64],
+) -> Result<(), Fail> {
+    assert!(rt; has_numbers(alloc, rig, places, before)?);
+    act_short_and_undo(rt, alloc, rig, places, action, before)?;
+    assert!(rt; rig.admits(action));
+    let record = rig.act(action);
+    drop(record);
+    assert!(rt; has_numbers(alloc, rig, places, after)?);
+    Ok(())
+}
+
+/// Does the same as `act_and_back`, with the numbers before the action.
+fn act_from(
+    rt: &impl Abort,
+    alloc: Global,
+    rig: &mut Rig,
+    places: &[Place],
+    action: &Action,
+    before: &[u64],
+) -> Result<(), Fail> {
+    assert!(rt; before.len() == places.len());
+    let after = act_and_undo(rt, alloc, rig, places, action, before)?;
+    let acted = act_again(rt, alloc, rig, places, action, before, after.as_slice());
+    drop(after);
+    acted
 }
 
 /// Performs an action, undoes it by each of its records, and performs it again. Checks every number of the machine each
@@ -156,13 +202,9 @@ fn act_and_back(
     action: &Action,
 ) -> Result<(), Fail> {
     let before = numbers_at(alloc, rig, places)?;
-    assert!(rt; before.len() == places.len());
-    let after = act_and_undo(rt, alloc, rig, places, action, before.as_slice())?;
-    act_short_and_undo(rt, alloc, rig, places, action, before.as_slice())?;
-    assert!(rt; rig.admits(action));
-    let _record = rig.act(action);
-    assert!(rt; has_numbers(alloc, rig, places, after.as_slice())?);
-    Ok(())
+    let acted = act_from(rt, alloc, rig, places, action, before.as_slice());
+    drop(before);
+    acted
 }
 
 /// Runs `act_and_back` for each action in turn.
@@ -181,20 +223,38 @@ fn act_all(
     Ok(())
 }
 
-/// Performs the actions of the first lists on a new machine, and runs `act_and_back` for each of the others.
+/// Performs the actions of the first lists, and runs `act_and_back` for each of the others.
 fn lead_back(
+    rt: &impl Abort,
+    alloc: Global,
+    rig: &mut Rig,
+    first: &[&[Step]],
+    others: &[Step],
+) -> Result<(), Fail> {
+    for steps in first {
+        perform_all(rt, rig, steps);
+    }
+    let places = places_of(alloc, 0o100000)?;
+    let led = act_all(rt, alloc, rig, places.as_slice(), others);
+    drop(places);
+    led
+}
+
+/// Does the same on a new machine, and checks numbers after the actions.
+fn lead_back_anew(
     rt: &impl Abort,
     alloc: Global,
     first: &[&[Step]],
     others: &[Step],
-) -> Result<Rig, Fail> {
+    after: &[(Place, u64)],
+) -> Result<(), Fail> {
     let mut rig = make(alloc)?;
-    let places = places_of(alloc, 0o100000)?;
-    for steps in first {
-        perform_all(rt, &mut rig, steps);
+    let led = lead_back(rt, alloc, &mut rig, first, others);
+    if led.is_ok() {
+        check_numbers(rt, &rig, after);
     }
-    act_all(rt, alloc, &mut rig, places.as_slice(), others)?;
-    Ok(rig)
+    drop(rig);
+    led
 }
 
 /// Settings of every kind of number, and a turn.
@@ -210,8 +270,7 @@ const SETTINGS: [Step; 7] = [
 
 #[test]
 fn the_record_of_each_setting_leads_back(rt: HostRuntime) -> Result<(), Fail> {
-    let _rig = lead_back(&rt, rt.alloc(), &[], &SETTINGS)?;
-    Ok(())
+    lead_back_anew(&rt, rt.alloc(), &[], &SETTINGS, &[])
 }
 
 const WATCHES: [Step; 3] = [
@@ -222,22 +281,19 @@ const WATCHES: [Step; 3] = [
 
 #[test]
 fn the_records_of_watches_lead_back(rt: HostRuntime) -> Result<(), Fail> {
-    let _rig = lead_back(&rt, rt.alloc(), &[], &WATCHES)?;
-    Ok(())
+    lead_back_anew(&rt, rt.alloc(), &[], &WATCHES, &[])
 }
 
 #[test]
 fn the_record_of_a_dead_start_leads_back(rt: HostRuntime) -> Result<(), Fail> {
-    let _rig = lead_back(&rt, rt.alloc(), &[&SETTINGS], &[Step::Deadstart])?;
-    Ok(())
+    lead_back_anew(&rt, rt.alloc(), &[&SETTINGS], &[Step::Deadstart], &[])
 }
 
 const SETTINGS_AND_DEADSTART: [&[Step]; 2] = [&SETTINGS, &[Step::Deadstart]];
 
 #[test]
 fn the_record_of_a_turn_after_a_dead_start_leads_back(rt: HostRuntime) -> Result<(), Fail> {
-    let _rig = lead_back(&rt, rt.alloc(), &SETTINGS_AND_DEADSTART, &[Step::Turn])?;
-    Ok(())
+    lead_back_anew(&rt, rt.alloc(), &SETTINGS_AND_DEADSTART, &[Step::Turn], &[])
 }
 
 const BEFORE_THE_EXCHANGE: [Step; 4] = [
@@ -247,12 +303,13 @@ const BEFORE_THE_EXCHANGE: [Step; 4] = [
     Step::SetWord(0o77777, (1 << 60) - 1),
 ];
 
+const AFTER_THE_EXCHANGE: [(Place, u64); 1] = [(Place::FrameWord { i: 7 }, (1 << 60) - 1)];
+
 /// An exchange in slot 0 changes central memory, the frame and P.
 #[test]
 fn an_exchange_leads_back(rt: HostRuntime) -> Result<(), Fail> {
-    let rig = lead_back(&rt, rt.alloc(), &[&BEFORE_THE_EXCHANGE], &[Step::Turn])?;
-    assert!(rt; rig.value(&Place::FrameWord { i: 7 }) == (1 << 60) - 1);
-    Ok(())
+    let first: [&[Step]; 1] = [&BEFORE_THE_EXCHANGE];
+    lead_back_anew(&rt, rt.alloc(), &first, &[Step::Turn], &AFTER_THE_EXCHANGE)
 }
 
 const CALLS: [Step; 4] = [
@@ -287,17 +344,25 @@ const AFTER_THE_LAST: [(Place, u64); 6] = [
     (Place::Slot, 0),
 ];
 
+/// Performs two turns, the turns up to slot 0o11, and the turn of that slot.
+fn all_parts_lead_back(rt: &impl Abort, alloc: Global, rig: &mut Rig) -> Result<(), Fail> {
+    lead_back(rt, alloc, rig, &[&CALLS], &[Step::Turn, Step::Turn])?;
+    perform_all(rt, rig, &BEFORE_THE_LAST);
+    assert!(rt; rig.slot() == 9);
+    lead_back(rt, alloc, rig, &[], &[Step::Turn])
+}
+
 /// In one turn of slot 0o11 a processor stores, the reader sends a column, the printer prints two symbols, and the
 /// clock ticks.
 #[test]
 fn a_turn_of_all_parts_leads_back(rt: HostRuntime) -> Result<(), Fail> {
-    let mut rig = lead_back(&rt, rt.alloc(), &[&CALLS], &[Step::Turn, Step::Turn])?;
-    perform_all(&rt, &mut rig, &BEFORE_THE_LAST);
-    assert!(rt; rig.slot() == 9);
-    let places = places_of(rt.alloc(), 0o100000)?;
-    act_all(&rt, rt.alloc(), &mut rig, places.as_slice(), &[Step::Turn])?;
-    check_numbers(&rt, &rig, &AFTER_THE_LAST);
-    Ok(())
+    let mut rig = make(rt.alloc())?;
+    let led = all_parts_lead_back(&rt, rt.alloc(), &mut rig);
+    if led.is_ok() {
+        check_numbers(&rt, &rig, &AFTER_THE_LAST);
+    }
+    drop(rig);
+    led
 }
 
 /// Most turns keep a short record. Any other action keeps a record no larger than an exchange and the devices need.

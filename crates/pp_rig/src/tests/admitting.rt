@@ -25,14 +25,19 @@ fn check_range(rt: &impl Abort, rig: &Rig, action: &Action, is_within: bool, row
     assert!(rt; rig.admits(action) == is_within, "row {row}");
 }
 
-#[test]
-fn ranges_of_cells(rt: HostRuntime) -> Result<(), Fail> {
-    let rig = make_rig(rt.alloc())?;
+fn check_cells(rt: &impl Abort, rig: &Rig) {
     for i in 0..CELLS.len() {
         let (pp, a, words, is_within) = CELLS[i];
         let values = values_of(words);
-        check_range(&rt, &rig, &Action::SetCells { pp, a, values }, is_within, i);
+        check_range(rt, rig, &Action::SetCells { pp, a, values }, is_within, i);
     }
+}
+
+#[test]
+fn ranges_of_cells(rt: HostRuntime) -> Result<(), Fail> {
+    let rig = make_rig(rt.alloc())?;
+    check_cells(&rt, &rig);
+    drop(rig);
     Ok(())
 }
 
@@ -44,6 +49,7 @@ fn check_ranges(rt: &impl Abort, alloc: Global, pairs: &[(Action, Action)]) -> R
         check_range(rt, &rig, within, true, i);
         check_range(rt, &rig, beyond, false, i);
     }
+    drop(rig);
     Ok(())
 }
 
@@ -174,8 +180,7 @@ const ALL_WATCHED: [(Action, ActionFault); 2] = [
 ];
 
 /// Checks that a machine rejects each action for the cause beside it.
-fn check_causes(rt: &impl Abort, session: &Session<Rig>, rows: &[(Action, ActionFault)]) {
-    let rig = session.machine();
+fn check_causes(rt: &impl Abort, rig: &Rig, rows: &[(Action, ActionFault)]) {
     for i in 0..rows.len() {
         let (action, cause) = &rows[i];
         assert!(rt;
@@ -186,17 +191,32 @@ fn check_causes(rt: &impl Abort, session: &Session<Rig>, rows: &[(Action, Action
     }
 }
 
-#[test]
-fn causes_in_their_order(rt: HostRuntime) -> Result<(), Fail> {
-    let mut session = session_of(rt.alloc(), make_rig(rt.alloc())?)?;
-    check_causes(&rt, &session, &NOTHING_WATCHED);
-    assert!(rt; act(&mut session, Action::Watch(FIRST)));
-    check_causes(&rt, &session, &ONE_WATCHED);
+/// Watches the first register.
+fn watch_first(rt: &impl Abort, session: &mut Session<Rig>) {
+    assert!(rt; act(session, Action::Watch(FIRST)));
+}
+
+/// Watches the registers after the first, until no entry is left.
+fn watch_others(rt: &impl Abort, session: &mut Session<Rig>) {
     for c in 1..8u8 {
-        assert!(rt; act(&mut session, Action::Watch(Watched::Register { c })));
+        assert!(rt; act(session, Action::Watch(Watched::Register { c })));
     }
     assert!(rt; session.machine().watches().len() == 8);
-    check_causes(&rt, &session, &ALL_WATCHED);
+}
+
+fn check_in_order(rt: &impl Abort, session: &mut Session<Rig>) {
+    check_causes(rt, session.machine(), &NOTHING_WATCHED);
+    watch_first(rt, session);
+    check_causes(rt, session.machine(), &ONE_WATCHED);
+    watch_others(rt, session);
+    check_causes(rt, session.machine(), &ALL_WATCHED);
     assert!(rt; session.machine().check(&Action::Unwatch(FIRST)) == Ok(()));
+}
+
+#[test]
+fn causes_in_their_order(rt: HostRuntime) -> Result<(), Fail> {
+    let mut session = new_session(rt.alloc())?;
+    check_in_order(&rt, &mut session);
+    drop(session);
     Ok(())
 }

@@ -56,17 +56,23 @@ fn check_old(rt: &impl Abort, record: &RigRecord, rows: &[(Place, Option<u64>)])
     }
 }
 
+/// Performs the turn and undoes it.
+fn turn_and_undo(rt: &impl Abort, rig: &mut Rig) {
+    assert!(rt; rig.admits(&Action::Turn));
+    let record = rig.act(&Action::Turn);
+    check_numbers(rt, rig, &AFTER);
+    check_old(rt, &record, &OLD);
+    rig.undo(record);
+}
+
 /// If a processor and the reader write one channel in one turn, its number before the turn counts.
 #[test]
 fn the_oldest_number_of_a_channel_counts(rt: HostRuntime) -> Result<(), Fail> {
     let mut rig = make_rig(rt.alloc())?;
     perform_all(&rt, &mut rig, &CALLS_THE_READER);
-    assert!(rt; rig.admits(&Action::Turn));
-    let record = rig.act(&Action::Turn);
-    check_numbers(&rt, &rig, &AFTER);
-    check_old(&rt, &record, &OLD);
-    rig.undo(record);
+    turn_and_undo(&rt, &mut rig);
     check_numbers(&rt, &rig, &UNDONE);
+    drop(rig);
     Ok(())
 }
 

@@ -18,6 +18,7 @@ fn make_with_panel(alloc: Global) -> Result<Rig, Fail> {
 fn follow_with_panel(rt: &impl Abort, alloc: Global, steps: &[Step]) -> Result<(), Fail> {
     let mut session = session_of(alloc, make_with_panel(alloc)?)?;
     follow(rt, &mut session, steps);
+    drop(session);
     Ok(())
 }
 

@@ -143,9 +143,10 @@ fn a_wait_is_a_turn(rt: HostRuntime) -> Result<(), Fail> {
 /// Performs two turns of processor 0 with the steps before them: it loads 5 into A and then performs the second word.
 /// Channel 3 is active and empty, and central word 5 is 0o77.
 fn load_and_perform(rt: &impl Abort, alloc: Global, steps: &[Step]) -> Result<(), Fail> {
-    let mut session = session_of(alloc, make_rig(alloc)?)?;
+    let mut session = new_session(alloc)?;
     follow(rt, &mut session, &LOADS);
     follow(rt, &mut session, steps);
+    drop(session);
     Ok(())
 }
 

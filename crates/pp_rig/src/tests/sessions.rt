@@ -24,22 +24,33 @@ const GOES_BACK_AND_FORWARD: [Step; 16] = [
 
 #[test]
 fn goes_back_and_forward(rt: HostRuntime) -> Result<(), Fail> {
-    let mut session = session_of(rt.alloc(), make_rig(rt.alloc())?)?;
+    let mut session = new_session(rt.alloc())?;
     assert!(rt; session.capacity() == 10_000);
     follow(&rt, &mut session, &GOES_BACK_AND_FORWARD);
+    drop(session);
     Ok(())
+}
+
+/// Looks for a change of A, and of the clock.
+fn look_for_changes(rt: &impl Abort, session: &Session<Rig>) {
+    let mut looks = Looks::new();
+    assert!(rt; session.find_change(&[A], &mut looks) == Some(2));
+    assert!(rt; session.find_change(&[CLOCK], &mut looks) == None);
+}
+
+fn go_back_to_changes(rt: &impl Abort, session: &mut Session<Rig>) {
+    assert!(rt; session.back_to_change(&[A]) == Ok(2));
+    assert!(rt; session.back_to_change(&[A]) == Err(BackFault::NoChange { kept: 0 }));
+    assert!(rt; session.ahead() == 2);
 }
 
 #[test]
 fn finds_the_latest_change(rt: HostRuntime) -> Result<(), Fail> {
-    let mut session = session_of(rt.alloc(), make_rig(rt.alloc())?)?;
+    let mut session = new_session(rt.alloc())?;
     follow(&rt, &mut session, &[Step::SetA(0, 1), Step::SetA(0, 1)]);
-    let mut looks = Looks::new();
-    assert!(rt; session.find_change(&[A], &mut looks) == Some(2));
-    assert!(rt; session.find_change(&[CLOCK], &mut looks) == None);
-    assert!(rt; session.back_to_change(&[A]) == Ok(2));
-    assert!(rt; session.back_to_change(&[A]) == Err(BackFault::NoChange { kept: 0 }));
-    assert!(rt; session.ahead() == 2);
+    look_for_changes(&rt, &session);
+    go_back_to_changes(&rt, &mut session);
+    drop(session);
     Ok(())
 }
 
@@ -77,18 +88,24 @@ const BEFORE_THE_SEARCH: [Step; 5] = [
     Step::SetP(0, 0o100),
 ];
 
-/// Makes the search of a row on a new machine.
-fn search(rt: &impl Abort, alloc: Global, row: &Row, i: usize) -> Result<(), Fail> {
-    let mut session = session_of(alloc, make_rig(alloc)?)?;
-    follow(rt, &mut session, &BEFORE_THE_SEARCH);
+/// Makes the search of a row.
+fn search_in(rt: &impl Abort, session: &mut Session<Rig>, row: &Row, i: usize) {
+    follow(rt, session, &BEFORE_THE_SEARCH);
     let Row(program, turns, watched, found) = *row;
     let steps = [
         Step::Cells(0, 0o100, program),
         Step::Runs(turns),
         Step::Watch(watched),
     ];
-    follow(rt, &mut session, &steps);
-    assert!(rt; back_to_change(&mut session) == found, "search {i}");
+    follow(rt, session, &steps);
+    assert!(rt; back_to_change(session) == found, "search {i}");
+}
+
+/// Makes the search of a row on a new machine.
+fn search(rt: &impl Abort, alloc: Global, row: &Row, i: usize) -> Result<(), Fail> {
+    let mut session = new_session(alloc)?;
+    search_in(rt, &mut session, row, i);
+    drop(session);
     Ok(())
 }
 

@@ -14,12 +14,17 @@ fn make_of(alloc: Global, cards: usize, reader: u8, printer: u8) -> Result<Rig, 
     Rig::new(alloc, setup_of(reader, printer, deck, None))
 }
 
+/// Returns why no machine is made with 2001 blank cards, if none is. The reader is on channel 0o12.
+fn fault_of(alloc: Global, printer: u8) -> Option<SetupFault>
+    requires { printer ≤ 0o13 }
+{
+    make_of(alloc, 2001, 0o12, printer).err()
+}
+
 #[test]
 fn refuses_one_channel_before_a_long_deck(rt: HostRuntime) {
-    let both = make_of(rt.alloc(), 2001, 0o12, 0o12);
-    assert!(rt; both.err() == Some(SetupFault::SameChannel));
-    let long = make_of(rt.alloc(), 2001, 0o12, 0o13);
-    assert!(rt; long.err() == Some(SetupFault::DeckTooLong));
+    assert!(rt; fault_of(rt.alloc(), 0o12) == Some(SetupFault::SameChannel));
+    assert!(rt; fault_of(rt.alloc(), 0o13) == Some(SetupFault::DeckTooLong));
 }
 
 #[test]
@@ -28,6 +33,7 @@ fn makes_a_machine_of_the_longest_deck(rt: HostRuntime) -> Result<(), Fail> {
         return Err("refused".into());
     };
     assert!(rt; rig.cards() == 2000);
+    drop(rig);
     Ok(())
 }
 
@@ -38,16 +44,21 @@ fn make_empty(alloc: Global, central: CentralSize) -> Result<Rig, SetupFault> {
     Rig::new(alloc, setup)
 }
 
+/// Returns whether the machine has not begun: no turn, no card, no paper, and no watch.
+fn is_at_its_start(rig: &Rig) -> bool {
+    rig.slot() == 0 && rig.cards() == 0 && rig.paper().len() == 0 && rig.watches().len() == 0
+}
+
+/// Returns whether the machine has its devices on channels 0o10 and 0o11, and a panel.
+fn has_devices(rig: &Rig) -> bool {
+    rig.reader_channel() == 0o10 && rig.printer_channel() == 0o11 && rig.has_panel()
+}
+
 /// Checks the parts of a machine that `make_empty` made.
 fn check_parts(rt: &impl Abort, rig: &Rig, words: u32) {
     assert!(rt; rig.central_size().words() == words);
-    assert!(rt; rig.slot() == 0);
-    assert!(rt; rig.cards() == 0);
-    assert!(rt; rig.paper().len() == 0);
-    assert!(rt; rig.reader_channel() == 0o10);
-    assert!(rt; rig.printer_channel() == 0o11);
-    assert!(rt; rig.has_panel());
-    assert!(rt; rig.watches().len() == 0);
+    assert!(rt; is_at_its_start(rig));
+    assert!(rt; has_devices(rig));
     rig.keeps_ranges();
 }
 
@@ -64,6 +75,7 @@ fn tells_its_parts(rt: HostRuntime) -> Result<(), Fail> {
             return Err("refused".into());
         };
         check_parts(&rt, &rig, words);
+        drop(rig);
     }
     Ok(())
 }

@@ -6,21 +6,39 @@ use pp_history::Reversible;
 use pp_machine::Place;
 use std::alloc::{AllocError, Global};
 
+/// Adds these places.
+fn push_all(places: &mut Vec<Place>, others: &[Place]) -> Result<(), AllocError> {
+    for place in others {
+        places.push(*place)?;
+    }
+    Ok(())
+}
+
 /// Adds the places of a processor: its memory, its registers and its phase.
 fn push_processor(places: &mut Vec<Place>, pp: u8) -> Result<(), AllocError> {
     for a in 0..4096u16 {
         places.push(Place::Cell { pp, a })?;
     }
-    for place in [
+    let registers = [
         Place::RegA { pp },
         Place::RegP { pp },
         Place::RegQ { pp },
         Place::Phase { pp },
-    ] {
-        places.push(place)?;
-    }
-    Ok(())
+    ];
+    push_all(places, &registers)
 }
+
+/// The places of the devices and of the barrel.
+const PARTS: [Place; 8] = [
+    Place::Clock,
+    Place::Slot,
+    Place::Card,
+    Place::CardColumn,
+    Place::ReaderMode,
+    Place::PaperLength,
+    Place::PaperColumn,
+    Place::PrinterMode,
+];
 
 /// Adds the places of the channels, of the devices and of the barrel.
 fn push_parts(places: &mut Vec<Place>) -> Result<(), AllocError> {
@@ -31,19 +49,7 @@ fn push_parts(places: &mut Vec<Place>) -> Result<(), AllocError> {
     for i in 0..8u8 {
         places.push(Place::WatchEntry { i })?;
     }
-    for place in [
-        Place::Clock,
-        Place::Slot,
-        Place::Card,
-        Place::CardColumn,
-        Place::ReaderMode,
-        Place::PaperLength,
-        Place::PaperColumn,
-        Place::PrinterMode,
-    ] {
-        places.push(place)?;
-    }
-    Ok(())
+    push_all(places, &PARTS)
 }
 
 /// Adds the places of central memory, of the frame and of the paper.
