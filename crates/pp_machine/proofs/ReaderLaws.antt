@@ -1,10 +1,12 @@
 -- The laws of the card reader.
-use Rattle.std.proofs.Common.{ℕ, [], ◌≡◌, ◌≢◌, ◌≤◌, ◌<◌, length, lit≤, refl, arith}
+use Rattle.std.proofs.Common.{ℕ, [], ◌≡◌, ◌≢◌, ◌≤◌, ◌<◌, length, lit≤, refl, arith, unwrap_or}
 use Rattle.std.specs.List.{AllPairs}
 use Rattle.pp_machine.specs.Attached.{IsAttached, IsDevice}
 use Rattle.pp_machine.specs.Device.{device_old_values}
 use Rattle.pp_machine.specs.Reader.{ReaderPlace, ReaderView, Card, Column, Mode, name_own, reader_model, reader_pairs, reader_place, reader_writes}
-use Rattle.pp_machine.specs.Prelude.{Writes, renamed, places, HasAll}
+use Rattle.pp_machine.specs.NumberLaws.{number-over}
+use Rattle.pp_machine.specs.Prelude.{Machine, Writes, over, number, lookup, renamed, places, HasAll, IsShaped}
+use Rattle.pp_machine.specs.declared.place.Place.{Place}
 use Rattle.pp_machine.specs.declared.reader.ReaderRecord.{ReaderRecord}
 use Rattle.pp_machine.specs.declared.reader.ReaderRecord.TheVariants as back
 use Rattle.pp_machine.proofs.DeviceLaws.{IsSound, old_places, sound, sound-has, sound-if, sound-once}
@@ -36,6 +38,10 @@ reader_few _ = lit≤ tt
 pub HasAll-reader : (size c : ℕ) (r : ReaderRecord) → c < 12 → HasAll size (renamed (reader_place c) (reader_pairs r))
 HasAll-reader size c back.Nothing h = tt
 HasAll-reader size c _ h = assumption h
+
+pub reader_restores : (m : Machine) (c : ℕ) (r : ReaderRecord) (place : Place) → IsShaped m.setup.central_words m → c < 12 →
+    number (over m (renamed (reader_place c) (reader_pairs r))) place ≡ unwrap_or (lookup (renamed (reader_place c) (reader_pairs r)) place) (number m place)
+reader_restores m c r place shaped h = number-over m.setup.central_words m _ place shaped (HasAll-reader m.setup.central_words c r h)
 
 -- ---- the write list of a step
 
