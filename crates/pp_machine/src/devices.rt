@@ -6,15 +6,14 @@ ghost use Rattle.pp_machine.specs.Prelude.{Machine, over, lookup};
 
 mod all;
 
-pub use all::{
-    AllDevices, AllRecords, all_devices, device_records_restore, device_writes_are_distinct,
-    devices_keep_ranges,
-};
-
 use crate::channel::ChannelState;
 use crate::channels::Channels;
 use crate::device::{Device, step_device, undo_device};
 use crate::place::Place;
+pub use all::{
+    AllDevices, AllRecords, all_devices, device_records_restore, device_writes_are_distinct,
+    devices_keep_ranges,
+};
 use std::marker::Model;
 
 /// The devices of a machine.
