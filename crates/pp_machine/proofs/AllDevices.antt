@@ -1,12 +1,14 @@
--- The devices that every machine has are at places of their own.
-use Rattle.std.proofs.Common.{refl}
+-- The devices that every machine has are at places of their own, and are their numbers.
+use Rattle.std.proofs.Common.{refl, ◌≡◌, ℕ}
 use Rattle.pp_machine.proofs.DevicesLaws.{no-laws, on-laws}
-use Rattle.pp_machine.proofs.PrinterLaws.{printer-device}
-use Rattle.pp_machine.proofs.ReaderLaws.{reader-device}
-use Rattle.pp_machine.specs.AllDevices.{all_model}
+use Rattle.pp_machine.proofs.PrinterLaws.{printer-device, same-printer}
+use Rattle.pp_machine.proofs.ReaderLaws.{reader-device, same-reader}
+use Rattle.pp_machine.specs.AllDevices.{all_model, devices_of}
 use Rattle.pp_machine.specs.Devices.{AreDevices, AreJoined, no_devices, on}
+use Rattle.pp_machine.specs.Prelude.{Machine, number, Has, IsShaped}
 use Rattle.pp_machine.specs.Printer.{printer_model}
 use Rattle.pp_machine.specs.Reader.{reader_model}
+use Rattle.pp_machine.specs.declared.place.Place.{Place}
 
 pub printer_joined : AreJoined printer_model no_devices
 printer_joined = record { device = printer-device; others = no-laws; apart = λ m c n others. refl }
@@ -16,3 +18,7 @@ reader_joined = record { device = reader-device; others = on-laws printer_model 
 
 pub all-laws : AreDevices all_model
 all-laws = on-laws reader_model (on printer_model no_devices) reader-device reader_joined.others
+
+pub same-devices : (size : ℕ) (m m' : Machine) → IsShaped size m → IsShaped size m' → ((p : Place) → Has size p → number m p ≡ number m' p) →
+    m.setup ≡ m'.setup → m.reader.deck ≡ m'.reader.deck → devices_of m ≡ devices_of m'
+same-devices size m m' shaped shaped' each setup deck = rw (setup, same-reader size m m' each deck, same-printer size m m' shaped shaped' each) refl

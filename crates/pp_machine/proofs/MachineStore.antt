@@ -1,11 +1,12 @@
 -- Single writes to the machine: how they behave, and how the old values undo any list of writes.
-use Rattle.std.proofs.Common.{ap, zero, suc, inl, inr, ◌∙◌, ℕ, ◌≡◌, ◌≢◌, ◌⊎◌, List, [], ◌∷◌, get_or, set, refl}
+use Rattle.std.proofs.Common.{arith, Bool, true, false, ap, zero, suc, inl, inr, ◌∙◌, ℕ, ◌≡◌, ◌≢◌, ◌⊎◌, List, [], ◌∷◌, get_or, set, refl}
 use Rattle.std.proofs.lemmas.Bool.{cases_eq}
+use Rattle.std.proofs.lemmas.Bool.Decides.{nat_tests}
 use Rattle.std.proofs.lemmas.List.{set-set, set_comm, set-get_or}
-use Rattle.pp_machine.specs.Prelude.{Machine, ProcessorNumbers, over, old_values, number, put, no_processor, Writes}
+use Rattle.pp_machine.specs.Prelude.{Machine, ProcessorNumbers, over, old_values, number, put, no_processor, Writes, same_place}
 use Rattle.pp_machine.specs.WriteLaws.{Commute, undone-by-old-values}
 use Rattle.pp_machine.specs.declared.place.Place.{Place}
-use Rattle.pp_machine.specs.declared.place.Place.TheVariants.{Cell, RegA, RegP, RegQ, Phase, ChannelMode, ChannelWord, Clock, Central, FrameWord, Card, CardColumn, ReaderMode, PaperLength, PaperColumn, PrinterMode, PaperSymbol, Slot, WatchEntry}
+use Rattle.pp_machine.specs.declared.place.Place.TheVariants.{Cell, RegA, RegP, RegQ, Phase, Slot}
 
 -- processor n changed
 abbrev changed : List ProcessorNumbers → ℕ → (ProcessorNumbers → ProcessorNumbers) → List ProcessorNumbers
@@ -66,6 +67,10 @@ apart-cells n k a b =
 apart-named : (name : ℕ → Place) → ((s : Machine) (i j v w : ℕ) → i ≢ j → put (put s (name i) v) (name j) w ≡ put (put s (name j) w) (name i) v) → (i j : ℕ) → (name i ≡ name j) ⊎ Commute put (name i) (name j)
 apart-named name swap i j = elim (cases_eq i j) [ inl e ↦ inl (ap name e) | inr ne ↦ inr (λ s v w. swap s i j v w ne) ]
 
+by-test : {x y : Place} (same : Bool) → (same ≡ true → x ≡ y) → (same ≡ false → Commute put x y) → (x ≡ y) ⊎ Commute put x y
+by-test true equal apart = inl (equal refl)
+by-test false equal apart = inr (apart refl)
+
 apart : (x y : Place) → (x ≡ y) ⊎ Commute put x y
 apart (Cell n a) (Cell k b) = apart-cells n k a b
 apart (RegA n) (RegA k) = apart-named RegA (λ s i j v w ne. ap (with_processors s) (changed-apart (with_a v) (with_a w) s.processors i j ne)) n k
@@ -92,21 +97,9 @@ apart (Phase n) (Cell k b) = inr (λ s v w. ap (with_processors s) (changed-swap
 apart (Phase n) (RegA k) = inr (λ s v w. ap (with_processors s) (changed-swap (with_phase v) (with_a w) (λ x. refl) s.processors n k))
 apart (Phase n) (RegP k) = inr (λ s v w. ap (with_processors s) (changed-swap (with_phase v) (with_p w) (λ x. refl) s.processors n k))
 apart (Phase n) (RegQ k) = inr (λ s v w. ap (with_processors s) (changed-swap (with_phase v) (with_q w) (λ x. refl) s.processors n k))
-apart (ChannelMode i) (ChannelMode j) = apart-named ChannelMode (λ s k l v w ne. rw (set_comm s.channels.states k l v w ne) refl) i j
-apart (ChannelWord i) (ChannelWord j) = apart-named ChannelWord (λ s k l v w ne. rw (set_comm s.channels.registers k l v w ne) refl) i j
-apart (Central i) (Central j) = apart-named Central (λ s k l v w ne. rw (set_comm s.central k l v w ne) refl) i j
-apart (FrameWord i) (FrameWord j) = apart-named FrameWord (λ s k l v w ne. rw (set_comm s.frame k l v w ne) refl) i j
-apart (PaperSymbol i) (PaperSymbol j) = apart-named PaperSymbol (λ s k l v w ne. rw (set_comm s.printer.symbols k l v w ne) refl) i j
-apart (WatchEntry i) (WatchEntry j) = apart-named WatchEntry (λ s k l v w ne. rw (set_comm s.watches k l v w ne) refl) i j
-apart Clock Clock = inl refl
-apart Card Card = inl refl
-apart CardColumn CardColumn = inl refl
-apart ReaderMode ReaderMode = inl refl
-apart PaperLength PaperLength = inl refl
-apart PaperColumn PaperColumn = inl refl
-apart PrinterMode PrinterMode = inl refl
 apart Slot Slot = inl refl
-apart x y = inr (λ s v w. refl)
+apart _ Slot = inr (λ s v w. refl)
+apart x y = by-test (same_place x y) (λ e. first_of (cc, grind (arith, nat_tests))) (λ e s v w. first_of (search, grind (arith, nat_tests, set_comm)))
 
 again : (s : Machine) (x : Place) (v w : ℕ) → put (put s x v) x w ≡ put s x w
 again s (Cell n a) v w = ap (with_processors s) (changed-again (with_cell a v) (with_cell a w) (λ x. ap (λ (cells : List ℕ). let y : ProcessorNumbers = record x { cells = cells } in y) (set-set x.cells a v w)) s.processors n)

@@ -1,10 +1,12 @@
 -- The laws of the card reader.
-use Rattle.std.proofs.Common.{ℕ, [], ◌≡◌, ◌≢◌, ◌≤◌, ◌<◌, length, lit≤, refl, arith}
+use Rattle.std.proofs.Common.{ℕ, [], ◌≡◌, ◌≢◌, ◌≤◌, ◌<◌, length, lit≤, refl, arith, unwrap_or}
 use Rattle.std.specs.List.{AllPairs}
 use Rattle.pp_machine.specs.Attached.{IsAttached, IsDevice}
 use Rattle.pp_machine.specs.Device.{device_old_values}
 use Rattle.pp_machine.specs.Reader.{ReaderPlace, ReaderView, Card, Column, Mode, name_own, reader_model, reader_pairs, reader_place, reader_writes}
-use Rattle.pp_machine.specs.Prelude.{Writes, renamed, places, HasAll}
+use Rattle.pp_machine.specs.NumberLaws.{number-over}
+use Rattle.pp_machine.specs.Prelude.{Machine, Writes, over, number, lookup, renamed, places, Has, HasAll, IsShaped}
+use Rattle.pp_machine.specs.declared.place.Place.{Place}
 use Rattle.pp_machine.specs.declared.reader.ReaderRecord.{ReaderRecord}
 use Rattle.pp_machine.specs.declared.reader.ReaderRecord.TheVariants as back
 use Rattle.pp_machine.proofs.DeviceLaws.{IsSound, old_places, sound, sound-has, sound-if, sound-once}
@@ -37,6 +39,10 @@ pub HasAll-reader : (size c : ℕ) (r : ReaderRecord) → c < 12 → HasAll size
 HasAll-reader size c back.Nothing h = tt
 HasAll-reader size c _ h = assumption h
 
+pub reader_restores : (m : Machine) (c : ℕ) (r : ReaderRecord) (place : Place) → IsShaped m.setup.central_words m → c < 12 →
+    number (over m (renamed (reader_place c) (reader_pairs r))) place ≡ unwrap_or (lookup (renamed (reader_place c) (reader_pairs r)) place) (number m place)
+reader_restores m c r place shaped h = number-over m.setup.central_words m _ place shaped (HasAll-reader m.setup.central_words c r h)
+
 -- ---- the write list of a step
 
 module _ (size c : ℕ) (small : c < 12) where
@@ -50,6 +56,12 @@ pub reader_distinct : (s : ReaderView) → AllPairs (λ one other. one ≢ other
 reader_distinct s = sound-once name_own 0 0 (reader_writes s) (sound-step 0 0 (omega arith) s)
 
 -- ---- the device
+
+-- a reader is its deck and its numbers
+pub same-reader : (size : ℕ) (m m' : Machine) → ((p : Place) → Has size p → number m p ≡ number m' p) → m.reader.deck ≡ m'.reader.deck → m.reader ≡ m'.reader
+same-reader size m m' each deck =
+    let whole : m.reader ≡ record { deck = m'.reader.deck; card = m'.reader.card; column = m'.reader.column; mode = m'.reader.mode }
+    = rw (← deck, ← each (name_own Card) tt, ← each (name_own Column) tt, ← each (name_own Mode) tt) in whole
 
 reader-idle : (s : ReaderView) → s.state ≡ 0 → reader_writes s ≡ []
 reader-idle s e = rw e refl

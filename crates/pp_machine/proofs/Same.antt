@@ -1,9 +1,11 @@
 -- A machine is its numbers: two machines with the same shape, setup and deck that have the same number at each place are equal.
-use Rattle.std.proofs.Common.{◌≡◌, ◌∙◌, ℕ, ◌<◌, List, length, get_or, sym}
+use Rattle.std.proofs.Common.{ap, refl, ◌≡◌, ◌∙◌, ℕ, ◌<◌, List, length, get_or, sym}
 use Rattle.std.proofs.lemmas.List.{ext_get_or}
+use Rattle.pp_machine.proofs.AllDevices.{same-devices}
+use Rattle.pp_machine.specs.AllDevices.{AllNumbers, devices_of, machine_with}
 use Rattle.pp_machine.specs.Prelude.{Machine, ProcessorNumbers, number, processor, no_processor, Has, IsShaped}
 use Rattle.pp_machine.specs.declared.place.Place.{Place}
-use Rattle.pp_machine.specs.declared.place.Place.TheVariants.{Cell, RegA, RegP, RegQ, Phase, ChannelMode, ChannelWord, Clock, Central, FrameWord, Card, CardColumn, ReaderMode, PaperLength, PaperColumn, PrinterMode, PaperSymbol, Slot, WatchEntry}
+use Rattle.pp_machine.specs.declared.place.Place.TheVariants.{Cell, RegA, RegP, RegQ, Phase, ChannelMode, ChannelWord, Clock, Central, FrameWord, Slot, WatchEntry}
 
 same-processor : (x y : ProcessorNumbers) → x.a ≡ y.a → x.p ≡ y.p → x.q ≡ y.q → x.phase ≡ y.phase → x.cells ≡ y.cells → x ≡ y
 same-processor x y a p q phase cells =
@@ -21,32 +23,16 @@ module _ (size : ℕ) (m m' : Machine) (shaped : IsShaped size m) (shaped' : IsS
 
   pub same-machines : m.setup ≡ m'.setup → m.reader.deck ≡ m'.reader.deck → m ≡ m'
   same-machines setup deck =
-      let whole : m ≡ record {
-        processors = m'.processors;
-        channels = record { states = m'.channels.states; registers = m'.channels.registers; clock = m'.channels.clock };
-        central = m'.central;
-        frame = m'.frame;
-        reader = record { deck = m'.reader.deck; card = m'.reader.card; column = m'.reader.column; mode = m'.reader.mode };
-        printer = record { symbols = m'.printer.symbols; length = m'.printer.length; column = m'.printer.column; mode = m'.printer.mode };
-        slot = m'.slot;
-        watches = m'.watches;
-        setup = m'.setup;
-      } = rw (
-        ← processors,
-        ← same-list 12 m.channels.states m'.channels.states shaped.states shaped'.states (λ c h. each (ChannelMode c) h),
-        ← same-list 12 m.channels.registers m'.channels.registers shaped.registers shaped'.registers (λ c h. each (ChannelWord c) h),
-        ← each Clock tt,
-        ← same-list size m.central m'.central shaped.central shaped'.central (λ a h. each (Central a) h),
-        ← same-list 16 m.frame m'.frame shaped.frame shaped'.frame (λ i h. each (FrameWord i) h),
-        ← deck,
-        ← each Card tt,
-        ← each CardColumn tt,
-        ← each ReaderMode tt,
-        ← same-list 65536 m.printer.symbols m'.printer.symbols shaped.symbols shaped'.symbols (λ k h. each (PaperSymbol k) h),
-        ← each PaperLength tt,
-        ← each PaperColumn tt,
-        ← each PrinterMode tt,
-        ← each Slot tt,
-        ← same-list 8 m.watches m'.watches shaped.watches shaped'.watches (λ i h. each (WatchEntry i) h),
-        ← setup,
-      ) in whole
+      let with_devices = λ (devices : AllNumbers). machine_with devices m.processors m.channels m.central m.frame m.slot m.watches m.setup.central_words m.setup.panel in
+      let others : with_devices (devices_of m') ≡ m' = rw (
+        processors,
+        same-list 12 m.channels.states m'.channels.states shaped.states shaped'.states (λ c h. each (ChannelMode c) h),
+        same-list 12 m.channels.registers m'.channels.registers shaped.registers shaped'.registers (λ c h. each (ChannelWord c) h),
+        each Clock tt,
+        same-list size m.central m'.central shaped.central shaped'.central (λ a h. each (Central a) h),
+        same-list 16 m.frame m'.frame shaped.frame shaped'.frame (λ i h. each (FrameWord i) h),
+        each Slot tt,
+        same-list 8 m.watches m'.watches shaped.watches shaped'.watches (λ i h. each (WatchEntry i) h),
+        setup,
+      ) refl in
+      ap with_devices (same-devices size m m' shaped shaped' each setup deck) ∙ others

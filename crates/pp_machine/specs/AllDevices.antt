@@ -21,6 +21,10 @@ AllRecords = OnRecords ReaderRecord (OnRecords PrinterRecord NoDevices)
 abbrev pub all_model : DevicesModel AllNumbers AllRecords
 all_model = on reader_model (on printer_model no_devices)
 
+-- the devices of a machine, each with its channel
+abbrev pub devices_of : Machine → AllNumbers
+devices_of s = record { channel = s.setup.reader_channel; device = s.reader; others = record { channel = s.setup.printer_channel; device = s.printer; others = record {} } }
+
 -- the machine with these parts
 abbrev pub machine_with : AllNumbers → List ProcessorNumbers → ChannelNumbers → List ℕ → List ℕ → ℕ → List ℕ → ℕ → Option (List ℕ) → Machine
 machine_with devices processors channels central frame slot watches words panel = record {

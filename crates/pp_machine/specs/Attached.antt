@@ -2,8 +2,7 @@
 use Rattle.std.specs.Prelude.{ℕ, Bool, true, false, [], ◌≡◌, ◌<◌, ◌≤◌, length}
 use Rattle.pp_machine.specs.ChannelNumbers.{ChannelNumbers, inactive}
 use Rattle.pp_machine.specs.Device.{DeviceModel, DeviceView, device_pairs, device_place}
-use Rattle.pp_machine.specs.Machine.{Machine, number, put}
-use Rattle.pp_machine.specs.Shape.{HasAll}
+use Rattle.pp_machine.specs.Machine.{Machine, number, put, HasAll}
 use Rattle.pp_machine.specs.Writes.{renamed}
 use Rattle.pp_machine.specs.declared.place.Place.{Place}
 use Rattle.pp_machine.specs.declared.place.Place.TheVariants.{Cell, RegA, RegP, RegQ, Phase, Clock, Central, FrameWord, Slot, WatchEntry}

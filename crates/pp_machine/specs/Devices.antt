@@ -4,10 +4,8 @@ use Rattle.std.specs.List.{AllByRecursion}
 use Rattle.pp_machine.specs.Attached.{IsDevice, of_device, with_channels}
 use Rattle.pp_machine.specs.ChannelNumbers.{ChannelNumbers}
 use Rattle.pp_machine.specs.Device.{DeviceModel, device_pairs, device_step_writes, view_of}
-use Rattle.pp_machine.specs.Lookup.{lookup}
-use Rattle.pp_machine.specs.Machine.{Machine, Setup, over}
+use Rattle.pp_machine.specs.Machine.{Machine, Setup, over, lookup, HasAll}
 use Rattle.pp_machine.specs.Parts.{ArePerformed, EachPart, Part}
-use Rattle.pp_machine.specs.Shape.{HasAll}
 use Rattle.pp_machine.specs.Writes.{Writes}
 use Rattle.pp_machine.specs.declared.devices.OnRecords.{OnRecords}
 use Rattle.pp_machine.specs.declared.devices.NoDevices.{NoDevices}

@@ -1,9 +1,7 @@
 -- The names of a machine that most specifications and proofs cite, passed on from one place. Declares nothing.
-pub use Rattle.pp_machine.specs.Machine.{Machine, Setup, ProcessorNumbers, over, old_values, number, put, processor, no_processor}
+pub use Rattle.pp_machine.specs.Machine.{Machine, Setup, ProcessorNumbers, over, old_values, number, put, processor, no_processor, Has, HasAll, IsShaped, lookup, same_place}
 pub use Rattle.pp_machine.specs.Writes.{Writes, renamed, places, first_of_two}
 pub use Rattle.pp_machine.specs.WriteList.{write_list, write_list-append}
-pub use Rattle.pp_machine.specs.Shape.{Has, HasAll, IsShaped}
-pub use Rattle.pp_machine.specs.Lookup.{lookup, same_place}
 unfoldable pub use Rattle.pp_machine.specs.CentralSizes.{words_of}
 pub use Rattle.pp_machine.specs.ChannelNumbers.{ChannelNumbers, state_number, with_channel}
 pub use Rattle.pp_machine.specs.WriteLaws.{over-append, over-renamed, AllPlaces-append, AllPlaces-renamed, places-append, places-old_values, old_values-append, old_values-renamed}

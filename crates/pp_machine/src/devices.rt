@@ -3,15 +3,17 @@ ghost use Rattle.std.specs.Prelude.{◌≡◌, ◌<◌, false};
 ghost use Rattle.pp_machine.specs.Devices.{AreJoined, AreStepped, DevicesModel, attached, no_devices, on};
 ghost use Rattle.pp_machine.specs.Parts.{AreIdle};
 ghost use Rattle.pp_machine.specs.Prelude.{Machine, over, lookup};
-ghost use Rattle.pp_machine.specs.PrinterNumbers.{IsPrinter};
-ghost use Rattle.pp_machine.specs.ReaderNumbers.{IsReader};
+
+mod all;
 
 use crate::channel::ChannelState;
 use crate::channels::Channels;
 use crate::device::{Device, step_device, undo_device};
 use crate::place::Place;
-use crate::printer::{Printer, PrinterRecord};
-use crate::reader::{Reader, ReaderRecord};
+pub use all::{
+    AllDevices, AllRecords, all_devices, device_records_restore, device_writes_are_distinct,
+    devices_keep_ranges,
+};
 use std::marker::Model;
 
 /// The devices of a machine.
@@ -188,38 +190,4 @@ impl<D: Device, R: Devices> Devices for On<D, R> {
     fn was(back: &OnRecords<D::Record, R::Records>, place: &Place) -> Option<u64> {
         D::was(&back.own, back.channel, place).or(R::was(&back.others, place))
     }
-}
-
-/// The devices of every machine, in the order of their steps.
-pub type AllDevices = On<Reader, On<Printer, NoDevices>>;
-
-/// Their undo records.
-pub type AllRecords = OnRecords<ReaderRecord, OnRecords<PrinterRecord, NoDevices>>;
-
-/// Puts the devices on their channels, each 0 to 0o13.
-#[tactic(auto, using(crate::proofs::AllDevices::printer_joined, crate::proofs::AllDevices::reader_joined))]
-pub fn all_devices(
-    reader_channel: u8,
-    reader: Reader,
-    printer_channel: u8,
-    printer: Printer,
-) -> AllDevices
-    requires reads { reader_channel < 12 }
-    requires prints { printer_channel < 12 }
-    ensures { result ≡ record { channel = reader_channel; device = reader; others = record { channel = printer_channel; device = printer; others = record {} } } }
-{
-    On::new(
-        reader_channel,
-        reader,
-        On::new(printer_channel, printer, NoDevices),
-    )
-}
-
-/// Theorem: the numbers of each device are in range. The function does nothing.
-pub fn devices_keep_ranges(devices: &AllDevices)
-    ensures reader { IsReader devices.now.device }
-    ensures printer { IsPrinter devices.now.others.device }
-{
-    let _cards = devices.device().cards();
-    let _paper = devices.others().device().paper();
 }

@@ -1,35 +1,9 @@
-//! Theorems about write lists, the devices' records and the machine value, each the contract of a function that does
-//! nothing.
+//! Theorems about write lists and the machine value, each the contract of a function that does nothing.
 
-ghost use Rattle.std.specs.Prelude.{◌≡◌, ◌≢◌, ◌<◌, ℕ, unwrap_or};
-ghost use Rattle.std.specs.List.{AllPairs};
-ghost use Rattle.pp_machine.specs.Prelude.{Machine, over, number, Writes, renamed, places, Has, HasAll, IsShaped, lookup};
-ghost use Rattle.pp_machine.specs.Printer.{PrinterView, FitsPrinter, printer_pairs, printer_place, printer_writes};
-ghost use Rattle.pp_machine.specs.Reader.{ReaderView, reader_pairs, reader_place, reader_writes};
+ghost use Rattle.std.specs.Prelude.{◌≡◌, ℕ, unwrap_or};
+ghost use Rattle.pp_machine.specs.Prelude.{Machine, over, number, Writes, Has, HasAll, IsShaped, lookup};
 
 use crate::place::Place;
-use crate::printer::PrinterRecord;
-use crate::reader::ReaderRecord;
-
-/// After the undo record of a device is written back into a machine, each place in the record has the number that
-/// the record holds for it, and every other place keeps its number.
-pub fn device_records_restore()
-    ensures reader { (m : Machine) (c : ℕ) (back : ReaderRecord) (place : Place) →
-        IsShaped m.setup.central_words m → c < 12 →
-        number (over m (renamed (reader_place c) (reader_pairs back))) place
-        ≡ unwrap_or (lookup (renamed (reader_place c) (reader_pairs back)) place) (number m place) }
-    ensures printer { (m : Machine) (c : ℕ) (back : PrinterRecord) (s : PrinterView) (place : Place) →
-        IsShaped m.setup.central_words m → c < 12 → FitsPrinter back s →
-        number (over m (renamed (printer_place c) (printer_pairs back))) place
-        ≡ unwrap_or (lookup (renamed (printer_place c) (printer_pairs back)) place) (number m place) }
-{}
-
-/// No step of a device writes a place twice.
-#[tactic(auto, using(crate::proofs::ReaderLaws::reader_distinct, crate::proofs::PrinterLaws::printer_distinct))]
-pub fn device_writes_are_distinct()
-    ensures reader { (s : ReaderView) → AllPairs (λ one other. one ≢ other) (places (reader_writes s)) }
-    ensures printer { (s : PrinterView) → AllPairs (λ one other. one ≢ other) (places (printer_writes s)) }
-{}
 
 /// A machine is its numbers. Two machines with the same shape, setup and deck that have the same number at each
 /// place are equal.

@@ -6,7 +6,7 @@ use Rattle.pp_machine.specs.Prelude.{Machine, old_values, number, Writes, places
 use Rattle.pp_machine.specs.Phase.{is_phase}
 use Rattle.pp_machine.specs.declared.place.Write.{Write}
 use Rattle.pp_machine.specs.declared.place.Place.{Place}
-use Rattle.pp_machine.specs.declared.place.Place.TheVariants.{Cell, RegA, RegP, RegQ, Phase, ChannelMode, ChannelWord, Central, PaperSymbol, Slot}
+use Rattle.pp_machine.specs.declared.place.Place.TheVariants.{Cell, RegA, RegP, RegQ, Phase, ChannelMode, ChannelWord, Central, Slot}
 use Rattle.pp_actions.specs.CellLaws.{AreSettings-cell_writes}
 use Rattle.pp_actions.specs.Deadstart.{loading, waiting, all_waiting, all_states, states, deadstart_write_list, deadstart_place_count, deadstart_places}
 use Rattle.pp_actions.specs.Ranges.{IsInRange, twelve_bits, eighteen_bits}
@@ -142,7 +142,3 @@ not_restarted (pair ∷ w) (n ∷ ns) p other =
 pub no_word_restarted : (ns : List ℕ) (a : ℕ) → lookup (with_new_numbers deadstart_places ns) (Central a) ≡ None
 unfolding deadstart_write_list all_waiting all_states
 no_word_restarted ns a = not_restarted deadstart_places ns (Central a) refl
-
-pub no_symbol_restarted : (ns : List ℕ) (k : ℕ) → lookup (with_new_numbers deadstart_places ns) (PaperSymbol k) ≡ None
-unfolding deadstart_write_list all_waiting all_states
-no_symbol_restarted ns k = not_restarted deadstart_places ns (PaperSymbol k) refl

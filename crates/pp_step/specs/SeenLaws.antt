@@ -1,6 +1,6 @@
 -- The pairs of a processor's step, at places of the machine.
 use Rattle.std.proofs.Common.{ℕ, ◌≡◌, [], ◌∷◌, Bool, true, false, ◌==◌, ◌&&◌, Option, Some, None, if◌then◌else◌, cond, refl, ap, sym, ◌∙◌}
-use Rattle.pp_machine.specs.Lookup.{lookup as machine_lookup, same_place as same_machine_place}
+use Rattle.pp_machine.specs.Machine.{lookup as machine_lookup, same_place as same_machine_place}
 use Rattle.pp_machine.specs.Writes.{Writes, renamed}
 use Rattle.pp_machine.specs.declared.place.Place.{Place}
 use Rattle.pp_machine.specs.declared.place.Place.TheVariants as place

@@ -8,11 +8,10 @@ mod whole;
 use super::*;
 use crate::tests::{Step, action_of, check_numbers, deck_of, perform_all, setup_of};
 use pp_actions::list_of;
-use pp_machine::OnRecords;
 use std::alloc::{AllocError, Global};
 use std::process::Abort;
 use std::test::Fail;
-use whole::{is_short_true_of, is_true_of, numbers_at, places_of};
+use whole::{devices_anew, is_short_true_of, is_true_of, numbers_at, places_of};
 
 /// Returns the record rebuilt from its fields alone.
 fn made_anew(back: RigRecord) -> RigRecord
@@ -26,15 +25,7 @@ fn made_anew(back: RigRecord) -> RigRecord
                     slot,
                     are_devices_called,
                     clock,
-                    devices: OnRecords {
-                        channel: reader_channel,
-                        own: reader,
-                        others: OnRecords {
-                            channel: printer_channel,
-                            own: printer,
-                            others,
-                        },
-                    },
+                    devices,
                 },
             },
         ) => RigRecord::Turn(TurnRecord {
@@ -43,15 +34,7 @@ fn made_anew(back: RigRecord) -> RigRecord
                 slot,
                 are_devices_called,
                 clock,
-                devices: OnRecords {
-                    channel: reader_channel,
-                    own: reader,
-                    others: OnRecords {
-                        channel: printer_channel,
-                        own: printer,
-                        others,
-                    },
-                },
+                devices: devices_anew(devices),
             },
         }),
         RigRecord::Settings(standing) => RigRecord::Settings(list_of(standing.as_slice())),

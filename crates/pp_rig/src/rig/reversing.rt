@@ -35,15 +35,15 @@ fn first_entry(i: u8, watches: &[Watched], place: &Place) -> Option<u64>
     None
 }
 
-/// Returns the old number of a place, if a dead start overwrote it. A dead start writes no central word and no symbol of the
-/// paper; looking up these needs no list. This is a separate function, so other lookups need not clear stack space for
-/// the list.
+/// Returns the old number of a place, if a dead start overwrote it. A dead start writes no central word; looking up one
+/// needs no list. This is a separate function, so other lookups need not clear stack space for the list.
 #[inline(never)]
+#[tactic(auto, using(crate::proofs::Deadstart::no_word_restarted))]
 fn restarted_was(numbers: &[u32], place: &Place) -> Option<u64>
     ensures { result ≡ lookup (with_new_numbers deadstart_places numbers.now) place.now }
 {
     match place {
-        Place::Central { .. } | Place::PaperSymbol { .. } => None,
+        Place::Central { .. } => None,
         _ => first_write(renumbered(numbers).as_slice(), place),
     }
 }

@@ -1,9 +1,10 @@
-//! All numbers of a machine, by their places.
+//! All numbers of a machine, by their places, and the undo records of all devices.
+ghost use Rattle.std.specs.Prelude.{◌≡◌};
 
 use crate::rig::{Rig, RigRecord, ShortTurn};
 use crate::tests::has;
 use pp_history::Reversible;
-use pp_machine::Place;
+use pp_machine::{AllRecords, OnRecords, Place};
 use std::alloc::{AllocError, Global};
 
 /// Adds these places.
@@ -113,4 +114,24 @@ pub fn is_short_true_of(
         }
     }
     true
+}
+
+/// Returns the undo records of the devices rebuilt from their fields alone.
+pub fn devices_anew(back: AllRecords) -> AllRecords
+    ensures { result ≡ back }
+{
+    let OnRecords {
+        channel: reader_channel,
+        own: reader,
+        others: printer,
+    } = back;
+    OnRecords {
+        channel: reader_channel,
+        own: reader,
+        others: OnRecords {
+            channel: printer.channel,
+            own: printer.own,
+            others: printer.others,
+        },
+    }
 }

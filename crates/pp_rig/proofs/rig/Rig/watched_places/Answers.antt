@@ -1,6 +1,6 @@
 use Rattle.std.proofs.Common.{take}
 use Rattle.std.proofs.lemmas.List.Elements.{All-map, All-take}
-use Rattle.pp_machine.specs.Shape.{Has}
+use Rattle.pp_machine.specs.Machine.{Has}
 use Rattle.pp_actions.specs.Watches.{watched_place, watches_of}
 use Rattle.pp_rig.proofs.rig.Rig.watched_places.Goals as goal
 

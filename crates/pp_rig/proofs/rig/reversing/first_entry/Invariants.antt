@@ -1,5 +1,5 @@
 use Rattle.std.proofs.Common.{◌≡◌, ◌+◌, drop, map}
-use Rattle.pp_machine.specs.Lookup.{lookup}
+use Rattle.pp_machine.specs.Machine.{lookup}
 use Rattle.pp_actions.specs.WatchCodes.{watch_code}
 use Rattle.pp_actions.specs.WriteLists.{entry_writes}
 use Rattle.pp_rig.proofs.rig.reversing.first_entry.Given as goal
