@@ -1,52 +1,38 @@
 -- A machine is its numbers: two machines with the same shape, setup and deck that have the same number at each place are equal.
 use Rattle.std.proofs.Common.{◌≡◌, ◌∙◌, ℕ, ◌<◌, List, length, get_or, sym}
 use Rattle.std.proofs.lemmas.List.{ext_get_or}
-use Rattle.pp_machine.specs.Prelude.{Machine, ProcessorNumbers, number, processor, no_processor, Has, IsShaped}
+use Rattle.pp_machine.specs.Prelude.{Machine, number, processor, no_processor, Has, IsShaped}
 use Rattle.pp_machine.specs.declared.place.Place.{Place}
 use Rattle.pp_machine.specs.declared.place.Place.TheVariants.{Cell, RegA, RegP, RegQ, Phase, ChannelMode, ChannelWord, Clock, Central, FrameWord, Card, CardColumn, ReaderMode, PaperLength, PaperColumn, PrinterMode, PaperSymbol, Slot, WatchEntry}
 
-same-processor : (x y : ProcessorNumbers) → x.a ≡ y.a → x.p ≡ y.p → x.q ≡ y.q → x.phase ≡ y.phase → x.cells ≡ y.cells → x ≡ y
-same-processor x y a p q phase cells =
-    let whole : x ≡ record { a = y.a; p = y.p; q = y.q; phase = y.phase; cells = y.cells } = rw (← a, ← p, ← q, ← phase, ← cells) in whole
-
-same-list : (n : ℕ) (xs ys : List ℕ) → length xs ≡ n → length ys ≡ n → ((i : ℕ) → i < n → get_or xs i 0 ≡ get_or ys i 0) → xs ≡ ys
-same-list n xs ys e e' each = ext_get_or 0 xs ys (e ∙ sym e') (λ i h. each i (rw e at h))
-
 module _ (size : ℕ) (m m' : Machine) (shaped : IsShaped size m) (shaped' : IsShaped size m') (each : (p : Place) → Has size p → number m p ≡ number m' p) where
+  same-list : (n : ℕ) (list : Machine → List ℕ) → length (list m) ≡ n → length (list m') ≡ n → ((i : ℕ) → i < n → get_or (list m) i 0 ≡ get_or (list m') i 0) → list m ≡ list m'
+  same-list n list e e' same = ext_get_or 0 (list m) (list m') (e ∙ sym e') (λ i h. same i (rw e at h))
+
   processors : m.processors ≡ m'.processors
   processors = ext_get_or no_processor m.processors m'.processors (shaped.processors ∙ sym shaped'.processors) (λ n h.
       let few : n < 10 = rw shaped.processors at h in
-      same-processor (processor m n) (processor m' n) (each (RegA n) few) (each (RegP n) few) (each (RegQ n) few) (each (Phase n) few)
-      (same-list 4096 (processor m n).cells (processor m' n).cells (shaped.memories n few) (shaped'.memories n few) (λ a within. each (Cell n a) (few, within))))
+      let cells = same-list 4096 (λ s. (processor s n).cells) (shaped.memories n few) (shaped'.memories n few) (λ a within. each (Cell n a) (few, within)) in
+      λ i. record { a = each (RegA n) few i; p = each (RegP n) few i; q = each (RegQ n) few i; phase = each (Phase n) few i; cells = cells i })
 
   pub same-machines : m.setup ≡ m'.setup → m.reader.deck ≡ m'.reader.deck → m ≡ m'
-  same-machines setup deck =
-      let whole : m ≡ record {
-        processors = m'.processors;
-        channels = record { states = m'.channels.states; registers = m'.channels.registers; clock = m'.channels.clock };
-        central = m'.central;
-        frame = m'.frame;
-        reader = record { deck = m'.reader.deck; card = m'.reader.card; column = m'.reader.column; mode = m'.reader.mode };
-        printer = record { symbols = m'.printer.symbols; length = m'.printer.length; column = m'.printer.column; mode = m'.printer.mode };
-        slot = m'.slot;
-        watches = m'.watches;
-        setup = m'.setup;
-      } = rw (
-        ← processors,
-        ← same-list 12 m.channels.states m'.channels.states shaped.states shaped'.states (λ c h. each (ChannelMode c) h),
-        ← same-list 12 m.channels.registers m'.channels.registers shaped.registers shaped'.registers (λ c h. each (ChannelWord c) h),
-        ← each Clock tt,
-        ← same-list size m.central m'.central shaped.central shaped'.central (λ a h. each (Central a) h),
-        ← same-list 16 m.frame m'.frame shaped.frame shaped'.frame (λ i h. each (FrameWord i) h),
-        ← deck,
-        ← each Card tt,
-        ← each CardColumn tt,
-        ← each ReaderMode tt,
-        ← same-list 65536 m.printer.symbols m'.printer.symbols shaped.symbols shaped'.symbols (λ k h. each (PaperSymbol k) h),
-        ← each PaperLength tt,
-        ← each PaperColumn tt,
-        ← each PrinterMode tt,
-        ← each Slot tt,
-        ← same-list 8 m.watches m'.watches shaped.watches shaped'.watches (λ i h. each (WatchEntry i) h),
-        ← setup,
-      ) in whole
+  same-machines setup deck = λ i. record {
+    processors = processors i;
+    channels = record {
+      states = same-list 12 (λ s. s.channels.states) shaped.states shaped'.states (λ c h. each (ChannelMode c) h) i;
+      registers = same-list 12 (λ s. s.channels.registers) shaped.registers shaped'.registers (λ c h. each (ChannelWord c) h) i;
+      clock = each Clock tt i;
+    };
+    central = same-list size (λ s. s.central) shaped.central shaped'.central (λ a h. each (Central a) h) i;
+    frame = same-list 16 (λ s. s.frame) shaped.frame shaped'.frame (λ k h. each (FrameWord k) h) i;
+    reader = record { deck = deck i; card = each Card tt i; column = each CardColumn tt i; mode = each ReaderMode tt i };
+    printer = record {
+      symbols = same-list 65536 (λ s. s.printer.symbols) shaped.symbols shaped'.symbols (λ k h. each (PaperSymbol k) h) i;
+      length = each PaperLength tt i;
+      column = each PaperColumn tt i;
+      mode = each PrinterMode tt i;
+    };
+    slot = each Slot tt i;
+    watches = same-list 8 (λ s. s.watches) shaped.watches shaped'.watches (λ k h. each (WatchEntry k) h) i;
+    setup = setup i;
+  }
