@@ -1,10 +1,10 @@
 -- Single writes to the machine: how they behave, and how the old values undo any list of writes.
-use Rattle.std.proofs.Common.{sym, ap, zero, suc, inl, inr, ℕ, ◌≡◌, ◌⊎◌, ◌==◌, true, false, List, [], ◌∷◌, get_or, set, refl, arith}
-use Rattle.std.proofs.lemmas.Bool.{and_parts, cases_Bool, eqb-true, eqb-false, false≢true}
+use Rattle.std.proofs.Common.{ap, zero, suc, ℕ, ◌≡◌, ◌==◌, true, false, List, [], ◌∷◌, get_or, set, refl, arith}
+use Rattle.std.proofs.lemmas.Bool.{and_parts, eqb-true, eqb-false, false≢true}
 use Rattle.std.proofs.lemmas.Bool.Decides.{nat_tests}
 use Rattle.std.proofs.lemmas.List.{set-set, set_comm, set-get_or}
 use Rattle.pp_machine.specs.Prelude.{Machine, ProcessorNumbers, over, old_values, number, put, processor, no_processor, Writes, same_place}
-use Rattle.pp_machine.specs.WriteLaws.{Commute, undone-by-old-values}
+use Rattle.pp_machine.specs.WriteLaws.{Commute, eqb-false_sym, store-by, undone-by-old-values}
 use Rattle.pp_machine.specs.declared.place.Place.{Place}
 use Rattle.pp_machine.specs.declared.place.Place.TheVariants.{Cell, RegA, RegP, RegQ, Phase, Slot}
 
@@ -53,9 +53,6 @@ equal _ Slot e = cc
 equal (Cell n a) (Cell k b) e = let both = and_parts (n == k) (a == b) e in search eqb-true
 equal _ _ e = search (eqb-true, false≢true)
 
-eqb-false_sym : (i j : ℕ) → (i == j) ≡ false → j ≡ i → ⊥
-eqb-false_sym i j e same = eqb-false i j e (sym same)
-
 commute : (x y : Place) → same_place x y ≡ false → Commute put x y
 commute Slot Slot e = cc
 commute _ Slot e = λ s v w. refl
@@ -63,9 +60,6 @@ commute (Cell n a) (Cell k b) e = λ s v w.
     ap (with_processors s) (changed-swap (own_put (Cell n a) v) (own_put (Cell k b) w) s.processors n k
     (λ same x i. record x { cells = set_comm x.cells a b v w (λ equal. grind (arith, nat_tests, e)) i }))
 commute x y e = λ s v w. search (set_comm, eqb-false, eqb-false_sym, changed-apart (own_put x v) (own_put y w), changed-swap (own_put x v) (own_put y w))
-
-apart : (x y : Place) → (x ≡ y) ⊎ Commute put x y
-apart x y = elim (cases_Bool (same_place x y)) [ inl e ↦ inl (equal x y e) | inr e ↦ inr (commute x y e) ]
 
 again : (s : Machine) (x : Place) (v w : ℕ) → put (put s x v) x w ≡ put s x w
 again s (Cell n a) v w = ap (with_processors s) (changed-again (own_put (Cell n a) v) (own_put (Cell n a) w) (λ x i. record x { cells = set-set x.cells a v w i }) s.processors n)
@@ -80,4 +74,4 @@ own s x = search (own-processor s, set-get_or)
 
 -- the old values undo a list of writes
 pub taken_back : (m : Machine) (w : Writes Place) → over (over m w) (old_values m w) ≡ m
-taken_back = undone-by-old-values Machine Place number put (record { apart = apart; again = again; own = own })
+taken_back = undone-by-old-values Machine Place number put (store-by number put same_place equal commute again own)
