@@ -15,19 +15,15 @@ use Rattle.pp_step.specs.InstructionTable.{effect, code_of, instruction_at}
 use Rattle.pp_step.specs.Rows.{five_cells}
 use Rattle.pp_step.specs.Seen.{same_place, lookup}
 use Rattle.pp_step.specs.Step.{pp_writes}
-use Rattle.pp_step.specs.View.{PpView, PpPlace, P, Cell, State, Register, Central, FrameWord}
+use Rattle.pp_step.specs.View.{PpView, PpPlace, A, P, Cell, Central, FrameWord}
 use Rattle.pp_step.specs.Words.{cell_after, central_after}
 use Rattle.pp_step.specs.declared.code.Code.{Code}
 use Rattle.pp_step.specs.declared.code.Code.TheVariants as code
 use Rattle.pp_step.proofs.ExchangeLookup.{absent, none, in_neither}
 
 self : (x : PpPlace) → same_place x x ≡ true
-self (Cell i) = eq-eqb i i refl
-self (State i) = eq-eqb i i refl
-self (Register i) = eq-eqb i i refl
-self (Central i) = eq-eqb i i refl
-self (FrameWord i) = eq-eqb i i refl
-self _ = refl
+self A = refl
+self _ = search eq-eqb
 
 keep_front : (b : Bool) (x : PpPlace) (w : ℕ) (ws rest : Writes PpPlace) → lookup (ws ++ rest) x ≡ None → once same_place (ws ++ rest) ≡ true → once same_place ((if b then (x, w) ∷ ws else ws) ++ rest) ≡ true
 keep_front true x w ws rest e h = rw e h
