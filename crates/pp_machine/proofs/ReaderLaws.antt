@@ -59,9 +59,7 @@ reader_distinct s = sound-once name_own 0 0 (reader_writes s) (sound-step 0 0 (o
 
 -- a reader is its deck and its numbers
 pub same-reader : (size : ℕ) (m m' : Machine) → ((p : Place) → Has size p → number m p ≡ number m' p) → m.reader.deck ≡ m'.reader.deck → m.reader ≡ m'.reader
-same-reader size m m' each deck =
-    let whole : m.reader ≡ record { deck = m'.reader.deck; card = m'.reader.card; column = m'.reader.column; mode = m'.reader.mode }
-    = rw (← deck, ← each (name_own Card) tt, ← each (name_own Column) tt, ← each (name_own Mode) tt) in whole
+same-reader size m m' each deck = λ i. record { deck = deck i; card = each (name_own Card) tt i; column = each (name_own Column) tt i; mode = each (name_own Mode) tt i }
 
 reader-idle : (s : ReaderView) → s.state ≡ 0 → reader_writes s ≡ []
 reader-idle s e = rw e refl
