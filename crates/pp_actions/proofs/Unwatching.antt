@@ -160,7 +160,7 @@ length-with_entries entries i [] = refl
 length-with_entries entries i (code ∷ codes) = length-set (with_entries entries (i + 1) codes) i code ∙ length-with_entries entries (i + 1) codes
 
 pub IsShaped-watches : (size : ℕ) (m : Machine) (entries : List ℕ) → IsShaped size m → length entries ≡ 8 → IsShaped size (record m { watches = entries })
-IsShaped-watches size m entries s e = record { processors = s.processors; memories = s.memories; states = s.states; registers = s.registers; central = s.central; frame = s.frame; symbols = s.symbols; watches = e }
+IsShaped-watches size m entries s e = assumption (s, e)
 
 -- behind the last place there is nothing to move up
 pub moved_up-last : (entries : List ℕ) → moved_up (drop (first_zero entries) entries) ≡ 0 ∷ []

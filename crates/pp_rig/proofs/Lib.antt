@@ -1,5 +1,4 @@
 pub mod Admitting
-pub mod Cards
 pub mod Deadstart
 pub mod Devices
 pub mod Marks

@@ -18,23 +18,13 @@ fn made_anew(back: RigRecord) -> RigRecord
     ensures { (m : Machine) → FitsRecord back m → FitsRecord result m }
 {
     match back {
-        RigRecord::Turn(
-            TurnRecord {
-                pp,
-                rest: TurnRest {
-                    slot,
-                    are_devices_called,
-                    clock,
-                    devices,
-                },
-            },
-        ) => RigRecord::Turn(TurnRecord {
+        RigRecord::Turn(TurnRecord { pp, rest }) => RigRecord::Turn(TurnRecord {
             pp,
             rest: TurnRest {
-                slot,
-                are_devices_called,
-                clock,
-                devices: devices_anew(devices),
+                slot: rest.slot,
+                are_devices_called: rest.are_devices_called,
+                clock: rest.clock,
+                devices: devices_anew(rest.devices),
             },
         }),
         RigRecord::Settings(standing) => RigRecord::Settings(list_of(standing.as_slice())),

@@ -120,18 +120,13 @@ pub fn is_short_true_of(
 pub fn devices_anew(back: AllRecords) -> AllRecords
     ensures { result ≡ back }
 {
-    let OnRecords {
-        channel: reader_channel,
-        own: reader,
-        others: printer,
-    } = back;
     OnRecords {
-        channel: reader_channel,
-        own: reader,
+        channel: back.channel,
+        own: back.own,
         others: OnRecords {
-            channel: printer.channel,
-            own: printer.own,
-            others: printer.others,
+            channel: back.others.channel,
+            own: back.others.own,
+            others: back.others.others,
         },
     }
 }
