@@ -47,12 +47,14 @@ own_put (RegQ n) v x = record x { q = v }
 own_put (Phase n) v x = record x { phase = v }
 own_put _ v x = x
 
+-- the test of places finds only equal ones the same
 equal : (x y : Place) → same_place x y ≡ true → x ≡ y
 equal Slot Slot e = refl
 equal _ Slot e = cc
 equal (Cell n a) (Cell k b) e = let both = and_parts (n == k) (a == b) e in search eqb-true
 equal _ _ e = search (eqb-true, false≢true)
 
+-- writes to different places, in either order
 commute : (x y : Place) → same_place x y ≡ false → Commute put x y
 commute Slot Slot e = cc
 commute _ Slot e = λ s v w. refl
@@ -61,6 +63,7 @@ commute (Cell n a) (Cell k b) e = λ s v w.
     (λ same x i. record x { cells = set_comm x.cells a b v w (λ equal. grind (arith, nat_tests, e)) i }))
 commute x y e = λ s v w. search (set_comm, eqb-false, eqb-false_sym, changed-apart (own_put x v) (own_put y w), changed-swap (own_put x v) (own_put y w))
 
+-- of two writes to a place, the second counts
 again : (s : Machine) (x : Place) (v w : ℕ) → put (put s x v) x w ≡ put s x w
 again s (Cell n a) v w = ap (with_processors s) (changed-again (own_put (Cell n a) v) (own_put (Cell n a) w) (λ x i. record x { cells = set-set x.cells a v w i }) s.processors n)
 again s x v w = first_of (search (changed-again (own_put x v) (own_put x w)), search set-set)
@@ -68,6 +71,7 @@ again s x v w = first_of (search (changed-again (own_put x v) (own_put x w)), se
 own-processor : (s : Machine) (n : ℕ) (x : ProcessorNumbers) → x ≡ processor s n → with_processors s (set s.processors n x) ≡ s
 own-processor s n x e = rw e (ap (with_processors s) (set-get_or s.processors n no_processor))
 
+-- writing a place's own number changes nothing
 own : (s : Machine) (x : Place) → put s x (number s x) ≡ s
 own s Slot = refl
 own s x = search (own-processor s, set-get_or)
