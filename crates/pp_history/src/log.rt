@@ -1,11 +1,12 @@
-//! The newest actions with their undo records: one list, held in rings.
+//! The newest actions with their undo records: one list, held in slots and rings.
 
-ghost use Rattle.std.specs.Prelude.{◌≡◌, ◌∷◌, [], take, drop, slice_get, slice_set, Some, None, Option, ℕ, List, ◌+◌, ◌-◌, ◌<◌, ◌≤◌, length, IfOk, IsSomeAnd, MatchOption, IfSome, IsNone, ◌↔◌, ◌*◌};
+ghost use Rattle.std.specs.Prelude.{◌≡◌, ◌∷◌, [], take, drop, slice_get, slice_set, Some, None, Option, ℕ, List, ◌+◌, ◌-◌, ◌<◌, ◌≤◌, length, IfOk, IsSomeAnd, MatchOption, IfSome, IsNone, ◌↔◌, ◌*◌, min};
 ghost use Rattle.circular_buffer.specs.Buffer.{buffer};
 ghost use Rattle.std.specs.List.{All};
 ghost use Rattle.pp_history.specs.Joining.{IsActed, IsNext, first_of, left_by};
 ghost use Rattle.pp_history.specs.LogValue.{IsPerformed, IsUndone, LogValue, log_of};
 ghost use Rattle.pp_history.specs.Marks.{AreCovered};
+ghost use Rattle.pp_history.specs.Slots.{IsKeptSlot, IsNextSlot};
 ghost use Rattle.pp_history.specs.Search.{changes, first_changing, differs_from};
 ghost use Rattle.pp_history.specs.UndoRecord.{whole_record};
 ghost use Rattle.pp_history.specs.Tails.{in_tail, pushed};
@@ -23,26 +24,32 @@ use std::marker::Model;
 /// tails that are made.
 #[derive(Drop)]
 pub(crate) struct Log<T: Reversible> {
-    /// First the heads of the undone actions, the next to perform again last; then those of the kept actions, the newest
-    /// first.
-    heads: HeapCircularBuffer<Option<T::Head>>,
+    /// A slot for each action that the log can hold; an action that was performed overwrites a head in place. From `end`
+    /// on and round the end, first are the heads of the undone actions, the next to perform again first; the last are
+    /// those of the kept actions, the newest last.
+    slots: Vec<Option<T::Head>>,
+    /// The index after that of the newest kept action's head.
+    end: usize,
+    /// How many of the heads are those of kept actions.
+    kept: usize,
+    /// How many of the heads are those of undone actions.
+    ahead: usize,
     /// The kept actions without a head, the newest first, and then discarded ones.
     tails: Tails<T::Action, T::Record>,
     /// The undone actions without a head, the next to perform again first, and then discarded ones.
     undone: HeapCircularBuffer<T::Action>,
-    /// How many of the heads are those of undone actions.
-    ahead: usize,
 }
 
 impl<T: Reversible> Model for Log<T> {
     ghost use Rattle.pp_history.specs.LogValue.{LogValue};
     ghost use Rattle.pp_history.specs.Joining.{IsLog, log_value};
+    ghost use Rattle.pp_history.specs.Slots.{IsEnd, turned};
 
     ghost Value = { LogValue T.Action T.Record };
 
-    ghost view = { λ l. log_value T.unpacked l.heads l.tails.ring l.undone l.ahead };
+    ghost view = { λ l. log_value T.unpacked (turned l.end l.slots.items) l.tails.ring l.undone l.kept l.ahead };
 
-    ghost invariant = { λ l. IsLog T.unpacked l.heads l.tails.ring l.undone l.ahead };
+    ghost invariant = { λ l. IsEnd l.end l.slots.items × IsLog T.unpacked (turned l.end l.slots.items) l.tails.ring l.undone l.kept l.ahead };
 }
 
 impl<T: Reversible> Log<T> {
@@ -51,14 +58,16 @@ impl<T: Reversible> Log<T> {
         requires { (1 ≤ capacity) × (capacity ≤ 10000) }
         ensures { IfOk result (λ log. log ≡ record { records = []; ahead = []; capacity = capacity }) }
     {
-        let heads = HeapCircularBuffer::with_capacity(alloc, capacity as usize)?;
+        let slots = blank_slots::<T>(alloc, capacity as usize)?;
         let tails = Tails::new(alloc, capacity as usize)?;
         let undone = HeapCircularBuffer::with_capacity(alloc, capacity as usize)?;
         Ok(Log {
-            heads,
+            slots,
+            end: 0,
+            kept: 0,
+            ahead: 0,
             tails,
             undone,
-            ahead: 0,
         })
     }
 
@@ -66,14 +75,14 @@ impl<T: Reversible> Log<T> {
     pub(crate) fn capacity(&self) -> u32
         ensures { result ≡ self.now.capacity }
     {
-        self.heads.capacity() as u32
+        self.slots.len() as u32
     }
 
     /// Returns the number of undo records.
     pub(crate) fn kept(&self) -> u32
         ensures { result ≡ length self.now.records }
     {
-        (self.heads.len() - self.ahead) as u32
+        self.kept as u32
     }
 
     /// Returns the number of actions that were undone.
@@ -90,10 +99,11 @@ impl<T: Reversible> Log<T> {
         ensures { IsPerformed T.Reversible machine.old machine.new
             (log_of (take (self.old.capacity - 1) self.old.records) (action ∷ []) self.old.capacity) self.new }
     {
-        discard_ahead(&mut self.heads, &mut self.ahead);
-        push(&mut self.heads, T::blank_head());
-        let head = self.heads.get_mut(0).unwrap();
-        machine.perform(action, head, &mut self.tails);
+        let at = next_slot(self.end, self.slots.len());
+        self.end = at + 1;
+        self.kept = one_more(self.kept, self.slots.len());
+        self.ahead = 0;
+        machine.perform(action, &mut self.slots[at], &mut self.tails);
     }
 
     /// Undoes the newest action.
@@ -103,8 +113,10 @@ impl<T: Reversible> Log<T> {
         requires fits { (newest : T.Action × T.Record) → slice_get self.old.records 0 ≡ Some newest → T.fits newest.1 machine.old }
         ensures { IsUndone T.Reversible machine.old machine.new self.old self.new }
     {
-        let head = self.heads.get(self.ahead).unwrap();
-        undo(machine, head, &mut self.tails, &mut self.undone);
+        let at = kept_slot(self.end, self.slots.len(), 0);
+        undo(machine, &self.slots[at], &mut self.tails, &mut self.undone);
+        self.end = at;
+        self.kept -= 1;
         self.ahead += 1;
     }
 
@@ -115,8 +127,11 @@ impl<T: Reversible> Log<T> {
         requires admitted { (action : T.Action) → slice_get self.old.ahead 0 ≡ Some action → T.admitted machine.old action }
         ensures { IsPerformed T.Reversible machine.old machine.new self.old self.new }
     {
+        let at = next_slot(self.end, self.slots.len());
+        self.end = at + 1;
+        self.kept += 1;
         self.ahead -= 1;
-        let head = self.heads.get_mut(self.ahead).unwrap();
+        let head = &mut self.slots[at];
         perform_next(machine, head, &mut self.tails, &mut self.undone);
     }
 
@@ -126,7 +141,11 @@ impl<T: Reversible> Log<T> {
         ensures some { IfSome result (λ back. (newest : T.Action × T.Record) × (slice_get self.now.records 0 ≡ Some newest) × (newest.1 ≡ whole_record T.unpacked back)) }
         ensures none { IsNone result ↔ (length self.now.records ≡ 0) }
     {
-        undo_record(self.heads.get(self.ahead)?, &self.tails, 0)
+        if self.kept == 0 {
+            return None;
+        }
+        let at = kept_slot(self.end, self.slots.len(), 0);
+        undo_record(&self.slots[at], &self.tails, 0)
     }
 
     /// Returns the position, counted from 1, of the first undo record that has another number for one of the places
@@ -147,7 +166,7 @@ impl<T: Reversible> Log<T> {
         let marks = Marks::of::<T>(places);
         let mut tail = 0;
         for k in 0..self.kept() {
-            let head = self.heads.get(self.ahead + k as usize).unwrap();
+            let head = &self.slots[kept_slot(self.end, self.slots.len(), k as usize)];
             let back = undo_record(head, &self.tails, tail).unwrap();
             if is_changed(machine, &back, places, &marks, looks) {
                 return Some(k + 1);
@@ -248,16 +267,50 @@ fn is_changed<T: Reversible>(
     }
 }
 
-/// Discards the heads of the undone actions.
-#[inline(always)]
-fn discard_ahead<H: Drop>(heads: &mut HeapCircularBuffer<H>, ahead: &mut usize)
-    requires { ahead.old ≤ length heads.old.items }
-    ensures heads { heads.new ≡ buffer (drop ahead.old heads.old.items) heads.old.capacity }
-    ensures none { ahead.new ≡ 0 }
+/// Returns a slot for each action, with heads to overwrite. Fails if there is no memory left.
+fn blank_slots<T: Reversible>(
+    alloc: Global,
+    capacity: usize,
+) -> Result<Vec<Option<T::Head>>, AllocError>
+    ensures { IfOk result (λ slots. length slots.items ≡ capacity) }
 {
-    if *ahead > 0 {
-        heads.truncate_front(heads.len() - *ahead);
-        *ahead = 0;
+    let mut slots = Vec::with_capacity(alloc, capacity)?;
+    for _slot in 0..capacity {
+        slots.push(T::blank_head())?;
+    }
+    Ok(slots)
+}
+
+/// Returns the number of kept actions after one more, when the log may be full.
+#[inline(always)]
+fn one_more(kept: usize, capacity: usize) -> usize
+    requires { kept ≤ capacity }
+    ensures { result ≡ min (kept + 1) capacity }
+{
+    if kept < capacity { kept + 1 } else { kept }
+}
+
+/// Returns the index of the slot after that of the newest kept action.
+#[inline(always)]
+fn next_slot(end: usize, capacity: usize) -> usize
+    requires some { 1 ≤ capacity }
+    requires within { end ≤ capacity }
+    ensures { IsNextSlot end capacity result }
+{
+    if end == capacity { 0 } else { end }
+}
+
+/// Returns the index of the slot of the kept action behind k newer ones.
+#[inline(always)]
+fn kept_slot(end: usize, capacity: usize, k: usize) -> usize
+    requires k { k < capacity }
+    requires within { (end ≤ capacity) × (capacity ≤ 10000) }
+    ensures { IsKeptSlot end capacity k result }
+{
+    if k < end {
+        end - 1 - k
+    } else {
+        end + capacity - 1 - k
     }
 }
 
