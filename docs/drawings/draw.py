@@ -511,7 +511,7 @@ COSTS = [
     ("the turn, as in C", GREEN, GREEN_EDGE),
     ("its undo record, as in C", AMBER, AMBER_EDGE),
     ("what the simulator adds", BLUE, BLUE_EDGE),
-    ("a new entry of the history", GREY, GREY_EDGE),
+    ("what STEP adds to that", GREY, GREY_EDGE),
 ]
 
 
