@@ -94,7 +94,7 @@ def files():
     """Returns the path of each file and folder of the repository, without what a check leaves."""
     found = {os.path.join("crates", crate, "out") for crate in os.listdir(os.path.join(TOP, "crates"))}
     for folder, folders, names in os.walk(TOP):
-        folders[:] = [name for name in folders if name not in (".git", "out", "__pycache__")]
+        folders[:] = [name for name in folders if name not in (".git", "out", "__pycache__", ".proving", ".mutants")]
         found |= {os.path.relpath(os.path.join(folder, name), TOP) for name in folders + names}
     return found
 
