@@ -4,8 +4,10 @@ ghost use Rattle.std.specs.Prelude.{◌≡◌, ◌∷◌, [], take, drop, slice_
 ghost use Rattle.circular_buffer.specs.Buffer.{buffer};
 ghost use Rattle.std.specs.List.{All};
 ghost use Rattle.pp_history.specs.Joining.{IsActed, IsNext, first_of, left_by};
-ghost use Rattle.pp_history.specs.LogValue.{IsPerformed, IsUndone, LogValue, log_of};
+ghost use Rattle.pp_history.specs.LogValue.{IsPerformed, LogValue, log_of};
 ghost use Rattle.pp_history.specs.Marks.{AreCovered};
+ghost use Rattle.pp_history.specs.Parts.{IsSession, contents};
+ghost use Rattle.pp_history.specs.SessionValue.{Moves, after_back, after_forward};
 ghost use Rattle.pp_history.specs.Slots.{IsKeptSlot, IsNextSlot};
 ghost use Rattle.pp_history.specs.Search.{changes, first_changing, differs_from};
 ghost use Rattle.pp_history.specs.UndoRecord.{whole_record};
@@ -106,33 +108,39 @@ impl<T: Reversible> Log<T> {
         machine.perform(action, &mut self.slots[at], &mut self.tails);
     }
 
-    /// Undoes the newest action.
+    /// Undoes the newest n actions. The end is in a local variable meanwhile, so it is not written for each action.
     #[inline(always)]
-    pub(crate) fn take_back(&mut self, machine: &mut T)
-        requires some { 0 < length self.old.records }
-        requires fits { (newest : T.Action × T.Record) → slice_get self.old.records 0 ≡ Some newest → T.fits newest.1 machine.old }
-        ensures { IsUndone T.Reversible machine.old machine.new self.old self.new }
+    pub(crate) fn take_back(&mut self, machine: &mut T, n: u32)
+        requires some { n ≤ length self.old.records }
+        requires session { IsSession T.Reversible machine.old self.old }
+        ensures { Moves T.Reversible (contents machine.old self.old) (contents machine.new self.new) (λ v. after_back v n) }
     {
-        let at = kept_slot(self.end, self.slots.len(), 0);
-        undo(machine, &self.slots[at], &mut self.tails, &mut self.undone);
-        self.end = at;
-        self.kept -= 1;
-        self.ahead += 1;
+        let mut end = self.end;
+        for _step in 0..n {
+            let at = kept_slot(end, self.slots.len(), 0);
+            undo(machine, &self.slots[at], &mut self.tails, &mut self.undone);
+            end = at;
+        }
+        self.end = end;
+        self.kept -= n as usize;
+        self.ahead += n as usize;
     }
 
-    /// Performs the first action ahead again.
-    #[inline(always)]
-    pub(crate) fn perform_again(&mut self, machine: &mut T)
-        requires some { 0 < length self.old.ahead }
-        requires admitted { (action : T.Action) → slice_get self.old.ahead 0 ≡ Some action → T.admitted machine.old action }
-        ensures { IsPerformed T.Reversible machine.old machine.new self.old self.new }
+    /// Performs the first n actions ahead again. As a function of its own it has registers for what its loop needs.
+    #[inline(never)]
+    pub(crate) fn perform_again(&mut self, machine: &mut T, n: u32)
+        requires some { n ≤ length self.old.ahead }
+        requires session { IsSession T.Reversible machine.old self.old }
+        ensures { Moves T.Reversible (contents machine.old self.old) (contents machine.new self.new) (λ v. after_forward v n) }
     {
-        let at = next_slot(self.end, self.slots.len());
-        self.end = at + 1;
-        self.kept += 1;
-        self.ahead -= 1;
-        let head = &mut self.slots[at];
-        perform_next(machine, head, &mut self.tails, &mut self.undone);
+        for _again in 0..n {
+            let at = next_slot(self.end, self.slots.len());
+            self.end = at + 1;
+            let head = &mut self.slots[at];
+            perform_next(machine, head, &mut self.tails, &mut self.undone);
+        }
+        self.kept += n as usize;
+        self.ahead -= n as usize;
     }
 
     /// Returns the newest undo record, or `None` if there is none.

@@ -363,7 +363,8 @@ impl Rig {
         requires { FitsTurn (whole_turn back.now) self.old }
         ensures { self.new ≡ over self.old (turn_pairs (whole_turn back.now)) }
     {
+        let slot = back.rest.slot;
         self.undo_rest(&back.rest);
-        self.undo_processor_short(back.rest.slot, &back.pp);
+        self.undo_processor_short(slot, &back.pp);
     }
 }
