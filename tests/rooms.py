@@ -2,6 +2,7 @@
 
 import os
 import re
+import secrets
 import shutil
 
 TOP = os.path.dirname(os.path.dirname(os.path.abspath(__file__)))
@@ -41,6 +42,15 @@ def make(crate, below, folder):
     for name in below:
         link_tree(os.path.join(TOP, "crates", name, "out", "rlib"), os.path.join(folder, "crates", name, "out", "rlib"))
     return os.path.join(folder, "crates", crate)
+
+
+def stand_alone(crate):
+    """Has a check of a copy of a crate begin with nothing. The kit has it begin with what another checkout on this machine kept of
+    the same text, or of any text if this one keeps nothing. So the copy gets a line that no other has, and an empty folder to keep work in."""
+    is_library = os.path.exists(os.path.join(crate, "src", "lib.rt"))
+    with open(os.path.join(crate, "src", "lib.rt" if is_library else "main.rt"), "a", encoding="utf-8") as file:
+        file.write(f"\n// {secrets.token_hex(16)}\n")
+    os.makedirs(os.path.join(crate, "out", "incremental"))
 
 
 def link_tree(source, target):
