@@ -2,9 +2,21 @@
 
 ghost use Rattle.std.specs.Prelude.{◌≤◌};
 
-use crate::{Central, CentralSize, Channel, ChannelState, Frame, Memory12};
+use crate::{Central, CentralSize, Channel, ChannelState, Frame, Memory12, Unaligned16};
 use std::alloc::Global;
 use std::test::Fail;
+
+/// Numbers in undo records.
+pub const ZERO: Unaligned16 = Unaligned16 { low: 0, high: 0 };
+
+pub const ONE: Unaligned16 = Unaligned16 { low: 1, high: 0 };
+
+pub const TWO: Unaligned16 = Unaligned16 { low: 2, high: 0 };
+
+pub const GREATEST: Unaligned16 = Unaligned16 {
+    low: 0xff,
+    high: 0xff,
+};
 
 pub fn channel(state: ChannelState, word: u16) -> Channel
     requires { word ≤ 0o7777 }

@@ -7,7 +7,7 @@ use super::PrinterRecord::{
 use super::{Printer, PrinterMode, PrinterRecord};
 use crate::channel::ChannelState::{Empty, Full, Function, Inactive};
 use crate::channel::{Channel, ChannelState};
-use crate::tests::channel;
+use crate::tests::{GREATEST, ONE, TWO, ZERO, channel};
 use std::process::Abort;
 use std::test::Fail;
 
@@ -67,7 +67,7 @@ const PRINTED: [Step; 3] = [
     (
         (Full, 0o0102),
         WordPrinted {
-            length: 0,
+            length: ZERO,
             column: 0,
         },
         (Empty, 0o0102),
@@ -77,7 +77,7 @@ const PRINTED: [Step; 3] = [
     (
         (Function, 3),
         LineEnded {
-            length: 2,
+            length: TWO,
             column: 2,
         },
         (Inactive, 3),
@@ -98,7 +98,7 @@ const DROPPED: [Step; 2] = [
     (
         (Full, 0o0304),
         UpperPrinted {
-            length: 0,
+            length: ZERO,
             column: 135,
         },
         (Empty, 0o0304),
@@ -108,7 +108,7 @@ const DROPPED: [Step; 2] = [
     (
         (Full, 0o0304),
         WordDropped {
-            length: 1,
+            length: ONE,
             column: 136,
         },
         (Empty, 0o0304),
@@ -152,7 +152,7 @@ const FULL_PAPER: [Step; 7] = [
     ),
     (
         (Empty, 2),
-        StatusSent { word: 2 },
+        StatusSent { word: TWO },
         (Full, 1),
         (65535, 0, Sent),
         &[0o100],
@@ -167,7 +167,7 @@ const FULL_PAPER: [Step; 7] = [
     (
         (Function, 3),
         LineEnded {
-            length: 65535,
+            length: GREATEST,
             column: 0,
         },
         (Inactive, 3),
@@ -201,5 +201,5 @@ fn tells_whether_the_paper_is_full(rt: HostRuntime) -> Result<(), Fail> {
 /// Checks that a record is small enough to be passed by value.
 #[test]
 fn record_takes_few_bytes(rt: HostRuntime) {
-    assert!(rt; size_of::<PrinterRecord>() <= 16);
+    assert!(rt; size_of::<PrinterRecord>() <= 4);
 }

@@ -11,7 +11,7 @@ use super::{Reader, ReaderMode, ReaderRecord};
 use crate::channel::ChannelState::{Empty, Full, Function, Inactive};
 use crate::channel::{Channel, ChannelState};
 use crate::fault::MakeFault;
-use crate::tests::channel;
+use crate::tests::{ONE, TWO, ZERO, channel};
 use std::alloc::{AllocError, Global};
 use std::process::Abort;
 use std::test::Fail;
@@ -89,7 +89,10 @@ const ONE_CARD: [Step; 4] = [
     ),
     (
         (Empty, 1),
-        ColumnSent { word: 1, column: 0 },
+        ColumnSent {
+            word: ONE,
+            column: 0,
+        },
         (Full, 1),
         (0, 1, Reading),
     ),
@@ -97,7 +100,7 @@ const ONE_CARD: [Step; 4] = [
     (
         (Function, 1),
         Skipped {
-            card: 0,
+            card: ZERO,
             column: 1,
             mode: Reading,
         },
@@ -121,7 +124,12 @@ const NO_CARD: [Step; 3] = [
         (Inactive, 2),
         (0, 0, Status),
     ),
-    ((Empty, 2), StatusSent { word: 2 }, (Full, 1), (0, 0, Sent)),
+    (
+        (Empty, 2),
+        StatusSent { word: TWO },
+        (Full, 1),
+        (0, 0, Sent),
+    ),
     ((Empty, 1), StatusEnded, (Inactive, 1), (0, 0, Idle)),
 ];
 
@@ -148,7 +156,7 @@ fn reads_columns(reader: &mut Reader) -> bool {
 
 const CARD_ENDS: [Step; 1] = [(
     (Empty, 0),
-    CardEnded { card: 0 },
+    CardEnded { card: ZERO },
     (Inactive, 0),
     (1, 0, Idle),
 )];
@@ -192,5 +200,5 @@ fn refuses_a_deck_over_2000_cards(rt: HostRuntime) -> Result<(), Fail> {
 /// Checks that a record is small enough to be passed by value.
 #[test]
 fn record_takes_few_bytes(rt: HostRuntime) {
-    assert!(rt; size_of::<ReaderRecord>() <= 16);
+    assert!(rt; size_of::<ReaderRecord>() <= 5);
 }

@@ -98,10 +98,10 @@ fn is_target_marked(slot: u8, step: &StepRecord, marks: &Marks) -> bool
     match step.target {
         Target::Wait | Target::Nothing | Target::State => false,
         Target::Cell | Target::CellAndState => {
-            marks.is_set(cell_mark(slot, u64::from(step.address)))
+            marks.is_set(cell_mark(slot, u64::from(step.address.get())))
         }
         Target::Cells => are_cells_marked(slot, step, marks),
-        Target::Word => marks.is_set(central_mark(u64::from(step.address))),
+        Target::Word => marks.is_set(central_mark(u64::from(step.address.get()))),
         Target::Channel => marks.is_set(channel_mark(step.channel)),
     }
 }
@@ -113,7 +113,7 @@ fn is_target_marked(slot: u8, step: &StepRecord, marks: &Marks) -> bool
 fn are_cells_marked(slot: u8, step: &StepRecord, marks: &Marks) -> bool
     ensures { result ≡ false → AreUnmarked marks.now slot (pairs_as Target.Cells step.now) }
 {
-    let first = u64::from(step.address);
+    let first = u64::from(step.address.get());
     marks.is_set(cell_mark(slot, first)) || marks.is_set(cell_mark(slot, first + 4))
 }
 

@@ -341,6 +341,6 @@ fn a_turn_of_all_parts_leads_back(rt: HostRuntime) -> Result<(), Fail> {
 /// Most turns keep a short record. Any other action keeps a record no larger than an exchange and the devices need.
 #[test]
 fn records_are_small(rt: HostRuntime) {
-    assert!(rt; size_of::<ShortTurn>() <= 64);
+    assert!(rt; size_of::<Option<ShortTurn>>() <= 48);
     assert!(rt; size_of::<RigRecord>() <= 400);
 }

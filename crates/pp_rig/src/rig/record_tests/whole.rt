@@ -120,13 +120,23 @@ pub fn is_short_true_of(
 pub fn devices_anew(back: AllRecords) -> AllRecords
     ensures { result ≡ back }
 {
+    let OnRecords {
+        channel: reader_channel,
+        own: reader,
+        others,
+    } = back;
+    let OnRecords {
+        channel: printer_channel,
+        own: printer,
+        others: none,
+    } = others;
     OnRecords {
-        channel: back.channel,
-        own: back.own,
+        channel: reader_channel,
+        own: reader,
         others: OnRecords {
-            channel: back.others.channel,
-            own: back.others.own,
-            others: back.others.others,
+            channel: printer_channel,
+            own: printer,
+            others: none,
         },
     }
 }
