@@ -248,8 +248,28 @@ fn has_other<T: Reversible>(
     false
 }
 
-/// Does what `has_other` does. Here a record without a marked place is skipped, as one look, and the kind of a record is
-/// tested once, and not for each place.
+/// Does what `has_other` does. Here the kind of a record is tested once, and not for each place. This is a separate
+/// function, so records that are skipped need not save the registers that it needs.
+#[inline(never)]
+fn has_other_by_kind<T: Reversible>(
+    machine: &T,
+    back: &UndoRecord<T>,
+    places: &[T::Place],
+    looks: &mut Looks,
+) -> bool
+    requires { All (λ place. T.has_place machine.now place) places.now }
+    ensures value { result ≡ changes T.Reversible (λ place. T.value_at machine.now place) places.now (whole_record T.unpacked back.now) }
+    ensures counts_up { looks.old.count ≤ looks.new.count }
+    ensures cost { looks.new.count ≤ looks.old.count + length places.now }
+    ensures looks_at_each { 1 ≤ length places.now → looks.old.count + 1 ≤ looks.new.count }
+{
+    match *back {
+        UndoRecord::Head(head) => has_other(machine, &UndoRecord::Head(head), places, looks),
+        UndoRecord::Tail(back) => has_other(machine, &UndoRecord::Tail(back), places, looks),
+    }
+}
+
+/// Does what `has_other` does. Here a record without a marked place is skipped, as one look.
 #[inline(always)]
 fn is_changed<T: Reversible>(
     machine: &T,
@@ -269,10 +289,7 @@ fn is_changed<T: Reversible>(
         looks.count_skipped(places);
         return false;
     }
-    match *back {
-        UndoRecord::Head(head) => has_other(machine, &UndoRecord::Head(head), places, looks),
-        UndoRecord::Tail(back) => has_other(machine, &UndoRecord::Tail(back), places, looks),
-    }
+    has_other_by_kind(machine, back, places, looks)
 }
 
 /// Returns a slot for each action, with heads to overwrite. Fails if there is no memory left.
