@@ -22,7 +22,7 @@ TOP = os.path.dirname(os.path.dirname(os.path.abspath(__file__)))
 # Words that the repository does not define, and whose they are.
 OUTSIDE = {
     "the kit's: its command and its reports": """rt all check ci doc fmt lemma must-fail plant test try version logic not-proved
-        proved functions rattle-kit-13f dac8208d650f15bf --anew --allow-holes --fix-imports --only --start --test --fail-alloc""",
+        proved functions rattle-kit-13b rattle-kit-13f dac8208d650f15bf --anew --allow-holes --fix-imports --only --start --test --fail-alloc""",
     "the language's": "crate specs proofs ghost impl inline never prove tactic auto using unfolding unfoldable clause TheVariants",
     "the kit's libraries'": "clap itoa thiserror arrayvec circular_buffer Display File Read Write",
     "the system's: its programs, variables and folders": """cd cp cat echo gcc head rlwrap /usr/local ~/.local bin libexec local share DESTDIR

@@ -45,8 +45,9 @@ def make(crate, below, folder):
 
 
 def stand_alone(crate):
-    """Has a check of a copy of a crate begin with nothing. The kit has it begin with what another checkout on this machine kept of
-    the same text, or of any text if this one keeps nothing. So the copy gets a line that no other has, and an empty folder to keep work in."""
+    """Has a check of a copy of a crate begin with nothing. The kit rattle-kit-13f, and not 13b, has it begin with what another checkout
+    on this machine kept of the same text, or of any text if this one keeps nothing. So the copy gets a line that no other has, and an
+    empty folder to keep work in."""
     is_library = os.path.exists(os.path.join(crate, "src", "lib.rt"))
     with open(os.path.join(crate, "src", "lib.rt" if is_library else "main.rt"), "a", encoding="utf-8") as file:
         file.write(f"\n// {secrets.token_hex(16)}\n")
