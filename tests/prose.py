@@ -145,7 +145,9 @@ def paragraphs(text):
 
 def is_path(path, there):
     """Says whether a file or folder has this path, from any folder on. NAME, X, x and `*` stand for any name."""
-    kept = re.sub(r"/out/.*", "/out", path.strip("/"))  # a check leaves what is in it
+    if path.startswith("out/"):  # a check leaves what is in it
+        return True
+    kept = re.sub(r"/out/.*", "/out", path.strip("/"))
     ending = re.escape(re.sub(r"NAME|(?<![^/])[xX](?=[A-Z./]|$)", "*", kept)).replace(r"\*", "[^/]*")
     return re.search(rf"(?:^|\n|/){ending}(?=\n|$)", there) is not None
 
