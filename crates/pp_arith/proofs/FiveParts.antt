@@ -1,15 +1,10 @@
 -- The five parts of a word: joined, and split again.
-use Rattle.std.proofs.Common.{◌≡◌, ◌∙◌, ℕ, ◌+◌, ◌*◌, ◌/◌, ◌%◌, ◌^◌, ◌<◌, ◌≤◌, List, [], ◌∷◌, length, slice_index_or, refl, sym, arith}
+use Rattle.std.proofs.Common.{◌≡◌, ◌∙◌, ℕ, ◌+◌, ◌*◌, ◌^◌, ◌<◌, ◌≤◌, List, [], ◌∷◌, length, slice_index_or, refl, sym, arith}
 use Rattle.pp_arith.specs.Words60.{split60}
 
 five : (parts : List ℕ) → length parts ≡ 5 → parts ≡ slice_index_or parts 0 0 ∷ slice_index_or parts 1 0 ∷ slice_index_or parts 2 0 ∷ slice_index_or parts 3 0 ∷ slice_index_or parts 4 0 ∷ []
-five [] h = absurd (omega (arith, h))
-five (a ∷ []) h = absurd (omega (arith, h))
-five (a ∷ b ∷ []) h = absurd (omega (arith, h))
-five (a ∷ b ∷ c ∷ []) h = absurd (omega (arith, h))
-five (a ∷ b ∷ c ∷ d ∷ []) h = absurd (omega (arith, h))
 five (a ∷ b ∷ c ∷ d ∷ e ∷ []) h = refl
-five (a ∷ b ∷ c ∷ d ∷ e ∷ f ∷ rest) h = absurd (omega (arith, h))
+five parts h = absurd (omega (arith, h))
 
 word_of : ℕ → ℕ → ℕ → ℕ → ℕ → ℕ
 word_of a b c d e = a * 2 ^ 48 + b * 2 ^ 36 + c * 2 ^ 24 + d * 2 ^ 12 + e
@@ -17,12 +12,7 @@ word_of a b c d e = a * 2 ^ 48 + b * 2 ^ 36 + c * 2 ^ 24 + d * 2 ^ 12 + e
 taken_apart : (a b c d e : ℕ) → a ≤ 0o7777 → b ≤ 0o7777 → c ≤ 0o7777 → d ≤ 0o7777 → e ≤ 0o7777 → split60 (word_of a b c d e) ≡ a ∷ b ∷ c ∷ d ∷ e ∷ []
 unfolding word_of
 taken_apart a b c d e ha hb hc hd he =
-    let first : (a * 2 ^ 48 + b * 2 ^ 36 + c * 2 ^ 24 + d * 2 ^ 12 + e) / 2 ^ 48 % 2 ^ 12 ≡ a = omega arith in
-    let second : (a * 2 ^ 48 + b * 2 ^ 36 + c * 2 ^ 24 + d * 2 ^ 12 + e) / 2 ^ 36 % 2 ^ 12 ≡ b = omega arith in
-    let third : (a * 2 ^ 48 + b * 2 ^ 36 + c * 2 ^ 24 + d * 2 ^ 12 + e) / 2 ^ 24 % 2 ^ 12 ≡ c = omega arith in
-    let fourth : (a * 2 ^ 48 + b * 2 ^ 36 + c * 2 ^ 24 + d * 2 ^ 12 + e) / 2 ^ 12 % 2 ^ 12 ≡ d = omega arith in
-    let fifth : (a * 2 ^ 48 + b * 2 ^ 36 + c * 2 ^ 24 + d * 2 ^ 12 + e) % 2 ^ 12 ≡ e = omega arith in
-    rw (first, second, third, fourth, fifth) refl
+    grind arith
 
 pub parts_back : (parts : List ℕ) → length parts ≡ 5 → ((k : ℕ) → k < 5 → slice_index_or parts k 0 ≤ 0o7777) →
     split60 (slice_index_or parts 0 0 * 2 ^ 48 + slice_index_or parts 1 0 * 2 ^ 36 + slice_index_or parts 2 0 * 2 ^ 24 + slice_index_or parts 3 0 * 2 ^ 12 + slice_index_or parts 4 0) ≡ parts

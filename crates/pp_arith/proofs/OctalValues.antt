@@ -1,5 +1,5 @@
 -- The value of octal digits, read one after another.
-use Rattle.std.proofs.Common.{◌≡◌, ◌∙◌, ℕ, ◌+◌, ◌-◌, ◌*◌, ◌<◌, ◌≤◌, true, false, List, [], ◌∷◌, length, take, drop, get_or, refl, sym, ap, arith, length-drop, fold, nat_le, Err}
+use Rattle.std.proofs.Common.{◌≡◌, ◌∙◌, ℕ, ◌+◌, ◌-◌, ◌*◌, ◌<◌, ◌≤◌, true, List, [], ◌∷◌, length, take, drop, get_or, sym, ap, arith, length-drop, fold, Err}
 use Rattle.std.proofs.lemmas.Bool.Decides.{nat_tests}
 use Rattle.std.proofs.lemmas.List.{take-append-drop, take_more}
 use Rattle.std.proofs.lemmas.List.Sums.{fold-append}
@@ -28,14 +28,12 @@ value-so_far word i = omega (arith, value-split word i, value-grows (octal_value
 
 pub value-before : (word : List ℕ) (i : ℕ) → i < length word → octal_value (take i word) * 8 ≤ octal_value word
 value-before word i h =
-    let some : 0 < length (drop i word) = simp length-drop (omega arith) in
-    omega (arith, value-split word i, value-times (octal_value (take i word)) (drop i word) some)
+    omega (arith, value-split word i, value-times (octal_value (take i word)) (drop i word) (simp length-drop (omega arith)))
 
 -- a value above the maximum is an error
 pub octal_read-over : (word : List ℕ) (max : ℕ) → is_octal word ≡ true → max < octal_value word → Err TooLarge ≡ octal_read word max
 octal_read-over word max digits over =
-    let large : nat_le (octal_value word) max ≡ false = grind (arith, nat_tests) in
-    rw (digits, large) refl
+    grind (arith, nat_tests)
 
 -- the value with one more digit
 pub value-next : (word : List ℕ) (i : ℕ) → i < length word → octal_value (take (i + 1) word) ≡ octal_value (take i word) * 8 + (get_or word i 0 - 48)
