@@ -1,8 +1,7 @@
 -- The kept prefix of a line, after one more byte.
-use Rattle.std.proofs.Common.{◌≡◌, ◌≢◌, ◌∙◌, ℕ, ◌-◌, ◌<◌, ◌≤◌, min, eqb, List, [], ◌∷◌, ◌++◌, length, take, refl, sym, ap, arith, false, length-append, Result, Ok, Err, IsOk, OnOk}
+use Rattle.std.proofs.Common.{◌≡◌, ◌≢◌, ◌∙◌, ℕ, ◌-◌, ◌<◌, ◌≤◌, min, List, [], ◌∷◌, ◌++◌, length, take, sym, arith, length-append, Result, Ok, Err, IsOk, OnOk, take_all}
 use Rattle.std.proofs.lemmas.Grind.{common_steps}
 use Rattle.std.proofs.lemmas.Bool.Decides.{nat_tests}
-use Rattle.std.proofs.lemmas.List.{take_all}
 use Rattle.std.proofs.Math.Seq.{take-append_seam}
 use Rattle.pp_lines.specs.Lines.{IsPrefixOf, finished, unfinished}
 use Rattle.pp_lines.proofs.LineCuts.{unfinished-feed, unfinished-byte}
@@ -21,12 +20,10 @@ keeps_short most xs x h = sym (take_all most (xs ++ x ∷ []) (rw (length-append
 pub keeps_full : (most : ℕ) (xs : List ℕ) (x : ℕ) → length xs ≡ most → xs ≡ take most (xs ++ x ∷ [])
 keeps_full most xs x h = sym (rw (← h) (take-append_seam xs (x ∷ [])))
 
-no-feed : (byte : ℕ) → byte ≢ 10 → eqb byte 10 ≡ false
-no-feed byte h = grind (arith, nat_tests)
 
 pub front-byte : (kept : ℕ) (front new bytes : List ℕ) (byte : ℕ) → byte ≢ 10 → IsPrefixOf kept front bytes → new ≡ take kept (front ++ byte ∷ []) → IsPrefixOf kept new (bytes ++ byte ∷ [])
 front-byte kept front new bytes byte h is_front e =
-    rw (unfinished-byte bytes byte (no-feed byte h)) (e ∙ rw is_front (take-goes_on kept (unfinished bytes) (byte ∷ [])))
+    rw (unfinished-byte bytes byte (grind (arith, nat_tests))) (e ∙ rw is_front (take-goes_on kept (unfinished bytes) (byte ∷ [])))
 
 -- what holds after a call that succeeded
 pub held : {T E P : Type 0} (result : Result T E) → IsOk result → OnOk result P → P
@@ -36,16 +33,13 @@ held (Err fault) well p = cc
 -- the part of a text that a line keeps
 pub keeps_text : (most : ℕ) (front text : List ℕ) → length front ≤ most → front ++ take (min (length text) (most - length front)) text ≡ take most (front ++ text)
 keeps_text most front text h =
-    let room : take (min (length text) (most - length front)) text ≡ take (most - length front) text = grind (arith, common_steps) in
-    ap (λ more. front ++ more) room ∙ sym (take-front most front text h)
+    grind (arith, common_steps, take-front most front text h)
 
 pub front-text : (kept : ℕ) (front new bytes text : List ℕ) → finished text ≡ [] → IsPrefixOf kept front bytes → new ≡ take kept (front ++ text) → IsPrefixOf kept new (bytes ++ text)
 front-text kept front new bytes text h is_front e =
     rw (unfinished-text bytes text h) (e ∙ rw is_front (take-goes_on kept (unfinished bytes) text))
 
-front-nothing : (kept : ℕ) (none : List ℕ) → none ≡ [] → none ≡ take kept none
-front-nothing kept none e = rw e (grind (arith, common_steps))
 
 -- after a line feed nothing is kept
 pub front-feed : (kept : ℕ) (front bytes : List ℕ) → front ≡ [] → IsPrefixOf kept front (bytes ++ 10 ∷ [])
-front-feed kept front bytes e = rw (unfinished-feed bytes) (e ∙ front-nothing kept [] refl)
+front-feed kept front bytes e = rw (unfinished-feed bytes, e) (grind (arith, common_steps))

@@ -6,3 +6,4 @@ pub mod OpenTexts
 pub mod Reading
 pub mod WordCuts
 pub mod Writing
+pub mod Walks

@@ -1,6 +1,6 @@
 -- Lines within a limit of lines and of bytes, and lines of which a prefix is kept.
-use Rattle.std.proofs.Common.{◌≡◌, ◌∙◌, ℕ, zero, suc, ◌+◌, ◌-◌, ◌<◌, ◌≤◌, ◌⊎◌, Bool, true, false, cond, eqb, List, [], ◌∷◌, ◌++◌, length, take, refl, sym, ap, arith, inl, inr, length-append, length-take}
-use Rattle.std.proofs.lemmas.List.{append-nil, take_all}
+use Rattle.std.proofs.lemmas.Grind.{common_steps}
+use Rattle.std.proofs.Common.{◌≡◌, ◌∙◌, ℕ, zero, suc, ◌+◌, ◌-◌, ◌<◌, ◌≤◌, ◌⊎◌, Bool, cond, eqb, List, [], ◌∷◌, ◌++◌, length, take, refl, sym, ap, arith, inl, inr, length-append, length-take, append-nil}
 use Rattle.std.proofs.Math.Seq.{take-append_seam, take-append-add}
 use Rattle.pp_lines.specs.Lines.{lines, begin_first, extend_first, finished, unfinished, last_line, finished_within, IsWithin, IsPrefixOf}
 use Rattle.pp_lines.proofs.LineCuts.{lines_split, finished-more}
@@ -42,13 +42,11 @@ lines-count bytes = ap length (lines_split bytes) ∙ length-append (finished by
 pub finished_within-all : (line_limit byte_limit : ℕ) (bytes : List ℕ) → IsWithin line_limit byte_limit bytes → finished_within line_limit byte_limit bytes ≡ finished bytes
 unfolding finished_within
 finished_within-all line_limit byte_limit bytes within =
-    rw (take_all byte_limit bytes within.bytes_within)
-    (take_all line_limit (finished bytes) (omega (arith, within.lines_within, lines-count bytes)))
+    grind (arith, common_steps, within.bytes_within, within.lines_within, lines-count bytes)
 
 pub finished_within-whole : (line_limit byte_limit : ℕ) (bytes : List ℕ) → length bytes ≤ byte_limit → length (finished bytes) ≤ line_limit → finished_within line_limit byte_limit bytes ≡ finished bytes
 unfolding finished_within
-finished_within-whole line_limit byte_limit bytes bytes_within lines_within =
-    rw (take_all byte_limit bytes bytes_within) (take_all line_limit (finished bytes) lines_within)
+finished_within-whole line_limit byte_limit bytes bytes_within lines_within = grind (arith, common_steps)
 
 -- the first n elements of a longer list begin with the first n of the shorter one
 take_more : {X : Type 0} (n : ℕ) (xs more : List X) → (extra : List X) × (take n (xs ++ more) ≡ take n xs ++ extra)
@@ -71,16 +69,11 @@ finished_within-more line_limit byte_limit bytes more =
 begun-longer : (byte : ℕ) (done : List (List ℕ)) (all : List (List ℕ)) (feed : Bool) → length done < length all →
     length (cond feed ([] ∷ done) (extend_first byte done)) < length (cond feed ([] ∷ all) (begin_first byte all))
 begun-longer byte done [] feed h = absurd (omega arith)
-begun-longer byte [] (first ∷ all) true h = omega arith
-begun-longer byte [] (first ∷ all) false h = omega arith
-begun-longer byte (line ∷ done) (first ∷ all) true h = omega arith
-begun-longer byte (line ∷ done) (first ∷ all) false h = omega arith
+begun-longer byte done (first ∷ all) feed h = grind arith
 
 begun-some : (byte : ℕ) (all : List (List ℕ)) (feed : Bool) → 0 < length (cond feed ([] ∷ all) (begin_first byte all))
-begun-some byte [] true = omega arith
-begun-some byte [] false = omega arith
-begun-some byte (first ∷ all) true = omega arith
-begun-some byte (first ∷ all) false = omega arith
+begun-some byte [] feed = grind arith
+begun-some byte (first ∷ all) feed = grind arith
 
 -- bytes after a line feed add at least one line
 pub lines-further : (kept more : List ℕ) → 0 < length more → length (finished kept) < length (lines (kept ++ more))
@@ -91,20 +84,16 @@ lines-further (byte ∷ kept) more h = begun-longer byte (finished kept) (lines 
 -- a prefix that is longer than the first part
 pub take-front : (most : ℕ) (kept more : List ℕ) → length kept ≤ most → take most (kept ++ more) ≡ kept ++ take (most - length kept) more
 take-front most kept more h =
-    let split : most ≡ length kept + (most - length kept) = omega arith in
-    ap (λ n. take n (kept ++ more)) split ∙ take-append-add kept more (most - length kept)
+    grind (arith, common_steps, take-append-add kept more (most - length kept))
 
 -- the finished lines within the limits, once a limit is reached
 pub finished_within-kept : (line_limit byte_limit : ℕ) (kept more : List ℕ) → IsWithin line_limit byte_limit kept →
     (length kept ≡ byte_limit) ⊎ (length (finished kept) ≡ line_limit) → finished_within line_limit byte_limit (kept ++ more) ≡ finished kept
 unfolding finished_within
-finished_within-kept line_limit byte_limit kept more within (inl full) =
-    rw (← full, take-append_seam kept more)
-    (take_all line_limit (finished kept) (omega (arith, within.lines_within, lines-count kept)))
+finished_within-kept line_limit byte_limit kept more within (inl full) = grind (arith, common_steps, take-append_seam kept more, within.lines_within, lines-count kept)
 finished_within-kept line_limit byte_limit kept more within (inr full) =
-    let front : take byte_limit (kept ++ more) ≡ kept ++ take (byte_limit - length kept) more = take-front byte_limit kept more within.bytes_within in
     let further = finished-more kept (take (byte_limit - length kept) more) in
-    rw (front, further.1, ← full) (take-append_seam (finished kept) further.0)
+    rw (take-front byte_limit kept more within.bytes_within, further.1, ← full) (take-append_seam (finished kept) further.0)
 
 -- which limit was passed
 pub passed : (line_limit byte_limit : ℕ) (kept more : List ℕ) → 0 < length more →

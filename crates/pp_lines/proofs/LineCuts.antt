@@ -27,7 +27,7 @@ unfinished-feed (byte ∷ bytes) = rw (unfinished-feed bytes, finished-feed byte
 -- any other byte finishes no line
 pub finished-byte : (bytes : List ℕ) (next : ℕ) → eqb next 10 ≡ false → finished (bytes ++ next ∷ []) ≡ finished bytes
 finished-byte [] next h = rw h refl
-finished-byte (byte ∷ bytes) next h = rw (finished-byte bytes next h) refl
+finished-byte (byte ∷ bytes) next h = rw (finished-byte bytes next h)
 
 unfinished-byte_step : (feed : Bool) (byte next : ℕ) (done : List (List ℕ)) (rest : List ℕ) →
     cond feed (rest ++ next ∷ []) (extend_unfinished byte done (rest ++ next ∷ [])) ≡ cond feed rest (extend_unfinished byte done rest) ++ next ∷ []

@@ -1,5 +1,6 @@
 -- The words of a line, one after another.
-use Rattle.std.proofs.Common.{◌≡◌, ◌∙◌, ℕ, suc, ◌<◌, ◌≤◌, Bool, true, false, cond, List, [], ◌∷◌, length, take, drop, refl, ap, arith, one-add, ltb-true, ltb-false, length-drop, None, Some, not, position, unwrap_or, nat_lt}
+use Rattle.std.proofs.lemmas.Bool.Decides.{nat_tests}
+use Rattle.std.proofs.Common.{◌≡◌, ◌∙◌, ℕ, suc, ◌<◌, ◌≤◌, Bool, true, false, cond, List, [], ◌∷◌, length, take, drop, refl, ap, arith, one-add, length-drop, None, Some, not, position, unwrap_or, nat_lt}
 use Rattle.std.specs.List.{position_or_len}
 use Rattle.std.proofs.lemmas.List.{drop_all}
 use Rattle.std.proofs.lemmas.List.Sums.{prefix_len-le-length}
@@ -39,80 +40,43 @@ len-more test byte bytes e = rw (e, one-add) refl
 -- blanks before the first word
 pub words-blanks : (text : List ℕ) → words text ≡ words (drop (position_or_len is_letter text) text)
 words-blanks [] = refl
-words-blanks (byte ∷ bytes) = by_test (is_blank byte) refl (words-blanks bytes)
-  where
-    by_test : (blank : Bool) → is_blank byte ≡ blank → words bytes ≡ words (drop (position_or_len is_letter bytes) bytes) →
-        words (byte ∷ bytes) ≡ words (drop (position_or_len is_letter (byte ∷ bytes)) (byte ∷ bytes))
-    by_test true e more = rw (len-more is_letter byte bytes (ap not e)) (words-skip byte bytes e ∙ more)
-    by_test false e more = rw (len-stop is_letter byte bytes (ap not e)) refl
+words-blanks (byte ∷ bytes) = grind (arith, nat_tests, len-more is_letter byte bytes, len-stop is_letter byte bytes, words-skip byte bytes, words-blanks bytes)
 
 -- after the blanks a word begins, if any byte is left
 pub letter-after : (text : List ℕ) → position_or_len is_letter text < length text → goes_on (drop (position_or_len is_letter text) text) ≡ true
 letter-after [] h = absurd (omega arith)
-letter-after (byte ∷ bytes) h = by_test (is_blank byte) refl (letter-after bytes) h
-  where
-    by_test : (blank : Bool) → is_blank byte ≡ blank →
-        (position_or_len is_letter bytes < length bytes → goes_on (drop (position_or_len is_letter bytes) bytes) ≡ true) →
-        position_or_len is_letter (byte ∷ bytes) < length (byte ∷ bytes) →
-        goes_on (drop (position_or_len is_letter (byte ∷ bytes)) (byte ∷ bytes)) ≡ true
-    by_test true e more less =
-        let size = len-more is_letter byte bytes (ap not e) in
-        rw size (more (omega arith))
-    by_test false e more less = rw (len-stop is_letter byte bytes (ap not e)) (ap not e)
+letter-after (byte ∷ bytes) h = grind (arith, nat_tests, len-more is_letter byte bytes, len-stop is_letter byte bytes, letter-after bytes)
 
 -- only blanks
 pub words-all_blank : (text : List ℕ) → length text ≤ position_or_len is_letter text → words text ≡ []
 words-all_blank text h = words-blanks text ∙ rw (drop_all (position_or_len is_letter text) text h) words-none
 
 no-letter : (byte : ℕ) → not (is_blank byte) ≡ true → is_blank byte ≡ false
-no-letter byte = by_test (is_blank byte)
-  where
-    by_test : (blank : Bool) → not blank ≡ true → blank ≡ false
-    by_test true e = cc
-    by_test false e = refl
+no-letter byte h = grind (arith, nat_tests)
 
 len-none : (bytes : List ℕ) → goes_on bytes ≡ false → position_or_len is_blank bytes ≡ 0
 len-none [] e = refl
-len-none (byte ∷ bytes) e = len-stop is_blank byte bytes (by_test (is_blank byte) e)
-  where
-    by_test : (blank : Bool) → not blank ≡ false → blank ≡ true
-    by_test true e = refl
-    by_test false e = cc
+len-none (byte ∷ bytes) e = grind (arith, nat_tests, len-stop is_blank byte bytes)
 
 -- the first word, and the others
 pub words-first : (text : List ℕ) → goes_on text ≡ true → words text ≡ take (position_or_len is_blank text) text ∷ words (drop (position_or_len is_blank text) text)
 words-first [] h = cc
 words-first (byte ∷ bytes) h = by_test (goes_on bytes) refl (words-first bytes)
   where
-    letter : is_blank byte ≡ false
-    letter = no-letter byte h
-
     by_test : (more : Bool) → goes_on bytes ≡ more →
         (goes_on bytes ≡ true → words bytes ≡ take (position_or_len is_blank bytes) bytes ∷ words (drop (position_or_len is_blank bytes) bytes)) →
         words (byte ∷ bytes) ≡ take (position_or_len is_blank (byte ∷ bytes)) (byte ∷ bytes) ∷ words (drop (position_or_len is_blank (byte ∷ bytes)) (byte ∷ bytes))
-    by_test true g rest = rw (len-more is_blank byte bytes letter) (words-more byte bytes letter g ∙ ap (extend_first byte) (rest g))
-    by_test false g rest = rw (len-more is_blank byte bytes letter, len-none bytes g) (words-stop byte bytes letter g)
+    by_test true g rest = rw (len-more is_blank byte bytes (no-letter byte h)) (words-more byte bytes (no-letter byte h) g ∙ ap (extend_first byte) (rest g))
+    by_test false g rest = rw (len-more is_blank byte bytes (no-letter byte h), len-none bytes g) (words-stop byte bytes (no-letter byte h) g)
 
 pick-some : (n len i : ℕ) → cond (nat_lt n len) (Some n) None ≡ Some i → (n ≡ i) × (n < len)
-pick-some n len i = by_test (nat_lt n len) refl
-  where
-    by_test : (less : Bool) → nat_lt n len ≡ less → cond less (Some n) None ≡ Some i → (n ≡ i) × (n < len)
-    by_test true less e = (cc, ltb-true n len less)
-    by_test false less e = cc
+pick-some n len i e = (grind (arith, nat_tests), grind (arith, nat_tests))
 
 pick-none : (n len : ℕ) → cond (nat_lt n len) (Some n) None ≡ None → len ≤ n
-pick-none n len = by_test (nat_lt n len) refl
-  where
-    by_test : (less : Bool) → nat_lt n len ≡ less → cond less (Some n) None ≡ None → len ≤ n
-    by_test true less e = cc
-    by_test false less e = ltb-false n len less
+pick-none n len e = grind (arith, nat_tests)
 
 pick-or : (n len : ℕ) → n ≤ len → unwrap_or (cond (nat_lt n len) (Some n) None) len ≡ n
-pick-or n len h = by_test (nat_lt n len) refl
-  where
-    by_test : (less : Bool) → nat_lt n len ≡ less → unwrap_or (cond less (Some n) None) len ≡ n
-    by_test true less = refl
-    by_test false less = omega (arith, ltb-false n len less)
+pick-or n len h = grind (arith, nat_tests)
 
 -- the position of the first byte that passes a test, or the length of the text
 pub position-or : (test : ℕ → Bool) (text : List ℕ) → unwrap_or (position test text) (length text) ≡ position_or_len test text
@@ -148,5 +112,4 @@ module _ (text : List ℕ) (start len : ℕ) (rest front back : List ℕ) (found
   pub cut-shorter : length back < length text
   cut-shorter =
       let place = pick-some (position_or_len is_letter text) (length text) start found in
-      let some : 0 < len = rw (size, from) (word-some text start found) in
-      rw (others, from) (simp (length-drop) (omega (arith, place.0, place.1)))
+      grind (arith, length-drop, place.0, place.1, word-some text start found)

@@ -1,7 +1,6 @@
 -- Texts that are written one after the other.
-use Rattle.std.proofs.Common.{◌≡◌, ◌∙◌, ℕ, ◌+◌, ◌-◌, List, [], ◌++◌, length, take, drop, sym, ap, append_assoc, arith, length-append}
+use Rattle.std.proofs.Common.{◌≡◌, ◌∙◌, ℕ, ◌+◌, ◌-◌, List, [], ◌++◌, length, take, drop, sym, ap, append_assoc, arith, length-append, append-nil}
 use Rattle.std.proofs.KnownBytes.{Appends-nil, Appends-trans}
-use Rattle.std.proofs.lemmas.List.{append-nil}
 use Rattle.std.proofs.lemmas.Grind.{common_steps}
 use Rattle.std.proofs.Math.Seq.{take-add}
 use Rattle.pp_lines.specs.Output.{Appends, AppendsPrefix, Written}
@@ -29,8 +28,7 @@ slice_from done text = grind (arith, common_steps)
 pub Appends-further : (first second third : Written) (done more : ℕ) (text : List ℕ) →
     Appends first second (take done text) → Appends second third (take more (take (length text - done) (drop done text))) → Appends first third (take (done + more) text)
 Appends-further first second third done more text p q =
-    let piece = rw slice_from at q in
-    Appends-same first third (take done text ++ take more (drop done text)) (take (done + more) text) (sym (take-add done more text)) (Appends-again first second third _ _ p piece)
+    rw (← take-add done more text) at (Appends-again first second third _ _ p (rw slice_from at q))
 
 -- a prefix of the whole text was written, and this is left
 abbrev pub Remains : Written → Written → List ℕ → List ℕ → Type 0
@@ -49,12 +47,9 @@ Remains-fails first second third whole piece left p q = (
   p.0 ++ q.0,
   q.1 ++ left,
   Appends-again first second third p.0 q.0 p.1 q.2,
-  p.2 ∙ ap (λ text. p.0 ++ (text ++ left)) q.3 ∙ regroup p.0 q.0 q.1 left,
+  p.2 ∙ ap (λ text. p.0 ++ (text ++ left)) q.3 ∙ simp append_assoc,
   simp length-append (omega (arith, q.4)),
 )
-  where
-    regroup : (a b c d : List ℕ) → a ++ ((b ++ c) ++ d) ≡ (a ++ b) ++ (c ++ d)
-    regroup a b c d = simp append_assoc
 
 -- nothing is left after the last piece
 pub Remains-none : (first second : Written) (whole : List ℕ) → Remains first second whole [] → Appends first second whole

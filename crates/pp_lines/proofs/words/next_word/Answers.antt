@@ -1,6 +1,6 @@
 use Rattle.std.proofs.Common.{◌∙◌, sym}
 use Rattle.pp_lines.proofs.Writing.{slice_from}
-use Rattle.pp_lines.proofs.WordCuts.{words-no_letter, cut-words, cut-shorter}
+use Rattle.pp_lines.proofs.WordCuts.{words-no_letter, cut-words}
 use Rattle.pp_lines.proofs.words.next_word.Goals as goal
 
 pub returns-in_err-word-clause-cut : goal.returns-in_err-word-clause-cut
@@ -9,9 +9,4 @@ returns-in_err-word-clause-cut c = rw c.from_residual.ensures (words-no_letter c
 pub returns-clause-cut : goal.returns-clause-cut
 returns-clause-cut c =
     cut-words c.args.text.now c.in_ok-word.field-0 c.word_len.result _ _ _ (sym c.first_letter.ensures ∙ c.in_ok-word.was)
-    (slice_from c.in_ok-word.field-0 c.args.text.now) c.word_len.ensures.len c.split_at.ensures.front c.split_at.ensures.back
-
-pub returns-clause-shorter : goal.returns-clause-shorter
-returns-clause-shorter c =
-    cut-shorter c.args.text.now c.in_ok-word.field-0 c.word_len.result _ _ _ (sym c.first_letter.ensures ∙ c.in_ok-word.was)
     (slice_from c.in_ok-word.field-0 c.args.text.now) c.word_len.ensures.len c.split_at.ensures.front c.split_at.ensures.back
