@@ -15,7 +15,7 @@ carried rule rows f fault taken bytes (inr other) = inr other
 
 pub deck-read : (cards : List Row) (bytes : List ℕ) → Reads (λ rows. cards ≡ map card_of_row rows) (rows_of_file card_rule file_limit bytes) → deck_of_file bytes ≡ Ok cards
 unfolding deck_of_file
-deck-read cards bytes read = ap (λ file. file >>= λ rows. Ok (map card_of_row rows)) read.1 ∙ ap Ok (sym read.2)
+deck-read cards bytes read = rw (read.1, read.2)
 
 pub deck-fault : (fault : LoadFault) (taken bytes : List ℕ) → IsCauseOf card_rule (rows_of_file card_rule file_limit) taken bytes fault → IsCauseOf card_rule deck_of_file taken bytes fault
 unfolding deck_of_file
@@ -23,7 +23,7 @@ deck-fault fault taken bytes cause = carried card_rule (rows_of_file card_rule f
 
 pub panel-read : (words : Row) (bytes : List ℕ) → Reads (λ rows. words ≡ concat rows) (rows_of_file panel_rule file_limit bytes) → panel_of_file bytes ≡ whole_panel words
 unfolding panel_of_file
-panel-read words bytes read = ap (λ file. file >>= λ rows. whole_panel (concat rows)) read.1 ∙ ap whole_panel (sym read.2)
+panel-read words bytes read = rw (read.1, read.2)
 
 pub panel-fault : (fault : LoadFault) (taken bytes : List ℕ) → IsCauseOf panel_rule (rows_of_file panel_rule file_limit) taken bytes fault → IsCauseOf panel_rule panel_of_file taken bytes fault
 unfolding panel_of_file

@@ -1,7 +1,6 @@
 -- The progress of a file, and the faults that are reported.
-use Rattle.std.proofs.Common.{◌≡◌, ◌∙◌, ℕ, ◌+◌, ◌<◌, ◌≤◌, eqb, false, List, [], ◌∷◌, ◌++◌, length, take, refl, sym, ap, arith, rules, inl, inr, length-append, append_assoc, Option, Result, Ok, Err, MatchResult, ◌⊎◌}
+use Rattle.std.proofs.Common.{◌≡◌, ◌∙◌, ℕ, ◌+◌, ◌<◌, ◌≤◌, eqb, false, List, [], ◌∷◌, ◌++◌, length, take, refl, sym, ap, arith, rules, inl, inr, length-append, append_assoc, Option, Result, Ok, Err, MatchResult, ◌⊎◌, append-nil}
 use Rattle.std.specs.Io.KnownBytes.{Consumes, IsAtEnd}
-use Rattle.std.proofs.lemmas.List.{append-nil}
 use Rattle.pp_files.specs.declared.fault.LoadFault.{LoadFault}
 use Rattle.pp_files.specs.declared.fault.LoadFault.TheVariants.{NoMemory, FileTooLong}
 use Rattle.pp_files.specs.declared.progress.Progress.{Progress}
@@ -35,31 +34,20 @@ FailsIn-line : (rule : Rule) (limit : ℕ) (bytes : List ℕ) (rows : List Row) 
     (rows_of_file rule limit bytes ≡ Err fault) ⊎ ((fault ≡ NoMemory) × RunsOut rule limit bytes)
 FailsIn-line rule limit bytes rows done line later fault split read (inl fails) =
     inl (file-fault rule limit bytes (done ++ line ∷ []) later fault split (lines-one rule rows done line read ∙ fails))
-FailsIn-line rule limit bytes rows done line later fault split read (inr rejected) = inr (
-  rejected.0,
-  (
-    done,
-    line,
-    later,
-    split ∙ append_assoc done (line ∷ []) later,
-    (rejected.1.0, lines-one rule rows done line read ∙ rejected.1.1),
-    rejected.2,
-  ),
-)
+FailsIn-line rule limit bytes rows done line later fault split read (inr rejected) = inr (rejected.0,
+  (done, line, later, split ∙ append_assoc done (line ∷ []) later, (rejected.1.0, lines-one rule rows done line read ∙ rejected.1.1), rejected.2))
 
 -- ---- the progress of a file
 
 pub HasRead-within : (progress : Progress) (rule : Rule) (Holds : List Row → Type 0) (bytes : List ℕ) → HasRead progress rule Holds bytes → length bytes ≤ file_limit
 HasRead-within progress rule Holds bytes has_read = rw (← has_read.counts_bytes) progress.bytes_within
 
-front-none : (kept : ℕ) (front : List ℕ) → front ≡ [] → IsPrefixOf kept front []
-front-none kept front e = rw e (search rules)
 
 -- before the first byte
 pub HasRead-new : (progress : Progress) (rule : Rule) (Holds : List Row → Type 0) → progress.cutter ≡ [] → progress.bytes ≡ 0 → progress.lines ≡ 0 → Holds [] → HasRead progress rule Holds []
 unfolding with_lines
 HasRead-new progress rule Holds front no_bytes no_lines held = record {
-  keeps = front-none KEPT progress.cutter front;
+  keeps = rw front (search rules);
   counts_bytes = no_bytes;
   counts_lines = no_lines;
   reads = ([], refl, held);
@@ -89,9 +77,7 @@ HasRead-feed old new rule Holds Holds' bytes has_read front more_bytes more_line
       counts_lines = rw (finished-feed bytes, length-append (finished bytes) (unfinished bytes ∷ [])) (more_lines ∙ ap (λ n. n + 1) has_read.counts_lines);
       reads = (
         next.0,
-        ap (rows_of_lines rule) (finished-feed bytes) ∙ lines-one rule read.0 (finished bytes) (unfinished bytes) read.1
-            ∙ sym (line-kept rule (length (finished bytes) + 1) read.0 old.cutter (unfinished bytes) has_read.keeps)
-            ∙ ap (λ n. with_line rule (n + 1) read.0 old.cutter) (sym has_read.counts_lines) ∙ next.1,
+        rw (finished-feed bytes, lines-one rule read.0 (finished bytes) (unfinished bytes) read.1, ← line-kept rule (length (finished bytes) + 1) read.0 old.cutter (unfinished bytes) has_read.keeps, ← has_read.counts_lines) next.1,
         next.2,
       );
     }
@@ -119,8 +105,7 @@ pub file-whole : (progress : Progress) (rule : Rule) (Holds : List Row → Type 
     Reads Holds (rows_of_file rule file_limit bytes)
 file-whole progress rule Holds bytes has_read empty =
     let read = has_read.reads in
-    let all = lines-whole KEPT progress.cutter bytes (omega arith) has_read.keeps empty in
-    (read.0, file-short rule file_limit bytes (HasRead-within progress rule Holds bytes has_read) ∙ ap (rows_of_lines rule) all ∙ read.1, read.2)
+    (read.0, rw (file-short rule file_limit bytes (HasRead-within progress rule Holds bytes has_read), lines-whole KEPT progress.cutter bytes (omega arith) has_read.keeps empty) read.1, read.2)
 
 -- the last line does not end with a line feed
 pub file-last : {T : Type 0} (progress : Progress) (rule : Rule) (Holds Holds' : List Row → Type 0) (result : Result T LoadFault) (bytes : List ℕ) → HasRead progress rule Holds bytes → 0 < length progress.cutter →
@@ -131,10 +116,8 @@ file-last progress rule Holds Holds' (Ok value) bytes has_read begun line =
     let next = line read.0 read.2 in
     let all = lines-last KEPT progress.cutter bytes has_read.keeps begun in (
       next.0,
-      file-short rule file_limit bytes (HasRead-within progress rule Holds bytes has_read) ∙ ap (rows_of_lines rule) all
-          ∙ lines-one rule read.0 (finished bytes) (unfinished bytes) read.1
-          ∙ sym (line-kept rule (length (finished bytes) + 1) read.0 progress.cutter (unfinished bytes) has_read.keeps)
-          ∙ ap (λ n. with_line rule (n + 1) read.0 progress.cutter) (sym has_read.counts_lines) ∙ next.1,
+      rw (file-short rule file_limit bytes (HasRead-within progress rule Holds bytes has_read), all, lines-one rule read.0 (finished bytes) (unfinished bytes) read.1,
+          ← line-kept rule (length (finished bytes) + 1) read.0 progress.cutter (unfinished bytes) has_read.keeps, ← has_read.counts_lines) next.1,
       next.2,
     )
 file-last progress rule Holds Holds' (Err fault) bytes has_read begun line =

@@ -1,6 +1,7 @@
 -- The rows of a file with more lines.
-use Rattle.std.proofs.Common.{◌≡◌, ◌∙◌, ℕ, ◌+◌, ◌-◌, ◌<◌, ◌≤◌, Bool, true, false, cond, List, [], ◌∷◌, ◌++◌, length, take, refl, sym, ap, arith, length-append, append_assoc, Result, Ok, Err, nat_lt, nat_le}
+use Rattle.std.proofs.Common.{◌≡◌, ◌∙◌, ℕ, ◌+◌, ◌-◌, ◌<◌, ◌≤◌, Bool, true, false, cond, List, [], ◌∷◌, ◌++◌, length, take, refl, sym, ap, arith, length-append, append_assoc, Result, Ok, Err, nat_le}
 use Rattle.std.proofs.lemmas.Bool.Decides.{nat_tests}
+use Rattle.std.proofs.lemmas.Grind.{common_steps}
 use Rattle.std.proofs.Math.Seq.{take-append_seam, take-append-add}
 use Rattle.pp_files.specs.declared.fault.LoadFault.{LoadFault}
 use Rattle.pp_files.specs.declared.fault.LoadFault.TheVariants.{FileTooLong, LineTooLong}
@@ -14,9 +15,7 @@ use Rattle.pp_files.specs.Files.{Rule, ◌>>=◌, with_line, with_lines, with_ro
 -- ---- one line
 
 text-long : (k : ℕ) (text : List ℕ) → 1023 < length text → row_of_text k text ≡ Err (LineTooLong k)
-text-long k text h =
-    let over : nat_lt 1023 (length text) ≡ true = grind (arith, nat_tests) in
-    rw over refl
+text-long k text h = grind (arith, nat_tests)
 
 -- a prefix of more than 1024 bytes reads as the line does
 row-kept : (k most : ℕ) (line : List ℕ) → 1024 < most → row_of_line k (take most line) ≡ row_of_line k line
@@ -45,13 +44,9 @@ lines-both rule k rows [] more =
     ap (λ n. with_lines rule n rows more) same
 lines-both rule k rows (line ∷ done) more = by_first (λ read. lines-both rule (k + 1) read done more) (with_line rule (k + 1) rows line)
   where
-    by_first : ((read : List Row) → with_lines rule (k + 1) read (done ++ more) ≡ (with_lines rule (k + 1) read done >>= λ last. with_lines rule (k + 1 + length done) last more)) →
-        (first : Result (List Row) LoadFault) →
-        (first >>= λ read. with_lines rule (k + 1) read (done ++ more))
-        ≡ ((first >>= λ read. with_lines rule (k + 1) read done) >>= λ read. with_lines rule (k + length (line ∷ done)) read more)
-    by_first later (Ok read) =
-        let same : k + 1 + length done ≡ k + length (line ∷ done) = omega arith in
-        later read ∙ ap (λ n. with_lines rule (k + 1) read done >>= λ last. with_lines rule n last more) same
+    by_first : ((read : List Row) → with_lines rule (k + 1) read (done ++ more) ≡ (with_lines rule (k + 1) read done >>= λ last. with_lines rule (k + 1 + length done) last more)) → (first : Result (List Row) LoadFault) →
+        (first >>= λ read. with_lines rule (k + 1) read (done ++ more)) ≡ ((first >>= λ read. with_lines rule (k + 1) read done) >>= λ read. with_lines rule (k + length (line ∷ done)) read more)
+    by_first later (Ok read) = let same : k + length (line ∷ done) ≡ k + 1 + length done = omega arith in rw same (later read)
     by_first later (Err e) = refl
 
 -- one more line
@@ -60,20 +55,18 @@ pub lines-one : (rule : Rule) (rows : List Row) (done : List (List ℕ)) (line :
 unfolding with_lines
 lines-one rule rows done line e =
     let same : 0 + length done + 1 ≡ length done + 1 = omega arith in
-    lines-both rule 0 [] done (line ∷ []) ∙ ap (λ read. read >>= λ last. with_lines rule (0 + length done) last (line ∷ [])) e
-    ∙ bind-ok (with_line rule (0 + length done + 1) rows line) ∙ ap (λ n. with_line rule n rows line) same
+    rw (lines-both rule 0 [] done (line ∷ []), e, bind-ok (with_line rule (0 + length done + 1) rows line), same)
 
 -- further lines do not change the first fault
 lines-fault : (rule : Rule) (done more : List (List ℕ)) (fault : LoadFault) → rows_of_lines rule done ≡ Err fault → rows_of_lines rule (done ++ more) ≡ Err fault
-lines-fault rule done more fault e =
-    lines-both rule 0 [] done more ∙ ap (λ read. read >>= λ last. with_lines rule (0 + length done) last more) e
+lines-fault rule done more fault e = rw (lines-both rule 0 [] done more, e)
 
 -- ---- a file
 
 file-lines : (rule : Rule) (limit : ℕ) (bytes : List ℕ) (read : Result (List Row) LoadFault) → rows_of_lines rule (lines_of_file limit bytes) ≡ read →
     rows_of_file rule limit bytes ≡ (read >>= λ rows. cond (nat_le (length bytes) limit) (Ok rows) (Err FileTooLong))
 unfolding rows_of_file
-file-lines rule limit bytes read e = ap (λ read. read >>= λ rows. cond (nat_le (length bytes) limit) (Ok rows) (Err FileTooLong)) e
+file-lines rule limit bytes read e = rw e
 
 -- the first fault of the lines is the fault of the file
 pub file-fault : (rule : Rule) (limit : ℕ) (bytes : List ℕ) (done more : List (List ℕ)) (fault : LoadFault) → lines_of_file limit bytes ≡ done ++ more →
@@ -82,21 +75,15 @@ file-fault rule limit bytes done more fault split e =
     file-lines rule limit bytes (Err fault) (ap (rows_of_lines rule) split ∙ lines-fault rule done more fault e)
 
 pub lines-short : (limit : ℕ) (bytes : List ℕ) → length bytes ≤ limit → lines_of_file limit bytes ≡ lines bytes
-lines-short limit bytes h =
-    let short : nat_le (length bytes) limit ≡ true = grind (arith, nat_tests) in
-    rw short refl
+lines-short limit bytes h = grind (arith, nat_tests)
 
 lines-long : (limit : ℕ) (bytes : List ℕ) → limit < length bytes → lines_of_file limit bytes ≡ finished (take limit bytes)
-lines-long limit bytes h =
-    let over : nat_le (length bytes) limit ≡ false = grind (arith, nat_tests) in
-    rw over refl
+lines-long limit bytes h = grind (arith, nat_tests)
 
 -- a file within the limit
 pub file-short : (rule : Rule) (limit : ℕ) (bytes : List ℕ) → length bytes ≤ limit → rows_of_file rule limit bytes ≡ rows_of_lines rule (lines bytes)
 file-short rule limit bytes h =
-    let short : nat_le (length bytes) limit ≡ true = grind (arith, nat_tests) in
-    file-lines rule limit bytes (rows_of_lines rule (lines bytes)) (ap (rows_of_lines rule) (lines-short limit bytes h))
-    ∙ rw short (bind-ok (rows_of_lines rule (lines bytes)))
+    file-lines rule limit bytes _ (ap (rows_of_lines rule) (lines-short limit bytes h)) ∙ grind (arith, nat_tests, bind-ok (rows_of_lines rule (lines bytes)))
 
 -- a file that is too long
 pub file-long : (rule : Rule) (rows : List Row) (limit : ℕ) (bytes more : List ℕ) (byte : ℕ) → length bytes ≡ limit → rows_of_lines rule (finished bytes) ≡ Ok rows →
@@ -104,26 +91,19 @@ pub file-long : (rule : Rule) (rows : List Row) (limit : ℕ) (bytes more : List
 file-long rule rows limit bytes more byte full e =
     let front : take limit (bytes ++ byte ∷ more) ≡ bytes = rw (← full) (take-append_seam bytes (byte ∷ more)) in
     let size = length-append bytes (byte ∷ more) in
-    let over : nat_le (length (bytes ++ byte ∷ more)) limit ≡ false = grind (arith, nat_tests) in
     file-lines rule limit (bytes ++ byte ∷ more) (Ok rows)
-    (ap (rows_of_lines rule) (lines-long limit (bytes ++ byte ∷ more) (omega (arith, size)) ∙ ap finished front) ∙ e)
-    ∙ rw over refl
+    (ap (rows_of_lines rule) (lines-long limit (bytes ++ byte ∷ more) (omega (arith, size)) ∙ ap finished front) ∙ e) ∙ grind (arith, nat_tests)
 
 append-next : (bytes more : List ℕ) (byte : ℕ) → bytes ++ byte ∷ more ≡ (bytes ++ byte ∷ []) ++ more
 append-next bytes more byte = sym (append_assoc bytes (byte ∷ []) more)
 
 take-past : (limit : ℕ) (bytes more : List ℕ) (byte : ℕ) → length bytes < limit → take limit (bytes ++ byte ∷ more) ≡ (bytes ++ byte ∷ []) ++ take (limit - (length bytes + 1)) more
 take-past limit bytes more byte h =
-    let front = bytes ++ byte ∷ [] in
-    let size = length-append bytes (byte ∷ []) in
-    let same : limit ≡ length (bytes ++ byte ∷ []) + (limit - (length bytes + 1)) = omega (arith, size) in
-    ap (take limit) (append-next bytes more byte) ∙ ap (λ n. take n (front ++ more)) same ∙ take-append-add front more (limit - (length bytes + 1))
+    rw append-next (grind (arith, common_steps, take-append-add (bytes ++ byte ∷ []) more (limit - (length bytes + 1)), length-append bytes (byte ∷ [])))
 
 -- the finished lines begin with these
 finished-feed_more : (bytes more : List ℕ) → (extra : List (List ℕ)) × (finished ((bytes ++ 10 ∷ []) ++ more) ≡ (finished bytes ++ unfinished bytes ∷ []) ++ extra)
-finished-feed_more bytes more =
-    let further = finished-more (bytes ++ 10 ∷ []) more in
-    (further.0, further.1 ∙ ap (λ front. front ++ further.0) (finished-feed bytes))
+finished-feed_more bytes more = rw finished-feed at (finished-more (bytes ++ 10 ∷ []) more)
 
 -- the lines of a file begin with these lines, if the last one ends with a line feed within the limit
 pub lines_of_file-feed : (limit : ℕ) (bytes more : List ℕ) → length bytes < limit →
@@ -134,12 +114,7 @@ lines_of_file-feed limit bytes more h = by_test (nat_le (length (bytes ++ 10 ∷
         (extra : List (List ℕ)) × (lines_of_file limit (bytes ++ 10 ∷ more) ≡ (finished bytes ++ unfinished bytes ∷ []) ++ extra)
     by_test true e =
         let further = finished-feed_more bytes more in
-        let last = last_line (unfinished (bytes ++ 10 ∷ more)) in (
-          further.0 ++ last,
-          rw e (lines_split (bytes ++ 10 ∷ more)
-              ∙ ap (λ front. front ++ last) (ap finished (append-next bytes more 10) ∙ further.1)
-              ∙ append_assoc (finished bytes ++ unfinished bytes ∷ []) further.0 last),
-        )
+        (further.0 ++ last_line (unfinished ((bytes ++ 10 ∷ []) ++ more)), rw (e, lines_split (bytes ++ 10 ∷ more), append-next bytes more 10, further.1) (simp append_assoc))
     by_test false e =
         let further = finished-feed_more bytes (take (limit - (length bytes + 1)) more) in
         (further.0, rw e (ap finished (take-past limit bytes more 10 h) ∙ further.1))

@@ -1,13 +1,11 @@
 -- One more row of a deck or a panel.
-use Rattle.std.proofs.Common.{◌≡◌, ◌∙◌, ℕ, ◌≤◌, List, [], ◌∷◌, ◌++◌, length, map, refl, sym, ap, arith, true, append_assoc, Ok, nat_le}
+use Rattle.std.proofs.Common.{◌≡◌, ◌∙◌, ℕ, ◌≤◌, List, [], ◌∷◌, ◌++◌, length, map, sym, ap, arith, append_assoc, Ok}
 use Rattle.std.specs.List.{concat}
 use Rattle.std.proofs.lemmas.Bool.Decides.{nat_tests}
 use Rattle.std.proofs.lemmas.List.{append-nil, map-append}
 use Rattle.pp_files.specs.Rows.{Row}
 use Rattle.pp_files.specs.Files.{card_rule, card_of_row, panel_rule}
 
-is_within : (count most : ℕ) → count ≤ most → nat_le count most ≡ true
-is_within count most h = grind (arith, nat_tests)
 
 concat-row : (rows : List Row) (row : Row) → concat (rows ++ row ∷ []) ≡ concat rows ++ row
 concat-row [] row = append-nil row
@@ -17,14 +15,11 @@ concat-row (first ∷ rows) row = ap (λ rest. first ++ rest) (concat-row rows r
 pub panel-more : (k : ℕ) (rows : List Row) (row words new : Row) → words ≡ concat rows → length (words ++ row) ≤ 12 → new ≡ words ++ row →
     (more : List Row) × (panel_rule k rows row ≡ Ok more) × (new ≡ concat more)
 panel-more k rows row words new held fits e =
-    let fits : nat_le (length (concat rows ++ row)) 12 ≡ true = is_within _ _ (rw (← held) fits) in
-    (rows ++ row ∷ [], rw fits refl, e ∙ ap (λ front. front ++ row) held ∙ sym (concat-row rows row))
+    (rows ++ row ∷ [], grind (arith, nat_tests, rw held at fits), e ∙ ap (λ front. front ++ row) held ∙ sym (concat-row rows row))
 
 -- a deck with one more card is allowed
 pub card-fits : (k : ℕ) (rows : List Row) (row : Row) → length row ≤ 80 → card_rule k rows row ≡ Ok (rows ++ row ∷ [])
-card-fits k rows row fits =
-    let fits : nat_le (length row) 80 ≡ true = is_within _ _ fits in
-    rw fits refl
+card-fits k rows row fits = grind (arith, nat_tests)
 
 -- a deck with one more card
 pub deck-more : (k : ℕ) (rows : List Row) (row : Row) (cards new : List Row) (card : Row) → cards ≡ map card_of_row rows → length row ≤ 80 → card ≡ card_of_row row → new ≡ cards ++ card ∷ [] →

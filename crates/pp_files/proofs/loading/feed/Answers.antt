@@ -1,4 +1,4 @@
-use Rattle.std.proofs.Common.{◌∙◌, ◌≡◌, ◌++◌, ◌+◌, ◌∷◌, [], get_or, take, drop, ap, append_assoc, sym, rules}
+use Rattle.std.proofs.Common.{◌≡◌, ◌++◌, ◌+◌, ◌∷◌, [], get_or, take, drop, append_assoc, rules}
 use Rattle.std.proofs.lemmas.Result.{err_from_is_err_and}
 use Rattle.pp_lines.proofs.Reading.{piece_at, piece_next}
 use Rattle.pp_files.proofs.loading.feed.Goals as goal
@@ -8,18 +8,13 @@ returns-in_err-feed_byte-clause-has_read g c = λ bytes more has_read.
     let p = err_from_is_err_and c.from_residual.result c.from_residual.ensures.1 in
     let i = c.loop-byte.byte-index in
     let piece = c.args.piece.now in
-    let rest = drop (i + 1) piece ++ more in
     let same : (bytes ++ take i c.args.piece.now) ++ get_or c.args.piece.now c.loop-byte.byte-index 0 ∷ (drop (c.loop-byte.byte-index + 1) c.args.piece.now ++ more) ≡ (bytes ++ c.args.piece.now) ++ more =
-    sym (append_assoc (bytes ++ take i piece) (get_or piece i 0 ∷ []) rest)
-    ∙ sym (append_assoc ((bytes ++ take i piece) ++ get_or piece i 0 ∷ []) (drop (i + 1) piece) more)
-    ∙ ap (λ front. front ++ more) (piece_at bytes piece i c.loop-byte-test.true) in
-    rw (p.1, p.2) (rw same at (c.in_err-feed_byte.ensures.has_read (bytes ++ take i piece) rest (c.loop-byte.invariant.has_read bytes has_read)))
+    rw (← piece_at bytes piece i c.loop-byte-test.true) (simp append_assoc) in
+    rw (p.1, p.2) (rw same at (c.in_err-feed_byte.ensures.has_read (bytes ++ take i piece) (drop (i + 1) piece ++ more) (c.loop-byte.invariant.has_read bytes has_read)))
 
 pub loop-byte-preserved : goal.loop-byte-preserved
 loop-byte-preserved g c = record {
-  has_read = λ bytes has_read.
-      let i = c.loop-byte.byte-index in
-      rw (piece_next bytes c.args.piece.now i c.loop-byte-test.true) at
-      (c.in_ok-feed_byte.ensures.has_read (bytes ++ take i c.args.piece.now) [] (c.loop-byte.invariant.has_read bytes has_read));
+  has_read = λ bytes has_read. let i = c.loop-byte.byte-index in
+      rw (piece_next bytes c.args.piece.now i c.loop-byte-test.true) at (c.in_ok-feed_byte.ensures.has_read (bytes ++ take i c.args.piece.now) [] (c.loop-byte.invariant.has_read bytes has_read));
   counts_bytes = search rules;
 }

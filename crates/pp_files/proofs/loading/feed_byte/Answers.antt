@@ -1,4 +1,4 @@
-use Rattle.std.proofs.Common.{◌≡◌, ◌<◌, eqb, false, arith, refl}
+use Rattle.std.proofs.Common.{◌≡◌, ◌<◌, arith, refl}
 use Rattle.std.proofs.lemmas.Bool.Decides.{nat_tests}
 use Rattle.std.proofs.lemmas.Result.{err_from_is_err_and}
 use Rattle.pp_files.specs.declared.progress.TheConstants.{FILE_LIMIT}
@@ -11,8 +11,7 @@ returns-then-progress-eq-FILE_LIMIT-clause-has_read g c = λ bytes more has_read
 
 pub returns-then-byte-ne-LINE_FEED-clause-has_read : goal.returns-then-byte-ne-LINE_FEED-clause-has_read
 returns-then-byte-ne-LINE_FEED-clause-has_read g c = λ bytes more has_read.
-    let no_feed : eqb c.args.byte 10 ≡ false = grind (arith, nat_tests) in
-    HasRead-byte _ _ g.S.Sheet.rule _ bytes c.args.byte no_feed has_read (c.take_byte.ensures bytes has_read.keeps) refl refl
+    HasRead-byte _ _ g.S.Sheet.rule _ bytes c.args.byte (grind (arith, nat_tests)) has_read (c.take_byte.ensures bytes has_read.keeps) refl refl
 
 pub returns-in_err-read_line-clause-has_read : goal.returns-in_err-read_line-clause-has_read
 returns-in_err-read_line-clause-has_read g c = λ bytes more has_read.

@@ -1,4 +1,4 @@
-use Rattle.std.proofs.Common.{◌≡◌, ◌<◌, length, arith, ap}
+use Rattle.std.proofs.Common.{length, arith, ap}
 use Rattle.std.proofs.lemmas.Bool.Decides.{nat_tests}
 use Rattle.pp_files.proofs.Loads.{file-whole, file-last}
 use Rattle.pp_files.proofs.loading.finish.Goals as goal
@@ -6,12 +6,10 @@ use Rattle.pp_files.proofs.loading.finish.Goals as goal
 pub returns-then-is_empty-clause-read : goal.returns-then-is_empty-clause-read
 returns-then-is_empty-clause-read g c = λ bytes has_read.
     let same = ap length c.line-line.ensures in
-    let empty : length c.args.progress.now.cutter ≡ 0 = grind (arith, nat_tests) in
-    file-whole c.args.progress.now g.S.Sheet.rule _ bytes has_read empty
+    file-whole c.args.progress.now g.S.Sheet.rule _ bytes has_read (grind (arith, nat_tests))
 
 pub returns-clause-read : goal.returns-clause-read
 returns-clause-read g c = λ bytes has_read.
     let same = ap length c.line-line.ensures in
-    let begun : 0 < length c.args.progress.now.cutter = grind (arith, nat_tests) in
     file-last c.args.progress.now g.S.Sheet.rule (g.S.Sheet.holds c.args.sheet.now) (g.S.Sheet.holds c.read_line.new.sheet) c.read_line.result bytes
-    has_read begun (λ rows held. rw c.line-line.ensures at (c.read_line.ensures.row rows held))
+    has_read (grind (arith, nat_tests)) (λ rows held. rw c.line-line.ensures at (c.read_line.ensures.row rows held))

@@ -1,11 +1,8 @@
-use Rattle.std.proofs.Common.{◌∙◌, ◌≤◌, ap, length}
-use Rattle.pp_lines.specs.Words.{words}
-use Rattle.pp_files.specs.Rows.{numbers}
+use Rattle.std.proofs.Common.{◌∙◌, ap}
 use Rattle.pp_files.specs.Files.{card_of_row}
 use Rattle.pp_files.proofs.MoreRows.{deck-more}
 use Rattle.pp_files.proofs.sheet.DeckSheet.add.Goals as goal
 
 pub returns-in-Ok-clause-row : goal.returns-in-Ok-clause-row
 returns-in-Ok-clause-row c = λ rows held.
-    let fits : length (numbers (words c.args.text.now)) ≤ 80 = rw c.in-Some.ensures.at_most at c.in-Some.ensures.short in
-    deck-more c.args.line rows _ c.args.self.now.cards.items _ c.card.result held fits (c.card.ensures.row ∙ ap card_of_row c.in-Some.ensures.at_most) c.in-Ok.ensures.items
+    deck-more c.args.line rows _ c.args.self.now.cards.items _ c.card.result held (rw c.in-Some.ensures.at_most at c.in-Some.ensures.short) (c.card.ensures.row ∙ ap card_of_row c.in-Some.ensures.at_most) c.in-Ok.ensures.items

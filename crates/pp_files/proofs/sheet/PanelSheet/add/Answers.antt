@@ -8,6 +8,4 @@ pub returns-in-Ok-clause-row : goal.returns-in-Ok-clause-row
 returns-in-Ok-clause-row c = λ rows held.
     let old = c.args.self.now.words.items in
     let same : c.as_slice.result.now ≡ numbers (words c.args.text.now) = c.as_slice.ensures.value ∙ c.in-Some.ensures.at_most in
-    let room : length c.args.self.now.words.items + length c.as_slice.result.now ≤ 12 = c.in-Ok.ensures.variant.0 refl in
-    let fits : length (c.args.self.now.words.items ++ numbers (words c.args.text.now)) ≤ 12 = rw (← same, length-append) room in
-    panel-more c.args._line rows _ old _ held fits (c.in-Ok.ensures.ok ∙ ap (λ row. old ++ row) same)
+    panel-more c.args._line rows _ old _ held (rw (← same, length-append) (c.in-Ok.ensures.variant.0 refl)) (c.in-Ok.ensures.ok ∙ ap (λ row. old ++ row) same)
