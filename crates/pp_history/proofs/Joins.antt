@@ -1,7 +1,7 @@
 -- Slots and rings hold one list of actions with their undo records, and continue to hold it.
-use Rattle.std.proofs.Common.{reverse, add-one, sub-one, min, inl, inr, Option, Some, None, slice_get, ◌≡◌, ℕ, zero, suc, ◌+◌, ◌-◌, ◌<◌, ◌≤◌, List, [], ◌∷◌, ◌++◌, length, take, drop, refl, sym, ◌∙◌, ap, arith, drop-cons, IfSome, IsNone, ◌↔◌}
-use Rattle.std.proofs.lemmas.Bool.{cases_lt}
-use Rattle.std.proofs.lemmas.List.{reverse-append, take-append-le, take-take, take_all, length-append, length-drop, length-take, length-reverse}
+use Rattle.std.proofs.lemmas.Grind.{common_steps}
+use Rattle.std.proofs.Common.{reverse, add-one, sub-one, min, Option, Some, None, slice_get, ◌≡◌, ℕ, zero, suc, ◌+◌, ◌-◌, ◌<◌, ◌≤◌, List, [], ◌∷◌, ◌++◌, length, take, drop, refl, sym, ◌∙◌, ap, arith, drop-cons, IfSome, IsNone, ◌↔◌}
+use Rattle.std.proofs.lemmas.List.{reverse-append, take-append-le, length-append, length-drop, length-take, length-reverse}
 use Rattle.std.proofs.Math.Seq.{take-suc}
 use Rattle.std.proofs.lemmas.Option.{get_or_from_slice_get, slice_get_within}
 use Rattle.std.specs.Option.{option_and_then, option_map}
@@ -13,14 +13,14 @@ use Rattle.pp_history.specs.declared.tails.Tail.{Tail}
 use Rattle.pp_history.specs.declared.tails.Tails.{Tails}
 
 pub drop-at : {X : Type 0} (n : ℕ) (xs : List X) (x : X) → slice_get xs n ≡ Some x → drop n xs ≡ x ∷ drop (suc n) xs
-drop-at n xs x found = drop-cons xs n x (slice_get_within xs n x found) ∙ ap (λ z. z ∷ drop (suc n) xs) (get_or_from_slice_get xs n x x found)
+drop-at n xs x found = rw (drop-cons xs n x (slice_get_within xs n x found), get_or_from_slice_get xs n x x found)
 
 pub take-one : {X : Type 0} (n : ℕ) (xs : List X) (x : X) → slice_get xs n ≡ Some x → take (suc n) xs ≡ take n xs ++ x ∷ []
 take-one n xs x found = take-suc xs n x (slice_get_within xs n x found) ∙ ap (λ z. take n xs ++ z ∷ []) (get_or_from_slice_get xs n x x found)
 
 first_take : {X : Type 0} (n : ℕ) (first : Option X) (later : List X) → with_first first (take n later) ≡ take (suc n) (with_first first later)
 first_take n None later = refl
-first_take n (Some first) later = refl
+first_take n first later = refl
 
 module _ {H B X : Type 0} (in_head : H → X) (in_other : B → Option X) where
   -- what belongs to the first n heads
@@ -67,26 +67,14 @@ reverse-first x xs = reverse-append (x ∷ []) xs
 -- with one more head, the kept ones
 newest_more : {X : Type 0} (n : ℕ) (oldest head : X) (others : List X) → n ≤ length others → take (n + 1) (reverse (others ++ head ∷ [])) ≡ head ∷ take n (reverse (oldest ∷ others))
 newest_more n oldest head others few =
-    rw (add-one, reverse-append others (head ∷ []), reverse-first oldest others) (ap (λ l. head ∷ l) (sym (take-append-le n (reverse others) (oldest ∷ []) (omega (arith, length-reverse others)))))
+    rw (reverse-append others (head ∷ []), reverse-first oldest others) (grind (arith, common_steps, length-reverse others))
 
 front_kept : {X : Type 0} (n : ℕ) (oldest head : X) (others : List X) → n ≤ suc (length others) → take (min (n + 1) (suc (length others))) (reverse (others ++ head ∷ [])) ≡ head ∷ take (length others) (take n (reverse (oldest ∷ others)))
-front_kept n oldest head others few = elim (cases_lt (length others) n) [
-  | inl past ↦
-      let all : n ≡ suc (length others) = omega (arith, past, few) in
-      let most : min (n + 1) (suc (length others)) ≡ suc (length others) = omega (arith, all) in
-      rw (most, reverse-append others (head ∷ [])) (ap (λ l. head ∷ l) (
-      sym (take-take (length others) n (reverse (oldest ∷ others)) (omega (arith, past)) ∙ ap (take (length others)) (reverse-first oldest others) ∙ take-append-le (length others) (reverse others) (oldest ∷ []) (omega (arith, length-reverse others)))))
-  | inr within ↦
-      let more : min (n + 1) (suc (length others)) ≡ n + 1 = omega (arith, within) in
-      rw more (newest_more n oldest head others within ∙ ap (λ l. head ∷ l) (
-      sym (take_all (length others) (take n (reverse (oldest ∷ others))) (omega (arith, within, length-take n (reverse (oldest ∷ others)))))))
-]
+front_kept n oldest head others few = rw (reverse-append others (head ∷ []), reverse-first oldest others) (grind (arith, common_steps, length-reverse others))
 
 -- without the newest head
 behind_newest : {X : Type 0} (n : ℕ) (head : X) (others : List X) → 0 < n → n ≤ suc (length others) → take (n - 1) (reverse (head ∷ others)) ≡ drop 1 (take n (reverse (others ++ head ∷ [])))
-behind_newest zero head others some few = absurd (omega arith)
-behind_newest (suc n) head others some few =
-    rw (sub-one, reverse-append others (head ∷ []), reverse-first head others) (take-append-le n (reverse others) (head ∷ []) (omega (arith, length-reverse others)))
+behind_newest n head others some few = rw (reverse-append others (head ∷ []), reverse-first head others) (grind (arith, common_steps, length-reverse others))
 
 back-both : {A R : Type 0} (action : Option A) (back : Option R) → IfSome (both action back) (λ entry. back ≡ Some (entry.1))
 back-both None back = tt
@@ -98,17 +86,13 @@ module _ {A R H : Type 0} (unpacked : H → A × R) where
   pub newest-out : {X : Type 0} (f : X → R) (n : ℕ) (heads : List (Option H)) (tails : List (Tail A R)) (head : Option H) (result : Option X) → (at : ItemAt unpacked in_tail n heads tails head) → option_map f result ≡ Some (at.item.1) →
       IfSome result (λ back. (newest : A × R) × (slice_get (kept_in unpacked (drop n heads) tails) 0 ≡ Some newest) × (newest.1 ≡ f back)) × (IsNone result ↔ (length (kept_in unpacked (drop n heads) tails) ≡ 0))
   newest-out f n heads tails head None at is = cc
-  newest-out f n heads tails head (Some back) at is =
-      let same : at.item.1 ≡ f back = cc in
-      ((at.item, at.first, same), (λ none. cc, λ none. absurd (omega (arith, none, slice_get_within (kept_in unpacked (drop n heads) tails) 0 at.item at.first))))
+  newest-out f n heads tails head (Some back) at is = ((at.item, at.first, cc), (λ none. cc, λ none. absurd (omega (arith, none, slice_get_within (kept_in unpacked (drop n heads) tails) 0 at.item at.first))))
 
   -- the undo record of the tail behind n others
-  back-in : (tail : Tail A R) → IfSome (in_tail tail) (λ entry. tail.back ≡ Some (entry.1))
-  back-in tail = back-both tail.action tail.back
 
   back_at : (n : ℕ) (tails : List (Tail A R)) → IfSome (first_of unpacked in_tail None (drop n tails)) (λ entry. option_and_then (λ (tail : Tail A R). tail.back) (slice_get tails n) ≡ Some (entry.1))
   back_at zero [] = tt
-  back_at zero (tail ∷ tails) = back-in tail
+  back_at zero (tail ∷ tails) = back-both tail.action tail.back
   back_at (suc n) [] = tt
   back_at (suc n) (tail ∷ tails) = back_at n tails
 
@@ -116,28 +100,25 @@ module _ {A R H : Type 0} (unpacked : H → A × R) where
   back_out n head tails result none is = rw (none, ← is) (back_at n tails)
 
   kept_capacity : (head : Option H) (action : A) (back : R) (old new : Tails A R) → IsKept unpacked head action back old new → new.ring.capacity ≡ old.ring.capacity
-  kept_capacity (Some head) action back old new kept = ap (λ tails. tails.ring.capacity) kept.1
-  kept_capacity None action back old new kept = ap (λ ring. ring.capacity) kept
+  kept_capacity (Some head) action back old new kept = cc
+  kept_capacity None action back old new kept = cc
 
   -- one more kept action
   kept_more : (head : Option H) (action : A) (back : R) (old new : Tails A R) (older : List (Option H)) → IsKept unpacked head action back old new → length older < old.ring.capacity → kept_in unpacked (head ∷ older) new.ring.items ≡ (action, back) ∷ kept_in unpacked older old.ring.items
   kept_more (Some head) action back old new older kept few = rw (kept.1, kept.0) refl
-  kept_more None action back old new older kept few =
-      let some : old.ring.capacity ≡ suc (old.ring.capacity - 1) = omega arith in
-      rw (kept, some) (ap (λ entries. (action, back) ∷ entries) (joined_enough unpacked in_tail (old.ring.capacity - 1) older old.ring.items (omega arith)))
+  kept_more None action back old new older kept few = let some : old.ring.capacity ≡ suc (old.ring.capacity - 1) = omega arith in
+      rw (kept, some, joined_enough unpacked in_tail (old.ring.capacity - 1) older old.ring.items (omega arith))
 
   -- one more undone action
   next_more : (head : Option H) (tails : List (Tail A R)) (entry : A × R) (old new : Buffer A) (later : List (Option H)) → first_of unpacked in_tail head tails ≡ Some entry → IsNext unpacked head entry.0 old new → length later < old.capacity → ahead_in unpacked (head ∷ later) new.items ≡ entry.0 ∷ ahead_in unpacked later old.items
-  next_more (Some head) tails entry old new later is next few =
-      let same : unpacked head ≡ entry = cc in
-      rw (next, same) refl
+  next_more (Some head) tails entry old new later is next few = cc
   next_more None tails entry old new later is next few =
       let some : old.capacity ≡ suc (old.capacity - 1) = omega arith in
       rw (next, some) (ap (λ actions. entry.0 ∷ actions) (joined_enough (λ head. (unpacked head).0) Some (old.capacity - 1) later old.items (omega arith)))
 
   next_capacity : (head : Option H) (action : A) (old new : Buffer A) → IsNext unpacked head action old new → new.capacity ≡ old.capacity
-  next_capacity (Some head) action old new next = ap (λ ring. ring.capacity) next
   next_capacity None action old new next = ap (λ ring. ring.capacity) next
+  next_capacity head action old new next = ap (λ ring. ring.capacity) next
 
   -- a log with one more kept action, and none ahead: its head is in the slot of the oldest one
   module _ (oldest head : Option H) (others : List (Option H)) (tails tails' : Tails A R) (undone : Buffer A) (n n' ahead : ℕ) (action : A) (back : R)
@@ -147,15 +128,11 @@ module _ {A R H : Type 0} (unpacked : H → A × R) where
     abbrev older : List (Option H)
     older = take (length others) (take n (reverse (oldest ∷ others)))
 
-    put_heads : take n' (reverse (others ++ head ∷ [])) ≡ head ∷ older
-    put_heads = rw more (front_kept n oldest head others (omega (arith, log.full)))
 
-    older_length : length older ≡ n' - 1
-    older_length = omega (arith, more, log.full, length-take (length others) (take n (reverse (oldest ∷ others))), length-take n (reverse (oldest ∷ others)), length-reverse (oldest ∷ others))
 
     put_records : kept_in unpacked (take n' (reverse (others ++ head ∷ []))) tails'.ring.items ≡ (action, back) ∷ take (length others) (kept_in unpacked (take n (reverse (oldest ∷ others))) tails.ring.items)
     put_records =
-        rw put_heads (kept_more head action back tails tails' older kept (omega (arith, older_length, more, log.full, log.room_for_tails))
+        rw (more, front_kept n oldest head others (omega (arith, log.full))) (kept_more head action back tails tails' older kept (omega (arith, length-take (length others) (take n (reverse (oldest ∷ others))), length-take n (reverse (oldest ∷ others)), length-reverse (oldest ∷ others), log.full, log.room_for_tails))
         ∙ ap (λ entries. (action, back) ∷ entries) (joined_take unpacked in_tail (length others) (take n (reverse (oldest ∷ others))) tails.ring.items))
 
     put_length : length (others ++ head ∷ []) ≡ length (oldest ∷ others)
@@ -188,20 +165,14 @@ module _ {A R H : Type 0} (unpacked : H → A × R) where
     few : m ≤ length others
     few = omega (arith, log.full, all, some)
 
-    later_kept : take (n - 1) (reverse (head ∷ others)) ≡ drop 1 (take n (reverse heads))
-    later_kept = rw is (behind_newest n head others some (omega (arith, log.full, all)))
-
-    later_ahead : take m heads ≡ take m others
-    later_ahead = rw is (take-append-le m others (head ∷ []) few)
 
     back_ahead : ahead_in unpacked (take (m + 1) (head ∷ others)) undone'.items ≡ newest.item.0 ∷ ahead_in unpacked (take m heads) undone.items
-    back_ahead = rw (add-one, later_ahead)
+    back_ahead = rw (add-one, is, take-append-le m others (head ∷ []) few)
         (next_more head tails.ring.items newest.item undone undone' (take m others) newest.is next (omega (arith, few, all, length-take m others, log.room_for_undone)))
 
     back_records : kept_in unpacked (take (n - 1) (reverse (head ∷ others))) tails'.ring.items ≡ drop 1 (kept_in unpacked (take n (reverse heads)) tails.ring.items)
     back_records =
-        let items : tails'.ring.items ≡ left_by head tails.ring.items = ap (λ ring. ring.items) behind in
-        rw (later_kept, items) (sym (ap (λ entries. drop 1 entries) newest.split))
+        rw (behind_newest n head others some (omega (arith, log.full, all)), ← is, behind) (sym (ap (drop 1) newest.split))
 
     pub back_value : log_value unpacked (head ∷ others) tails'.ring undone' (n - 1) (m + 1) ≡ log_of (drop 1 (kept_in unpacked (take n (reverse heads)) tails.ring.items)) (newest.item.0 ∷ ahead_in unpacked (take m heads) undone.items) (length heads)
     back_value = rw (back_records, back_ahead, all) refl
@@ -247,11 +218,9 @@ module _ {A R H : Type 0} (unpacked : H → A × R) where
     again_few : (1 ≤ ahead) × (n ≤ length others)
     again_few = (omega (arith, log.ahead, some), omega (arith, log.full, log.ahead, some))
 
-    again_kept : take (n + 1) (reverse (others ++ head' ∷ [])) ≡ head' ∷ take n (reverse (head ∷ others))
-    again_kept = newest_more n head head' others again_few.1
 
     again_records : kept_in unpacked (take (n + 1) (reverse (others ++ head' ∷ []))) tails'.ring.items ≡ (action, back) ∷ kept_in unpacked (take n (reverse (head ∷ others))) tails.ring.items
-    again_records = rw again_kept (kept_more head' action back tails tails' (take n (reverse (head ∷ others))) kept
+    again_records = rw (newest_more n head head' others again_few.1) (kept_more head' action back tails tails' (take n (reverse (head ∷ others))) kept
         (omega (arith, again_few.1, log.room_for_tails, length-take n (reverse (head ∷ others)))))
 
     again_ahead : ahead_in unpacked (take (ahead - 1) (others ++ head' ∷ [])) undone'.items ≡ drop 1 (ahead_in unpacked (take ahead (head ∷ others)) undone.items)

@@ -1,5 +1,5 @@
 -- One more action of a run back or forward keeps the parts of a log those of a session.
-use Rattle.std.proofs.Common.{◌≡◌, ℕ, ◌+◌, ◌-◌, ◌<◌, ◌≤◌, List, Option, Some, None, IsSomeAnd, length, set, get_or, slice_get, take, reverse, refl, sym, ap, ◌∙◌, subst, arith}
+use Rattle.std.proofs.Common.{◌≡◌, ℕ, ◌+◌, ◌-◌, ◌<◌, List, Option, Some, IsSomeAnd, length, set, get_or, slice_get, take, reverse, subst, arith}
 use Rattle.circular_buffer.specs.Buffer.{Buffer, buffer}
 use Rattle.pp_history.specs.Joining.{IsActed, IsLog, IsNext, first_of, left_by, log_value}
 use Rattle.pp_history.specs.LogValue.{LogValue}
@@ -66,14 +66,10 @@ module _ {M A R P H : Type 0} (rules : Ghosts M A R P H) (machine : M) (end : �
   more_back parts =
       let kept : n - i - 1 ≡ n - (i + 1) = omega arith in
       let later : m + i + 1 ≡ m + (i + 1) = omega arith in
-      subst (λ x. ArePartsAt rules machine end slots tails undone x (m + (i + 1)) (after_back v (i + 1))) kept
-      (subst (λ x. ArePartsAt rules machine end slots tails undone (n - i - 1) x (after_back v (i + 1))) later
-      (subst (ArePartsAt rules machine end slots tails undone (n - i - 1) (m + i + 1)) (after_back-more v i) parts))
+      rw (← kept, ← later, ← after_back-more v i) parts
 
   pub more_forward : ArePartsAt rules machine end slots tails undone (n + i + 1) (m - i - 1) (after_forward (after_forward v i) 1) → ArePartsAt rules machine end slots tails undone (n + (i + 1)) (m - (i + 1)) (after_forward v (i + 1))
   more_forward parts =
       let kept : n + i + 1 ≡ n + (i + 1) = omega arith in
       let later : m - i - 1 ≡ m - (i + 1) = omega arith in
-      subst (λ x. ArePartsAt rules machine end slots tails undone x (m - (i + 1)) (after_forward v (i + 1))) kept
-      (subst (λ x. ArePartsAt rules machine end slots tails undone (n + i + 1) x (after_forward v (i + 1))) later
-      (subst (ArePartsAt rules machine end slots tails undone (n + i + 1) (m - i - 1)) (after_forward-more v i) parts))
+      rw (← kept, ← later, ← after_forward-more v i) parts

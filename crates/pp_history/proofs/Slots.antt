@@ -1,6 +1,7 @@
 -- Items in slots that are overwritten in turn.
-use Rattle.std.proofs.Common.{◌≡◌, ℕ, suc, ◌+◌, ◌-◌, ◌<◌, ◌≤◌, inl, inr, List, [], ◌∷◌, ◌++◌, length, take, drop, set, get_or, reverse, slice_get, Some, add-one, append-nil, append_assoc, arith, ap, sym, ◌∙◌, length-append, length-drop, length-take, get_or-take, get_or-drop}
-use Rattle.std.proofs.lemmas.List.{drop_all, take_all, drop-set-lt, get_or-reverse, get_or_append_left, get_or-append_right, length-reverse}
+use Rattle.std.proofs.lemmas.Grind.{common_steps}
+use Rattle.std.proofs.Common.{◌≡◌, ℕ, suc, ◌+◌, ◌-◌, ◌<◌, ◌≤◌, inl, inr, List, [], ◌∷◌, ◌++◌, length, take, drop, set, get_or, reverse, slice_get, Some, add-one, append-nil, append_assoc, arith, ap, sym, ◌∙◌, length-drop, length-take, get_or-take}
+use Rattle.std.proofs.lemmas.List.{drop_all, take_all, drop-set-lt, get_or-reverse, length-reverse}
 use Rattle.std.proofs.lemmas.Option.{get_or_from_slice_get, slice_get_read}
 use Rattle.std.proofs.Math.Seq.{take-suc-set}
 use Rattle.pp_history.specs.Slots.{IsEnd, IsKeptSlot, IsNextSlot, turned}
@@ -14,18 +15,15 @@ whole : {X : Type 0} (n : ℕ) (slots : List X) → length slots ≤ n → turne
 whole n slots past = λ i. drop_all n slots past i ++ take_all n slots past i
 
 pub length_turned : {X : Type 0} (end : ℕ) (slots : List X) → IsEnd end slots → length (turned end slots) ≡ length slots
-length_turned end slots within = omega (arith, length-append (drop end slots) (take end slots), length-drop end slots, length-take end slots, within)
+length_turned end slots within = grind (arith, common_steps)
 
 -- reading from the end and from the next slot on is the same
 pub turned-next : {X : Type 0} (slots : List X) (end at : ℕ) → IsNextSlot end (length slots) at → turned end slots ≡ turned at slots
-turned-next slots end at next = elim next.1 [
-  | inl same ↦ ap (λ k. turned k slots) (sym same)
-  | inr round ↦ whole end slots (omega (arith, round.0)) ∙ sym (append-nil slots) ∙ ap (λ k. turned k slots) (sym round.1)
-]
+turned-next slots end at next = grind (arith, common_steps)
 
 -- the item of the slot that is read first
 pub first-out : {X : Type 0} (slots : List X) (at : ℕ) (x : X) → slice_get slots at ≡ Some x → turned at slots ≡ x ∷ others at slots
-first-out slots at x found = ap (λ l. l ++ take at slots) (drop-at at slots x found)
+first-out slots at x found = rw (drop-at at slots x found)
 
 -- an item in place of that of the slot that was read first
 pub last-in : {X : Type 0} (slots : List X) (at : ℕ) (x : X) → at < length slots → turned (at + 1) (set slots at x) ≡ others at slots ++ x ∷ []
@@ -38,12 +36,9 @@ with_last slots at x found = ap (λ l. drop (suc at) slots ++ l) (take-one at sl
 -- the item of the slot that is read last
 pub last-out : {X : Type 0} (slots : List X) (end at : ℕ) (x : X) → IsEnd end slots → IsKeptSlot end (length slots) 0 at → slice_get slots at ≡ Some x → turned end slots ≡ others at slots ++ x ∷ []
 last-out slots end at x within last found = elim last.1 [
-  | inl here ↦
-      let same : end ≡ suc at = omega (arith, here) in
-      ap (λ k. turned k slots) same ∙ with_last slots at x found
-  | inr round ↦
-      let none : end ≡ 0 = omega (arith, round, last.0, within) in
-      ap (λ k. turned k slots) none ∙ append-nil slots ∙ sym (whole (suc at) slots (omega (arith, round, last.0, within))) ∙ with_last slots at x found
+  | inl here ↦ let same : end ≡ suc at = omega (arith, here) in rw same (with_last slots at x found)
+  | inr round ↦ let none : end ≡ 0 = omega (arith, round, last.0, within) in
+      rw none (append-nil slots ∙ sym (whole (suc at) slots (omega (arith, round, last.0, within))) ∙ with_last slots at x found)
 ]
 
 -- the item of the slot that is read k before the last one
@@ -53,15 +48,6 @@ kept-out slots end k at n x within kept few all found =
     let front = length-drop end slots in
     let is : get_or slots at x ≡ x = get_or_from_slice_get slots at x x found in
     let j : ℕ = length (turned end slots) - 1 - k in
-    let read : get_or (turned end slots) j x ≡ x = elim kept.1 [
-      | inl here ↦
-          let behind : j - (length slots - end) ≡ at = omega (arith, here, long, within) in
-          get_or-append_right (drop end slots) (take end slots) (length slots - end) j x front (omega (arith, here, long, within))
-          ∙ ap (λ m. get_or (take end slots) m x) behind ∙ get_or-take end slots at x (omega (arith, here)) ∙ is
-      | inr round ↦
-          let there : end + j ≡ at = omega (arith, round, long, within, kept.0) in
-          get_or_append_left (drop end slots) (take end slots) x j (omega (arith, round, long, within, front, kept.0))
-          ∙ get_or-drop end slots j x ∙ ap (λ m. get_or slots m x) there ∙ is
-    ] in
+    let read : get_or (turned end slots) j x ≡ x = grind (arith, common_steps, long, front, is, within) in
     slice_get_read (take n (reverse (turned end slots))) n k x (omega (arith, length-take n (reverse (turned end slots)), length-reverse (turned end slots), long, all)) few
     (sym (get_or-take n (reverse (turned end slots)) k x few ∙ get_or-reverse (turned end slots) k x (omega (arith, long, few, all)) ∙ read))

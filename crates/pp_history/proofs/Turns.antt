@@ -1,5 +1,5 @@
 -- A log in slots, with one more action or one fewer.
-use Rattle.std.proofs.Common.{◌≡◌, ℕ, ◌+◌, ◌-◌, ◌<◌, ◌≤◌, List, [], ◌∷◌, ◌++◌, Option, Some, min, length, take, drop, set, get_or, reverse, slice_get, refl, sym, ap, ◌∙◌, arith, length-take, length-set}
+use Rattle.std.proofs.Common.{◌≡◌, ℕ, ◌+◌, ◌-◌, ◌<◌, List, [], ◌∷◌, ◌++◌, Option, Some, min, length, take, drop, set, get_or, reverse, slice_get, refl, sym, ap, ◌∙◌, arith, length-take, length-set}
 use Rattle.std.proofs.lemmas.List.{length-reverse}
 use Rattle.std.proofs.lemmas.Option.{slice_get_read}
 use Rattle.circular_buffer.specs.Buffer.{Buffer, buffer}
@@ -24,8 +24,6 @@ module _ {A R H : Type 0} (unpacked : H → A × R) (slots : List (Option H)) (e
     first : turned end slots ≡ head ∷ others at slots
     first = turned-next slots end at next ∙ first-out slots at head (item_of slots at head next.0 is)
 
-    long : length slots ≡ length (head ∷ others at slots)
-    long = sym (length_turned end slots old.0) ∙ ap length first
 
     log : IsLog unpacked (head ∷ others at slots) tails.ring undone n m
     log = rw first at old.1
@@ -39,7 +37,7 @@ module _ {A R H : Type 0} (unpacked : H → A × R) (slots : List (Option H)) (e
 
       module _ (n' : ℕ) (more : n' ≡ min (n + 1) (length slots)) where
         counted : n' ≡ min (n + 1) (length (head ∷ others at slots))
-        counted = more ∙ ap (λ k. min (n + 1) k) long
+        counted = more ∙ ap (min (n + 1)) (sym (length_turned end slots old.0) ∙ ap length first)
 
         pub put_in_log : IsEnd (at + 1) (set slots at head') × IsLog unpacked (turned (at + 1) (set slots at head')) tails'.ring undone n' 0
         put_in_log = (end_in head', rw last (put_log unpacked head head' (others at slots) tails tails' undone n n' m action back log counted kept))
@@ -65,8 +63,6 @@ module _ {A R H : Type 0} (unpacked : H → A × R) (slots : List (Option H)) (e
 
   -- the head is that of the newest kept action
   module _ (old : Old) (newest : IsKeptSlot end (length slots) 0 at) (is : head ≡ get_or slots at head) (some : 0 < n) where
-    room : n ≤ length slots
-    room = omega (arith, old.1.full, length_turned end slots old.0)
 
     found : slice_get slots at ≡ Some head
     found = item_of slots at head newest.0 is
@@ -74,16 +70,14 @@ module _ {A R H : Type 0} (unpacked : H → A × R) (slots : List (Option H)) (e
     pub newest_in : ItemAt unpacked in_tail 0 (take n (reverse (turned end slots))) tails.ring.items head
     newest_in = item-at unpacked in_tail 0 (take n (reverse (turned end slots))) tails.ring.items head
         (omega (arith, old.1.kept, old.1.full, length-take n (reverse (turned end slots)), length-reverse (turned end slots)))
-        (kept-out slots end 0 at n head old.0 newest some room found)
+        (kept-out slots end 0 at n head old.0 newest some (omega (arith, old.1.full, length_turned end slots old.0)) found)
 
     module _ (tails' : Tails A R) (undone' : Buffer A)
         (behind : tails'.ring ≡ buffer (left_by head tails.ring.items) tails.ring.capacity) (next : IsNext unpacked head newest_in.item.0 undone undone') where
-      last_head : turned end slots ≡ others at slots ++ head ∷ []
-      last_head = last-out slots end at head old.0 newest found
 
       pub back_in_log : IsEnd at slots × IsLog unpacked (turned at slots) tails'.ring undone' (n - 1) (m + 1)
-      back_in_log = (omega (arith, newest.0), rw (first-out slots at head found) (back_log unpacked (turned end slots) (others at slots) head last_head tails tails' undone undone' n m old.1 some newest_in behind next))
+      back_in_log = (omega (arith, newest.0), rw (first-out slots at head found) (back_log unpacked (turned end slots) (others at slots) head (last-out slots end at head old.0 newest found) tails tails' undone undone' n m old.1 some newest_in behind next))
 
       pub back_in_value : log_value unpacked (turned at slots) tails'.ring undone' (n - 1) (m + 1)
           ≡ log_of (drop 1 (kept_in unpacked (take n (reverse (turned end slots))) tails.ring.items)) (newest_in.item.0 ∷ ahead_in unpacked (take m (turned end slots)) undone.items) (length (turned end slots))
-      back_in_value = rw (first-out slots at head found) (back_value unpacked (turned end slots) (others at slots) head last_head tails tails' undone undone' n m old.1 some newest_in behind next)
+      back_in_value = rw (first-out slots at head found) (back_value unpacked (turned end slots) (others at slots) head (last-out slots end at head old.0 newest found) tails tails' undone undone' n m old.1 some newest_in behind next)

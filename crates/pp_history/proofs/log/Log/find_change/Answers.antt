@@ -1,6 +1,5 @@
-use Rattle.std.proofs.Common.{◌≡◌, ◌+◌, ◌<◌, ◌≤◌, ◌∙◌, Some, None, Option, ap, arith, drop, length, refl, rules, sym}
+use Rattle.std.proofs.Common.{◌≡◌, ◌+◌, ◌<◌, ◌≤◌, ◌∙◌, Some, None, Option, ap, arith, drop, length, refl, rules, sym, drop-drop}
 use Rattle.std.specs.Option.{IsSome, option_map}
-use Rattle.std.proofs.lemmas.List.{drop-drop}
 use Rattle.pp_history.specs.Joining.{left_by}
 use Rattle.pp_history.specs.UndoRecord.{whole_record}
 use Rattle.pp_history.proofs.Search.{here, found-here, pass-on}

@@ -1,4 +1,4 @@
-use Rattle.std.proofs.Common.{◌<◌, arith, reverse, take}
+use Rattle.std.proofs.Common.{arith, reverse, take}
 use Rattle.pp_history.specs.Slots.{turned}
 use Rattle.pp_history.specs.UndoRecord.{whole_record}
 use Rattle.pp_history.proofs.Joins.{newest-out}
@@ -10,7 +10,6 @@ returns g c =
     let log = c.self.inside in
     let unpacked = g.T.Reversible.unpacked in
     let at = rw (c.len.ensures, log.slots.ok.0) at c.kept_slot-at.ensures in
-    let some : 0 < log.kept = omega arith in
-    let newest = newest_in unpacked log.slots.items log.end c.kept_slot-at.result log.kept log.ahead c.index.result.now log.tails log.undone c.self.invariant at c.index.ensures some in
+    let newest = newest_in unpacked log.slots.items log.end c.kept_slot-at.result log.kept log.ahead c.index.result.now log.tails log.undone c.self.invariant at c.index.ensures (omega arith) in
     let out = newest-out unpacked (whole_record unpacked) 0 (take log.kept (reverse (turned log.end log.slots.items))) log.tails.ring.items c.index.result.now c.undo_record.result newest (rw newest.is at c.undo_record.ensures) in
     rw (← c.self.view_is) (record { some = out.0; none = out.1 })

@@ -1,5 +1,4 @@
 use Rattle.std.proofs.Common.{◌≡◌, ◌-◌, ◌<◌, arith}
-use Rattle.pp_history.specs.SessionValue.{after_forward}
 use Rattle.pp_history.proofs.Runs.{admits_next, one_forward, more_forward}
 use Rattle.pp_history.proofs.log.Log.perform_again.Goals as goal
 

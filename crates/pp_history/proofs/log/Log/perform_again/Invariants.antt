@@ -1,4 +1,4 @@
-use Rattle.std.proofs.Common.{◌≡◌, ℕ, ◌+◌, ◌-◌}
+use Rattle.std.proofs.Common.{◌≡◌, ◌+◌, ◌-◌}
 use Rattle.pp_history.specs.SessionValue.{SessionValue, after_forward}
 use Rattle.pp_history.proofs.Runs.{ArePartsAt}
 use Rattle.pp_history.proofs.log.Log.perform_again.Given as goal

@@ -1,5 +1,4 @@
 use Rattle.std.proofs.Common.{◌≡◌, ◌-◌, ◌<◌, arith}
-use Rattle.pp_history.specs.SessionValue.{after_back}
 use Rattle.pp_history.proofs.Runs.{fits_newest, one_back, more_back}
 use Rattle.pp_history.proofs.log.Log.take_back.Goals as goal
 

@@ -1,5 +1,4 @@
-use Rattle.std.proofs.Common.{subst}
-use Rattle.std.proofs.lemmas.List.{take_all}
+use Rattle.std.proofs.Common.{subst, take_all}
 use Rattle.pp_history.specs.Marks.{AreCovered}
 use Rattle.pp_history.proofs.Covering.{covers_more}
 use Rattle.pp_history.proofs.marks.Marks.of.Goals as goal
