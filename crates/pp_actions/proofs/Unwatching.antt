@@ -1,7 +1,7 @@
 -- Watched places that are removed and restored.
 use Rattle.std.specs.List.{remove}
 use Rattle.std.proofs.Common.{arith, zero, suc, ap, sym, subst, append_assoc, add-one, ◌∙◌, ⊎_elim, ℕ, ◌≡◌, ◌+◌, ◌-◌, ◌<◌, ◌≤◌, ◌==◌, ◌≢◌, All, Some, position, List, [], ◌∷◌, ◌++◌, drop, take, get_or, set, length, map, replicate, refl}
-use Rattle.std.proofs.lemmas.Bool.Decides.{eqb_tells}
+use Rattle.std.proofs.lemmas.Bool.Decides.{eqb_tells, nat_tests}
 use Rattle.std.proofs.Math.Seq.{get_or-append_seam, drop-append-add}
 use Rattle.std.proofs.lemmas.List.{map-append, length-map, length-append, length-drop, length-set, length-take-le, drop_more, take-append-drop, set_at, length_push}
 use Rattle.std.proofs.lemmas.List.Elements.{All-take, All-drop, All-append}
@@ -36,34 +36,23 @@ HasAll-entries size i (code ∷ codes) h = (omega arith, HasAll-entries size (i 
 -- codes that replace those after the first i
 with_entries-split : (front old_values codes back : List ℕ) (i : ℕ) → length front ≡ i → length old_values ≡ length codes → with_entries (front ++ (old_values ++ back)) i codes ≡ front ++ (codes ++ back)
 with_entries-split front [] [] back i e l = refl
-with_entries-split front [] (code ∷ codes) back i e l = absurd (omega arith)
-with_entries-split front (old ∷ old_values) [] back i e l = absurd (omega arith)
 with_entries-split front (old ∷ old_values) (code ∷ codes) back i e l =
-    let longer : length (front ++ old ∷ []) ≡ i + 1 = omega (arith, length_push front old) in
-    let same : length old_values ≡ length codes = omega arith in
-    let rest = with_entries-split (front ++ old ∷ []) old_values codes back (i + 1) longer same in
-    let moved : (front ++ old ∷ []) ++ (old_values ++ back) ≡ front ++ (old ∷ (old_values ++ back)) = append_assoc front (old ∷ []) (old_values ++ back) in
-    let moved_back : (front ++ old ∷ []) ++ (codes ++ back) ≡ front ++ (old ∷ (codes ++ back)) = append_assoc front (old ∷ []) (codes ++ back) in
-    ap (λ es. set (with_entries es (i + 1) codes) i code) (sym moved)
-    ∙ ap (λ es. set es i code) (rest ∙ moved_back)
-    ∙ set_at front old (codes ++ back) code i e
+    let rest = with_entries-split (front ++ old ∷ []) old_values codes back (i + 1) (omega (arith, length_push front old)) (omega arith) in
+    rw (rw (append_assoc front (old ∷ []) (old_values ++ back), append_assoc front (old ∷ []) (codes ++ back)) at rest) (set_at front old (codes ++ back) code i e)
+with_entries-split front old_values codes back i e l = absurd (omega arith)
 
 entries_at-split : (front old_values codes back : List ℕ) (i : ℕ) → length front ≡ i → length old_values ≡ length codes → entries_at (front ++ (old_values ++ back)) i codes ≡ old_values
 entries_at-split front [] [] back i e l = refl
-entries_at-split front [] (code ∷ codes) back i e l = absurd (omega arith)
-entries_at-split front (old ∷ old_values) [] back i e l = absurd (omega arith)
 entries_at-split front (old ∷ old_values) (code ∷ codes) back i e l =
-    let longer : length (front ++ old ∷ []) ≡ i + 1 = omega (arith, length_push front old) in
-    let same : length old_values ≡ length codes = omega arith in
     let first : get_or (front ++ (old ∷ (old_values ++ back))) i 0 ≡ old = rw (← e) (get_or-append_seam front old (old_values ++ back) 0) in
-    let moved : (front ++ old ∷ []) ++ (old_values ++ back) ≡ front ++ (old ∷ (old_values ++ back)) = append_assoc front (old ∷ []) (old_values ++ back) in
-    let rest : entries_at (front ++ (old ∷ (old_values ++ back))) (i + 1) codes ≡ old_values = subst (λ es. entries_at es (i + 1) codes ≡ old_values) moved (entries_at-split (front ++ old ∷ []) old_values codes back (i + 1) longer same) in
-    rw (first, rest)
+    let rest = entries_at-split (front ++ old ∷ []) old_values codes back (i + 1) (omega (arith, length_push front old)) (omega arith) in
+    rw (first, rw (append_assoc front (old ∷ []) (old_values ++ back)) at rest)
+entries_at-split front old_values codes back i e l = absurd (omega arith)
 
 moved_up-codes : (ws : List Watched) (k : ℕ) → moved_up (map watch_code ws ++ replicate k 0) ≡ map watch_code ws ++ 0 ∷ []
 moved_up-codes [] zero = refl
 moved_up-codes [] (suc k) = refl
-moved_up-codes (w ∷ ws) k = rw code-no_zero (ap (λ codes. watch_code w ∷ codes) (moved_up-codes ws k))
+moved_up-codes (w ∷ ws) k = rw (code-no_zero, moved_up-codes ws k)
 
 -- the place w is the one at i
 module _ (ws front rest : List Watched) (w : Watched) (i : ℕ) (whole : front ++ w ∷ rest ≡ ws) (at_i : length front ≡ i) (few : length ws ≤ 8) where
@@ -88,21 +77,16 @@ module _ (ws front rest : List Watched) (w : Watched) (i : ℕ) (whole : front +
   length-before = length-map front watch_code ∙ at_i
 
   closing : moved_up (drop (i + 1) (watch_entries ws)) ≡ after ++ 0 ∷ []
-  closing =
-      let dropped : drop (length before + 1) (before ++ ((watch_code w ∷ after) ++ zeros)) ≡ after ++ zeros = drop-append-add before ((watch_code w ∷ after) ++ zeros) 1 in
-      let behind : drop (i + 1) (watch_entries ws) ≡ after ++ zeros = rw (full, ← length-before) dropped in
-      ap moved_up behind ∙ moved_up-codes rest (8 - length ws)
+  closing = rw (full, ← length-before, drop-append-add before ((watch_code w ∷ after) ++ zeros) 1) (moved_up-codes rest (8 - length ws))
 
-  same_count : length (watch_code w ∷ after) ≡ length (after ++ 0 ∷ [])
-  same_count = omega (arith, length_push after 0)
 
   -- the entries without the place w
   pub entries-removed : watch_entries (front ++ rest) ≡ with_entries (watch_entries ws) i (moved_up (drop (i + 1) (watch_entries ws)))
-  entries-removed = fewer ∙ sym (rw (closing, full) (with_entries-split before (watch_code w ∷ after) (after ++ 0 ∷ []) zeros i length-before same_count))
+  entries-removed = fewer ∙ sym (rw (closing, full) (with_entries-split before (watch_code w ∷ after) (after ++ 0 ∷ []) zeros i length-before (omega (arith, length_push after 0))))
 
   -- the old codes in the entries that change
   pub entries-stood : entries_at (watch_entries ws) i (moved_up (drop (i + 1) (watch_entries ws))) ≡ map watch_code (w ∷ rest)
-  entries-stood = rw (closing, full) (entries_at-split before (watch_code w ∷ after) (after ++ 0 ∷ []) zeros i length-before same_count)
+  entries-stood = rw (closing, full) (entries_at-split before (watch_code w ∷ after) (after ++ 0 ∷ []) zeros i length-before (omega (arith, length_push after 0)))
 
 -- places that are put back behind the first i ones
 entries-restored : (front rest places : List Watched) (i : ℕ) → length front ≡ i → length places ≡ length rest + 1 → i + length places ≤ 8 → watch_entries (front ++ places) ≡ with_entries (watch_entries (front ++ rest)) i (map watch_code places)
@@ -114,8 +98,7 @@ entries-restored front rest places i at_i more room =
     let count : 8 - length (front ++ rest) ≡ suc (8 - length (front ++ places)) = omega (arith, length-append front rest, length-append front places) in
     let now : watch_entries (front ++ rest) ≡ before ++ ((after ++ 0 ∷ []) ++ zeros) = rw (map-append, count, append_assoc, append_assoc) in
     let then : watch_entries (front ++ places) ≡ before ++ (codes ++ zeros) = rw (map-append, append_assoc) in
-    let same : length (after ++ 0 ∷ []) ≡ length codes = omega (arith, length_push after 0, length-map rest watch_code, length-map places watch_code) in
-    then ∙ sym (rw now (with_entries-split before (after ++ 0 ∷ []) codes zeros i (length-map front watch_code ∙ at_i) same))
+    then ∙ sym (rw now (with_entries-split before (after ++ 0 ∷ []) codes zeros i (length-map front watch_code ∙ at_i) (omega (arith, length_push after 0, length-map rest watch_code, length-map places watch_code))))
 
 -- ---- the same, for the place at i
 
@@ -134,15 +117,12 @@ stood-at ws i h few = ap (map watch_code) (drop_more ws i (RegA 0) h) ∙ sym (e
 -- places from i on replace those there, of which there is one fewer
 pub restored-at : (ws places : List Watched) (i : ℕ) → i ≤ length ws → length ws + 1 ≡ i + length places → i + length places ≤ 8 → watch_entries (take i ws ++ places) ≡ with_entries (watch_entries ws) i (map watch_code places)
 restored-at ws places i h more room =
-    let rest : length places ≡ length (drop i ws) + 1 = omega (arith, length-drop i ws) in
-    entries-restored (take i ws) (drop i ws) places i (length-take-le i ws h) rest room ∙ ap (λ vs. with_entries (watch_entries vs) i (map watch_code places)) (take-append-drop i ws)
+    entries-restored (take i ws) (drop i ws) places i (length-take-le i ws h) (omega (arith, length-drop i ws)) room ∙ ap (λ vs. with_entries (watch_entries vs) i (map watch_code places)) (take-append-drop i ws)
 
 pub back-at : (ws : List Watched) (i : ℕ) → i < length ws → length ws ≤ 8 → with_entries (watch_entries (remove ws i)) i (map watch_code (drop i ws)) ≡ watch_entries ws
 back-at ws i h few =
-    let rest : length (drop i ws) ≡ length (drop (i + 1) ws) + 1 = omega (arith, length-drop i ws, length-drop (i + 1) ws) in
-    let room : i + length (drop i ws) ≤ 8 = omega (arith, length-drop i ws) in
-    let restored = entries-restored (take i ws) (drop (i + 1) ws) (drop i ws) i (length-take-le i ws (omega arith)) rest room in
-    ap (λ vs. with_entries (watch_entries vs) i (map watch_code (drop i ws))) (removed ws i) ∙ (sym restored ∙ ap watch_entries (take-append-drop i ws))
+    let restored = entries-restored (take i ws) (drop (i + 1) ws) (drop i ws) i (length-take-le i ws (omega arith)) (omega (arith, length-drop i ws, length-drop (i + 1) ws)) (omega (arith, length-drop i ws)) in
+    rw removed (sym restored ∙ ap watch_entries (take-append-drop i ws))
 
 pub told-remove : (ws : List Watched) (i : ℕ) → All (λ w. watched_at (watch_code w) ≡ w) ws → All (λ w. watched_at (watch_code w) ≡ w) (remove ws i)
 told-remove ws i told = All-append (λ w. watched_at (watch_code w) ≡ w) (take i ws) (drop (suc i) ws) (All-take (λ w. watched_at (watch_code w) ≡ w) i ws told) (All-drop (λ w. watched_at (watch_code w) ≡ w) (suc i) ws told)
@@ -165,12 +145,10 @@ IsShaped-watches size m entries s e = assumption (s, e)
 -- behind the last place there is nothing to move up
 pub moved_up-last : (entries : List ℕ) → moved_up (drop (first_zero entries) entries) ≡ 0 ∷ []
 moved_up-last [] = refl
-moved_up-last (code ∷ codes) =
-    ⊎_elim (λ t. rw t.0 (rw t.0 refl)) (λ t. rw (t.0, add-one) (moved_up-last codes)) (eqb_tells code 0)
+moved_up-last (code ∷ codes) = ⊎_elim (λ t. rw (t.0, t.0) refl) (λ t. rw (t.0, add-one) (moved_up-last codes)) (eqb_tells code 0)
 
 -- without the place at i the entries are still well formed
 pub AreWatches-removed : (size : ℕ) (entries : List ℕ) (i : ℕ) → size ≤ 2097152 → AreWatches size entries → i < first_zero entries → AreWatches size (watch_entries (remove (watched_in entries) i))
 AreWatches-removed size entries i few ok h =
     let ws = watched_in entries in
-    let below : i < length ws = omega (arith, length-watched_in entries) in
-    AreWatches-entries size (remove ws i) few (All-append (λ w. Has size (watched_place w)) (take i ws) (drop (suc i) ws) (All-take (λ w. Has size (watched_place w)) i ws ok.present) (All-drop (λ w. Has size (watched_place w)) (suc i) ws ok.present)) (all_pairs_remove (λ v w. watch_code v ≢ watch_code w) ws i below ok.distinct)
+    AreWatches-entries size (remove ws i) few (All-append (λ w. Has size (watched_place w)) (take i ws) (drop (suc i) ws) (All-take (λ w. Has size (watched_place w)) i ws ok.present) (All-drop (λ w. Has size (watched_place w)) (suc i) ws ok.present)) (all_pairs_remove (λ v w. watch_code v ≢ watch_code w) ws i (omega (arith, length-watched_in entries)) ok.distinct)

@@ -1,7 +1,7 @@
 -- Watched places and their codes.
 use Rattle.std.specs.List.{list_any, position_from, AllPairs}
 use Rattle.std.proofs.Common.{arith, zero, suc, sym, ap, subst, append_assoc, add-one, ◌∙◌, ⊎_elim, ℕ, ◌+◌, ◌-◌, ◌*◌, ◌<◌, ◌==◌, ◌≢◌, All, ◌≤◌, ◌≡◌, ◌||◌, Bool, false, eqb, cond, position, Some, None, get_or, set, List, [], ◌∷◌, ◌++◌, length, map, replicate, refl}
-use Rattle.std.proofs.lemmas.Bool.Decides.{eqb_tells}
+use Rattle.std.proofs.lemmas.Bool.Decides.{eqb_tells, nat_tests}
 use Rattle.std.proofs.lemmas.Iterator.Adapters.{position_from-zero}
 use Rattle.std.proofs.lemmas.Bool.{false≢true, eq-eqb}
 use Rattle.std.proofs.lemmas.List.Elements.{All-tail, All-push}
@@ -19,72 +19,57 @@ use Rattle.pp_actions.specs.declared.watched.Watched.TheVariants.{Cell, RegA, Re
 
 code-below : (w : Watched) → 0 < watch_code w
 code-below (Cell n a) = omega arith
-code-below (RegA n) = omega arith
-code-below (RegP n) = omega arith
-code-below (RegQ n) = omega arith
-code-below (Central a) = omega arith
-code-below (Register c) = omega arith
+code-below w = omega arith
 
 pub code-no_zero : (w : Watched) → eqb (watch_code w) 0 ≡ false
-code-no_zero w = ⊎_elim (λ t. absurd (omega (arith, t.1, code-below w))) (λ t. t.0) (eqb_tells (watch_code w) 0)
+code-no_zero w = grind (arith, nat_tests, code-below w)
 
-first_zero-zeros : (k : ℕ) → first_zero (replicate k 0) ≡ 0
-first_zero-zeros zero = refl
-first_zero-zeros (suc k) = refl
 
 first_zero-codes : (ws : List Watched) (k : ℕ) → first_zero (map watch_code ws ++ replicate k 0) ≡ length ws
-first_zero-codes [] k = first_zero-zeros k
+first_zero-codes [] zero = refl
+first_zero-codes [] (suc k) = refl
 first_zero-codes (w ∷ ws) k = rw code-no_zero (omega (arith, first_zero-codes ws k))
 
 -- the first zero is past the watched places
 pub first_zero-entries : (ws : List Watched) → first_zero (watch_entries ws) ≡ length ws
 first_zero-entries ws = first_zero-codes ws (8 - length ws)
 
-zeros-split : (n k : ℕ) → n ≡ suc k → replicate {A = ℕ} n 0 ≡ 0 ∷ replicate k 0
-zeros-split n k e = rw e
 
 -- one more place, after the others
 pub watch_entries-push : (ws : List Watched) (w : Watched) → length ws < 8 → watch_entries (ws ++ w ∷ []) ≡ set (watch_entries ws) (length ws) (watch_code w)
 watch_entries-push ws w h =
-    let count = length-push ws w in
-    let room : 8 - length ws ≡ suc (8 - length (ws ++ w ∷ [])) = omega arith in
-    rw (map_push, append_assoc, zeros-split (8 - length ws) (8 - length (ws ++ w ∷ [])) room)
+    let room : 8 - length ws ≡ suc (8 - length (ws ++ w ∷ [])) = omega (arith, length-push ws w) in
+    rw (map_push, append_assoc, room)
     (sym (set_at (map watch_code ws) 0 (replicate (8 - length (ws ++ w ∷ [])) 0) (watch_code w) (length ws) (length-map ws watch_code)))
 
 -- the entry at the first zero reads zero
 pub first_zero-at : (xs : List ℕ) → get_or xs (first_zero xs) 0 ≡ 0
 first_zero-at [] = refl
-first_zero-at (x ∷ xs) =
-    ⊎_elim (λ t. rw t.0 t.1) (λ t. rw (t.0, add-one) (first_zero-at xs)) (eqb_tells x 0)
+first_zero-at (x ∷ xs) = grind (arith, nat_tests, first_zero-at xs)
 
 -- no place has the code zero
 pub zero-no_code : (w : Watched) → eqb 0 (watch_code w) ≡ false
-zero-no_code w = ⊎_elim (λ t. absurd (omega (arith, t.1, code-below w))) (λ t. t.0) (eqb_tells 0 (watch_code w))
+zero-no_code w = grind (arith, nat_tests, code-below w)
 
 -- as many places are watched as there are entries before the first zero
 pub length-watched_in : (entries : List ℕ) → length (watched_in entries) ≡ first_zero entries
 length-watched_in [] = refl
-length-watched_in (code ∷ codes) =
-    ⊎_elim (λ t. rw t.0 refl) (λ t. rw t.0 (omega (arith, length-watched_in codes))) (eqb_tells code 0)
+length-watched_in (code ∷ codes) = grind (arith, nat_tests, length-watched_in codes)
 
-any-zeros : (test : ℕ → Bool) (k : ℕ) → test 0 ≡ false → list_any test (replicate k 0) ≡ false
-any-zeros test zero e = refl
-any-zeros test (suc k) e = rw e (any-zeros test k e)
 
 any-codes : (test : ℕ → Bool) (ws : List Watched) (k : ℕ) → test 0 ≡ false → list_any test (map watch_code ws ++ replicate k 0) ≡ list_any (λ w. test (watch_code w)) ws
-any-codes test [] k e = any-zeros test k e
+any-codes test [] zero e = refl
+any-codes test [] (suc k) e = rw e (any-codes test [] k e)
 any-codes test (w ∷ ws) k e = ap (λ b. test (watch_code w) || b) (any-codes test ws k e)
 
 -- the entries past the watched places pass no test that rejects zero
 pub any-entries : (test : ℕ → Bool) (ws : List Watched) → test 0 ≡ false → list_any test (watch_entries ws) ≡ list_any (λ w. test (watch_code w)) ws
 any-entries test ws e = any-codes test ws (8 - length ws) e
 
-from-zeros : (test : ℕ → Bool) (i k : ℕ) → test 0 ≡ false → position_from test i (replicate k 0) ≡ None
-from-zeros test i zero e = refl
-from-zeros test i (suc k) e = rw e (from-zeros test (i + 1) k e)
 
 from-codes : (test : ℕ → Bool) (i : ℕ) (ws : List Watched) (k : ℕ) → test 0 ≡ false → position_from test i (map watch_code ws ++ replicate k 0) ≡ position_from (λ w. test (watch_code w)) i ws
-from-codes test i [] k e = from-zeros test i k e
+from-codes test i [] zero e = refl
+from-codes test i [] (suc k) e = rw e (from-codes test (i + 1) [] k e)
 from-codes test i (w ∷ ws) k e = ap (λ o. cond (test (watch_code w)) (Some i) o) (from-codes test (i + 1) ws k e)
 
 -- the same for the position of the first one that passes
@@ -98,8 +83,7 @@ kind-of : (k rest : ℕ) → rest < 2097152 → watched_at (k * 2097152 + rest) 
 kind-of k rest h = rw (div-mul-add k 2097152 rest h, mod-mul-add k 2097152 rest h) refl
 
 register-below : (size c : ℕ) → Has size (watched_place (Register c)) → c < 2097152
-register-below size c has =
-    ⊎_elim (λ t. omega (arith, t.1)) (λ t. let below : c < 12 = rw t.0 at has in omega (arith, below)) (eqb_tells c 12)
+register-below size c has = grind (arith, nat_tests)
 
 -- central memory has no more words than this
 pub words_of-few : (size : CentralSize) → words_of size ≤ 2097152
@@ -108,25 +92,20 @@ words_of-few size = omega (arith, most_words size)
 -- in a machine of at most this many central words, each place is determined by its code
 pub watched_at-code : (size : ℕ) (w : Watched) → size ≤ 2097152 → Has size (watched_place w) → watched_at (watch_code w) ≡ w
 watched_at-code size (Cell n a) few has =
-    let rest : n * 4096 + a < 2097152 = omega (arith, has.0, has.1) in
     let code : 2097152 + n * 4096 + a ≡ 1 * 2097152 + (n * 4096 + a) = omega arith in
-    rw (code, kind-of 1 (n * 4096 + a) rest, div-mul-add n 4096 a has.1, mod-mul-add n 4096 a has.1) refl
+    rw (code, kind-of 1 (n * 4096 + a) (omega (arith, has.0, has.1)), div-mul-add n 4096 a has.1, mod-mul-add n 4096 a has.1) refl
 watched_at-code size (RegA n) few has = kind-of 2 n (omega (arith, has))
 watched_at-code size (RegP n) few has = kind-of 3 n (omega (arith, has))
 watched_at-code size (RegQ n) few has = kind-of 4 n (omega (arith, has))
 watched_at-code size (Central a) few has = kind-of 5 a (omega (arith, has))
 watched_at-code size (Register c) few has = kind-of 6 c (register-below size c has)
 
-in-zeros : (k : ℕ) → watched_in (replicate k 0) ≡ []
-in-zeros zero = refl
-in-zeros (suc k) = refl
 
 in-codes : (ws : List Watched) (k : ℕ) → All (λ w. watched_at (watch_code w) ≡ w) ws → watched_in (map watch_code ws ++ replicate k 0) ≡ ws
-in-codes [] k told = in-zeros k
+in-codes [] zero told = refl
+in-codes [] (suc k) told = refl
 in-codes (w ∷ ws) k told =
-    let first : watched_at (watch_code w) ≡ w = told 0 w (omega arith) in
-    let rest = in-codes ws k (All-tail (λ v. watched_at (watch_code v) ≡ v) w ws told) in
-    rw (code-no_zero, first, rest) refl
+    rw (code-no_zero, told 0 w (omega arith), in-codes ws k (All-tail (λ v. watched_at (watch_code v) ≡ v) w ws told)) refl
 
 -- the entries of places that are determined by their codes
 pub watched_in-entries : (ws : List Watched) → All (λ w. watched_at (watch_code w) ≡ w) ws → watched_in (watch_entries ws) ≡ ws
@@ -148,8 +127,9 @@ pub AreWatches-push : (size : ℕ) (entries : List ℕ) (w : Watched) → size �
 AreWatches-push size entries w few ok room has new =
     let ws = watched_in entries in
     let count : length ws ≡ first_zero entries = length-watched_in entries in
-    let short : length ws < 8 = omega arith in
     let none : list_any (λ v. watch_code v == watch_code w) ws ≡ false = sym (any-entries (λ code. code == watch_code w) ws (zero-no_code w)) ∙ (ap (list_any (λ code. code == watch_code w)) ok.closed_up ∙ new) in
     let more = AreWatches-entries size (ws ++ w ∷ []) few (All-push (λ v. Has size (watched_place v)) ws w ok.present has) (all_pairs_push (λ v u. watch_code v ≢ watch_code u) ws w ok.distinct (λ k d l. other-code ws w k d none l)) in
-    let pushed : watch_entries (ws ++ w ∷ []) ≡ set entries (first_zero entries) (watch_code w) = watch_entries-push ws w short ∙ (ap (λ es. set es (length ws) (watch_code w)) ok.closed_up ∙ ap (λ n. set entries n (watch_code w)) count) in
-    subst (AreWatches size) pushed more
+    rw (watch_entries-push ws w (omega arith), ok.closed_up, count) at more
+
+-- what the entries of a list of places say of it
+pub ruleset entries = (first_zero-entries, length-watched_in, watched_in-entries, any-entries, position-entries, zero-no_code)

@@ -122,6 +122,7 @@ impl Model for WatchList {
     ghost invariant = { λ w. HaveCodes w.places.items };
 }
 
+#[tactic(auto, using(crate::proofs::WatchCodes::entries))]
 impl WatchList {
     /// Returns a list without places.
     pub fn new() -> WatchList

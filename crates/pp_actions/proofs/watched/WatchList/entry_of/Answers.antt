@@ -14,9 +14,6 @@ below c =
     let found = rw c.as_slice.ensures.value at (sym c.position_among.ensures ∙ c.in-Some.is) in
     (position-Some (λ v. watch_code v == watch_code c.args.watched) c.self.inside.places.items c.in-Some.i (RegA 0) found).0
 
-pub overflow_cast-result : goal.overflow_cast-result
-overflow_cast-result c = omega (arith, below c, c.self.invariant.few)
-
 pub returns-in-Some-clause-value : goal.returns-in-Some-clause-value
 returns-in-Some-clause-value c = rw (← c.self.view_is) (sym c.in-Some.is ∙ entry c.self.inside.places.items _ c.args.watched _ c.position_among.ensures c.as_slice.ensures.value)
 

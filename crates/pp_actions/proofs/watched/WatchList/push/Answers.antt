@@ -6,19 +6,10 @@ use Rattle.pp_actions.specs.WatchCodes.{watch_code}
 use Rattle.pp_actions.proofs.WatchCodes.{first_zero-entries, watch_entries-push}
 use Rattle.pp_actions.proofs.watched.WatchList.push.Goals as goal
 
-pub push-requires : goal.push-requires
-push-requires c =
-    let room = rw (← c.self.view_is, first_zero-entries) at c.requires.room in
-    (omega arith, room)
-
 pub returns-clause-puts_code : goal.returns-clause-puts_code
 returns-clause-puts_code c =
     let room = rw (← c.self.view_is, first_zero-entries) at c.requires.room in
     rw (← c.self.view_is, first_zero-entries, c.push.ensures.items) (watch_entries-push c.self.inside.places.items c.args.watched room)
-
-pub returns-clause-count : goal.returns-clause-count
-returns-clause-count c =
-    rw (← c.self.view_is, first_zero-entries, first_zero-entries, c.push.ensures.items) (length_push c.self.inside.places.items c.args.watched)
 
 pub invariant_of-self : goal.invariant_of-self
 invariant_of-self c =

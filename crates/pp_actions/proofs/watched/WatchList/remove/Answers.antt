@@ -1,5 +1,4 @@
-use Rattle.std.proofs.Common.{◌≡◌, ◌<◌, arith, drop, length}
-use Rattle.std.proofs.lemmas.List.{length-drop}
+use Rattle.std.proofs.Common.{◌≡◌, ◌<◌, arith, drop, length, length-drop}
 use Rattle.std.proofs.lemmas.List.Edits.{length-remove}
 use Rattle.std.proofs.lemmas.List.Elements.{All-drop}
 use Rattle.pp_actions.specs.Watches.{watched_at}
@@ -10,8 +9,7 @@ use Rattle.pp_actions.proofs.watched.WatchList.remove.Goals as goal
 
 pub places_from-stood-requires-clause-within : goal.places_from-stood-requires-clause-within
 places_from-stood-requires-clause-within c =
-    let below = rw (← c.self.view_is, first_zero-entries) at c.requires in
-    rw c.as_slice.ensures.value (omega (arith, below))
+    rw c.as_slice.ensures.value (omega (arith, rw (← c.self.view_is, first_zero-entries) at c.requires))
 
 pub remove-requires : goal.remove-requires
 remove-requires c =
@@ -55,10 +53,6 @@ pub returns-clause-within : goal.returns-clause-within
 returns-clause-within c =
     let count = length-remove c.self.inside.places.items c.args.i (below c) in
     rw (c.remove.ensures.items, first_zero-entries) (omega (arith, count, below c))
-
-pub returns-clause-at_most : goal.returns-clause-at_most
-returns-clause-at_most c =
-    rw (stood c, length-drop) (omega (arith, below c, c.self.invariant.few))
 
 pub returns-clause-has_code : goal.returns-clause-has_code
 returns-clause-has_code c = rw (stood c) (All-drop (λ w. watched_at (watch_code w) ≡ w) c.args.i c.self.inside.places.items c.self.invariant.told)
