@@ -21,9 +21,7 @@ place_admitted size (Central a) h k = (Decides-ltb a size).1 k
 place_admitted size w h k = h
 
 place_asked : (size : ℕ) (w : Watched) → size ≤ most_central_words → is_watchable size w ≡ true → IsPlaceInRange w
-place_asked size (Central a) most h =
-    let below : a < size = (Decides-ltb a size).0 h in
-    (Decides-ltb a most_central_words).1 (omega arith)
+place_asked size (Central a) most h = grind (arith, nat_tests)
 place_asked size w most h = h
 
 place_within : (size : ℕ) (w : Watched) → is_watchable size w ≡ true → IsPlaceWithin size w
@@ -39,8 +37,7 @@ admitted size action h k = h.1
 pub asked : (size : ℕ) (action : Action) → size ≤ most_central_words → CanBeAsked action → is_in_range size action ≡ true → IsActionInRange action
 asked size (SetWord a v) most can h =
     let t = (is_central a size v).0 h in
-    let below : a < size = t.0 in
-    (tt, (is_central a most_central_words v).1 (omega (arith, most, below), t.1))
+    (tt, (is_central a most_central_words v).1 (omega (arith, most, t.0), t.1))
 asked size (Watch w) most can h = (tt, place_asked size w most h)
 asked size (Unwatch w) most can h = (tt, place_asked size w most h)
 asked size action most can h = (can, h)
@@ -53,8 +50,6 @@ within size action h = tt
 
 -- ---- the words of SET M
 
-is_word : (v : ℕ) → Decides (nat_le v twelve_bits) (v ≤ twelve_bits)
-is_word v = (λ h. grind (arith, nat_tests), λ h. grind (arith, nat_tests))
 
 pub are_words : (values : List ℕ) → All (λ v. v ≤ twelve_bits) values → list_all (λ v. nat_le v twelve_bits) values ≡ true
-are_words values = (Decides-by_and (λ v. nat_le v twelve_bits) (λ v. v ≤ twelve_bits) (list_all (λ v. nat_le v twelve_bits)) is_word refl (λ _ _. refl) values).1
+are_words values = (Decides-by_and (λ v. nat_le v twelve_bits) (λ v. v ≤ twelve_bits) (list_all (λ v. nat_le v twelve_bits)) (λ v. (λ h. grind (arith, nat_tests), λ h. grind (arith, nat_tests))) refl (λ _ _. refl) values).1

@@ -8,6 +8,7 @@ ghost use Rattle.pp_actions.specs.declared.action.Action.{Action};
 /// words, and a machine has as many as its size says. So a machine admits every action in a line's ranges, if it has
 /// the central word that the action names. A line can ask for every action that a machine admits, except a turn and
 /// the setting of more than eight cells. A machine admits no action on a central word that it does not have.
+#[tactic(auto, using(crate::proofs::Agreeing::admitted, crate::proofs::Agreeing::asked, crate::proofs::Agreeing::within))]
 pub fn ranges_agree()
     ensures admitted { (size : ℕ) (action : Action) → IsActionInRange action → IsWithin size action →
         IsTrue (is_in_range size action) }

@@ -21,6 +21,4 @@ words-preserved c = record {
 }
 
 pub returns-clause-value : goal.returns-clause-value
-returns-clause-value c =
-    let before = rw c.in_default.ensures.cut at c.words.invariant.read in
-    rw c.new.ensures (sym (numbers-none 0o7777 c.words.values.items) ∙ before)
+returns-clause-value c = rw c.new.ensures (sym (numbers-none 0o7777 c.words.values.items) ∙ (rw c.in_default.ensures.cut at c.words.invariant.read))
