@@ -12,15 +12,7 @@ numerals = numerals_by_value _ (search rules)
 
 both : (some all small : Bool) (number : Option ℕ) → (some ≡ true → small ≡ true → ⊥) → None ≡ (if (some && all) && small then number else None)
 both true true true number never = absurd (never refl refl)
-both true true false number never = refl
-both true false small number never = refl
-both false all small number never = refl
-
-at_most : (a b : ℕ) → nat_le a b ≡ true → a ≤ b
-at_most a b e = grind (arith, nat_tests)
-
-below : (a b : ℕ) → nat_lt a b ≡ true → a < b
-below a b e = grind (arith, nat_tests)
+both some all small number never = refl
 
 -- if digits do not parse, there are none, or their value is above every maximum that fits
 pub decimal_read-unparsed : {E : Type 0} (word : List ℕ) (most : ℕ) (fault : E) → list_all is_ascii_digit word ≡ true → most < 2 ^ 32 →
@@ -28,5 +20,4 @@ pub decimal_read-unparsed : {E : Type 0} (word : List ℕ) (most : ℕ) (fault :
 decimal_read-unparsed word most fault digits fits unparsed =
     let not_number = parse_digits numerals 32 word (Err fault) unparsed digits in
     both (nat_lt 0 (length word)) (list_all is_ascii_digit word) (nat_le (digits_value 10 word) most) _ (λ some small.
-    let least : digits_value 10 word ≤ most = at_most (digits_value 10 word) most small in
-    not_number (below 0 (length word) some, omega arith))
+    not_number (grind (arith, nat_tests), grind (arith, nat_tests)))

@@ -6,6 +6,4 @@ use Rattle.pp_arguments.proofs.decimal.read_decimal.Goals as goal
 
 pub returns-in_default : goal.returns-in_default
 returns-in_default c =
-    let digits : list_all is_ascii_digit c.args.word.now ≡ true = sym c.if-not-are_digits.ensures in
-    let fits : c.args.most < 2 ^ 32 = omega (arith, c.ranges.most) in
-    decimal_read-unparsed c.args.word.now c.args.most c.in_default.field-0 digits fits c.in_default.ensures.value.0
+    decimal_read-unparsed c.args.word.now c.args.most c.in_default.field-0 (sym c.if-not-are_digits.ensures) (omega (arith, c.ranges.most)) c.in_default.ensures.value.0
