@@ -24,8 +24,7 @@ pub content-read : (known : Option (Option (List ℕ))) (rest new : Option (List
 content-read None rest new taken opened p = rw opened refl
 content-read (Some None) rest new taken opened p = absurd opened
 content-read (Some (Some bytes)) rest new taken opened p =
-    let later = unread (Some bytes) new taken (rw opened at p) in
-    rw opened (refl, (later.0, later.1))
+    let later = unread (Some bytes) new taken (rw opened at p) in rw opened (refl, (later.0, later.1))
 
 -- a file that could not be opened
 pub content-missing : (known : Option (Option (List ℕ))) → Agrees known None → IsContent known None None
@@ -42,7 +41,7 @@ Agrees-usual (Some value) usual = refl
 -- the log of a file that was opened and closed
 pub log-closed : (old middle new : List Event) (kind : FileKind) (path : Text) (bytes : List ℕ) → middle ≡ old ++ Opened kind path ∷ [] → new ≡ middle ++ Closed bytes ∷ [] →
     new ≡ old ++ events (readings kind (Some path) (Some bytes))
-log-closed old middle new kind path bytes p q = q ∙ ap (λ log. log ++ Closed bytes ∷ []) p ∙ append_assoc old (Opened kind path ∷ []) (Closed bytes ∷ [])
+log-closed old middle new kind path bytes p q = rw (q, p, append_assoc)
 
 -- the bytes read of a file that was not read before
 pub given-all : (old new taken : List ℕ) → old ≡ [] → new ≡ old ++ taken → new ≡ taken
@@ -50,23 +49,14 @@ given-all old new taken none p = p ∙ ap (λ before. before ++ taken) none
 
 -- ---- loading
 
--- a fault of the file is its first fault, or the file was lost
-lost : (kind : FileKind) (fault : LoadFault) {A : Type 0} (rule : Rule) (file : List ℕ → Result A LoadFault) (taken bytes : List ℕ) → IsCauseOf rule file taken bytes fault →
-    (file bytes ≡ Err fault) ⊎ IsLost rule (Some taken) (Some bytes) (of_load kind fault)
-lost kind fault rule file taken bytes (inl e) = inl e
-lost kind fault rule file taken bytes (inr (inl rejected)) = inr (inl (ap (of_load kind) rejected.0, rejected.1))
-lost kind fault rule file taken bytes (inr (inr failed)) = inr (inr (ap (of_load kind) failed.0, failed.1))
 
-passed-on : {A B : Type 0} (kind : FileKind) (f : A → B) (fault : LoadFault) (file : Result A LoadFault) (rule : Rule) (taken content : Option (List ℕ)) →
-    (file ≡ Err fault) ⊎ IsLost rule taken content (of_load kind fault) →
-    (read_as kind f file ≡ Err (of_load kind fault)) ⊎ IsLost rule taken content (of_load kind fault)
-passed-on kind f fault file rule taken content (inl e) = inl (ap (read_as kind f) e)
-passed-on kind f fault file rule taken content (inr loss) = inr loss
 
 -- the result for a file whose fault was reported
 pub load-failed : {A B : Type 0} (kind : FileKind) (f : A → B) (rule : Rule) (file : List ℕ → Result A LoadFault) (taken bytes : List ℕ) (fault : LoadFault) →
     IsCauseOf rule file taken bytes fault → (read_as kind f (file bytes) ≡ Err (of_load kind fault)) ⊎ IsLost rule (Some taken) (Some bytes) (of_load kind fault)
-load-failed kind f rule file taken bytes fault cause = passed-on kind f fault (file bytes) rule (Some taken) (Some bytes) (lost kind fault rule file taken bytes cause)
+load-failed kind f rule file taken bytes fault (inl e) = inl (ap (read_as kind f) e)
+load-failed kind f rule file taken bytes fault (inr (inl rejected)) = inr (inl (ap (of_load kind) rejected.0, rejected.1))
+load-failed kind f rule file taken bytes fault (inr (inr failed)) = inr (inr (ap (of_load kind) failed.0, failed.1))
 
 -- the same for a file that asks for no memory
 pub load-broken : {A B : Type 0} (kind : FileKind) (f : A → B) (rule : Rule) (file : List ℕ → Result A LoadFault) (taken bytes : List ℕ) (fault : LoadFault) → fault ≢ load.NoMemory →

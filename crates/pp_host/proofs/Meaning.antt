@@ -11,30 +11,11 @@ use Rattle.pp_trouble.specs.declared.trouble.Trouble.{Trouble}
 use Rattle.pp_trouble.specs.declared.trouble.Trouble.TheVariants.{BadArguments, BadChannel, NoMemory}
 use Rattle.pp_host.specs.Options.{Asked, Means, asked_by, asked_of, with_channels, with_numbers}
 
-abbrev made : ℕ → CentralSize → ℕ → ℕ → Option Text → Option Text → Option Text → Result Asked Trouble
-made history central reader printer deck panel script = Ok (record {
-  history = history;
-  central = central;
-  deck = deck;
-  reader = reader;
-  printer = printer;
-  panel = panel;
-  script = script;
-})
 
 asked-ok : (words : List Text) (options : Options) → AreAskedBy words options → asked_by words ≡ Ok (asked_of options)
 unfolding asked_by
 asked-ok words options asked =
-    let deck = given words (codes "deck") in
-    let panel = given words (codes "panel") in
-    let script = given words (codes "script") in
-    ap (λ h. with_numbers words h (central_of words)) asked.history
-    ∙ ap (λ c. with_numbers words (Some options.history) c) asked.central
-    ∙ ap (λ r. with_channels words options.history options.central r (printer_of words)) asked.reader
-    ∙ ap (λ p. with_channels words options.history options.central (Some options.reader) p) asked.printer
-    ∙ ap (λ d. made options.history options.central options.reader options.printer d panel script) asked.deck
-    ∙ ap (λ p. made options.history options.central options.reader options.printer (asked_of options).deck p script) asked.panel
-    ∙ ap (λ s. made options.history options.central options.reader options.printer (asked_of options).deck (asked_of options).panel s) asked.script
+    rw (asked.history, asked.central, asked.reader, asked.printer, asked.deck, asked.panel, asked.script)
 
 pub Means-asked : (words : List Text) (options : Options) → AreAskedBy words options → faults_of words ≡ [] → Means (Some words) (Ok (asked_of options))
 Means-asked words options asked line = inl (line, sym (asked-ok words options asked))
@@ -53,9 +34,8 @@ no-channel words history central (Some reader) (Some printer) (inr e) = cc
 
 no-channels : (words : List Text) (history : Option ℕ) (central : Option CentralSize) → is_some history ≡ true → is_some central ≡ true → (reader_of words ≡ None) ⊎ (printer_of words ≡ None) →
     with_numbers words history central ≡ Err BadChannel
-no-channels words None central h c e = cc
-no-channels words (Some history) None h c e = cc
 no-channels words (Some history) (Some central) h c e = no-channel words history central (reader_of words) (printer_of words) e
+no-channels words history central h c e = cc
 
 bad-number : (words : List Text) → (history_of words ≡ None) ⊎ (central_of words ≡ None) → asked_by words ≡ Err BadArguments
 unfolding asked_by

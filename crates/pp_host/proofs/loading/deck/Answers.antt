@@ -1,6 +1,5 @@
 use Rattle.std.proofs.lemmas.Result.{err_from_is_err_and}
-use Rattle.std.proofs.lemmas.List.{append-nil}
-use Rattle.std.proofs.Common.{inl, refl, sym, ap, None, Ok, Some}
+use Rattle.std.proofs.Common.{inl, refl, sym, ap, None, Ok, Some, append-nil}
 use Rattle.std.specs.String.{string_bytes}
 use Rattle.pp_files.specs.Files.{card_rule, deck_of_file}
 use Rattle.pp_lines.specs.Device.{all_bytes}

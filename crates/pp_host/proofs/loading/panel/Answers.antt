@@ -1,6 +1,5 @@
 use Rattle.std.proofs.lemmas.Result.{err_from_is_err_and}
-use Rattle.std.proofs.lemmas.List.{append-nil}
-use Rattle.std.proofs.Common.{inl, refl, sym, None, Some}
+use Rattle.std.proofs.Common.{inl, refl, sym, None, Some, append-nil}
 use Rattle.std.specs.String.{string_bytes}
 use Rattle.pp_files.specs.Files.{panel_rule, panel_of_file}
 use Rattle.pp_lines.specs.Device.{all_bytes}
