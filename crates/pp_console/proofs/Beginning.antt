@@ -20,14 +20,12 @@ pub HasRead-new : (progress : Progress) (session : State) (text : Written) (star
     progress.line ≡ [] → progress.bytes ≡ 0 → progress.lines ≡ 0 → progress.refused ≡ 0 → HasRead progress session text (origin_of start text) []
 unfolding run
 HasRead-new progress session text start at empty no_bytes no_lines no_refused = record {
-  keeps = rw empty (take-nothing 257);
+  keeps = rw empty (grind (arith, common_steps));
   counts_bytes = no_bytes;
   counts_lines = no_lines;
   counts_refused = no_refused;
   performed = record { leaves = at; writes = Appends-nothing text };
-} where
-  take-nothing : (n : ℕ) → [] ≡ take {A = ℕ} n []
-  take-nothing n = grind (arith, common_steps)
+}
 
 -- all finished lines are within the limits
 pub Performed-within : (progress : Progress) (session : State) (text : Written) (origin : Origin) (bytes : List ℕ) →

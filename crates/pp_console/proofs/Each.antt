@@ -1,6 +1,5 @@
 -- Lines for the numbers of a range, one after another.
-use Rattle.std.proofs.Common.{◌≡◌, ◌∙◌, ℕ, zero, suc, ◌+◌, ◌-◌, ◌<◌, ◌≤◌, List, [], ◌++◌, refl, sym, ap, arith, append_assoc, add-zero}
-use Rattle.std.proofs.lemmas.List.{append-nil}
+use Rattle.std.proofs.Common.{add-one, ◌≡◌, ◌∙◌, ℕ, zero, suc, ◌+◌, ◌-◌, ◌<◌, ◌≤◌, List, [], ◌++◌, refl, sym, ap, arith, append_assoc, add-zero, append-nil}
 use Rattle.pp_console.specs.Dumps.{each}
 
 -- a range that is longer by one
@@ -8,16 +7,12 @@ each-more : (line : ℕ → List ℕ) (first count : ℕ) → each line first (s
 each-more line first zero = append-nil (line first) ∙ ap line (sym (add-zero first))
 each-more line first (suc count) =
     let at : first + 1 + count ≡ first + suc count = omega arith in
-    ap (λ rest. line first ++ rest) (each-more line (first + 1) count)
-    ∙ sym (append_assoc (line first) (each line (first + 1) count) (line (first + 1 + count)))
-    ∙ ap (λ n. (line first ++ each line (first + 1) count) ++ line n) at
+    rw (each-more line (first + 1) count, at, append_assoc)
 
 -- one more line, after others
 pub each-next : (before : List ℕ) (line : ℕ → List ℕ) (first count : ℕ) → (before ++ each line first count) ++ line (first + count) ≡ before ++ each line first (count + 1)
 each-next before line first count =
-    let size : suc count ≡ count + 1 = omega arith in
-    append_assoc before (each line first count) (line (first + count))
-    ∙ ap (λ lines. before ++ lines) (sym (each-more line first count) ∙ ap (λ n. each line first n) size)
+    rw (add-one, each-more line first count, append_assoc)
 
 -- one more line, in a range that starts at zero
 pub each-push : (line : ℕ → List ℕ) (count : ℕ) → each line 0 count ++ line count ≡ each line 0 (count + 1)
@@ -28,11 +23,9 @@ each-push line count =
 -- the first line, and the others
 pub each-first : (line : ℕ → List ℕ) (first end : ℕ) → first < end → each line first (end - first) ≡ line first ++ each line (first + 1) (end - (first + 1))
 each-first line first end more =
-    let left : end - first ≡ suc (end - (first + 1)) = omega arith in
-    rw left refl
+    let left : end - first ≡ suc (end - (first + 1)) = omega arith in rw left refl
 
 -- no line after the last
 pub each-none : (line : ℕ → List ℕ) (first end : ℕ) → end ≤ first → each line first (end - first) ≡ []
 each-none line first end none =
-    let left : end - first ≡ 0 = omega arith in
-    rw left refl
+    let left : end - first ≡ 0 = omega arith in rw left refl

@@ -23,7 +23,7 @@ Interrupts-more LineLimit session text origin bytes more p =
     (p.0, p.1 ++ more, ap (λ front. front ++ more) p.2 ∙ append_assoc p.0 p.1 more, simp length-append (omega (arith, p.3)), p.4, p.5, p.6)
 Interrupts-more WriteFailed session text origin bytes more p =
     let further = finished_within-more LINE_LIMIT BYTE_LIMIT bytes more in
-    (p.0, p.1, p.2 ++ further.0, further.1 ∙ ap (λ front. front ++ further.0) p.3 ∙ append_assoc p.0 (p.1 ∷ p.2) further.0, p.4)
+    (p.0, p.1, p.2 ++ further.0, rw (further.1, p.3, append_assoc), p.4)
 
 -- the whole script, if the last line ends with a line feed
 pub Serves-whole : (summary : Summary) (progress : Progress) (session : State) (text : Written) (origin : Origin) (bytes : List ℕ) →

@@ -32,13 +32,8 @@ module _ {W : Type 0} (sink : Ghosts W) (old new : State) (second third : W) (or
   line-performed (Err fault) performs = record {
     leaves = rw (run-line origin.start done line) (performs.session _ before.leaves);
     writes =
-        let answer = performs.text _ before.leaves in (
-          answer.0,
-          answer.1,
-          Appends-again _ _ _ _ _ before.writes answer.2,
-          rw (run-line origin.start done line) (ap (λ text. (run origin.start done).text ++ text) answer.3 ∙ sym (append_assoc (run origin.start done).text answer.0 answer.1)),
-          answer.4,
-        );
+        let answer = performs.text _ before.leaves in
+        (answer.0, answer.1, Appends-again _ _ _ _ _ before.writes answer.2, rw (run-line origin.start done line, append_assoc, ← answer.3) refl, answer.4);
   }
 
 -- a rejected line is counted

@@ -7,9 +7,7 @@ use Rattle.pp_command.specs.CommandLine.{command, command_of_text}
 
 too_long : (text : List ℕ) → 255 < length text → command_of_text text ≡ Err TooLong
 unfolding command_of_text
-too_long text h =
-    let over : nat_lt 255 (length text) ≡ true = grind (arith, nat_tests) in
-    rw over refl
+too_long text h = grind (arith, nat_tests)
 
 -- a prefix of more than 256 bytes parses as the line does
 pub command-kept : (most : ℕ) (line : List ℕ) → 256 < most → command (take most line) ≡ command line

@@ -2,7 +2,7 @@
 use Rattle.std.proofs.Common.{◌≡◌, ◌∙◌, ℕ, ◌-◌, cond, eqb, Bool, true, false, List, [], ◌∷◌, ◌++◌, length, take, drop, refl, sym, ap, append_assoc, None, Some, ◌==◌, map, position, codes}
 use Rattle.std.specs.List.{position_or_len, flat_map}
 use Rattle.std.proofs.lemmas.List.{drop-map, length-map, map-append, take-append-drop, take-map}
-use Rattle.pp_lines.proofs.OpenTexts.{feed-cut, feed-none, unfinished-text}
+use Rattle.pp_lines.proofs.OpenTexts.{open-first, feed-cut, feed-none, unfinished-text}
 use Rattle.pp_lines.specs.Lines.{extend_first, finished, unfinished, last_line}
 use Rattle.pp_console.specs.DisplayCode.{character}
 use Rattle.pp_console.specs.Paper.{marked, lines_of_paper, paper_text}
@@ -11,14 +11,10 @@ use Rattle.pp_console.specs.PaperCuts.{is_line_end, rest_text}
 -- a line feed after a text without one ends the first line
 feed-first : (line later : List ℕ) → finished line ≡ [] → (finished (line ++ 10 ∷ later) ≡ line ∷ finished later) × (unfinished (line ++ 10 ∷ later) ≡ unfinished later)
 feed-first [] later none = (refl, refl)
-feed-first (byte ∷ line) later none = by_test (eqb byte 10) refl (finished line) refl none (feed-first line later)
-  where
-    by_test : (feed : Bool) → eqb byte 10 ≡ feed → (done : List (List ℕ)) → finished line ≡ done → cond feed ([] ∷ done) (extend_first byte done) ≡ [] →
-        (finished line ≡ [] → (finished (line ++ 10 ∷ later) ≡ line ∷ finished later) × (unfinished (line ++ 10 ∷ later) ≡ unfinished later)) →
-        (finished (byte ∷ line ++ 10 ∷ later) ≡ (byte ∷ line) ∷ finished later) × (unfinished (byte ∷ line ++ 10 ∷ later) ≡ unfinished later)
-    by_test true e done d none more = cc
-    by_test false e [] d none more = let rest = more d in (rw (e, rest.0) refl, rw (e, rest.0, rest.1) refl)
-    by_test false e (first ∷ done) d none more = cc
+feed-first (byte ∷ line) later none =
+    let first = open-first byte line none in
+    let rest = feed-first line later first.1 in
+    (rw (first.0, rest.0) refl, rw (first.0, rest.0, rest.1) refl)
 
 -- the first line of the paper, and the others
 paper-first : (line later : List ℕ) → finished line ≡ [] → lines_of_paper (line ++ 10 ∷ later) ≡ marked (codes "|") line ++ lines_of_paper later

@@ -53,15 +53,11 @@ module _ {W E : Type 0} {sink : Ghosts W} {old new : State} {before after : W} {
 
 pub back-within : (actions : ℕ) (v : Value) → actions ≤ v.kept → back_answer actions v ≡ moved back_name actions (after_back v actions)
 unfolding back_answer
-back-within actions v within =
-    let no_fault : nat_lt v.kept actions ≡ false = grind (arith, nat_tests) in
-    rw no_fault refl
+back-within actions v within = grind (arith, nat_tests)
 
 pub forward-within : (actions : ℕ) (v : Value) → actions ≤ length v.ahead → forward_answer actions v ≡ moved forward_name actions (after_forward v actions)
 unfolding forward_answer
-forward-within actions v within =
-    let no_fault : nat_lt (length v.ahead) actions ≡ false = grind (arith, nat_tests) in
-    rw no_fault refl
+forward-within actions v within = grind (arith, nat_tests)
 
 -- nothing is watched
 pub change-unwatched : (v : Value) (places : List Place) → places ≡ map watched_place (watches_of (present v)) → length places ≡ 0 → change_answer v ≡ rejected v nothing_watched_text
@@ -87,13 +83,11 @@ pub central-within : (first last : ℕ) (v : Value) (sized shown : Machine) → 
 unfolding central_answer
 central-within first last v sized shown same also within =
     let less = rw same at within in
-    let has : nat_lt last (present v).setup.central_words ≡ true = grind (arith, nat_tests) in
-    rw (has, also) refl
+    rw also (grind (arith, nat_tests))
 
 -- the machine does not have the last of the words
 pub central-beyond : (first last : ℕ) (v : Value) (sized : Machine) → sized ≡ present v → sized.setup.central_words ≤ last → central_answer first last v ≡ rejected v range_text
 unfolding central_answer
 central-beyond first last v sized same beyond =
     let more = rw same at beyond in
-    let has : nat_lt last (present v).setup.central_words ≡ false = grind (arith, nat_tests) in
-    rw has refl
+    grind (arith, nat_tests)

@@ -1,6 +1,5 @@
 -- Bytes that are read in pieces, up to the limits.
-use Rattle.std.proofs.Common.{◌≡◌, ◌∙◌, ℕ, ◌+◌, ◌-◌, ◌<◌, ◌≤◌, List, [], ◌∷◌, ◌++◌, length, take, drop, refl, sym, ap, arith, inl, inr, append_assoc, length-append, length-take, length-drop}
-use Rattle.std.proofs.lemmas.List.{take-append-drop}
+use Rattle.std.proofs.Common.{◌≡◌, ◌∙◌, ℕ, ◌+◌, ◌-◌, ◌<◌, ◌≤◌, List, [], ◌∷◌, ◌++◌, length, take, drop, refl, sym, ap, arith, inl, inr, append_assoc, length-append, length-take, length-drop, take-append-drop}
 use Rattle.pp_lines.specs.Output.{Written}
 use Rattle.pp_lines.specs.declared.fault.IoFault.{IoFault}
 use Rattle.pp_lines.specs.declared.fault.IoFault.TheVariants.{LineLimit}
@@ -48,7 +47,7 @@ over-bytes line_limit byte_limit bytes text rest none within reached over lines 
     let kept = bytes ++ take room text in
     let same : finished kept ≡ finished bytes = finished-text bytes (take room text) (open-take room text none) in
     let size : length kept ≡ byte_limit = simp (length-append, length-take) (omega (arith, within, reached)) in
-    let split : bytes ++ text ≡ kept ++ drop room text = ap (λ all. bytes ++ all) (sym (take-append-drop room text)) ∙ sym (append_assoc bytes (take room text) (drop room text)) in (
+    let split : bytes ++ text ≡ kept ++ drop room text = rw (append_assoc, take-append-drop) in (
       kept,
       drop room text ++ rest,
       ap (λ all. all ++ rest) split ∙ append_assoc kept (drop room text) rest,

@@ -16,23 +16,13 @@ use Rattle.pp_console.specs.ServingSteps.{HasRead}
 fed-within : (line_limit byte_limit : ℕ) (bytes : List ℕ) → length bytes < byte_limit → length (finished bytes) < line_limit →
     finished_within line_limit byte_limit (bytes ++ 10 ∷ []) ≡ finished bytes ++ unfinished bytes ∷ []
 fed-within line_limit byte_limit bytes bytes_within lines_within =
-    let size : length (bytes ++ 10 ∷ []) ≡ length bytes + 1 = length-append bytes (10 ∷ []) in
-    let count : length (finished (bytes ++ 10 ∷ [])) ≡ length (finished bytes) + 1 =
-    rw (finished-feed bytes) (length-append (finished bytes) (unfinished bytes ∷ [])) in
-    finished_within-whole line_limit byte_limit (bytes ++ 10 ∷ []) (omega (arith, size)) (omega (arith, count)) ∙ finished-feed bytes
+    let count : length (finished (bytes ++ 10 ∷ [])) ≡ length (finished bytes) + 1 = rw (finished-feed bytes) (length-append (finished bytes) (unfinished bytes ∷ [])) in
+    finished_within-whole line_limit byte_limit (bytes ++ 10 ∷ []) (simp length-append (omega arith)) (omega (arith, count)) ∙ finished-feed bytes
 
 -- the bytes read so far are within the limits
 pub HasRead-within : (progress : Progress) (session : State) (text : Written) (origin : Origin) (bytes : List ℕ) → HasRead progress session text origin bytes → IsWithin LINE_LIMIT BYTE_LIMIT bytes
 HasRead-within progress session text origin bytes has_read = record {
-  lines_within =
-      let begun = kept-begun KEPT (unfinished bytes) (omega arith) in
-      rw (lines-count bytes)
-      (let size = ap length has_read.keeps in
-      let one = last_line-one (unfinished bytes) in
-      let room : 0 < length progress.line → progress.lines < LINE_LIMIT = progress.line_within in
-      let all = progress.lines_within in
-      let counted = has_read.counts_lines in
-      grind arith);
+  lines_within = rw (lines-count bytes) (grind (arith, kept-begun KEPT (unfinished bytes) (omega arith), ap length has_read.keeps, last_line-one (unfinished bytes), progress.line_within, progress.lines_within, has_read.counts_lines));
   bytes_within = rw (← has_read.counts_bytes) progress.bytes_within;
 }
 
@@ -42,9 +32,7 @@ pub HasRead-finishes : (progress : Progress) (session : State) (written : Writte
     finished_within LINE_LIMIT BYTE_LIMIT ((bytes ++ text) ++ 10 ∷ []) ≡ finished bytes ++ unfinished (bytes ++ text) ∷ []
 HasRead-finishes progress session written origin bytes text none has_read bytes_within lines_within =
     let same = finished-text bytes text none in
-    let size : length (bytes ++ text) < BYTE_LIMIT = simp length-append (omega (arith, has_read.counts_bytes, bytes_within)) in
-    let count : length (finished (bytes ++ text)) < LINE_LIMIT = rw same (rw (← has_read.counts_lines) lines_within) in
-    rw same at (fed-within LINE_LIMIT BYTE_LIMIT (bytes ++ text) size count)
+    rw same at (fed-within LINE_LIMIT BYTE_LIMIT (bytes ++ text) (simp length-append (omega (arith, has_read.counts_bytes, bytes_within))) (rw same (rw (← has_read.counts_lines) lines_within)))
 
 -- bytes without a line feed
 pub HasRead-text : (old new : Progress) (session : State) (written : Written) (origin : Origin) (bytes text : List ℕ) → finished text ≡ [] →
@@ -67,8 +55,7 @@ pub HasRead-line : (old new : Progress) (session session' : State) (written writ
     Performed session' written' origin (finished bytes ++ unfinished (bytes ++ text) ∷ []) →
     HasRead new session' written' origin ((bytes ++ text) ++ 10 ∷ [])
 HasRead-line old new session session' written written' origin bytes text none has_read kept more_bytes more_lines refused performed =
-    let all : finished ((bytes ++ text) ++ 10 ∷ []) ≡ finished bytes ++ unfinished (bytes ++ text) ∷ [] =
-    finished-feed (bytes ++ text) ∙ ap (λ done. done ++ unfinished (bytes ++ text) ∷ []) (finished-text bytes text none) in
+    let all : finished ((bytes ++ text) ++ 10 ∷ []) ≡ finished bytes ++ unfinished (bytes ++ text) ∷ [] = rw (finished-feed (bytes ++ text), finished-text bytes text none) in
     record {
       keeps = kept;
       counts_bytes = simp length-append (omega (arith, more_bytes, has_read.counts_bytes));

@@ -1,6 +1,5 @@
 -- Texts that end with the text written last.
-use Rattle.std.proofs.Common.{◌≡◌, ◌∙◌, ℕ, List, [], ◌++◌, refl, sym, Result, Ok, Err}
-use Rattle.std.proofs.lemmas.List.{append-nil}
+use Rattle.std.proofs.Common.{◌≡◌, ◌∙◌, ℕ, List, [], ◌++◌, refl, sym, Result, Ok, Err, append-nil}
 use Rattle.pp_lines.specs.Output.{Appends, Writes, Written}
 use Rattle.pp_lines.proofs.Writing.{Appends-again, Appends-same, Remains, Remains-fails, front_after}
 
@@ -16,8 +15,4 @@ pub Remains-last : {T E : Type 0} (result : Result T E) (first second third : Wr
 Remains-last (Ok value) first second third whole left p q =
     Appends-same first third (p.0 ++ left) whole (sym p.2) (Appends-again first second third p.0 left p.1 q)
 Remains-last (Err fault) first second third whole left p q =
-    let all : Remains first second whole (left ++ []) = (p.0, p.1, p.2 ∙ ends p.0) in
-    Remains-fails first second third whole left [] all q
-  where
-    ends : (front : List ℕ) → front ++ left ≡ front ++ (left ++ [])
-    ends front = rw append-nil refl
+    Remains-fails first second third whole left [] (p.0, p.1, rw append-nil p.2) q

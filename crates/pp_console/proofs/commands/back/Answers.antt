@@ -9,8 +9,5 @@ pub returns-in-Ok : goal.returns-in-Ok
 unfolding back_name
 returns-in-Ok g c =
     performs-answered g.W.Sink c.args.session.now _ c.args.out.now c.write_moved.new.out _ (back_answer c.args.actions) _ c.write_moved.ensures.text c.write_moved.ensures.counts c.write_moved.ensures.performed
-    (λ v at.
-    let next = after_back v c.args.actions in
-    let slot = c.slot.ensures.value ∙ ap (λ m. m.slot) (c.machine.ensures.is_replay next (c.in-Ok.ensures.moves v at)) in
-    let text = ap (moved_text back_name c.args.actions) slot in
-    (next, back-within c.args.actions v (c.in-Ok.ensures.has_enough v at) ∙ ap (answered next) (sym text), c.in-Ok.ensures.moves v at))
+    (λ v at. let moves = c.in-Ok.ensures.moves v at in
+    (after_back v c.args.actions, rw (c.slot.ensures.value, c.machine.ensures.is_replay _ moves) (back-within c.args.actions v (c.in-Ok.ensures.has_enough v at)), moves))

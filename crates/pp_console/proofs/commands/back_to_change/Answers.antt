@@ -12,21 +12,16 @@ use Rattle.pp_console.proofs.commands.back_to_change.Goals as goal
 pub returns-then-is_empty : goal.returns-then-is_empty
 unfolding nothing_watched_text
 returns-then-is_empty g c =
-    let none : length c.watched_places-places.result.items ≡ 0 = grind (arith, nat_tests) in
     performs-rejected g.W.Sink c.args.session.now _ c.args.out.now c.reject.new.out _ change_answer _ c.reject.ensures.text c.reject.ensures.counts c.reject.ensures.performed refl
-    (λ v at. change-unwatched v c.watched_places-places.result.items (c.watched_places-places.ensures.value ∙ ap (λ (m : Machine). map watched_place (watches_of m)) (c.machine.ensures.is_replay v at)) none)
+    (λ v at. change-unwatched v c.watched_places-places.result.items (c.watched_places-places.ensures.value ∙ ap (λ (m : Machine). map watched_place (watches_of m)) (c.machine.ensures.is_replay v at)) (grind (arith, nat_tests)))
 
 pub returns-in-Ok : goal.returns-in-Ok
 unfolding back_name
 returns-in-Ok g c =
     let some : 0 < length c.watched_places-places.result.items = grind (arith, nat_tests) in
     performs-answered g.W.Sink c.args.session.now _ c.args.out.now c.write_moved.new.out _ change_answer _ c.write_moved.ensures.text c.write_moved.ensures.counts c.write_moved.ensures.performed
-    (λ v at.
-    let found = rw c.as_slice.ensures.value at (c.in-Ok.ensures.is_change v at) in
-    let next = after_back v c.in-Ok.actions in
-    let slot = c.slot.ensures.value ∙ ap (λ m. m.slot) (c.machine-in-Ok.ensures.is_replay next (c.in-Ok.ensures.moves v at)) in
-    let text = ap (moved_text back_name c.in-Ok.actions) slot in
-    (next, change-found v c.watched_places-places.result.items c.in-Ok.actions (c.watched_places-places.ensures.value ∙ ap (λ (m : Machine). map watched_place (watches_of m)) (c.machine.ensures.is_replay v at)) some found ∙ ap (answered next) (sym text), c.in-Ok.ensures.moves v at))
+    (λ v at. let moves = c.in-Ok.ensures.moves v at in
+    (after_back v c.in-Ok.actions, rw (c.slot.ensures.value, c.machine-in-Ok.ensures.is_replay _ moves) (change-found v c.watched_places-places.result.items c.in-Ok.actions (c.watched_places-places.ensures.value ∙ ap (λ (m : Machine). map watched_place (watches_of m)) (c.machine.ensures.is_replay v at)) some (rw c.as_slice.ensures.value at (c.in-Ok.ensures.is_change v at))), moves))
 
 pub returns-in-Err : goal.returns-in-Err
 unfolding no_change_text

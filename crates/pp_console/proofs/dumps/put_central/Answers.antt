@@ -16,9 +16,8 @@ loop-a-preserved g c = record {
 pub returns-in_err-put_all-clause-text : goal.returns-in_err-put_all-clause-text
 unfolding central_text
 returns-in_err-put_all-clause-text g c =
-    let p = err_from_is_err_and c.from_residual.result c.from_residual.ensures.1 in
     let before = rw (each-first (central_line c.args.machine.now) c.loop-a.a (c.args.last + 1) c.loop-a-test.true, ← c.word_line.ensures, ← c.as_slice.ensures.value) at c.loop-a.invariant.text in
-    rw p.1 (Remains-fails _ (g.W.Sink.text c.loop-a.out) _ _ _ _ before c.in_err-put_all.ensures.text)
+    rw (err_from_is_err_and c.from_residual.result c.from_residual.ensures.1).1 (Remains-fails _ (g.W.Sink.text c.loop-a.out) _ _ _ _ before c.in_err-put_all.ensures.text)
 
 pub returns-clause-text : goal.returns-clause-text
 unfolding central_text

@@ -7,9 +7,8 @@ use Rattle.pp_console.proofs.paper.put_line.Goals as goal
 
 pub returns-in_err-put_all-clause-text : goal.returns-in_err-put_all-clause-text
 returns-in_err-put_all-clause-text g c =
-    let p = err_from_is_err_and c.from_residual.result c.from_residual.ensures.1 in
     let line = map character c.args.symbols.now in
-    rw p.1 (front_longer _ _ (c.args.mark.now ++ line) (10 ∷ []) (front_longer _ _ c.args.mark.now line c.in_err-put_all.ensures.text))
+    rw (err_from_is_err_and c.from_residual.result c.from_residual.ensures.1).1 (front_longer _ _ (c.args.mark.now ++ line) (10 ∷ []) (front_longer _ _ c.args.mark.now line c.in_err-put_all.ensures.text))
 
 pub returns-in_err-put_characters-clause-text : goal.returns-in_err-put_characters-clause-text
 returns-in_err-put_characters-clause-text g c =

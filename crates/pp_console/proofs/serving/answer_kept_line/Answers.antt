@@ -10,8 +10,7 @@ use Rattle.pp_console.proofs.serving.answer_kept_line.Goals as goal
 
 pub returns-then-is_empty-clause-performs : goal.returns-then-is_empty-clause-performs
 returns-then-is_empty-clause-performs g c = λ bytes front.
-    let empty : length c.args.front.now ≡ 0 = grind (arith, nat_tests) in
-    Performs-same (λ v. ap (answer_line v) (whole-line KEPT c.args.front.now bytes c.args.text.now (omega arith) c.requires front empty)) c.answer_line.ensures
+    Performs-same (λ v. ap (answer_line v) (whole-line KEPT c.args.front.now bytes c.args.text.now (omega arith) c.requires front (grind (arith, nat_tests)))) c.answer_line.ensures
 
 pub returns-clause-performs : goal.returns-clause-performs
 returns-clause-performs g c = λ bytes front.

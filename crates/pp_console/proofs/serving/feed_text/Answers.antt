@@ -1,6 +1,5 @@
-use Rattle.std.proofs.Common.{◌<◌, ◌++◌, [], length, refl, arith}
+use Rattle.std.proofs.Common.{◌<◌, ◌++◌, [], length, refl, arith, append-nil}
 use Rattle.std.proofs.lemmas.Bool.Decides.{nat_tests}
-use Rattle.std.proofs.lemmas.List.{append-nil}
 use Rattle.pp_lines.specs.declared.fault.IoFault.TheVariants.{LineLimit}
 use Rattle.pp_console.specs.ServingSteps.{Interrupts}
 use Rattle.pp_console.proofs.Reading.{HasRead-text}
@@ -11,9 +10,8 @@ use Rattle.pp_console.proofs.serving.feed_text.Goals.{then-progress-eq-LINE_LIMI
 pub returns-then-progress-eq-LINE_LIMIT-clause-has_read : goal.returns-then-progress-eq-LINE_LIMIT-clause-has_read
 returns-then-progress-eq-LINE_LIMIT-clause-has_read c = λ session written origin bytes has_read.
     let text = c.args.text.now in
-    let some : 0 < length text = grind (arith, nat_tests) in
     let stopped : Interrupts LineLimit session written origin ((bytes ++ text) ++ []) = elim c.then-progress-eq-LINE_LIMIT.branch [
-      | then-progress-eq-LINE_LIMIT-via-then-progress-eq-LINE_LIMIT w ↦ Interrupts-lines _ session written origin bytes text [] has_read (omega (arith, some)) w.if-progress-eq-LINE_LIMIT.true
+      | then-progress-eq-LINE_LIMIT-via-then-progress-eq-LINE_LIMIT w ↦ Interrupts-lines _ session written origin bytes text [] has_read (grind (arith, nat_tests)) w.if-progress-eq-LINE_LIMIT.true
       | then-progress-eq-LINE_LIMIT-via-else-progress-eq-LINE_LIMIT+then-text-room w ↦ Interrupts-bytes _ session written origin bytes text [] c.requires has_read (omega (arith, w.if-text-room.true)) (omega (arith, w.if-text-room.true)) (grind (arith, nat_tests))
     ] in
     rw (append-nil (bytes ++ text)) at stopped

@@ -1,6 +1,5 @@
-use Rattle.std.proofs.Common.{◌∙◌, ◌≡◌, ◌<◌, [], length, arith, inr}
+use Rattle.std.proofs.Common.{◌∙◌, ◌≡◌, ◌<◌, [], length, arith, inr, append-nil}
 use Rattle.std.proofs.lemmas.Bool.Decides.{nat_tests}
-use Rattle.std.proofs.lemmas.List.{append-nil}
 use Rattle.pp_lines.specs.Lines.{finished, unfinished}
 use Rattle.pp_lines.proofs.Limits.{lines-last}
 use Rattle.pp_console.specs.declared.progress.TheConstants.{KEPT}
@@ -10,23 +9,16 @@ use Rattle.pp_console.proofs.serving.finish.Goals as goal
 
 pub returns-then-is_empty-clause-serves : goal.returns-then-is_empty-clause-serves
 returns-then-is_empty-clause-serves g c = λ origin bytes has_read.
-    let empty : length c.args.progress.now.line ≡ 0 = grind (arith, nat_tests) in
-    Serves-whole _ c.args.progress.now _ _ origin bytes has_read empty c.summary.ensures.lines c.summary.ensures.refused
+    Serves-whole _ c.args.progress.now _ _ origin bytes has_read (grind (arith, nat_tests)) c.summary.ensures.lines c.summary.ensures.refused
 
 pub returns-in-Ok-clause-serves : goal.returns-in-Ok-clause-serves
 returns-in-Ok-clause-serves g c = λ origin bytes has_read.
-    let begun : 0 < length c.args.progress.now.line = grind (arith, nat_tests) in
-    Serves-last _ c.args.progress.now _ _ (g.W.Sink.text c.args.out.now) _ origin bytes has_read begun
+    Serves-last _ c.args.progress.now _ _ (g.W.Sink.text c.args.out.now) _ origin bytes has_read (grind (arith, nat_tests))
     (c.summary-in-Ok.ensures.lines ∙ c.in-Ok.ensures.lines)
     (c.summary-in-Ok.ensures.refused ∙ rw (append-nil bytes) at (c.in-Ok.ensures.refused origin bytes has_read.keeps has_read.performed has_read.counts_refused))
     (rw (append-nil bytes) at (c.in-Ok.ensures.performed origin bytes has_read.keeps has_read.performed))
 
 pub returns-in-Err-clause-serves : goal.returns-in-Err-clause-serves
 returns-in-Err-clause-serves g c = λ origin bytes has_read left end.
-    let begun : 0 < length c.args.progress.now.line = grind (arith, nat_tests) in (
-      finished bytes,
-      unfinished bytes,
-      [],
-      inr (lines-last KEPT c.args.progress.now.line bytes has_read.keeps begun, HasRead-within _ _ _ _ bytes has_read, end),
-      rw (append-nil bytes) at (c.in-Err.ensures.performed origin bytes has_read.keeps has_read.performed),
-    )
+    (finished bytes, unfinished bytes, [], inr (lines-last KEPT c.args.progress.now.line bytes has_read.keeps (grind (arith, nat_tests)), HasRead-within _ _ _ _ bytes has_read, end),
+    rw (append-nil bytes) at (c.in-Err.ensures.performed origin bytes has_read.keeps has_read.performed))

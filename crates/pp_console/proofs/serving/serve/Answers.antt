@@ -1,5 +1,4 @@
-use Rattle.std.proofs.Common.{◌≡◌, ◌∙◌, ◌++◌, [], refl, sym, ap, take, rules, append_assoc}
-use Rattle.std.proofs.lemmas.List.{append-nil}
+use Rattle.std.proofs.Common.{◌≡◌, ◌∙◌, ◌++◌, [], refl, sym, ap, take, rules, append_assoc, append-nil}
 use Rattle.std.proofs.lemmas.Result.{err_from_is_err_and}
 use Rattle.std.specs.Io.KnownBytes.{Consumes, IsAtEnd}
 use Rattle.pp_console.specs.Serving.{origin_of, Serves, Stops}
@@ -32,11 +31,10 @@ returns-in-Err-clause-script g c =
 pub returns-in-Ok-eq0-clause-script : goal.returns-in-Ok-eq0-clause-script
 returns-in-Ok-eq0-clause-script g c =
     let past = c.pieces.invariant.has_read in
-    let nothing : Consumes (g.R.Source.rest c.pieces.source) (g.R.Source.rest c.take.new.self) [] = search rules in
     let same : g.R.Source.given c.take.new.self ≡ g.R.Source.given c.pieces.source ++ [] = search rules in
     let end : IsAtEnd (g.R.Source.rest c.take.new.self) = search rules in
     let all : Consumes (g.R.Source.rest c.args.source.now) (g.R.Source.rest c.take.new.self) (past.0 ++ []) =
-    Consumes-again _ (g.R.Source.rest c.pieces.source) _ past.0 [] past.1 nothing in (
+    Consumes-again _ (g.R.Source.rest c.pieces.source) _ past.0 [] past.1 (search rules) in (
       past.0,
       rw (append-nil past.0) at all,
       same ∙ append-nil (g.R.Source.given c.pieces.source) ∙ past.2,
