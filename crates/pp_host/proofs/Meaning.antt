@@ -1,15 +1,14 @@
 -- The meaning of the words.
-use Rattle.std.proofs.Common.{◌≡◌, ◌∙◌, ℕ, true, List, [], refl, sym, ap, inl, inr, Option, Some, None, Result, Ok, Err, ◌⊎◌, is_some, codes}
-use Rattle.pp_arguments.specs.CommandLine.{Text, faults_of, given}
+use Rattle.std.proofs.Common.{◌≡◌, ℕ, true, List, [], refl, sym, inl, inr, Option, Some, None, Ok, Err, ◌⊎◌, is_some}
+use Rattle.pp_arguments.specs.CommandLine.{Text, faults_of}
 use Rattle.pp_arguments.specs.Options.{AreAskedBy, IsCauseOf, central_of, history_of, printer_of, reader_of}
 use Rattle.pp_arguments.specs.declared.options.ArgFault.{ArgFault}
 use Rattle.pp_arguments.specs.declared.options.ArgFault.TheVariants as argument
 use Rattle.pp_arguments.specs.declared.options.Options.{Options}
 use Rattle.pp_machine.specs.declared.central.CentralSize.{CentralSize}
 use Rattle.pp_trouble.specs.Trouble.{of_arguments}
-use Rattle.pp_trouble.specs.declared.trouble.Trouble.{Trouble}
 use Rattle.pp_trouble.specs.declared.trouble.Trouble.TheVariants.{BadArguments, BadChannel, NoMemory}
-use Rattle.pp_host.specs.Options.{Asked, Means, asked_by, asked_of, with_channels, with_numbers}
+use Rattle.pp_host.specs.Options.{Means, asked_by, asked_of, with_channels, with_numbers}
 
 
 asked-ok : (words : List Text) (options : Options) → AreAskedBy words options → asked_by words ≡ Ok (asked_of options)

@@ -1,4 +1,4 @@
-use Rattle.pp_lines.proofs.Walks.{refl, [], ◌∷◌, Ura, vstruct, vnil, SProp, ent, emp, via, fst∗, Memory, Routine, Calls, Loops, WpFn, Tables, Logic, Fun, tables, tables_of, WpFn-mono, ‵, raw, ◌$◌, ◌∵◌, !, qed, keep, join, nothing, suffices, done, no_more, returns, enter, agg, alloc_all, pass_all, free_all, look_at, sets, owns, pure_i, on_entry, alive, Meets, triple_of, entered, says, Stays, walk_of, Walks, ends_at, walked, walk_Meets}
+use Rattle.pp_lines.proofs.Walks.{refl, [], ◌∷◌, Ura, vstruct, vnil, SProp, Memory, Routine, WpFn, Tables, Logic, Fun, tables, tables_of, WpFn-mono, raw, ◌$◌, ◌∵◌, !, qed, keep, join, nothing, suffices, done, no_more, returns, enter, agg, alloc_all, pass_all, free_all, look_at, sets, pure_i, on_entry, Meets, triple_of, entered, says, ends_at, walked, walk_Meets}
 use Rattle.pp_host.specs.contracts.file_log.FileLog.new.Key.{name as key}
 use Rattle.pp_host.specs.contracts.file_log.FileLog.new as f
 use Rattle.pp_host.proofs.file_log.FileLog.new.Statement as stated

@@ -1,4 +1,4 @@
-use Rattle.pp_lines.proofs.Walks.{refl, [], ◌∷◌, ◌++◌, Ura, named, Val, vptr, vstruct, vnil, SProp, ent, emp, via, fst∗, Fml, Memory, Routine, Calls, Loops, WpFn, Tables, Logic, Lfts, Shares, Fun, tables, tables_of, WpFn-mono, ‵, raw, ◌$◌, ◌∵◌, !, qed, move, suffices, done, no_more, returns, enter, agg, alloc_all, pass_all, free_all, look_at, sets, yes, owns, shr_vals, shr_Tells, pure_i, plain, types_at, on_entry, alive, Args, Meets, triple_of, entered, says, stay_none_ref, Stays, walk_of, Walks, ends_at, walked, Goes-none_ref, walk_Meets}
+use Rattle.pp_lines.proofs.Walks.{refl, [], ◌∷◌, ◌++◌, Ura, named, Val, vptr, vstruct, vnil, SProp, emp, via, fst∗, Memory, Routine, WpFn, Tables, Logic, Fun, tables, tables_of, WpFn-mono, ‵, raw, ◌$◌, ◌∵◌, !, qed, move, suffices, done, no_more, returns, enter, agg, alloc_all, pass_all, free_all, look_at, sets, yes, owns, shr_vals, shr_Tells, pure_i, plain, types_at, alive, Meets, triple_of, entered, says, stay_none_ref, Stays, ends_at, walked, Goes-none_ref, walk_Meets}
 use Rattle.pp_host.specs.FileEvent.{event_of}
 use Rattle.pp_host.specs.contracts.file_log.FileLog.with.Key.{name as key}
 use Rattle.pp_host.specs.contracts.file_log.FileLog.with as f
