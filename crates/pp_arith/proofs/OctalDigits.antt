@@ -56,3 +56,5 @@ widest-most width value h = max-eq_left (omega (arith, length-most 22 value))
 
 pub widest-on : (width value : ℕ) → width < 22 → 0 < value / 2 ^ (3 * width) → max (width + 1) (octal_length 22 value) ≡ max width (octal_length 22 value)
 widest-on width value h more = omega (arith, length-over 22 width value (exceeds width value more) h)
+
+pub ruleset widths = (widest-here, widest-most, widest-on)

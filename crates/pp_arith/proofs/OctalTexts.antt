@@ -54,6 +54,6 @@ text-octal value digits some = let width : ℕ = max digits (octal_length 22 val
     grind (arith, nat_tests, length-digits width value, le-max_left digits (octal_length 22 value), digits-octal width value)
 
 -- so the text of a value is read as that value
-pub text-read : (value digits greatest : ℕ) → 1 ≤ digits → value < 2 ^ 64 → value ≤ greatest → octal_read (octal_text value digits) greatest ≡ Ok value
-text-read value digits greatest some h within =
+pub text_read : (value digits greatest : ℕ) → 1 ≤ digits → value < 2 ^ 64 → value ≤ greatest → octal_read (octal_text value digits) greatest ≡ Ok value
+text_read value digits greatest some h within =
     grind (arith, nat_tests, text-octal value digits some, text-value value digits h)

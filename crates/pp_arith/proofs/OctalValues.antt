@@ -39,3 +39,5 @@ octal_read-over word max digits over =
 pub value-next : (word : List ℕ) (i : ℕ) → i < length word → octal_value (take (i + 1) word) ≡ octal_value (take i word) * 8 + (get_or word i 0 - 48)
 value-next word i h =
     ap octal_value (take_more word i 0 h) ∙ fold-append with_digit 0 (take i word) (get_or word i 0 ∷ [])
+
+pub ruleset values = (value-so_far, value-before, octal_read-over, value-next)

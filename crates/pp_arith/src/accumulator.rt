@@ -28,6 +28,7 @@ pub fn sub18(a: u32, b: u32) -> u32
 }
 
 /// Returns `a` rotated left by `n` bits within 18 bits. `a` is 0 to 0o777777, and `n` is 0 to 17.
+#[tactic(auto, using(crate::proofs::Turning::turned, crate::proofs::Turning::turned_fits))]
 fn turn_left18(a: u32, n: u8) -> u32
     requires a_in { a ≤ 0o777777 }
     requires n_in { n < 18 }
@@ -42,6 +43,7 @@ fn turn_left18(a: u32, n: u8) -> u32
 /// 0o777777. For `d` from 0 to 0o37 the shift is left by `d` bits, circular. For `d` from 0o40 to
 /// 0o77 it is right by 0o77 - `d` bits, end off and without sign extension (the manual, peripheral
 /// processor instructions).
+#[tactic(auto, using(crate::proofs::Turning::turned_once))]
 pub fn shift18(a: u32, d: u8) -> u32
     requires a_in { a ≤ 0o777777 }
     requires d_in { d ≤ 0o77 }

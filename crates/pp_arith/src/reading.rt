@@ -40,6 +40,7 @@ pub fn is_octal(word: &[u8]) -> bool
 /// # Errors
 /// `NotOctal` if the word is empty or has a byte that is not `0` to `7`. Otherwise `TooLarge` if its
 /// value is above `max`.
+#[tactic(auto, using(crate::proofs::OctalValues::values))]
 pub fn read_octal(word: &[u8], max: u64) -> Result<u64, OctalFault>
     ensures { result ≡ octal_read word.now max }
 {

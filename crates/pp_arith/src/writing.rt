@@ -22,6 +22,7 @@ pub fn push_octal<const N: usize>(line: &mut ArrayVec<u8, N>, value: u64, digits
 }
 
 /// Returns the smallest width, in octal digits, that is at least `digits` and holds the value.
+#[tactic(auto, using(crate::proofs::OctalDigits::widths))]
 fn width(value: u64, digits: u8) -> u8
     requires { digits ≤ 22 }
     ensures value { result ≡ max digits (octal_length 22 value) }
@@ -34,7 +35,7 @@ fn width(value: u64, digits: u8) -> u8
     width
 }
 
-#[tactic(auto, unfolding(crate::specs::Octal::octal_text))]
+#[tactic(auto, using(crate::proofs::OctalTexts::text_read), unfolding(crate::specs::Octal::octal_text))]
 /// Returns the octal digits of the value as ASCII `0` to `7`, most significant first. There are at least
 /// `digits` (1 to 22), with leading zeros, and more if the value needs more.
 pub fn octal(value: u64, digits: u8) -> ArrayVec<u8, 22>

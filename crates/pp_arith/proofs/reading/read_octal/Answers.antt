@@ -1,15 +1,7 @@
 use Rattle.std.proofs.Common.{◌≡◌, ◌<◌, ◌+◌, true, arith}
 use Rattle.pp_arith.specs.Octal.{octal_value, is_octal}
-use Rattle.pp_arith.proofs.OctalValues.{value-before, value-so_far, octal_read-over, value-next}
+use Rattle.pp_arith.proofs.OctalValues.{value-so_far, octal_read-over, value-next}
 use Rattle.pp_arith.proofs.reading.read_octal.Goals as goal
-
-pub returns-then-value : goal.returns-then-value
-returns-then-value c =
-    let word = c.args.word.now in
-    let digits : is_octal word ≡ true = cc in
-    let before = value-before word c.loop-byte.byte-index c.loop-byte-test.true in
-    let over : c.args.max < octal_value word = omega (arith, before, c.loop-byte.invariant.read, c.ranges.max) in
-    octal_read-over word c.args.max digits over
 
 pub returns-then-value-max : goal.returns-then-value-max
 returns-then-value-max c =
