@@ -55,7 +55,7 @@ moved_up-codes [] (suc k) = refl
 moved_up-codes (w ∷ ws) k = rw (code-no_zero, moved_up-codes ws k)
 
 -- the place w is the one at i
-module _ (ws front rest : List Watched) (w : Watched) (i : ℕ) (whole : front ++ w ∷ rest ≡ ws) (at_i : length front ≡ i) (few : length ws ≤ 8) where
+module _ (ws front rest : List Watched) (w : Watched) (i : ℕ) (whole : front ++ w ∷ rest ≡ ws) (at_i : length front ≡ i) (at_most : length ws ≤ 8) where
   abbrev zeros : List ℕ
   zeros = replicate (8 - length ws) 0
 
@@ -79,14 +79,13 @@ module _ (ws front rest : List Watched) (w : Watched) (i : ℕ) (whole : front +
   closing : moved_up (drop (i + 1) (watch_entries ws)) ≡ after ++ 0 ∷ []
   closing = rw (full, ← length-before, drop-append-add before ((watch_code w ∷ after) ++ zeros) 1) (moved_up-codes rest (8 - length ws))
 
-
   -- the entries without the place w
   pub entries-removed : watch_entries (front ++ rest) ≡ with_entries (watch_entries ws) i (moved_up (drop (i + 1) (watch_entries ws)))
   entries-removed = fewer ∙ sym (rw (closing, full) (with_entries-split before (watch_code w ∷ after) (after ++ 0 ∷ []) zeros i length-before (omega (arith, length_push after 0))))
 
   -- the old codes in the entries that change
-  pub entries-stood : entries_at (watch_entries ws) i (moved_up (drop (i + 1) (watch_entries ws))) ≡ map watch_code (w ∷ rest)
-  entries-stood = rw (closing, full) (entries_at-split before (watch_code w ∷ after) (after ++ 0 ∷ []) zeros i length-before (omega (arith, length_push after 0)))
+  pub entries-old : entries_at (watch_entries ws) i (moved_up (drop (i + 1) (watch_entries ws))) ≡ map watch_code (w ∷ rest)
+  entries-old = rw (closing, full) (entries_at-split before (watch_code w ∷ after) (after ++ 0 ∷ []) zeros i length-before (omega (arith, length_push after 0)))
 
 -- places that are put back behind the first i ones
 entries-restored : (front rest places : List Watched) (i : ℕ) → length front ≡ i → length places ≡ length rest + 1 → i + length places ≤ 8 → watch_entries (front ++ places) ≡ with_entries (watch_entries (front ++ rest)) i (map watch_code places)
@@ -109,10 +108,10 @@ removed : (ws : List Watched) (i : ℕ) → remove ws i ≡ take i ws ++ drop (i
 removed ws i = rw add-one refl
 
 pub removed-at : (ws : List Watched) (i : ℕ) → i < length ws → length ws ≤ 8 → watch_entries (remove ws i) ≡ with_entries (watch_entries ws) i (moved_up (drop (i + 1) (watch_entries ws)))
-removed-at ws i h few = ap watch_entries (removed ws i) ∙ entries-removed ws (take i ws) (drop (i + 1) ws) (get_or ws i (RegA 0)) i (split ws i h) (length-take-le i ws (omega arith)) few
+removed-at ws i h at_most = ap watch_entries (removed ws i) ∙ entries-removed ws (take i ws) (drop (i + 1) ws) (get_or ws i (RegA 0)) i (split ws i h) (length-take-le i ws (omega arith)) at_most
 
-pub stood-at : (ws : List Watched) (i : ℕ) → i < length ws → length ws ≤ 8 → map watch_code (drop i ws) ≡ entries_at (watch_entries ws) i (moved_up (drop (i + 1) (watch_entries ws)))
-stood-at ws i h few = ap (map watch_code) (drop_more ws i (RegA 0) h) ∙ sym (entries-stood ws (take i ws) (drop (i + 1) ws) (get_or ws i (RegA 0)) i (split ws i h) (length-take-le i ws (omega arith)) few)
+pub old-at : (ws : List Watched) (i : ℕ) → i < length ws → length ws ≤ 8 → map watch_code (drop i ws) ≡ entries_at (watch_entries ws) i (moved_up (drop (i + 1) (watch_entries ws)))
+old-at ws i h at_most = ap (map watch_code) (drop_more ws i (RegA 0) h) ∙ sym (entries-old ws (take i ws) (drop (i + 1) ws) (get_or ws i (RegA 0)) i (split ws i h) (length-take-le i ws (omega arith)) at_most)
 
 -- places from i on replace those there, of which there is one fewer
 pub restored-at : (ws places : List Watched) (i : ℕ) → i ≤ length ws → length ws + 1 ≡ i + length places → i + length places ≤ 8 → watch_entries (take i ws ++ places) ≡ with_entries (watch_entries ws) i (map watch_code places)
@@ -120,20 +119,20 @@ restored-at ws places i h more room =
     entries-restored (take i ws) (drop i ws) places i (length-take-le i ws h) (omega (arith, length-drop i ws)) room ∙ ap (λ vs. with_entries (watch_entries vs) i (map watch_code places)) (take-append-drop i ws)
 
 pub back-at : (ws : List Watched) (i : ℕ) → i < length ws → length ws ≤ 8 → with_entries (watch_entries (remove ws i)) i (map watch_code (drop i ws)) ≡ watch_entries ws
-back-at ws i h few =
+back-at ws i h at_most =
     let restored = entries-restored (take i ws) (drop (i + 1) ws) (drop i ws) i (length-take-le i ws (omega arith)) (omega (arith, length-drop i ws, length-drop (i + 1) ws)) (omega (arith, length-drop i ws)) in
     rw removed (sym restored ∙ ap watch_entries (take-append-drop i ws))
 
-pub told-remove : (ws : List Watched) (i : ℕ) → All (λ w. watched_at (watch_code w) ≡ w) ws → All (λ w. watched_at (watch_code w) ≡ w) (remove ws i)
-told-remove ws i told = All-append (λ w. watched_at (watch_code w) ≡ w) (take i ws) (drop (suc i) ws) (All-take (λ w. watched_at (watch_code w) ≡ w) i ws told) (All-drop (λ w. watched_at (watch_code w) ≡ w) (suc i) ws told)
+pub read_back-remove : (ws : List Watched) (i : ℕ) → All (λ w. watched_at (watch_code w) ≡ w) ws → All (λ w. watched_at (watch_code w) ≡ w) (remove ws i)
+read_back-remove ws i read_back = All-append (λ w. watched_at (watch_code w) ≡ w) (take i ws) (drop (suc i) ws) (All-take (λ w. watched_at (watch_code w) ≡ w) i ws read_back) (All-drop (λ w. watched_at (watch_code w) ≡ w) (suc i) ws read_back)
 
 -- ---- on the machine
 
 pub unwatched : (m : Machine) (w : Watched) (i : ℕ) (entries : List ℕ) → position (λ code. code == watch_code w) m.watches ≡ Some i → entries ≡ with_entries m.watches i (moved_up (drop (i + 1) m.watches)) → record m { watches = entries } ≡ over m (unwatch_writes m w)
 unwatched m w i entries found e = rw (found, e) (sym (over-entries m i (moved_up (drop (i + 1) m.watches))))
 
-pub unwatched-stood : (m : Machine) (w : Watched) (i : ℕ) (codes : List ℕ) → position (λ code. code == watch_code w) m.watches ≡ Some i → codes ≡ entries_at m.watches i (moved_up (drop (i + 1) m.watches)) → entry_writes i codes ≡ old_values m (unwatch_writes m w)
-unwatched-stood m w i codes found e = rw (found, e) (sym (old_values-entries m i (moved_up (drop (i + 1) m.watches))))
+pub unwatched-old : (m : Machine) (w : Watched) (i : ℕ) (codes : List ℕ) → position (λ code. code == watch_code w) m.watches ≡ Some i → codes ≡ entries_at m.watches i (moved_up (drop (i + 1) m.watches)) → entry_writes i codes ≡ old_values m (unwatch_writes m w)
+unwatched-old m w i codes found e = rw (found, e) (sym (old_values-entries m i (moved_up (drop (i + 1) m.watches))))
 
 pub length-with_entries : (entries : List ℕ) (i : ℕ) (codes : List ℕ) → length (with_entries entries i codes) ≡ length entries
 length-with_entries entries i [] = refl
@@ -149,6 +148,6 @@ moved_up-last (code ∷ codes) = ⊎_elim (λ t. rw (t.0, t.0) refl) (λ t. rw (
 
 -- without the place at i the entries are still well formed
 pub AreWatches-removed : (size : ℕ) (entries : List ℕ) (i : ℕ) → size ≤ 2097152 → AreWatches size entries → i < first_zero entries → AreWatches size (watch_entries (remove (watched_in entries) i))
-AreWatches-removed size entries i few ok h =
+AreWatches-removed size entries i at_most ok h =
     let ws = watched_in entries in
-    AreWatches-entries size (remove ws i) few (All-append (λ w. Has size (watched_place w)) (take i ws) (drop (suc i) ws) (All-take (λ w. Has size (watched_place w)) i ws ok.present) (All-drop (λ w. Has size (watched_place w)) (suc i) ws ok.present)) (all_pairs_remove (λ v w. watch_code v ≢ watch_code w) ws i (omega (arith, length-watched_in entries)) ok.distinct)
+    AreWatches-entries size (remove ws i) at_most (All-append (λ w. Has size (watched_place w)) (take i ws) (drop (suc i) ws) (All-take (λ w. Has size (watched_place w)) i ws ok.present) (All-drop (λ w. Has size (watched_place w)) (suc i) ws ok.present)) (all_pairs_remove (λ v w. watch_code v ≢ watch_code w) ws i (omega (arith, length-watched_in entries)) ok.distinct)

@@ -24,7 +24,6 @@ code-below w = omega arith
 pub code-no_zero : (w : Watched) → eqb (watch_code w) 0 ≡ false
 code-no_zero w = grind (arith, nat_tests, code-below w)
 
-
 first_zero-codes : (ws : List Watched) (k : ℕ) → first_zero (map watch_code ws ++ replicate k 0) ≡ length ws
 first_zero-codes [] zero = refl
 first_zero-codes [] (suc k) = refl
@@ -33,7 +32,6 @@ first_zero-codes (w ∷ ws) k = rw code-no_zero (omega (arith, first_zero-codes 
 -- the first zero is past the watched places
 pub first_zero-entries : (ws : List Watched) → first_zero (watch_entries ws) ≡ length ws
 first_zero-entries ws = first_zero-codes ws (8 - length ws)
-
 
 -- one more place, after the others
 pub watch_entries-push : (ws : List Watched) (w : Watched) → length ws < 8 → watch_entries (ws ++ w ∷ []) ≡ set (watch_entries ws) (length ws) (watch_code w)
@@ -56,7 +54,6 @@ pub length-watched_in : (entries : List ℕ) → length (watched_in entries) ≡
 length-watched_in [] = refl
 length-watched_in (code ∷ codes) = grind (arith, nat_tests, length-watched_in codes)
 
-
 any-codes : (test : ℕ → Bool) (ws : List Watched) (k : ℕ) → test 0 ≡ false → list_any test (map watch_code ws ++ replicate k 0) ≡ list_any (λ w. test (watch_code w)) ws
 any-codes test [] zero e = refl
 any-codes test [] (suc k) e = rw e (any-codes test [] k e)
@@ -65,7 +62,6 @@ any-codes test (w ∷ ws) k e = ap (λ b. test (watch_code w) || b) (any-codes t
 -- the entries past the watched places pass no test that rejects zero
 pub any-entries : (test : ℕ → Bool) (ws : List Watched) → test 0 ≡ false → list_any test (watch_entries ws) ≡ list_any (λ w. test (watch_code w)) ws
 any-entries test ws e = any-codes test ws (8 - length ws) e
-
 
 from-codes : (test : ℕ → Bool) (i : ℕ) (ws : List Watched) (k : ℕ) → test 0 ≡ false → position_from test i (map watch_code ws ++ replicate k 0) ≡ position_from (λ w. test (watch_code w)) i ws
 from-codes test i [] zero e = refl
@@ -86,37 +82,36 @@ register-below : (size c : ℕ) → Has size (watched_place (Register c)) → c 
 register-below size c has = grind (arith, nat_tests)
 
 -- central memory has no more words than this
-pub words_of-few : (size : CentralSize) → words_of size ≤ 2097152
-words_of-few size = omega (arith, most_words size)
+pub words_of-at_most : (size : CentralSize) → words_of size ≤ 2097152
+words_of-at_most size = omega (arith, most_words size)
 
 -- in a machine of at most this many central words, each place is determined by its code
 pub watched_at-code : (size : ℕ) (w : Watched) → size ≤ 2097152 → Has size (watched_place w) → watched_at (watch_code w) ≡ w
-watched_at-code size (Cell n a) few has =
+watched_at-code size (Cell n a) at_most has =
     let code : 2097152 + n * 4096 + a ≡ 1 * 2097152 + (n * 4096 + a) = omega arith in
     rw (code, kind-of 1 (n * 4096 + a) (omega (arith, has.0, has.1)), div-mul-add n 4096 a has.1, mod-mul-add n 4096 a has.1) refl
-watched_at-code size (RegA n) few has = kind-of 2 n (omega (arith, has))
-watched_at-code size (RegP n) few has = kind-of 3 n (omega (arith, has))
-watched_at-code size (RegQ n) few has = kind-of 4 n (omega (arith, has))
-watched_at-code size (Central a) few has = kind-of 5 a (omega (arith, has))
-watched_at-code size (Register c) few has = kind-of 6 c (register-below size c has)
-
+watched_at-code size (RegA n) at_most has = kind-of 2 n (omega (arith, has))
+watched_at-code size (RegP n) at_most has = kind-of 3 n (omega (arith, has))
+watched_at-code size (RegQ n) at_most has = kind-of 4 n (omega (arith, has))
+watched_at-code size (Central a) at_most has = kind-of 5 a (omega (arith, has))
+watched_at-code size (Register c) at_most has = kind-of 6 c (register-below size c has)
 
 in-codes : (ws : List Watched) (k : ℕ) → All (λ w. watched_at (watch_code w) ≡ w) ws → watched_in (map watch_code ws ++ replicate k 0) ≡ ws
-in-codes [] zero told = refl
-in-codes [] (suc k) told = refl
-in-codes (w ∷ ws) k told =
-    rw (code-no_zero, told 0 w (omega arith), in-codes ws k (All-tail (λ v. watched_at (watch_code v) ≡ v) w ws told)) refl
+in-codes [] zero read_back = refl
+in-codes [] (suc k) read_back = refl
+in-codes (w ∷ ws) k read_back =
+    rw (code-no_zero, read_back 0 w (omega arith), in-codes ws k (All-tail (λ v. watched_at (watch_code v) ≡ v) w ws read_back)) refl
 
 -- the entries of places that are determined by their codes
 pub watched_in-entries : (ws : List Watched) → All (λ w. watched_at (watch_code w) ≡ w) ws → watched_in (watch_entries ws) ≡ ws
-watched_in-entries ws told = in-codes ws (8 - length ws) told
+watched_in-entries ws read_back = in-codes ws (8 - length ws) read_back
 
 -- ---- well formed entries
 
 -- the entries of places that the machine has, no place twice
 pub AreWatches-entries : (size : ℕ) (ws : List Watched) → size ≤ 2097152 → All (λ w. Has size (watched_place w)) ws → AllPairs (λ v w. watch_code v ≢ watch_code w) ws → AreWatches size (watch_entries ws)
-AreWatches-entries size ws few has apart =
-    let same = watched_in-entries ws (λ k d l. watched_at-code size (get_or ws k d) few (has k d l)) in
+AreWatches-entries size ws at_most has apart =
+    let same = watched_in-entries ws (λ k d l. watched_at-code size (get_or ws k d) at_most (has k d l)) in
     record { closed_up = ap watch_entries same; present = rw same has; distinct = rw same apart }
 
 other-code : (ws : List Watched) (w : Watched) (k : ℕ) (d : Watched) → list_any (λ v. watch_code v == watch_code w) ws ≡ false → k < length ws → watch_code (get_or ws k d) ≢ watch_code w
@@ -124,11 +119,11 @@ other-code ws w k d none l = λ same. absurd (false≢true (sym none ∙ list_an
 
 -- one more place, which was not watched
 pub AreWatches-push : (size : ℕ) (entries : List ℕ) (w : Watched) → size ≤ 2097152 → AreWatches size entries → first_zero entries < 8 → Has size (watched_place w) → list_any (λ code. code == watch_code w) entries ≡ false → AreWatches size (set entries (first_zero entries) (watch_code w))
-AreWatches-push size entries w few ok room has new =
+AreWatches-push size entries w at_most ok room has new =
     let ws = watched_in entries in
     let count : length ws ≡ first_zero entries = length-watched_in entries in
     let none : list_any (λ v. watch_code v == watch_code w) ws ≡ false = sym (any-entries (λ code. code == watch_code w) ws (zero-no_code w)) ∙ (ap (list_any (λ code. code == watch_code w)) ok.closed_up ∙ new) in
-    let more = AreWatches-entries size (ws ++ w ∷ []) few (All-push (λ v. Has size (watched_place v)) ws w ok.present has) (all_pairs_push (λ v u. watch_code v ≢ watch_code u) ws w ok.distinct (λ k d l. other-code ws w k d none l)) in
+    let more = AreWatches-entries size (ws ++ w ∷ []) at_most (All-push (λ v. Has size (watched_place v)) ws w ok.present has) (all_pairs_push (λ v u. watch_code v ≢ watch_code u) ws w ok.distinct (λ k d l. other-code ws w k d none l)) in
     rw (watch_entries-push ws w (omega arith), ok.closed_up, count) at more
 
 -- what the entries of a list of places say of it

@@ -43,8 +43,8 @@ pub push-number : (ks : List Write) (list pushed : List ℕ) (i : ℕ) (d : Writ
 push-number ks list pushed i d h so e =
     rw (e, so, take_more ks i d h, write_list-append (take i ks), numbers-append) refl
 
-pub push-stood : (m : Machine) (ks list pushed : List Write) (i : ℕ) (d : Write) → i < length ks → write_list list ≡ old_values m (write_list (take i ks)) → pushed ≡ list ++ record { place = (get_or ks i d).place; number = number m (get_or ks i d).place } ∷ [] → write_list pushed ≡ old_values m (write_list (take (i + 1) ks))
-push-stood m ks list pushed i d h so e =
+pub push-old : (m : Machine) (ks list pushed : List Write) (i : ℕ) (d : Write) → i < length ks → write_list list ≡ old_values m (write_list (take i ks)) → pushed ≡ list ++ record { place = (get_or ks i d).place; number = number m (get_or ks i d).place } ∷ [] → write_list pushed ≡ old_values m (write_list (take (i + 1) ks))
+push-old m ks list pushed i d h so e =
     rw (e, write_list-append, so, take_more ks i d h, write_list-append (take i ks), old_values-append number m) refl
 
 pub push-state : (c : ℕ) (ss : List ℕ) (list pushed : List Write) (k : Write) (all : Writes Place) → write_list list ++ state_writes c (drop c ss) ≡ all → c < length ss → k ≡ record { place = ChannelMode c; number = get_or ss c 0 } → pushed ≡ list ++ k ∷ [] → write_list pushed ++ state_writes (c + 1) (drop (c + 1) ss) ≡ all
@@ -70,7 +70,6 @@ push-with_new_numbers ks ns i d list pushed k all so h l e logs =
 with_new_numbers-none : (w : Writes Place) → with_new_numbers w [] ≡ []
 with_new_numbers-none [] = refl
 with_new_numbers-none (pair ∷ w) = refl
-
 
 pub push-with_new_numbers-done : (ks : List Write) (ns : List ℕ) (i : ℕ) (list : List Write) (all : Writes Place) → write_list list ++ with_new_numbers (write_list (drop i ks)) (drop i ns) ≡ all → length ns ≤ i → write_list list ≡ all
 push-with_new_numbers-done ks ns i list all so h =

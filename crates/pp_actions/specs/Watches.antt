@@ -45,8 +45,8 @@ is_watched s watched = list_any (λ code. code == watch_code watched) s.watches
 
 -- at most eight places, each determined by its code
 pub record HaveCodes (places : List Watched) : Type 0 where
-  pub few : length places ≤ 8
-  pub told : All (λ watched. watched_at (watch_code watched) ≡ watched) places
+  pub at_most : length places ≤ 8
+  pub read_back : All (λ watched. watched_at (watch_code watched) ≡ watched) places
 
 -- well formed watch entries: the codes of distinct places that a machine with this many central words has, then zeros
 pub record AreWatches (size : ℕ) (entries : List ℕ) : Type 0 where

@@ -21,5 +21,5 @@ pub covers_more : {P : Type 0} (mark_of : P → Option ℕ) (old new : Marks) (m
 covers_more mark_of old new mark places i d item here keeps covered same within all =
     All-more (λ p. covers mark_of new p ≡ true) places i d within
     (All-from_get_or (λ p. covers mark_of new p ≡ true) (take i places) d
-    (λ k few. keeps _ (All-get_or (λ p. covers mark_of old p ≡ true) (take i places) k d few all)))
+    (λ k at_most. keeps _ (All-get_or (λ p. covers mark_of old p ≡ true) (take i places) k d at_most all)))
     (rw here at (covered_by new mark (mark_of item) same covered))

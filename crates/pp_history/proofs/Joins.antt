@@ -32,11 +32,11 @@ module _ {H B X : Type 0} (in_head : H → X) (in_other : B → Option X) where
 
   -- n items of the second ring are enough for n heads
   joined_enough : (n : ℕ) (heads : List (Option H)) (others : List B) → length heads ≤ n → joined in_head in_other heads (take n others) ≡ joined in_head in_other heads others
-  joined_enough n [] others few = refl
-  joined_enough n (Some head ∷ heads) others few = ap (λ later. in_head head ∷ later) (joined_enough n heads others (omega arith))
-  joined_enough zero (None ∷ heads) others few = absurd (omega arith)
-  joined_enough (suc n) (None ∷ heads) [] few = refl
-  joined_enough (suc n) (None ∷ heads) (other ∷ others) few = ap (with_first (in_other other)) (joined_enough n heads others (omega arith))
+  joined_enough n [] others at_most = refl
+  joined_enough n (Some head ∷ heads) others at_most = ap (λ later. in_head head ∷ later) (joined_enough n heads others (omega arith))
+  joined_enough zero (None ∷ heads) others at_most = absurd (omega arith)
+  joined_enough (suc n) (None ∷ heads) [] at_most = refl
+  joined_enough (suc n) (None ∷ heads) (other ∷ others) at_most = ap (with_first (in_other other)) (joined_enough n heads others (omega arith))
 
   -- what belongs to the n-th head, and to the later ones
   pub record ItemAt (n : ℕ) (heads : List (Option H)) (others : List B) (head : Option H) : Type 0 where
@@ -66,15 +66,15 @@ reverse-first x xs = reverse-append (x ∷ []) xs
 
 -- with one more head, the kept ones
 newest_more : {X : Type 0} (n : ℕ) (oldest head : X) (others : List X) → n ≤ length others → take (n + 1) (reverse (others ++ head ∷ [])) ≡ head ∷ take n (reverse (oldest ∷ others))
-newest_more n oldest head others few =
+newest_more n oldest head others at_most =
     rw (reverse-append others (head ∷ []), reverse-first oldest others) (grind (arith, common_steps, length-reverse others))
 
 front_kept : {X : Type 0} (n : ℕ) (oldest head : X) (others : List X) → n ≤ suc (length others) → take (min (n + 1) (suc (length others))) (reverse (others ++ head ∷ [])) ≡ head ∷ take (length others) (take n (reverse (oldest ∷ others)))
-front_kept n oldest head others few = rw (reverse-append others (head ∷ []), reverse-first oldest others) (grind (arith, common_steps, length-reverse others))
+front_kept n oldest head others at_most = rw (reverse-append others (head ∷ []), reverse-first oldest others) (grind (arith, common_steps, length-reverse others))
 
 -- without the newest head
 behind_newest : {X : Type 0} (n : ℕ) (head : X) (others : List X) → 0 < n → n ≤ suc (length others) → take (n - 1) (reverse (head ∷ others)) ≡ drop 1 (take n (reverse (others ++ head ∷ [])))
-behind_newest n head others some few = rw (reverse-append others (head ∷ []), reverse-first head others) (grind (arith, common_steps, length-reverse others))
+behind_newest n head others some at_most = rw (reverse-append others (head ∷ []), reverse-first head others) (grind (arith, common_steps, length-reverse others))
 
 back-both : {A R : Type 0} (action : Option A) (back : Option R) → IfSome (both action back) (λ entry. back ≡ Some (entry.1))
 back-both None back = tt
@@ -105,14 +105,14 @@ module _ {A R H : Type 0} (unpacked : H → A × R) where
 
   -- one more kept action
   kept_more : (head : Option H) (action : A) (back : R) (old new : Tails A R) (older : List (Option H)) → IsKept unpacked head action back old new → length older < old.ring.capacity → kept_in unpacked (head ∷ older) new.ring.items ≡ (action, back) ∷ kept_in unpacked older old.ring.items
-  kept_more (Some head) action back old new older kept few = rw (kept.1, kept.0) refl
-  kept_more None action back old new older kept few = let some : old.ring.capacity ≡ suc (old.ring.capacity - 1) = omega arith in
+  kept_more (Some head) action back old new older kept at_most = rw (kept.1, kept.0) refl
+  kept_more None action back old new older kept at_most = let some : old.ring.capacity ≡ suc (old.ring.capacity - 1) = omega arith in
       rw (kept, some, joined_enough unpacked in_tail (old.ring.capacity - 1) older old.ring.items (omega arith))
 
   -- one more undone action
   next_more : (head : Option H) (tails : List (Tail A R)) (entry : A × R) (old new : Buffer A) (later : List (Option H)) → first_of unpacked in_tail head tails ≡ Some entry → IsNext unpacked head entry.0 old new → length later < old.capacity → ahead_in unpacked (head ∷ later) new.items ≡ entry.0 ∷ ahead_in unpacked later old.items
-  next_more (Some head) tails entry old new later is next few = cc
-  next_more None tails entry old new later is next few =
+  next_more (Some head) tails entry old new later is next at_most = cc
+  next_more None tails entry old new later is next at_most =
       let some : old.capacity ≡ suc (old.capacity - 1) = omega arith in
       rw (next, some) (ap (λ actions. entry.0 ∷ actions) (joined_enough (λ head. (unpacked head).0) Some (old.capacity - 1) later old.items (omega arith)))
 
@@ -162,13 +162,13 @@ module _ {A R H : Type 0} (unpacked : H → A × R) where
     all : length heads ≡ length (head ∷ others)
     all = rw is (omega (arith, length-append others (head ∷ [])))
 
-    few : m ≤ length others
-    few = omega (arith, log.full, all, some)
+    at_most : m ≤ length others
+    at_most = omega (arith, log.full, all, some)
 
 
     back_ahead : ahead_in unpacked (take (m + 1) (head ∷ others)) undone'.items ≡ newest.item.0 ∷ ahead_in unpacked (take m heads) undone.items
-    back_ahead = rw (add-one, is, take-append-le m others (head ∷ []) few)
-        (next_more head tails.ring.items newest.item undone undone' (take m others) newest.is next (omega (arith, few, all, length-take m others, log.room_for_undone)))
+    back_ahead = rw (add-one, is, take-append-le m others (head ∷ []) at_most)
+        (next_more head tails.ring.items newest.item undone undone' (take m others) newest.is next (omega (arith, at_most, all, length-take m others, log.room_for_undone)))
 
     back_records : kept_in unpacked (take (n - 1) (reverse (head ∷ others))) tails'.ring.items ≡ drop 1 (kept_in unpacked (take n (reverse heads)) tails.ring.items)
     back_records =

@@ -43,11 +43,11 @@ last-out slots end at x within last found = elim last.1 [
 
 -- the item of the slot that is read k before the last one
 pub kept-out : {X : Type 0} (slots : List X) (end k at n : ℕ) (x : X) → IsEnd end slots → IsKeptSlot end (length slots) k at → k < n → n ≤ length slots → slice_get slots at ≡ Some x → slice_get (take n (reverse (turned end slots))) k ≡ Some x
-kept-out slots end k at n x within kept few all found =
+kept-out slots end k at n x within kept at_most all found =
     let long = length_turned end slots within in
     let front = length-drop end slots in
     let is : get_or slots at x ≡ x = get_or_from_slice_get slots at x x found in
     let j : ℕ = length (turned end slots) - 1 - k in
     let read : get_or (turned end slots) j x ≡ x = grind (arith, common_steps, long, front, is, within) in
-    slice_get_read (take n (reverse (turned end slots))) n k x (omega (arith, length-take n (reverse (turned end slots)), length-reverse (turned end slots), long, all)) few
-    (sym (get_or-take n (reverse (turned end slots)) k x few ∙ get_or-reverse (turned end slots) k x (omega (arith, long, few, all)) ∙ read))
+    slice_get_read (take n (reverse (turned end slots))) n k x (omega (arith, length-take n (reverse (turned end slots)), length-reverse (turned end slots), long, all)) at_most
+    (sym (get_or-take n (reverse (turned end slots)) k x at_most ∙ get_or-reverse (turned end slots) k x (omega (arith, long, at_most, all)) ∙ read))

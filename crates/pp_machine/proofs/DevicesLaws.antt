@@ -51,7 +51,7 @@ no-laws = record {
   watches = λ s. tt;
   writes_has = λ size s ok. tt;
   pairs_has = λ size r s ok fits. tt;
-  few = λ r. omega arith;
+  at_most = λ r. omega arith;
   not_by = λ r p e. refl;
 }
 
@@ -60,10 +60,10 @@ module _ {Numbers Own Record Others Records : Type 0} (d : DeviceModel Numbers O
   on-pairs_has size r s ok f =
       AllPlaces-append (Has size) _ _ (device.pairs_has size r.channel r.own _ (rw f.channel ok.0) f.own) (others.pairs_has size r.others s ok.1 f.others)
 
-  on-few : (r : OnRecords Record Records) → length (device_pairs d r.channel r.own ++ o.pairs r.others) ≤ d.most + o.most
-  on-few r =
+  on-at_most : (r : OnRecords Record Records) → length (device_pairs d r.channel r.own ++ o.pairs r.others) ≤ d.most + o.most
+  on-at_most r =
       let here = length-renamed (device_place d r.channel) (d.pairs r.own) in
-      simp length-append (omega (arith, device.few r.own, others.few r.others))
+      simp length-append (omega (arith, device.at_most r.own, others.at_most r.others))
 
   pub on-laws : AreDevices (on d o)
   on-laws = record {
@@ -72,7 +72,7 @@ module _ {Numbers Own Record Others Records : Type 0} (d : DeviceModel Numbers O
     watches = λ s. (keeps d device.attached s, others.watches (over s (device_step_writes d s)));
     writes_has = λ size s ok. (device.writes_has size (d.channel s.setup) (view_of d (d.channel s.setup) s) ok.0, others.writes_has size (over s (device_step_writes d s)) (rw (setup-over s (device_step_writes d s)) ok.1));
     pairs_has = on-pairs_has;
-    few = on-few;
+    at_most = on-at_most;
     not_by = λ r p e. lookup-append same_place (device_pairs d r.channel r.own) (o.pairs r.others) p ∙ rw (not_by_one d device.attached r.channel r.own p e) (others.not_by r.others p e);
   }
 

@@ -70,5 +70,5 @@ reader-device = record {
   idle = reader-idle;
   writes_has = λ size c s small. HasAll-reader_writes size c small s;
   pairs_has = λ size c r s small fits. HasAll-reader size c r small;
-  few = reader_few;
+  at_most = reader_few;
 }

@@ -13,9 +13,9 @@ module _ (size : ℕ) (m m' : Machine) (shaped : IsShaped size m) (shaped' : IsS
 
   processors : m.processors ≡ m'.processors
   processors = ext_get_or no_processor m.processors m'.processors (shaped.processors ∙ sym shaped'.processors) (λ n h.
-      let few : n < 10 = rw shaped.processors at h in
-      let cells = same-list 4096 (λ s. (processor s n).cells) (shaped.memories n few) (shaped'.memories n few) (λ a within. each (Cell n a) (few, within)) in
-      λ i. record { a = each (RegA n) few i; p = each (RegP n) few i; q = each (RegQ n) few i; phase = each (Phase n) few i; cells = cells i })
+      let at_most : n < 10 = rw shaped.processors at h in
+      let cells = same-list 4096 (λ s. (processor s n).cells) (shaped.memories n at_most) (shaped'.memories n at_most) (λ a within. each (Cell n a) (at_most, within)) in
+      λ i. record { a = each (RegA n) at_most i; p = each (RegP n) at_most i; q = each (RegQ n) at_most i; phase = each (Phase n) at_most i; cells = cells i })
 
   pub same-machines : m.setup ≡ m'.setup → m.reader.deck ≡ m'.reader.deck → m ≡ m'
   same-machines setup deck = λ i. machine_with

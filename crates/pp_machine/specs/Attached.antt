@@ -43,4 +43,4 @@ pub record IsDevice {Numbers Own Record : Type 0} (d : DeviceModel Numbers Own R
   pub idle : (s : DeviceView Numbers) → s.state ≡ inactive → d.writes s ≡ []
   pub writes_has : (size c : ℕ) (s : DeviceView Numbers) → c < 12 → HasAll size (renamed (device_place d c) (d.writes s))
   pub pairs_has : (size c : ℕ) (r : Record) (s : DeviceView Numbers) → c < 12 → d.Fits r s → HasAll size (device_pairs d c r)
-  pub few : (r : Record) → length (d.pairs r) ≤ d.most
+  pub at_most : (r : Record) → length (d.pairs r) ≤ d.most

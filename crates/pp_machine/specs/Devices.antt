@@ -77,7 +77,7 @@ module _ {Numbers Records : Type 0} (o : DevicesModel Numbers Records) where
     pub watches : (s : Machine) → EachPart (λ part m. (over m (part m)).watches ≡ m.watches) o.parts s
     pub writes_has : (size : ℕ) (s : Machine) → AreOnChannels (o.channels s.setup) → EachPart (λ part m. HasAll size (part m)) o.parts s
     pub pairs_has : (size : ℕ) (r : Records) (s : Machine) → AreOnChannels (o.channels s.setup) → o.Fits r s → HasAll size (o.pairs r)
-    pub few : (r : Records) → length (o.pairs r) ≤ o.most
+    pub at_most : (r : Records) → length (o.pairs r) ≤ o.most
     pub not_by : (r : Records) (p : Place) → of_device p ≡ false → lookup (o.pairs r) p ≡ None
 
 -- A device can be put before these devices: the laws hold, and it is at other places of the machine than they are.

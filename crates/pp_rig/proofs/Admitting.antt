@@ -118,8 +118,8 @@ Has-watchable size (WatchedP n) h = less n processor_count h
 Has-watchable size (WatchedQ n) h = less n processor_count h
 Has-watchable size (Central a) h = less a size h
 Has-watchable size (Register c) h =
-    let few : c ≤ 12 = at_most c channel_count h in
-    ⊎_elim (λ t. rw t.0 tt) (λ t. let below : c < 12 = omega (arith, few, t.1) in rw t.0 below) (eqb_tells c 12)
+    let small : c ≤ 12 = at_most c channel_count h in
+    ⊎_elim (λ t. rw t.0 tt) (λ t. let below : c < 12 = omega (arith, small, t.1) in rw t.0 below) (eqb_tells c 12)
 
 pub record IsWatch (m : Machine) (w : Watched) : Type 0 where
   pub room : first_zero m.watches < 8

@@ -91,12 +91,12 @@ length-deadstart_write_list panel = simp (length-append, length-cell_writes) (om
 pub length-deadstart : (panel : List ℕ) → length panel ≡ 12 → length (deadstart_write_list panel) ≡ deadstart_place_count
 length-deadstart panel e = omega (arith, length-deadstart_write_list panel)
 
-places-stood : (m : Machine) (panel : List ℕ) → length panel ≡ 12 → places (old_values m (deadstart_write_list panel)) ≡ places deadstart_places
-places-stood m panel e = places-old_values number m (deadstart_write_list panel) ∙ places-deadstart panel (replicate 12 0) e
+places-old : (m : Machine) (panel : List ℕ) → length panel ≡ 12 → places (old_values m (deadstart_write_list panel)) ≡ places deadstart_places
+places-old m panel e = places-old_values number m (deadstart_write_list panel) ∙ places-deadstart panel (replicate 12 0) e
 
 -- the old numbers of a dead start, at its places, are its old values
-pub with_new_numbers-stood : (m : Machine) (panel : List ℕ) → length panel ≡ 12 → with_new_numbers deadstart_places (numbers (old_values m (deadstart_write_list panel))) ≡ old_values m (deadstart_write_list panel)
-with_new_numbers-stood m panel e = with_new_numbers-numbers deadstart_places (old_values m (deadstart_write_list panel)) (sym (places-stood m panel e))
+pub with_new_numbers-old : (m : Machine) (panel : List ℕ) → length panel ≡ 12 → with_new_numbers deadstart_places (numbers (old_values m (deadstart_write_list panel))) ≡ old_values m (deadstart_write_list panel)
+with_new_numbers-old m panel e = with_new_numbers-numbers deadstart_places (old_values m (deadstart_write_list panel)) (sym (places-old m panel e))
 
 -- ---- its numbers are short: it writes no central word
 
@@ -125,8 +125,8 @@ short-at size [] a s i d l = absurd (omega arith)
 short-at size (k ∷ ks) a s zero d l = short-number k.place k.number (and_parts (is_short k.place) (list_all is_short (places (write_list ks))) a).0 s.0.settable s.0.in_range
 short-at size (k ∷ ks) a s (suc i) d l = short-at size ks (and_parts (is_short k.place) (list_all is_short (places (write_list ks))) a).1 s.1 i d (omega arith)
 
-pub short-stood : (size : ℕ) (m : Machine) (panel : List ℕ) (ks : List Write) → length panel ≡ 12 → write_list ks ≡ old_values m (deadstart_write_list panel) → AreSettings size (write_list ks) → All (λ k. k.number < 2 ^ 32) ks
-short-stood size m panel ks count e s = short-at size ks (rw (e, places-stood m panel count) short-places) s
+pub short-old : (size : ℕ) (m : Machine) (panel : List ℕ) (ks : List Write) → length panel ≡ 12 → write_list ks ≡ old_values m (deadstart_write_list panel) → AreSettings size (write_list ks) → All (λ k. k.number < 2 ^ 32) ks
+short-old size m panel ks count e s = short-at size ks (rw (e, places-old m panel count) short-places) s
 
 -- ---- what a dead start does not write
 

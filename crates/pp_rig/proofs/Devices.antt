@@ -5,20 +5,20 @@ use Rattle.pp_machine.specs.AllDevices.{all_model}
 use Rattle.pp_machine.specs.Attached.{of_device}
 use Rattle.pp_machine.specs.Prelude.{Writes, lookup}
 use Rattle.pp_machine.specs.declared.place.Place.{Place}
-use Rattle.pp_rig.specs.Turn.{devices_part}
+use Rattle.pp_rig.specs.Turn.{devices_old_values}
 use Rattle.pp_rig.specs.declared.rig.TurnRest.{TurnRest}
 
-few-if : (b : Bool) (w : Writes Place) (most : ℕ) → length w ≤ most → length (if b then w else []) ≤ most
-few-if true w most few = few
-few-if false w most few = omega arith
+at_most-if : (b : Bool) (w : Writes Place) (most : ℕ) → length w ≤ most → length (if b then w else []) ≤ most
+at_most-if true w most at_most = at_most
+at_most-if false w most at_most = omega arith
 
-pub devices-few : (r : TurnRest) → length (devices_part r) ≤ all_model.most
-devices-few r = few-if r.are_devices_called (all_model.pairs r.devices) all_model.most (all-laws.few r.devices)
+pub devices-at_most : (r : TurnRest) → length (devices_old_values r) ≤ all_model.most
+devices-at_most r = at_most-if r.are_devices_called (all_model.pairs r.devices) all_model.most (all-laws.at_most r.devices)
 
 none-if : (b : Bool) (w : Writes Place) (p : Place) → lookup w p ≡ None → lookup (if b then w else []) p ≡ None
 none-if true w p e = e
 none-if false w p e = refl
 
 -- a place that no device has
-pub not_by_devices : (r : TurnRest) (p : Place) → of_device p ≡ false → lookup (devices_part r) p ≡ None
+pub not_by_devices : (r : TurnRest) (p : Place) → of_device p ≡ false → lookup (devices_old_values r) p ≡ None
 not_by_devices r p e = none-if r.are_devices_called (all_model.pairs r.devices) p (all-laws.not_by r.devices p e)

@@ -11,7 +11,7 @@ use Rattle.pp_machine.specs.WriteLaws.{AllPlaces-append, AllPlaces-if, AllPlaces
 use Rattle.pp_machine.specs.declared.place.Place.{Place}
 use Rattle.pp_machine.specs.declared.place.Place.TheVariants.{Cell, Central, ChannelWord, Clock, Slot}
 use Rattle.pp_rig.specs.Marks.{cell_mark, central_mark, channel_mark, mark_of, AreUnmarked}
-use Rattle.pp_rig.specs.Turn.{clock_part, rest_pairs, turn_pairs}
+use Rattle.pp_rig.specs.Turn.{clock_old_values, rest_pairs, turn_pairs}
 use Rattle.pp_rig.specs.declared.rig.TurnRecord.{TurnRecord}
 use Rattle.pp_step.specs.Exchange.{frame_pairs, word_pairs}
 use Rattle.pp_step.specs.Pairs.{target_pairs, writes_p, written}
@@ -89,8 +89,8 @@ module _ (m : Marks) (n : ℕ) where
 
   pub words_unmarked : (size a i : ℕ) (ws : List ℕ) → i + length ws ≤ 16 → is_set m (central_mark a) ≡ false →
       is_set m (central_mark (a + 15)) ≡ false → AreUnmarked m n (word_pairs size a i ws)
-  words_unmarked size a i [] few first last = tt
-  words_unmarked size a i (w ∷ ws) few first last =
+  words_unmarked size a i [] at_most first last = tt
+  words_unmarked size a i (w ∷ ws) at_most first last =
       if_written (nat_lt (central_after a i) size) (stepped.Central (central_after a i)) w (word_pairs size a (i + 1) ws)
       (word_unmarked a i (omega arith) first last) (words_unmarked size a (i + 1) ws (omega arith) first last)
 
@@ -129,7 +129,7 @@ turn_unmarked m r idle step =
     let U = λ (p : Place). is_marked m (mark_of p) ≡ false in
     AllPlaces-append U (renamed (pp_place r.rest.slot) (pp_pairs r.pp)) _ (AllPlaces-renamed (pp_place r.rest.slot) U (pp_pairs r.pp) step)
     (AllPlaces-append U (if r.rest.are_devices_called then all_model.pairs r.rest.devices else []) _ (rw idle tt)
-    (AllPlaces-append U (clock_part r.rest.slot r.rest.clock) ((Slot, r.rest.slot) ∷ [])
+    (AllPlaces-append U (clock_old_values r.rest.slot r.rest.clock) ((Slot, r.rest.slot) ∷ [])
     (AllPlaces-if U (r.rest.slot == 9) ((Clock, r.rest.clock) ∷ []) [] (λ e. (refl, tt)) (λ e. tt)) (refl, tt)))
 
 -- a record without a marked place has none that the marks cover

@@ -12,7 +12,7 @@ use Rattle.pp_machine.specs.declared.place.Place.TheVariants.{Clock}
 use Rattle.pp_actions.specs.declared.action.Action.{Action}
 use Rattle.pp_actions.specs.declared.action.Action.TheVariants.{Turn}
 use Rattle.pp_rig.specs.declared.rig.TurnRecord.{TurnRecord}
-use Rattle.pp_rig.proofs.Devices.{devices-few}
+use Rattle.pp_rig.proofs.Devices.{devices-at_most}
 use Rattle.pp_machine.proofs.MachineStore.{taken_back}
 use Rattle.pp_machine.proofs.Parts.{parts-taken_back, same_places}
 use Rattle.pp_machine.specs.WriteLaws.{length-renamed}
@@ -37,14 +37,14 @@ places-old_values_of m action = rw (places-old_values number m (writes m action)
 
 -- ---- how many places a turn's record has
 
-few-clock : (last : Bool) (clock : ℕ) → length {A = Place × ℕ} (if last then (Clock, clock) ∷ [] else []) ≤ 1
-few-clock true clock = omega arith
-few-clock false clock = omega arith
+at_most-clock : (last : Bool) (clock : ℕ) → length {A = Place × ℕ} (if last then (Clock, clock) ∷ [] else []) ≤ 1
+at_most-clock true clock = omega arith
+at_most-clock false clock = omega arith
 
-pub few-turn : (r : TurnRecord) → length (pp_pairs r.pp) ≤ most_step_places → length (turn_pairs r) ≤ most_turn_places
+pub at_most-turn : (r : TurnRecord) → length (pp_pairs r.pp) ≤ most_step_places → length (turn_pairs r) ≤ most_turn_places
 unfolding turn_pairs rest_pairs
-few-turn r few =
+at_most-turn r at_most =
     let pp = length-renamed (pp_place r.rest.slot) (pp_pairs r.pp) in
-    let devices = devices-few r.rest in
-    let clock = few-clock (r.rest.slot == 9) r.rest.clock in
+    let devices = devices-at_most r.rest in
+    let clock = at_most-clock (r.rest.slot == 9) r.rest.clock in
     simp length-append (omega arith)

@@ -100,8 +100,8 @@ module _ (old new : Machine) (watches seen : List Watched) (i : ℕ) (place : Pl
       to_next ∙ rw (was_here, now_here, other) refl
 
 -- an undo record has the number before its action
-pub record-told : (m : Machine) (back : RigRecord) (place : Place) → FitsRecord back m → (named : Option ℕ) → named ≡ lookup (record_pairs back) place → MatchOption named (number (before back m) place ≡ number m place) (λ was. number (before back m) place ≡ was)
-record-told m back place fits named e =
+pub record-read_back : (m : Machine) (back : RigRecord) (place : Place) → FitsRecord back m → (named : Option ℕ) → named ≡ lookup (record_pairs back) place → MatchOption named (number (before back m) place ≡ number m place) (λ was. number (before back m) place ≡ was)
+record-read_back m back place fits named e =
     subst (λ o. MatchOption o (number (before back m) place ≡ number m place) (λ was. number (before back m) place ≡ was)) (sym e) (record_restores back m place fits)
 
 -- an action whose record has no watched place changed none
@@ -110,6 +110,6 @@ pub none_changed : (m : Machine) (back : RigRecord) (Watches : Place → Type 0)
     first_change (before back m) m watches ≡ None
 none_changed m back Watches [] fits none all = refl
 none_changed m back Watches (w ∷ ws) fits none all =
-    let same : number (before back m) (watched_place w) ≡ number m (watched_place w) = record-told m back (watched_place w) fits None (sym (none (watched_place w) all.0)) in
+    let same : number (before back m) (watched_place w) ≡ number m (watched_place w) = record-read_back m back (watched_place w) fits None (sym (none (watched_place w) all.0)) in
     let equal : (number m (watched_place w) == number (before back m) (watched_place w)) ≡ true = grind (arith, nat_tests, same) in
     rw equal (none_changed m back Watches ws fits none all.1)

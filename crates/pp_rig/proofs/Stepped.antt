@@ -18,10 +18,10 @@ use Rattle.pp_machine.specs.declared.place.Place.TheVariants.{Clock}
 use Rattle.pp_step.specs.PpPlaces.{HasAll-pp}
 use Rattle.pp_rig.specs.IsSetup.{IsSetup}
 use Rattle.pp_rig.specs.Short.{IsTurned}
-use Rattle.pp_rig.specs.Turn.{AreDevicesStepped, FitsRest, FitsTurn, IsSlotStep, device_parts, end_part, end_parts, pp_step_writes, rest_of_turn, rest_pairs, turn_old_values, turn_pairs, turn_parts, turn_writes}
+use Rattle.pp_rig.specs.Turn.{AreDevicesStepped, FitsRest, FitsTurn, IsSlotStep, device_parts, end_old_values, end_parts, pp_step_writes, rest_of_turn, rest_pairs, turn_old_values, turn_pairs, turn_parts, turn_writes}
 use Rattle.pp_rig.specs.declared.rig.TurnRecord.{TurnRecord}
 use Rattle.pp_rig.specs.declared.rig.TurnRest.{TurnRest}
-use Rattle.pp_rig.proofs.Overwritten.{few-turn}
+use Rattle.pp_rig.proofs.Overwritten.{at_most-turn}
 use Rattle.pp_machine.proofs.Parts.{both-performed, led_back, one-performed, over-parts}
 
 -- processor n, as it is read from the list, and as it is put back
@@ -51,7 +51,7 @@ module _ (m : Machine) (x : ProcessorNumbers) (new : PpView) (back : PpRecord) (
         step = step-pp m m.slot (has_processor m m.slot ok ok.slot) new (pp_writes (pp_of m.slot m)) here.step;
         old_values = ap (renamed (pp_place m.slot)) here.old_values ∙ record-pp m m.slot (pp_writes (pp_of m.slot m));
         fits = subst (λ n. FitsPp n back) (IsMachine-stepped e).shaped.central e.fits;
-        few = e.at_most;
+        at_most = e.at_most;
         kept = record { slot = refl; setup = refl };
       }
 
@@ -65,7 +65,7 @@ module _ (m : Machine) (x : ProcessorNumbers) (new : PpView) (back : PpRecord) (
 
 -- ---- the rest of a turn: devices, clock and slot
 
-module _ (m m3 new : Machine) (stepped back : TurnRest) (devices : AreDevicesStepped m m3 stepped) (ended : ArePerformed end_parts m3 new (end_part back)) (called : back.are_devices_called ≡ stepped.are_devices_called) (records : back.devices ≡ stepped.devices) where
+module _ (m m3 new : Machine) (stepped back : TurnRest) (devices : AreDevicesStepped m m3 stepped) (ended : ArePerformed end_parts m3 new (end_old_values back)) (called : back.are_devices_called ≡ stepped.are_devices_called) (records : back.devices ≡ stepped.devices) where
   pub rest-performed : ArePerformed rest_of_turn m new (rest_pairs back)
   unfolding rest_pairs
   rest-performed = rw (called, records) (both-performed device_parts end_parts m m3 new _ _ devices.performed ended)
@@ -77,7 +77,7 @@ module _ (m m3 new : Machine) (stepped back : TurnRest) (devices : AreDevicesSte
     devices = λ were_called.
         let after = subst (all_model.Fits stepped.devices) (sym (led_back end_parts m3 new _ ended))
         (devices.fits (sym called ∙ were_called)) in
-        subst (λ d. all_model.Fits d (over new (end_part back))) (sym records) after;
+        subst (λ d. all_model.Fits d (over new (end_old_values back))) (sym records) after;
   }
 
 -- ---- a turn
@@ -93,7 +93,7 @@ HasAll-turn r s ok f =
     let size = s.setup.central_words in
     AllPlaces-append (Has size) _ _ (HasAll-pp size r.rest.slot f.rest.slot r.pp f.pp)
     (AllPlaces-append (Has size) _ _
-    (AllPlaces-if (Has size) r.rest.are_devices_called _ _ (λ called. all-laws.pairs_has size r.rest.devices (over s (end_part r.rest)) (rw (setup-over s (end_part r.rest)) ok.channels) (f.rest.devices called)) (λ idle. tt))
+    (AllPlaces-if (Has size) r.rest.are_devices_called _ _ (λ called. all-laws.pairs_has size r.rest.devices (over s (end_old_values r.rest)) (rw (setup-over s (end_old_values r.rest)) ok.channels) (f.rest.devices called)) (λ idle. tt))
     (AllPlaces-append (Has size) _ _ (HasAll-clock size (r.rest.slot == 9) r.rest.clock) (tt, tt)))
 
 turn-performed : (m m1 new : Machine) (r : TurnRecord) → IsSlotStep m m1 r.pp → ArePerformed rest_of_turn m1 new (rest_pairs r.rest) → r.rest.slot ≡ m1.slot → ArePerformed turn_parts m new (turn_pairs r)
@@ -111,7 +111,7 @@ turned m m1 new r step rest fits slot setup ok =
       step = performed.step ∙ sym (over-parts turn_parts m);
       old_values = performed.old_values;
       fits = record { part = fits_turn; shaped = ok.shaped; places = HasAll-turn r new ok.setup fits_turn };
-      few = few-turn r step.few;
+      at_most = at_most-turn r step.at_most;
     }
 
 -- undoing the parts, the processor's last, leads back to the machine before

@@ -5,7 +5,7 @@ use Rattle.pp_machine.specs.Prelude.{Writes, renamed, first_of_two, lookup, same
 use Rattle.pp_machine.specs.WriteLaws.{lookup-append}
 use Rattle.pp_machine.specs.declared.place.Place.{Place}
 use Rattle.pp_machine.specs.declared.place.Place.TheVariants.{Clock, Slot}
-use Rattle.pp_rig.specs.Turn.{devices_part, end_part, rest_pairs, turn_pairs}
+use Rattle.pp_rig.specs.Turn.{devices_old_values, end_old_values, rest_pairs, turn_pairs}
 use Rattle.pp_rig.specs.declared.rig.TurnRecord.{TurnRecord}
 use Rattle.pp_rig.proofs.Devices.{not_by_devices}
 use Rattle.pp_rig.specs.declared.rig.TurnRest.{TurnRest}
@@ -16,10 +16,10 @@ use Rattle.pp_step.specs.View.{pp_place}
 
 -- the old values of the turn's end: the clock and the slot
 abbrev by_end : TurnRest → Place → Option ℕ
-by_end r p = lookup (end_part r) p
+by_end r p = lookup (end_old_values r) p
 
 abbrev by_devices : TurnRest → Place → Option ℕ
-by_devices r p = lookup (devices_part r) p
+by_devices r p = lookup (devices_old_values r) p
 
 abbrev pub by_kind : TurnRest → Place → Option ℕ
 by_kind r Clock = by_end r Clock

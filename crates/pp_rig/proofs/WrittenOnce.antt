@@ -29,13 +29,13 @@ listed name i (v ∷ vs) = (name i, v) ∷ listed name (i + 1) vs
 -- a family of places in which any `room` consecutive ones differ
 module _ (name : ℕ → Place) (room : ℕ) (apart : (i j : ℕ) → i < j → j < i + room → name i ≢ name j) where
   behind : (i j : ℕ) (vs : List ℕ) → i < j → j + length vs ≤ i + room → All (λ other. name i ≢ other) (places (listed name j vs))
-  behind i j [] less few k d within = absurd (omega (arith, within))
-  behind i j (v ∷ vs) less few zero d within = apart i j less (omega arith)
-  behind i j (v ∷ vs) less few (suc k) d within = behind i (j + 1) vs (omega arith) (omega arith) k d (omega (arith, within))
+  behind i j [] less at_most k d within = absurd (omega (arith, within))
+  behind i j (v ∷ vs) less at_most zero d within = apart i j less (omega arith)
+  behind i j (v ∷ vs) less at_most (suc k) d within = behind i (j + 1) vs (omega arith) (omega arith) k d (omega (arith, within))
 
   listed-once : (i : ℕ) (vs : List ℕ) → length vs ≤ room → EachOnce (listed name i vs)
-  listed-once i [] few = λ k l d less within. absurd (omega (arith, within))
-  listed-once i (v ∷ vs) few =
+  listed-once i [] at_most = λ k l d less within. absurd (omega (arith, within))
+  listed-once i (v ∷ vs) at_most =
       AllPairs-cons (λ one other. one ≢ other) (name i) (places (listed name (i + 1) vs))
       (behind i (i + 1) vs (omega arith) (omega arith))
       (listed-once (i + 1) vs (omega arith))
@@ -51,7 +51,7 @@ cells_apart n i j less near same =
     absurd (omega (arith, equal))
 
 cells-once : (n a : ℕ) (vs : List ℕ) → length vs ≤ 4096 → EachOnce (cell_writes n a vs)
-cells-once n a vs few = rw cell_writes-listed (listed-once (λ i. Cell n (i % 4096)) 4096 (cells_apart n) a vs few)
+cells-once n a vs at_most = rw cell_writes-listed (listed-once (λ i. Cell n (i % 4096)) 4096 (cells_apart n) a vs at_most)
 
 entry_writes-listed : (i : ℕ) (codes : List ℕ) → entry_writes i codes ≡ listed WatchEntry i codes
 entry_writes-listed i [] = refl
@@ -77,36 +77,36 @@ each = each-once same_place same-self
 -- the panel does not reach the cell behind it
 panel-once : (panel : List ℕ) → length panel ≤ 12 → once same_place (deadstart_write_list panel) ≡ true
 unfolding deadstart_write_list all_waiting all_states
-panel-once [] few = refl
-panel-once (_ ∷ []) few = refl
-panel-once (_ ∷ _ ∷ []) few = refl
-panel-once (_ ∷ _ ∷ _ ∷ []) few = refl
-panel-once (_ ∷ _ ∷ _ ∷ _ ∷ []) few = refl
-panel-once (_ ∷ _ ∷ _ ∷ _ ∷ _ ∷ []) few = refl
-panel-once (_ ∷ _ ∷ _ ∷ _ ∷ _ ∷ _ ∷ []) few = refl
-panel-once (_ ∷ _ ∷ _ ∷ _ ∷ _ ∷ _ ∷ _ ∷ []) few = refl
-panel-once (_ ∷ _ ∷ _ ∷ _ ∷ _ ∷ _ ∷ _ ∷ _ ∷ []) few = refl
-panel-once (_ ∷ _ ∷ _ ∷ _ ∷ _ ∷ _ ∷ _ ∷ _ ∷ _ ∷ []) few = refl
-panel-once (_ ∷ _ ∷ _ ∷ _ ∷ _ ∷ _ ∷ _ ∷ _ ∷ _ ∷ _ ∷ []) few = refl
-panel-once (_ ∷ _ ∷ _ ∷ _ ∷ _ ∷ _ ∷ _ ∷ _ ∷ _ ∷ _ ∷ _ ∷ []) few = refl
-panel-once (_ ∷ _ ∷ _ ∷ _ ∷ _ ∷ _ ∷ _ ∷ _ ∷ _ ∷ _ ∷ _ ∷ _ ∷ []) few = refl
-panel-once (_ ∷ _ ∷ _ ∷ _ ∷ _ ∷ _ ∷ _ ∷ _ ∷ _ ∷ _ ∷ _ ∷ _ ∷ _ ∷ rest) few = absurd (omega arith)
+panel-once [] at_most = refl
+panel-once (_ ∷ []) at_most = refl
+panel-once (_ ∷ _ ∷ []) at_most = refl
+panel-once (_ ∷ _ ∷ _ ∷ []) at_most = refl
+panel-once (_ ∷ _ ∷ _ ∷ _ ∷ []) at_most = refl
+panel-once (_ ∷ _ ∷ _ ∷ _ ∷ _ ∷ []) at_most = refl
+panel-once (_ ∷ _ ∷ _ ∷ _ ∷ _ ∷ _ ∷ []) at_most = refl
+panel-once (_ ∷ _ ∷ _ ∷ _ ∷ _ ∷ _ ∷ _ ∷ []) at_most = refl
+panel-once (_ ∷ _ ∷ _ ∷ _ ∷ _ ∷ _ ∷ _ ∷ _ ∷ []) at_most = refl
+panel-once (_ ∷ _ ∷ _ ∷ _ ∷ _ ∷ _ ∷ _ ∷ _ ∷ _ ∷ []) at_most = refl
+panel-once (_ ∷ _ ∷ _ ∷ _ ∷ _ ∷ _ ∷ _ ∷ _ ∷ _ ∷ _ ∷ []) at_most = refl
+panel-once (_ ∷ _ ∷ _ ∷ _ ∷ _ ∷ _ ∷ _ ∷ _ ∷ _ ∷ _ ∷ _ ∷ []) at_most = refl
+panel-once (_ ∷ _ ∷ _ ∷ _ ∷ _ ∷ _ ∷ _ ∷ _ ∷ _ ∷ _ ∷ _ ∷ _ ∷ []) at_most = refl
+panel-once (_ ∷ _ ∷ _ ∷ _ ∷ _ ∷ _ ∷ _ ∷ _ ∷ _ ∷ _ ∷ _ ∷ _ ∷ _ ∷ rest) at_most = absurd (omega arith)
 
 deadstart-once : (panel : Option (List ℕ)) → length (deadstart_writes panel) ≤ deadstart_place_count → EachOnce (deadstart_writes panel)
-deadstart-once None few = λ i j d less within. absurd (omega (arith, within))
-deadstart-once (Some panel) few = each (deadstart_write_list panel) (panel-once panel (omega (arith, few, length-deadstart_write_list panel)))
+deadstart-once None at_most = λ i j d less within. absurd (omega (arith, within))
+deadstart-once (Some panel) at_most = each (deadstart_write_list panel) (panel-once panel (omega (arith, at_most, length-deadstart_write_list panel)))
 
 -- ---- every action
 
 pub action-once : (s : Machine) (done : Action) → done ≢ action.Turn → length (writes s done) ≤ most_places done → EachOnce (writes s done)
-action-once s action.Turn other few = absurd (other refl)
-action-once s (action.SetCells n a values) other few = cells-once n a values (omega (arith, few, length-cell_writes n a values))
-action-once s (action.SetA n v) other few = each ((RegA n, v) ∷ []) refl
-action-once s (action.SetP n v) other few = each ((RegP n, v) ∷ (Phase n, 0) ∷ []) refl
-action-once s (action.SetQ n v) other few = each ((RegQ n, v) ∷ []) refl
-action-once s (action.SetWord a v) other few = each ((Central a, v) ∷ []) refl
-action-once s (action.SetChannel c state None) other few = each (writes s (action.SetChannel c state None)) refl
-action-once s (action.SetChannel c state (Some w)) other few = each (writes s (action.SetChannel c state (Some w))) refl
-action-once s (action.Watch w) other few = each (writes s (action.Watch w)) refl
-action-once s (action.Unwatch w) other few = without_entry-once s.watches (position (λ code. code == watch_code w) s.watches)
-action-once s action.Deadstart other few = deadstart-once s.setup.panel few
+action-once s action.Turn other at_most = absurd (other refl)
+action-once s (action.SetCells n a values) other at_most = cells-once n a values (omega (arith, at_most, length-cell_writes n a values))
+action-once s (action.SetA n v) other at_most = each ((RegA n, v) ∷ []) refl
+action-once s (action.SetP n v) other at_most = each ((RegP n, v) ∷ (Phase n, 0) ∷ []) refl
+action-once s (action.SetQ n v) other at_most = each ((RegQ n, v) ∷ []) refl
+action-once s (action.SetWord a v) other at_most = each ((Central a, v) ∷ []) refl
+action-once s (action.SetChannel c state None) other at_most = each (writes s (action.SetChannel c state None)) refl
+action-once s (action.SetChannel c state (Some w)) other at_most = each (writes s (action.SetChannel c state (Some w))) refl
+action-once s (action.Watch w) other at_most = each (writes s (action.Watch w)) refl
+action-once s (action.Unwatch w) other at_most = without_entry-once s.watches (position (λ code. code == watch_code w) s.watches)
+action-once s action.Deadstart other at_most = deadstart-once s.setup.panel at_most

@@ -27,4 +27,4 @@ pub record IsTurned (old new : Machine) (back : TurnRecord) : Type 0 where
   pub step : new ≡ turn old
   pub old_values : turn_pairs back ≡ turn_old_values old
   pub fits : FitsRecord (kept.Turn back) new
-  pub few : length (turn_pairs back) ≤ most_turn_places
+  pub at_most : length (turn_pairs back) ≤ most_turn_places

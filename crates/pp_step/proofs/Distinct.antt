@@ -45,8 +45,8 @@ five-once address parts =
 
 -- sixteen central words in a row
 words-once : (size a : ℕ) (ws : List ℕ) → length ws ≤ 16 → once same_place (word_pairs size a 0 ws) ≡ true
-words-once size a ws few =
-    rw append-nil at (once-from (λ i. Central (central_after a i)) (λ i. nat_lt (central_after a i) size) 0 ws [] (λ j k low less high. ne_eqb (central_after a k) (central_after a j) (λ same. omega (arith, same, less, high, few))) (λ k. refl) refl)
+words-once size a ws at_most =
+    rw append-nil at (once-from (λ i. Central (central_after a i)) (λ i. nat_lt (central_after a i) size) 0 ws [] (λ j k low less high. ne_eqb (central_after a k) (central_after a j) (λ same. omega (arith, same, less, high, at_most))) (λ k. refl) refl)
 
 exchange-once : (next a : ℕ) (words frame : List ℕ) → length frame ≡ 16 → once same_place (exchange next a words frame) ≡ true
 exchange-once next a words frame size =

@@ -6,19 +6,19 @@ use Rattle.pp_step.specs.Words.{central_after}
 
 -- a word of the piece
 pub piece-at : (a k : ℕ) (words : List ℕ) → a + 16 ≤ length words → length words ≤ 0o400000 → k < 16 → slice_index (take 16 (drop a words)) k ≡ slice_index words (central_after a k)
-piece-at a k words fits few below =
-    let here : a + k ≡ central_after a k = omega (arith, fits, few, below) in
+piece-at a k words fits at_most below =
+    let here : a + k ≡ central_after a k = omega (arith, fits, at_most, below) in
     get_or-take 16 (drop a words) k 0 below ∙ (get_or-drop a words k 0 ∙ ap (slice_index words) here)
 
 -- numbers written over a piece, one by one
 pub stored_over-piece : (a i : ℕ) (words ws : List ℕ) → a + i + length ws ≤ length words → length words ≤ 0o400000 → stored_over a i words ws ≡ take (a + i) words ++ (ws ++ drop (a + i + length ws) words)
-stored_over-piece a i words [] fits few =
+stored_over-piece a i words [] fits at_most =
     sym (take-append-drop (a + i) words) ∙ ap (λ n. take (a + i) words ++ drop n words) (sym (add-zero (a + i)))
-stored_over-piece a i words (w ∷ ws) fits few =
-    let here : central_after a i ≡ a + i = omega (arith, fits, few) in
+stored_over-piece a i words (w ∷ ws) fits at_most =
+    let here : central_after a i ≡ a + i = omega (arith, fits, at_most) in
     let next : a + (i + 1) ≡ a + i + 1 = omega arith in
     let last : a + (i + 1) + length ws ≡ a + i + suc (length ws) = omega arith in
-    let later = stored_over-piece a (i + 1) words ws (omega (arith, fits)) few in
+    let later = stored_over-piece a (i + 1) words ws (omega (arith, fits)) at_most in
     let front : take (a + (i + 1)) words ≡ take (a + i) words ++ slice_index words (a + i) ∷ [] = ap (λ n. take n words) next ∙ take_more words (a + i) 0 (omega (arith, fits)) in
     let rest = ws ++ drop (a + i + suc (length ws)) words in
     ap (λ at. slice_set (stored_over a (i + 1) words ws) at w) here
@@ -26,6 +26,6 @@ stored_over-piece a i words (w ∷ ws) fits few =
     ∙ set_at (take (a + i) words) (slice_index words (a + i)) rest w (a + i) (length-take-le (a + i) words (omega (arith, fits))))
 
 pub stored_over-sixteen : (a : ℕ) (words ws : List ℕ) → length ws ≡ 16 → a + 16 ≤ length words → length words ≤ 0o400000 → stored_over a 0 words ws ≡ take a words ++ (ws ++ drop (a + 16) words)
-stored_over-sixteen a words ws size fits few =
-    stored_over-piece a 0 words ws (omega (arith, fits, size)) few
+stored_over-sixteen a words ws size fits at_most =
+    stored_over-piece a 0 words ws (omega (arith, fits, size)) at_most
     ∙ (ap (λ n. take n words ++ (ws ++ drop (n + length ws) words)) (add-zero a) ∙ ap (λ n. take a words ++ (ws ++ drop (a + n) words)) size)

@@ -36,12 +36,12 @@ index_in : (m x : ℕ) → m < 4096 → x < 4096 → index12 m x < 4096
 index_in m x h k = grind (arith, nat_tests)
 
 address_in : (mode : Mode) (d m : ℕ) (cells : List ℕ) → d < 64 → m < 4096 → All (λ cell. cell ≤ 0o7777) cells → address_of mode d m cells < 4096
-address_in NoAddress d m cells few low small = omega (arith, few)
-address_in Direct d m cells few low small = omega (arith, few)
-address_in Indirect d m cells few low small = cell_in cells d small
-address_in Memory d m cells few low small =
+address_in NoAddress d m cells at_most low small = omega (arith, at_most)
+address_in Direct d m cells at_most low small = omega (arith, at_most)
+address_in Indirect d m cells at_most low small = cell_in cells d small
+address_in Memory d m cells at_most low small =
     either_below (d == 0) m (index12 m (slice_index cells d)) 4096 low (index_in m (slice_index cells d) low (cell_in cells d small))
-address_in Constant d m cells few low small = low
+address_in Constant d m cells at_most low small = low
 
 -- ---- channels of a step
 
@@ -113,8 +113,8 @@ module _ (size n : ℕ) (is_processor : n < 10) where
   unfolding pp_writes
   step_held s low small words =
       let first = slice_index s.cells s.p in
-      let few : first % 0o100 < 64 = omega arith in
-      let address = address_in (row (code_of (first / 0o100))).mode (first % 0o100) _ s.cells few (cell_in s.cells _ small) small in
+      let at_most : first % 0o100 < 64 = omega arith in
+      let address = address_in (row (code_of (first / 0o100))).mode (first % 0o100) _ s.cells at_most (cell_in s.cells _ small) small in
       either (s.phase == 0) _ _
       (λ outside. effect_held (code_of (first / 0o100)) (instruction_at s.p s.cells) s address words)
       (λ inside. block_held (code_of (s.phase / 0o100)) (s.phase % 0o100) s low words)

@@ -43,9 +43,9 @@ impl WatchList {
         ensures at_most { i + length result.items ≤ 8 }
         ensures has_code { All (λ watched. watched_at (watch_code watched) ≡ watched) result.items }
     {
-        let stood = places_from(self.places.as_slice(), i);
+        let old = places_from(self.places.as_slice(), i);
         self.places.remove(i as usize);
-        stood
+        old
     }
 
     /// Puts places back from entry i on. They replace the places there, of which there is one fewer.

@@ -27,7 +27,7 @@ fn made_anew(back: RigRecord) -> RigRecord
                 devices: devices_anew(rest.devices),
             },
         }),
-        RigRecord::Settings(standing) => RigRecord::Settings(list_of(standing.as_slice())),
+        RigRecord::Settings(old) => RigRecord::Settings(list_of(old.as_slice())),
         RigRecord::Watched(i) => RigRecord::Watched(i),
         RigRecord::Unwatched { i, places } => RigRecord::Unwatched {
             i,

@@ -23,7 +23,7 @@ fn is_entry(place: &Place, n: u32) -> bool
 }
 
 /// Returns the code for a place, if it is one of the watch entries from i on, which have the codes of these places.
-fn first_entry(i: u8, watches: &[Watched], place: &Place) -> Option<u64>
+fn entry_was(i: u8, watches: &[Watched], place: &Place) -> Option<u64>
     requires { length watches.now ≤ 8 }
     ensures { result ≡ lookup (entry_writes i (map watch_code watches.now)) place.now }
 {
@@ -52,17 +52,17 @@ impl RigRecord {
     /// Returns the old number of a place, or `None` if the record does not have that place. This is a separate function,
     /// so a search of short undo records need not save the registers that it needs.
     #[inline(never)]
-    pub(super) fn named(&self, place: &Place) -> Option<u64>
+    pub(super) fn was(&self, place: &Place) -> Option<u64>
         ensures { result ≡ lookup (record_pairs self.now) place.now }
     {
         match self {
             RigRecord::Turn(turn) => turn.was(place),
-            RigRecord::Settings(standing) => first_write(standing.as_slice(), place),
+            RigRecord::Settings(old) => first_write(old.as_slice(), place),
             RigRecord::Watched(i) => first_write(
                 &[Write::new(Place::WatchEntry { i: *i }, 0)],
                 place,
             ),
-            RigRecord::Unwatched { i, places } => first_entry(*i, places.as_slice(), place),
+            RigRecord::Unwatched { i, places } => entry_was(*i, places.as_slice(), place),
             RigRecord::Restarted { numbers } => restarted_was(numbers.as_slice(), place),
         }
     }
@@ -76,7 +76,7 @@ impl Rig {
     {
         match back {
             RigRecord::Turn(turn) => self.undo_turn(turn),
-            RigRecord::Settings(standing) => self.put_all(standing.as_slice()),
+            RigRecord::Settings(old) => self.put_all(old.as_slice()),
             RigRecord::Watched(i) => self.unwatch_last(*i),
             RigRecord::Unwatched { i, places } => self.rewatch(*i, places.as_slice()),
             RigRecord::Restarted { numbers } => self.undo_restart(numbers.as_slice()),

@@ -1,143 +1,21 @@
 //! One turn of the barrel, and its undoing.
-ghost use Rattle.std.specs.Prelude.{◌≡◌, ◌<◌, ◌≤◌, true, false, None, [], ◌∷◌, length};
+ghost use Rattle.std.specs.Prelude.{◌≡◌, ◌<◌, ◌≤◌, IsTrue, false, None};
 ghost use Rattle.pp_history.specs.Tails.{IsKept};
 ghost use Rattle.pp_machine.specs.AllDevices.{all_model};
 ghost use Rattle.pp_machine.specs.Parts.{AreIdle, ArePerformed};
-ghost use Rattle.pp_machine.specs.Prelude.{over, renamed, first_of_two, lookup};
+ghost use Rattle.pp_machine.specs.Prelude.{over, renamed};
 ghost use Rattle.pp_rig.specs.IsMachine.{IsMachine};
 ghost use Rattle.pp_rig.specs.Lift.{pp_of};
-ghost use Rattle.pp_rig.specs.Short.{IsTurned, unpacked, whole, whole_turn};
-ghost use Rattle.pp_rig.specs.Turn.{AreDevicesStepped, FitsRest, FitsTurn, IsSlotStep, KeepsSlot, device_parts, devices_part, end_part, end_parts, rest_of_turn, rest_pairs, turn_pairs};
+ghost use Rattle.pp_rig.specs.Short.{IsTurned, unpacked, whole_turn};
+ghost use Rattle.pp_rig.specs.Turn.{AreDevicesStepped, FitsRest, FitsTurn, IsSlotStep, KeepsSlot, device_parts, end_old_values, end_parts, rest_of_turn, rest_pairs, turn_pairs};
 ghost use Rattle.pp_step.specs.Step.{FitsPp, IsExchange, pp_pairs};
 ghost use Rattle.pp_step.specs.View.{pp_place};
 
 use super::{Rig, RigRecord, ShortTurn, TurnRecord, TurnRest};
 use pp_actions::Action;
-use pp_history::{Reversible, Tails};
-use pp_machine::{AllDevices, AllRecords, CentralSize, Devices, Place};
-use pp_step::{ExchangeRecord, PpRecord, StepRecord};
-
-impl TurnRest {
-    /// Returns a record to overwrite.
-    #[inline(always)]
-    fn blank() -> TurnRest {
-        TurnRest {
-            slot: 0,
-            are_devices_called: false,
-            clock: 0,
-            devices: AllDevices::blank(),
-        }
-    }
-
-    /// Returns the old number of a place, or `None` if no device overwrote it.
-    #[inline(always)]
-    fn device_was(&self, place: &Place) -> Option<u64>
-        ensures { result ≡ lookup (devices_part self.now) place.now }
-    {
-        if self.are_devices_called {
-            devices_was(&self.devices, place)
-        } else {
-            None
-        }
-    }
-
-    /// Returns the old number of a place, or `None` if what follows the processor's step did not overwrite it.
-    #[inline(always)]
-    #[tactic(auto, using(crate::proofs::TurnNames::lookup_by_kind))]
-    fn was(&self, place: &Place) -> Option<u64>
-        ensures { result ≡ lookup (rest_pairs self.now) place.now }
-    {
-        match *place {
-            Place::Cell { .. }
-            | Place::RegA { .. }
-            | Place::RegP { .. }
-            | Place::RegQ { .. }
-            | Place::Phase { .. }
-            | Place::Central { .. }
-            | Place::FrameWord { .. }
-            | Place::WatchEntry { .. } => None,
-            Place::Clock if self.slot == 9 => Some(u64::from(self.clock)),
-            Place::Clock => None,
-            Place::Slot => Some(u64::from(self.slot)),
-            _ => self.device_was(place),
-        }
-    }
-}
-
-/// Returns the old number of a place, or `None` if no device overwrote it. This is a separate function, so other lookups
-/// need not save the registers that it needs.
-#[inline(never)]
-fn devices_was(back: &AllRecords, place: &Place) -> Option<u64>
-    ensures { result ≡ lookup (all_model.pairs back.now) place.now }
-{
-    AllDevices::was(back, place)
-}
-
-impl TurnRecord {
-    /// Returns a record to overwrite: that of an exchange, so an exchange is written in place.
-    pub(super) fn blank() -> TurnRecord {
-        let exchange = ExchangeRecord {
-            p: 0,
-            size: CentralSize::K32,
-            central: 0,
-            registers: [0; 16],
-            words: [0; 16],
-        };
-        TurnRecord {
-            pp: PpRecord::Exchange(exchange),
-            rest: TurnRest::blank(),
-        }
-    }
-
-    /// Returns the old number of a place, or `None` if the record does not have that place.
-    #[tactic(auto, using(crate::proofs::TurnNames::lookup_turn))]
-    pub(super) fn was(&self, place: &Place) -> Option<u64>
-        ensures { result ≡ lookup (turn_pairs self.now) place.now }
-    {
-        self.pp.was(self.rest.slot, place).or(self.rest.was(place))
-    }
-}
-
-impl ShortTurn {
-    /// Returns a record to overwrite.
-    #[inline(always)]
-    pub(super) fn blank() -> ShortTurn {
-        ShortTurn {
-            pp: StepRecord::nothing(),
-            rest: TurnRest::blank(),
-        }
-    }
-
-    /// Returns the whole undo record that this one represents.
-    #[inline(always)]
-    pub(super) fn lengthen(&self) -> RigRecord
-        ensures { result ≡ whole self.now }
-    {
-        RigRecord::Turn(TurnRecord {
-            pp: PpRecord::Step(self.pp),
-            rest: self.rest,
-        })
-    }
-
-    /// Returns the old number of a place, or `None` if the record does not have that place. The kinds that are looked up
-    /// most have arms of their own, and name the place again: so the lookup is compiled for that kind alone.
-    #[inline(always)]
-    #[tactic(auto, using(crate::proofs::TurnNames::lookup_turn, crate::proofs::TurnNames::lookup_processor, crate::proofs::TurnNames::lookup_by_kind))]
-    pub(crate) fn was(&self, place: &Place) -> Option<u64>
-        ensures { result ≡ lookup (turn_pairs (whole_turn self.now)) place.now }
-    {
-        let slot = self.rest.slot;
-        match *place {
-            Place::Cell { pp, a } => self.pp.was(slot, &Place::Cell { pp, a }),
-            Place::Central { a } => self.pp.was(slot, &Place::Central { a }),
-            Place::ChannelWord { c } => {
-                let pp = self.pp.was(slot, &Place::ChannelWord { c });
-                pp.or(self.rest.device_was(place))
-            }
-            _ => self.pp.was(slot, place).or(self.rest.was(place)),
-        }
-    }
-}
+use pp_history::Tails;
+use pp_machine::{AllRecords, Devices};
+use pp_step::{PpRecord, StepRecord};
 
 impl Rig {
     fn step_processor(&mut self, back: &mut PpRecord)
@@ -153,7 +31,7 @@ impl Rig {
 
     #[inline(always)]
     fn step_processor_short(&mut self, back: &mut StepRecord) -> bool
-        ensures step { result ≡ true → IsSlotStep self.old self.new (PpRecord.Step back.new) }
+        ensures step { IsTrue result → IsSlotStep self.old self.new (PpRecord.Step back.new) }
         ensures unchanged { result ≡ false → self.new ≡ self.old }
         ensures is_exchange { result ≡ false → IsExchange (pp_of self.old.slot self.old) }
     {
@@ -229,7 +107,7 @@ impl Rig {
     /// the clock in that turn alone.
     #[inline(always)]
     fn end_turn(&mut self, back: &mut TurnRest)
-        ensures performed { ArePerformed end_parts self.old self.new (end_part back.new) }
+        ensures performed { ArePerformed end_parts self.old self.new (end_old_values back.new) }
         ensures called { back.new.are_devices_called ≡ back.old.are_devices_called }
         ensures devices { back.new.devices ≡ back.old.devices }
         ensures slot { back.new.slot ≡ self.old.slot }
@@ -267,7 +145,7 @@ impl Rig {
     fn undo_end(&mut self, back: &TurnRest)
         requires slot { back.now.slot < 10 }
         requires clock { back.now.slot ≡ 9 → back.now.clock < 4096 }
-        ensures undoes { self.new ≡ over self.old (end_part back.now) }
+        ensures undoes { self.new ≡ over self.old (end_old_values back.now) }
         ensures setup { self.new.setup ≡ self.old.setup }
     {
         self.slot = back.slot;
@@ -300,7 +178,7 @@ impl Rig {
     /// `back`. Returns `false` if the processor would perform an exchange; nothing has changed then.
     #[inline(always)]
     pub(super) fn turn_short(&mut self, back: &mut ShortTurn) -> bool
-        ensures turns { result ≡ true → IsTurned self.old self.new (whole_turn back.new) }
+        ensures turns { IsTrue result → IsTurned self.old self.new (whole_turn back.new) }
         ensures unchanged { result ≡ false → self.new ≡ self.old }
         ensures is_exchange { result ≡ false → IsExchange (pp_of self.old.slot self.old) }
     {

@@ -6,7 +6,7 @@ use Rattle.pp_arith.proofs.writing.push_octal.Goals as goal
 
 pub loop-left-preserved : goal.loop-left-preserved
 loop-left-preserved g c = record {
-  few = omega arith;
+  at_most = omega arith;
   room = omega (arith, c.push.ensures.len);
   digits =
       let left : ℕ = c.loop-left.left - 1 in

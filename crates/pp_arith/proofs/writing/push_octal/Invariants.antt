@@ -5,7 +5,7 @@ use Rattle.pp_arith.proofs.writing.push_octal.Given as goal
 
 abbrev pub invariant-loop-left : goal.invariant-loop-left
 invariant-loop-left g l = record {
-  few : l.left ≤ 22;
+  at_most : l.left ≤ 22;
   room : array_vec_len l.line + l.left ≡ array_vec_len l.initial.line + l.digits;
   digits : l.line.items ++ octal_digits l.left l.value ≡ l.initial.line.items ++ octal_digits l.digits l.value;
 }

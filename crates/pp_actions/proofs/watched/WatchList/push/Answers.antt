@@ -15,5 +15,5 @@ pub invariant_of-self : goal.invariant_of-self
 invariant_of-self c =
     let room = rw (← c.self.view_is, first_zero-entries) at c.requires.room in
     let count = length_push c.self.inside.places.items c.args.watched in
-    let told = All-push (λ w. watched_at (watch_code w) ≡ w) c.self.inside.places.items c.args.watched c.self.invariant.told c.requires.has_code in
-    rw c.push.ensures.items (record { few = omega arith; told = told })
+    let read_back = All-push (λ w. watched_at (watch_code w) ≡ w) c.self.inside.places.items c.args.watched c.self.invariant.read_back c.requires.has_code in
+    rw c.push.ensures.items (record { at_most = omega arith; read_back = read_back })

@@ -17,9 +17,9 @@ pub unwrap-back-requires : goal.unwrap-back-requires
 unwrap-back-requires g c =
     let log = c.self.inside in
     let all : log.kept ≤ length log.slots.items = omega (arith, c.self.invariant.1.full, length_turned log.end log.slots.items c.self.invariant.0) in
-    let few : c.loop-k.k < log.kept = omega (arith, c.loop-k-test.true, rw (← c.self.view_is) at c.kept-k-end.ensures, c.self.invariant.1.kept) in
+    let at_most : c.loop-k.k < log.kept = omega (arith, c.loop-k-test.true, rw (← c.self.view_is) at c.kept-k-end.ensures, c.self.invariant.1.kept) in
     let at = rw (c.len.ensures, log.slots.ok.0) at c.kept_slot.ensures in
-    let found = kept-out log.slots.items log.end c.loop-k.k c.kept_slot.result log.kept c.index-head.result.now c.self.invariant.0 at few all (item_of log.slots.items c.kept_slot.result c.index-head.result.now at.0 c.index-head.ensures) in
+    let found = kept-out log.slots.items log.end c.loop-k.k c.kept_slot.result log.kept c.index-head.result.now c.self.invariant.0 at at_most all (item_of log.slots.items c.kept_slot.result c.index-head.result.now at.0 c.index-head.ensures) in
     let newest = here g.T.Reversible c.loop-k.invariant.passed found in
     some-mapped (whole_record g.T.Reversible.unpacked) c.undo_record.result newest.item.1 (rw newest.is at c.undo_record.ensures)
 
@@ -27,9 +27,9 @@ pub returns-then-is_changed-clause-value : goal.returns-then-is_changed-clause-v
 returns-then-is_changed-clause-value g c =
     let log = c.self.inside in
     let all : log.kept ≤ length log.slots.items = omega (arith, c.self.invariant.1.full, length_turned log.end log.slots.items c.self.invariant.0) in
-    let few : c.loop-k.k < log.kept = omega (arith, c.loop-k-test.true, rw (← c.self.view_is) at c.kept-k-end.ensures, c.self.invariant.1.kept) in
+    let at_most : c.loop-k.k < log.kept = omega (arith, c.loop-k-test.true, rw (← c.self.view_is) at c.kept-k-end.ensures, c.self.invariant.1.kept) in
     let at = rw (c.len.ensures, log.slots.ok.0) at c.kept_slot.ensures in
-    let found = kept-out log.slots.items log.end c.loop-k.k c.kept_slot.result log.kept c.index-head.result.now c.self.invariant.0 at few all (item_of log.slots.items c.kept_slot.result c.index-head.result.now at.0 c.index-head.ensures) in
+    let found = kept-out log.slots.items log.end c.loop-k.k c.kept_slot.result log.kept c.index-head.result.now c.self.invariant.0 at at_most all (item_of log.slots.items c.kept_slot.result c.index-head.result.now at.0 c.index-head.ensures) in
     let newest = here g.T.Reversible c.loop-k.invariant.passed found in
     let is = sym (ap (option_map (whole_record g.T.Reversible.unpacked)) c.unwrap-back.ensures) ∙ (rw newest.is at c.undo_record.ensures) in
     sym (found-here g.T.Reversible c.loop-k.invariant.passed found _ is (sym c.is_changed.ensures.value ∙ c.if-is_changed.true))
@@ -38,9 +38,9 @@ pub loop-k-preserved : goal.loop-k-preserved
 loop-k-preserved g c =
     let log = c.self.inside in
     let all : log.kept ≤ length log.slots.items = omega (arith, c.self.invariant.1.full, length_turned log.end log.slots.items c.self.invariant.0) in
-    let few : c.loop-k.k < log.kept = omega (arith, c.loop-k-test.true, rw (← c.self.view_is) at c.kept-k-end.ensures, c.self.invariant.1.kept) in
+    let at_most : c.loop-k.k < log.kept = omega (arith, c.loop-k-test.true, rw (← c.self.view_is) at c.kept-k-end.ensures, c.self.invariant.1.kept) in
     let at = rw (c.len.ensures, log.slots.ok.0) at c.kept_slot.ensures in
-    let found = kept-out log.slots.items log.end c.loop-k.k c.kept_slot.result log.kept c.index-head.result.now c.self.invariant.0 at few all (item_of log.slots.items c.kept_slot.result c.index-head.result.now at.0 c.index-head.ensures) in
+    let found = kept-out log.slots.items log.end c.loop-k.k c.kept_slot.result log.kept c.index-head.result.now c.self.invariant.0 at at_most all (item_of log.slots.items c.kept_slot.result c.index-head.result.now at.0 c.index-head.ensures) in
     let newest = here g.T.Reversible c.loop-k.invariant.passed found in
     let is = sym (ap (option_map (whole_record g.T.Reversible.unpacked)) c.unwrap-back.ensures) ∙ (rw newest.is at c.undo_record.ensures) in
     let tails = c.self.inside.tails.ring.items in
@@ -54,7 +54,7 @@ loop-k-preserved g c =
     ] in
     record {
       passed = pass-on g.T.Reversible c.loop-k.invariant.passed found _ is (sym c.is_changed.ensures.value ∙ c.if-is_changed.false) _ _ (omega arith) tail.0;
-      few = omega (arith, tail.1);
+      at_most = omega (arith, tail.1);
       counts_up = search rules;
       cost = search rules;
       looks_at_each = search rules;

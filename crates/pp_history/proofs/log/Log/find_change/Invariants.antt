@@ -6,7 +6,7 @@ use Rattle.pp_history.proofs.log.Log.find_change.Given as goal
 abbrev pub invariant-loop-k : goal.invariant-loop-k
 invariant-loop-k g l = record {
   passed : Passed g.T.Reversible (λ place. g.T.Reversible.value_at l.machine place) l.places l.self.records l.k l.k (take l.self-inside.kept (reverse (turned l.self-inside.end l.self-inside.slots.items))) (drop l.tail l.self-inside.tails.ring.items);
-  few : l.tail ≤ l.k;
+  at_most : l.tail ≤ l.k;
   counts_up : l.fn.looks.count ≤ l.looks.count;
   cost : l.looks.count ≤ l.fn.looks.count + length l.places * l.k;
   looks_at_each : 1 ≤ length l.places → l.fn.looks.count + l.k ≤ l.looks.count;

@@ -3,8 +3,8 @@ use Rattle.std.proofs.lemmas.List.{length-map}
 use Rattle.pp_actions.specs.Unwatching.{moved_up}
 use Rattle.pp_rig.specs.RigView.{machine_of}
 use Rattle.pp_actions.specs.WatchCodes.{watch_code}
-use Rattle.pp_actions.proofs.Unwatching.{unwatched, unwatched-stood, length-entry_writes, length-with_entries, HasAll-entries, IsShaped-watches, AreWatches-removed}
-use Rattle.pp_actions.proofs.WatchCodes.{words_of-few}
+use Rattle.pp_actions.proofs.Unwatching.{unwatched, unwatched-old, length-entry_writes, length-with_entries, HasAll-entries, IsShaped-watches, AreWatches-removed}
+use Rattle.pp_actions.proofs.WatchCodes.{words_of-at_most}
 use Rattle.pp_rig.proofs.rig.Rig.unwatch.Goals as goal
 
 found : (c : goal.After-remove-places) → position (λ code. code == watch_code c.args.watched) c.self.inside.watches ≡ Some c.in-Some.i
@@ -20,7 +20,7 @@ invariant_of-self c =
       shaped = IsShaped-watches _ (machine_of c.self.inside) c.remove-places.new.self c.self.invariant.shaped (eight c);
       slot = c.self.invariant.slot;
       setup = c.self.invariant.setup;
-      watches = rw c.remove-places.ensures.places (AreWatches-removed _ c.self.inside.watches c.in-Some.i (words_of-few c.self.inside.central_size) c.self.invariant.watches below);
+      watches = rw c.remove-places.ensures.places (AreWatches-removed _ c.self.inside.watches c.in-Some.i (words_of-at_most c.self.inside.central_size) c.self.invariant.watches below);
     }
 
 pub returns-clause-step : goal.returns-clause-step
@@ -29,7 +29,7 @@ returns-clause-step c =
 
 pub returns-clause-old_values : goal.returns-clause-old_values
 returns-clause-old_values c =
-    rw (← c.self.view_is) (unwatched-stood (machine_of c.self.inside) c.args.watched c.in-Some.i _ (found c) c.remove-places.ensures.old_values)
+    rw (← c.self.view_is) (unwatched-old (machine_of c.self.inside) c.args.watched c.in-Some.i _ (found c) c.remove-places.ensures.old_values)
 
 pub returns-clause-at_most : goal.returns-clause-at_most
 returns-clause-at_most c =
@@ -37,14 +37,14 @@ returns-clause-at_most c =
 
 pub returns-clause-fits : goal.returns-clause-fits
 returns-clause-fits c =
-    let few = c.remove-places.ensures.at_most in
-    let codes : c.in-Some.i + length (map watch_code c.remove-places.result.items) ≤ 8 = rw length-map few in
+    let at_most = c.remove-places.ensures.at_most in
+    let codes : c.in-Some.i + length (map watch_code c.remove-places.result.items) ≤ 8 = rw length-map at_most in
     record {
       part = record {
         count = c.remove-places.ensures.count;
         within = c.remove-places.ensures.within;
-        few = few;
-        told = c.remove-places.ensures.has_code;
+        at_most = at_most;
+        read_back = c.remove-places.ensures.has_code;
         back = rw c.remove-places.ensures.leads_back c.self.invariant.watches;
       };
       shaped = IsShaped-watches _ (machine_of c.self.inside) c.remove-places.new.self c.self.invariant.shaped (eight c);

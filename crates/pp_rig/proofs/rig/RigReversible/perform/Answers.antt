@@ -11,4 +11,4 @@ returns-in-Turn-clause-kept c =
 pub returns-in-Turn-clause-overwritten : goal.returns-in-Turn-clause-overwritten
 returns-in-Turn-clause-overwritten c =
     let turned = c.perform_turn.ensures.turns in
-    rw c.in-Turn.is (kept.Turn turned.0, turned.2, rw turned.1.old_values (places-old_values_of c.args.self.now Turn), turned.1.old_values, turned.1.few)
+    rw c.in-Turn.is (kept.Turn turned.0, turned.2, rw turned.1.old_values (places-old_values_of c.args.self.now Turn), turned.1.old_values, turned.1.at_most)

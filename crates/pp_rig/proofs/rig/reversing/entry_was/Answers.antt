@@ -1,7 +1,7 @@
 use Rattle.std.proofs.Common.{arith}
 use Rattle.pp_actions.specs.declared.watched.Watched.TheVariants.{RegA}
 use Rattle.pp_actions.proofs.WriteLists.{lookup-entry}
-use Rattle.pp_rig.proofs.rig.reversing.first_entry.Goals as goal
+use Rattle.pp_rig.proofs.rig.reversing.entry_was.Goals as goal
 
 pub loop-k-preserved : goal.loop-k-preserved
 loop-k-preserved c =

@@ -1,0 +1,90 @@
+//! Undoing a step: the numbers of its undo record go back to their places.
+
+ghost use Rattle.std.specs.Prelude.{◌≡◌, ◌<◌, ℕ, List, length, slice_set};
+ghost use Rattle.pp_machine.specs.ChannelNumbers.{state_number};
+ghost use Rattle.pp_step.specs.Pairs.{pairs, target_pairs, Fits, FitsTarget};
+ghost use Rattle.pp_step.specs.View.{pp_view, over};
+
+use crate::cells::put_five_cells;
+use crate::record::{StepRecord, Target};
+use pp_arith::split60;
+use pp_machine::{Central, Channel, ChannelState, Channels, Memory12, Pp};
+
+/// Writes a channel's state, but no record.
+fn put_state(c: u8, state: ChannelState, channels: &mut Channels)
+    requires { c < 12 }
+    ensures { channels.new ≡ record channels.old { states = slice_set channels.old.states c (state_number state) } }
+{
+    let old = channels.get(c);
+    channels.set(
+        c,
+        Channel {
+            state,
+            word: old.word,
+        },
+    );
+}
+
+/// Puts the numbers of a record's target at their places.
+#[inline(always)]
+fn put_target(
+    back: &StepRecord,
+    memory: &mut Memory12,
+    channels: &mut Channels,
+    central: &mut Central,
+)
+    requires { FitsTarget (length central.old) back.now }
+    ensures { (pp : Pp) (frame : List ℕ) → pp_view pp memory.new channels.new central.new frame
+        ≡ over (pp_view pp memory.old channels.old central.old frame) (target_pairs back.now) }
+{
+    match back.target {
+        Target::Wait | Target::Nothing => {}
+        Target::Cell => memory.set(back.address.get() as u16, back.value),
+        Target::Cells => put_five_cells(
+            memory,
+            back.address.get() as u16,
+            split60(back.word.get()),
+        ),
+        Target::Word => central.set(back.address.get(), back.word.get()),
+        Target::State => put_state(back.channel, back.state, channels),
+        Target::Channel => channels.set(
+            back.channel,
+            Channel {
+                state: back.state,
+                word: back.value,
+            },
+        ),
+        Target::CellAndState => {
+            put_state(back.channel, back.state, channels);
+            memory.set(back.address.get() as u16, back.value);
+        }
+    }
+}
+
+/// Puts the numbers of a record at their places.
+#[inline(always)]
+pub fn put_back(
+    back: &StepRecord,
+    pp: &mut Pp,
+    memory: &mut Memory12,
+    channels: &mut Channels,
+    central: &mut Central,
+)
+    requires { Fits (length central.old) back.now }
+    ensures { (frame : List ℕ) → pp_view pp.new memory.new channels.new central.new frame
+        ≡ over (pp_view pp.old memory.old channels.old central.old frame) (pairs back.now) }
+{
+    put_target(back, memory, channels, central);
+    if back.target.writes_p() {
+        pp.p = back.p;
+    }
+    if back.writes_a {
+        pp.a = back.a.get();
+    }
+    if back.writes_q {
+        pp.q = back.q;
+    }
+    if back.writes_phase {
+        pp.phase = back.phase;
+    }
+}

@@ -1,0 +1,104 @@
+//! The parts of which the rows of the instruction table and the moves of block transfers are made. Each writes to the machine, and
+//! writes the old values into the undo record.
+
+ghost use Rattle.std.specs.Prelude.{◌≡◌, ◌≤◌, ◌<◌, ◌^◌, length, slice_index, slice_set};
+ghost use Rattle.pp_machine.specs.ChannelNumbers.{state_number, with_channel};
+ghost use Rattle.pp_step.specs.Inner.{five_over};
+ghost use Rattle.pp_step.specs.Words.{five_from};
+ghost use Rattle.pp_step.specs.Words as words;
+ghost use Rattle.pp_arith.specs.Words60 as words60;
+
+use crate::cells::{joined_cells, put_five_cells};
+use crate::record::{StepRecord, Target};
+use pp_arith::split60;
+use pp_machine::{Central, Channel, ChannelState, Channels, Memory12, Unaligned32, Unaligned64};
+
+/// Writes into a record which registers other than P are written, and the target.
+#[inline(always)]
+pub fn name(a: bool, q: bool, phase: bool, target: Target, back: &mut StepRecord)
+    ensures { back.new ≡ record back.old { writes_a = a; writes_q = q; writes_phase = phase; target = target } }
+{
+    back.writes_a = a;
+    back.writes_q = q;
+    back.writes_phase = phase;
+    back.target = target;
+}
+
+/// Writes a cell.
+#[inline(always)]
+pub fn set_cell(address: u16, value: u16, memory: &mut Memory12, back: &mut StepRecord)
+    requires address_in { address ≤ 0o7777 }
+    requires value_in { value ≤ 0o7777 }
+    ensures cells { memory.new ≡ slice_set memory.old address value }
+    ensures record { back.new ≡ record back.old { address = address; value = slice_index memory.old address } }
+    ensures value_in { back.new.value ≤ 0o7777 }
+{
+    back.address = Unaligned32::new(u32::from(address));
+    back.value = memory.get(address);
+    memory.set(address, value);
+}
+
+/// Writes the five cells from an address on.
+#[inline(always)]
+pub fn set_cells(address: u16, word: u64, memory: &mut Memory12, back: &mut StepRecord)
+    requires address_in { address ≤ 0o7777 }
+    requires word_in { word < 2 ^ 60 }
+    ensures cells { memory.new ≡ five_over address (words60.split60 word) memory.old }
+    ensures record { back.new ≡ record back.old { address = address; word = words.joined_cells address memory.old } }
+    ensures word_in { back.new.word < 2 ^ 60 }
+    ensures parts { words60.split60 back.new.word ≡ five_from address memory.old }
+{
+    back.address = Unaligned32::new(u32::from(address));
+    back.word = Unaligned64::new(joined_cells(memory, address));
+    put_five_cells(memory, address, split60(word));
+}
+
+/// Writes a central word.
+#[inline(always)]
+pub fn set_word(at: u32, word: u64, central: &mut Central, back: &mut StepRecord)
+    requires { word < 2 ^ 60 }
+    ensures central { central.new ≡ slice_set central.old at word }
+    ensures size { length central.new ≡ length central.old }
+    ensures record { back.new ≡ record back.old { address = at; word = slice_index central.old at } }
+    ensures word_in { back.new.word < 2 ^ 60 }
+{
+    back.address = Unaligned32::new(at);
+    back.word = Unaligned64::new(central.get(at));
+    central.set(at, word);
+}
+
+/// Writes a channel's state and register.
+#[inline(always)]
+pub fn set_channel(c: u8, channel: Channel, channels: &mut Channels, back: &mut StepRecord)
+    requires { c < 12 }
+    ensures channels { channels.new ≡ with_channel channels.old c (state_number channel.state) channel.word }
+    ensures record { back.new ≡ record back.old { channel = c; state = back.new.state; value = slice_index channels.old.registers c } }
+    ensures state { state_number back.new.state ≡ slice_index channels.old.states c }
+    ensures value_in { back.new.value ≤ 0o7777 }
+{
+    let old = channels.get(c);
+    back.channel = c;
+    back.state = old.state;
+    back.value = old.word;
+    channels.set(c, channel);
+}
+
+/// Writes a channel's state.
+#[inline(always)]
+pub fn set_state(c: u8, state: ChannelState, channels: &mut Channels, back: &mut StepRecord)
+    requires { c < 12 }
+    ensures channels { channels.new ≡ record channels.old { states = slice_set channels.old.states c (state_number state) } }
+    ensures record { back.new ≡ record back.old { channel = c; state = back.new.state } }
+    ensures state { state_number back.new.state ≡ slice_index channels.old.states c }
+{
+    let old = channels.get(c);
+    back.channel = c;
+    back.state = old.state;
+    channels.set(
+        c,
+        Channel {
+            state,
+            word: old.word,
+        },
+    );
+}
