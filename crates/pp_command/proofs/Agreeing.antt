@@ -50,6 +50,5 @@ within size action h = tt
 
 -- ---- the words of SET M
 
-
 pub are_words : (values : List ℕ) → All (λ v. v ≤ twelve_bits) values → list_all (λ v. nat_le v twelve_bits) values ≡ true
 are_words values = (Decides-by_and (λ v. nat_le v twelve_bits) (λ v. v ≤ twelve_bits) (list_all (λ v. nat_le v twelve_bits)) (λ v. (λ h. grind (arith, nat_tests), λ h. grind (arith, nat_tests))) refl (λ _ _. refl) values).1

@@ -34,14 +34,15 @@ FailsIn-line : (rule : Rule) (limit : ℕ) (bytes : List ℕ) (rows : List Row) 
     (rows_of_file rule limit bytes ≡ Err fault) ⊎ ((fault ≡ NoMemory) × RunsOut rule limit bytes)
 FailsIn-line rule limit bytes rows done line later fault split read (inl fails) =
     inl (file-fault rule limit bytes (done ++ line ∷ []) later fault split (lines-one rule rows done line read ∙ fails))
-FailsIn-line rule limit bytes rows done line later fault split read (inr rejected) = inr (rejected.0,
-  (done, line, later, split ∙ append_assoc done (line ∷ []) later, (rejected.1.0, lines-one rule rows done line read ∙ rejected.1.1), rejected.2))
+FailsIn-line rule limit bytes rows done line later fault split read (inr rejected) = inr (
+  rejected.0,
+  (done, line, later, split ∙ append_assoc done (line ∷ []) later, (rejected.1.0, lines-one rule rows done line read ∙ rejected.1.1), rejected.2),
+)
 
 -- ---- the progress of a file
 
 pub HasRead-within : (progress : Progress) (rule : Rule) (Holds : List Row → Type 0) (bytes : List ℕ) → HasRead progress rule Holds bytes → length bytes ≤ file_limit
 HasRead-within progress rule Holds bytes has_read = rw (← has_read.counts_bytes) progress.bytes_within
-
 
 -- before the first byte
 pub HasRead-new : (progress : Progress) (rule : Rule) (Holds : List Row → Type 0) → progress.cutter ≡ [] → progress.bytes ≡ 0 → progress.lines ≡ 0 → Holds [] → HasRead progress rule Holds []
@@ -116,8 +117,13 @@ file-last progress rule Holds Holds' (Ok value) bytes has_read begun line =
     let next = line read.0 read.2 in
     let all = lines-last KEPT progress.cutter bytes has_read.keeps begun in (
       next.0,
-      rw (file-short rule file_limit bytes (HasRead-within progress rule Holds bytes has_read), all, lines-one rule read.0 (finished bytes) (unfinished bytes) read.1,
-          ← line-kept rule (length (finished bytes) + 1) read.0 progress.cutter (unfinished bytes) has_read.keeps, ← has_read.counts_lines) next.1,
+      rw (
+        file-short rule file_limit bytes (HasRead-within progress rule Holds bytes has_read),
+        all,
+        lines-one rule read.0 (finished bytes) (unfinished bytes) read.1,
+        ← line-kept rule (length (finished bytes) + 1) read.0 progress.cutter (unfinished bytes) has_read.keeps,
+        ← has_read.counts_lines,
+      ) next.1,
       next.2,
     )
 file-last progress rule Holds Holds' (Err fault) bytes has_read begun line =

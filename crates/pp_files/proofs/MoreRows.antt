@@ -6,7 +6,6 @@ use Rattle.std.proofs.lemmas.List.{append-nil, map-append}
 use Rattle.pp_files.specs.Rows.{Row}
 use Rattle.pp_files.specs.Files.{card_rule, card_of_row, panel_rule}
 
-
 concat-row : (rows : List Row) (row : Row) → concat (rows ++ row ∷ []) ≡ concat rows ++ row
 concat-row [] row = append-nil row
 concat-row (first ∷ rows) row = ap (λ rest. first ++ rest) (concat-row rows row) ∙ sym (append_assoc first (concat rows) row)

@@ -128,8 +128,6 @@ module _ {A R H : Type 0} (unpacked : H → A × R) where
     abbrev older : List (Option H)
     older = take (length others) (take n (reverse (oldest ∷ others)))
 
-
-
     put_records : kept_in unpacked (take n' (reverse (others ++ head ∷ []))) tails'.ring.items ≡ (action, back) ∷ take (length others) (kept_in unpacked (take n (reverse (oldest ∷ others))) tails.ring.items)
     put_records =
         rw (more, front_kept n oldest head others (omega (arith, log.full))) (kept_more head action back tails tails' older kept (omega (arith, length-take (length others) (take n (reverse (oldest ∷ others))), length-take n (reverse (oldest ∷ others)), length-reverse (oldest ∷ others), log.full, log.room_for_tails))
@@ -164,7 +162,6 @@ module _ {A R H : Type 0} (unpacked : H → A × R) where
 
     at_most : m ≤ length others
     at_most = omega (arith, log.full, all, some)
-
 
     back_ahead : ahead_in unpacked (take (m + 1) (head ∷ others)) undone'.items ≡ newest.item.0 ∷ ahead_in unpacked (take m heads) undone.items
     back_ahead = rw (add-one, is, take-append-le m others (head ∷ []) at_most)
@@ -217,7 +214,6 @@ module _ {A R H : Type 0} (unpacked : H → A × R) where
 
     again_few : (1 ≤ ahead) × (n ≤ length others)
     again_few = (omega (arith, log.ahead, some), omega (arith, log.full, log.ahead, some))
-
 
     again_records : kept_in unpacked (take (n + 1) (reverse (others ++ head' ∷ []))) tails'.ring.items ≡ (action, back) ∷ kept_in unpacked (take n (reverse (head ∷ others))) tails.ring.items
     again_records = rw (newest_more n head head' others again_few.1) (kept_more head' action back tails tails' (take n (reverse (head ∷ others))) kept

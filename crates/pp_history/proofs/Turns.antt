@@ -24,7 +24,6 @@ module _ {A R H : Type 0} (unpacked : H → A × R) (slots : List (Option H)) (e
     first : turned end slots ≡ head ∷ others at slots
     first = turned-next slots end at next ∙ first-out slots at head (item_of slots at head next.0 is)
 
-
     log : IsLog unpacked (head ∷ others at slots) tails.ring undone n m
     log = rw first at old.1
 
@@ -63,7 +62,6 @@ module _ {A R H : Type 0} (unpacked : H → A × R) (slots : List (Option H)) (e
 
   -- the head is that of the newest kept action
   module _ (old : Old) (newest : IsKeptSlot end (length slots) 0 at) (is : head ≡ get_or slots at head) (some : 0 < n) where
-
     found : slice_get slots at ≡ Some head
     found = item_of slots at head newest.0 is
 
@@ -74,7 +72,6 @@ module _ {A R H : Type 0} (unpacked : H → A × R) (slots : List (Option H)) (e
 
     module _ (tails' : Tails A R) (undone' : Buffer A)
         (behind : tails'.ring ≡ buffer (left_by head tails.ring.items) tails.ring.capacity) (next : IsNext unpacked head newest_in.item.0 undone undone') where
-
       pub back_in_log : IsEnd at slots × IsLog unpacked (turned at slots) tails'.ring undone' (n - 1) (m + 1)
       back_in_log = (omega (arith, newest.0), rw (first-out slots at head found) (back_log unpacked (turned end slots) (others at slots) head (last-out slots end at head old.0 newest found) tails tails' undone undone' n m old.1 some newest_in behind next))
 

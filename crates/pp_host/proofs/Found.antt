@@ -49,8 +49,6 @@ given-all old new taken none p = p ∙ ap (λ before. before ++ taken) none
 
 -- ---- loading
 
-
-
 -- the result for a file whose fault was reported
 pub load-failed : {A B : Type 0} (kind : FileKind) (f : A → B) (rule : Rule) (file : List ℕ → Result A LoadFault) (taken bytes : List ℕ) (fault : LoadFault) →
     IsCauseOf rule file taken bytes fault → (read_as kind f (file bytes) ≡ Err (of_load kind fault)) ⊎ IsLost rule (Some taken) (Some bytes) (of_load kind fault)

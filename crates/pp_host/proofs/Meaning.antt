@@ -10,7 +10,6 @@ use Rattle.pp_trouble.specs.Trouble.{of_arguments}
 use Rattle.pp_trouble.specs.declared.trouble.Trouble.TheVariants.{BadArguments, BadChannel, NoMemory}
 use Rattle.pp_host.specs.Options.{Means, asked_by, asked_of, with_channels, with_numbers}
 
-
 asked-ok : (words : List Text) (options : Options) → AreAskedBy words options → asked_by words ≡ Ok (asked_of options)
 unfolding asked_by
 asked-ok words options asked =

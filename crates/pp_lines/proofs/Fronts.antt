@@ -20,7 +20,6 @@ keeps_short most xs x h = sym (take_all most (xs ++ x ∷ []) (rw (length-append
 pub keeps_full : (most : ℕ) (xs : List ℕ) (x : ℕ) → length xs ≡ most → xs ≡ take most (xs ++ x ∷ [])
 keeps_full most xs x h = sym (rw (← h) (take-append_seam xs (x ∷ [])))
 
-
 pub front-byte : (kept : ℕ) (front new bytes : List ℕ) (byte : ℕ) → byte ≢ 10 → IsPrefixOf kept front bytes → new ≡ take kept (front ++ byte ∷ []) → IsPrefixOf kept new (bytes ++ byte ∷ [])
 front-byte kept front new bytes byte h is_front e =
     rw (unfinished-byte bytes byte (grind (arith, nat_tests))) (e ∙ rw is_front (take-goes_on kept (unfinished bytes) (byte ∷ [])))
@@ -38,7 +37,6 @@ keeps_text most front text h =
 pub front-text : (kept : ℕ) (front new bytes text : List ℕ) → finished text ≡ [] → IsPrefixOf kept front bytes → new ≡ take kept (front ++ text) → IsPrefixOf kept new (bytes ++ text)
 front-text kept front new bytes text h is_front e =
     rw (unfinished-text bytes text h) (e ∙ rw is_front (take-goes_on kept (unfinished bytes) text))
-
 
 -- after a line feed nothing is kept
 pub front-feed : (kept : ℕ) (front bytes : List ℕ) → front ≡ [] → IsPrefixOf kept front (bytes ++ 10 ∷ [])

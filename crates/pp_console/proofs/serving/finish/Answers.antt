@@ -19,6 +19,10 @@ returns-in-Ok-clause-serves g c = λ origin bytes has_read.
     (rw (append-nil bytes) at (c.in-Ok.ensures.performed origin bytes has_read.keeps has_read.performed))
 
 pub returns-in-Err-clause-serves : goal.returns-in-Err-clause-serves
-returns-in-Err-clause-serves g c = λ origin bytes has_read left end.
-    (finished bytes, unfinished bytes, [], inr (lines-last KEPT c.args.progress.now.line bytes has_read.keeps (grind (arith, nat_tests)), HasRead-within _ _ _ _ bytes has_read, end),
-    rw (append-nil bytes) at (c.in-Err.ensures.performed origin bytes has_read.keeps has_read.performed))
+returns-in-Err-clause-serves g c = λ origin bytes has_read left end. (
+  finished bytes,
+  unfinished bytes,
+  [],
+  inr (lines-last KEPT c.args.progress.now.line bytes has_read.keeps (grind (arith, nat_tests)), HasRead-within _ _ _ _ bytes has_read, end),
+  rw (append-nil bytes) at (c.in-Err.ensures.performed origin bytes has_read.keeps has_read.performed),
+)
