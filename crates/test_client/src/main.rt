@@ -68,9 +68,8 @@ fn answer_into(
     serve(session, &mut Counted::new(typed), answers)
 }
 
-/// Runs up to the store, goes back to just before it, and goes forward again.
-fn work(rt: &HostRuntime) -> Option<()> {
-    let mut session = session(rt.alloc())?;
+/// Loads and watches, runs up to the store, and prints what was refused and where the run stopped.
+fn run_to_the_store(rt: &HostRuntime, mut session: Session<Rig>) -> Session<Rig> {
     let loaded = load(&mut session)
         && act(
             &mut session,
@@ -80,6 +79,11 @@ fn work(rt: &HostRuntime) -> Option<()> {
     let _ = println!(rt; "loaded {loaded}, refused {refused}");
     let stopped = run(&mut session, 25);
     let _ = println!(rt; "turns {}, hit {}", stopped.turns, stopped.hit.is_some());
+    session
+}
+
+/// Goes back to just before the store, and forward again.
+fn go_back_and_forward(rt: &HostRuntime, mut session: Session<Rig>) -> Session<Rig> {
     let found = session.find_change(&[Place::Cell { pp: 0, a: 0o50 }], &mut Looks::new());
     let _ = println!(rt; "the latest change is {found:?} action back");
     let back = session.back(1).is_ok();
@@ -87,6 +91,11 @@ fn work(rt: &HostRuntime) -> Option<()> {
     let forward = session.forward(1).is_ok();
     let after = session.machine().value(&Place::Cell { pp: 0, a: 0o50 });
     let _ = println!(rt; "back {back} to {before}, forward {forward} to {after}");
+    session
+}
+
+/// Performs a script whose answers go to standard output.
+fn serve_script(rt: &HostRuntime, mut session: Session<Rig>) -> Option<Session<Rig>> {
     let script = b"BACK W\nDUMP PP 0\nDUMP CR\nGO\n".as_slice();
     let summary = serve(
         &mut session,
@@ -95,10 +104,21 @@ fn work(rt: &HostRuntime) -> Option<()> {
     )
     .ok()?;
     let _ = println!(rt; "lines {}, refused {}", summary.lines, summary.refused);
+    Some(session)
+}
+
+/// Performs a script whose answers go into a vector.
+fn keep_answers(rt: &HostRuntime, mut session: Session<Rig>) -> Option<()> {
     let mut answers = Counted::new(Vec::new(rt.alloc()));
     answer_into(&mut session, b"BACK\nSTEP\n", &mut answers).ok()?;
     let _ = println!(rt; "bytes {}", answers.device().len());
     Some(())
+}
+
+/// Does all of it with one session.
+fn work(rt: &HostRuntime) -> Option<()> {
+    let session = run_to_the_store(rt, session(rt.alloc())?);
+    keep_answers(rt, serve_script(rt, go_back_and_forward(rt, session))?)
 }
 
 fn main(rt: HostRuntime) -> ExitCode {
