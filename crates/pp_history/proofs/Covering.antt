@@ -1,16 +1,16 @@
 -- Marks cover the places that were added.
 use Rattle.std.proofs.lemmas.Bool.Decides.{nat_tests}
-use Rattle.std.proofs.Common.{arith, ℕ, Bool, true, false, ◌≡◌, ◌+◌, ◌<◌, ◌||◌, List, Option, Some, None, IfSome, get_or, length, take}
+use Rattle.std.proofs.Common.{arith, ℕ, Bool, true, false, ◌≡◌, ◌+◌, ◌<◌, ◌||◌, ◌&&◌, List, Option, Some, None, IfSome, get_or, length, take}
 use Rattle.std.proofs.lemmas.List.Elements.{All-from_get_or, All-get_or, All-more}
 use Rattle.pp_history.specs.Marks.{AreCovered, covers, is_covered}
 use Rattle.pp_history.specs.declared.marks.Marks.{Marks}
 
-without : (u b : Bool) → (u || false) ≡ true → (u || b) ≡ true
-without u b h = grind (arith, nat_tests)
+without : (some u b : Bool) → (some && (u || false)) ≡ true → (some && (u || b)) ≡ true
+without some u b h = grind (arith, nat_tests)
 
 -- a place is covered if the mark that is returned for it was added
 covered_by : (m : Marks) (mark own : Option ℕ) → IfSome mark (λ i. own ≡ Some i) → is_covered m mark ≡ true → is_covered m own ≡ true
-covered_by m None own same h = without m.has_unmarked _ h
+covered_by m None own same h = without m.has_places m.has_unmarked _ h
 covered_by m (Some i) own same h = rw same h
 
 -- what covers some places, and then one more

@@ -1,5 +1,5 @@
 -- A log in slots, with one more action or one fewer.
-use Rattle.std.proofs.Common.{◌≡◌, ℕ, ◌+◌, ◌-◌, ◌<◌, List, [], ◌∷◌, ◌++◌, Option, Some, min, length, take, drop, set, get_or, reverse, slice_get, refl, sym, ap, ◌∙◌, arith, length-take, length-set}
+use Rattle.std.proofs.Common.{◌≡◌, ℕ, ◌+◌, ◌-◌, ◌<◌, ◌≤◌, List, [], ◌∷◌, ◌++◌, Option, Some, None, suc, min, length, take, drop, set, get_or, reverse, slice_get, refl, sym, ap, ◌∙◌, arith, length-take, length-set}
 use Rattle.std.proofs.lemmas.List.{length-reverse}
 use Rattle.std.proofs.lemmas.Option.{slice_get_read}
 use Rattle.circular_buffer.specs.Buffer.{Buffer, buffer}
@@ -13,6 +13,14 @@ use Rattle.pp_history.proofs.Slots.{others, length_turned, turned-next, first-ou
 
 pub item_of : {X : Type 0} (slots : List X) (at : ℕ) (x : X) → at < length slots → x ≡ get_or slots at x → slice_get slots at ≡ Some x
 item_of slots at x within is = slice_get_read slots (length slots) at x refl within is
+
+-- the action that was kept is that of its head, or else of the newest tail
+pub put_first : {A R H : Type 0} (unpacked : H → A × R) (head : Option H) (tails tails' : Tails A R) (action : A) (back : R) → 1 ≤ tails.ring.capacity →
+    IsKept unpacked head action back tails tails' → first_of unpacked in_tail head tails'.ring.items ≡ Some (action, back)
+put_first unpacked (Some head) tails tails' action back room kept = ap Some kept.0
+put_first unpacked None tails tails' action back room kept =
+    let one : tails.ring.capacity ≡ suc (tails.ring.capacity - 1) = omega (arith, room) in
+    rw (kept, one) refl
 
 module _ {A R H : Type 0} (unpacked : H → A × R) (slots : List (Option H)) (end at n m : ℕ) (head : Option H) (tails : Tails A R) (undone : Buffer A) where
   -- the log before

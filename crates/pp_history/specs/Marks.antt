@@ -1,5 +1,5 @@
 -- Marks of places, a Bloom filter with one hash. They show of most undo records that they have none of the places.
-use Rattle.std.specs.Prelude.{ℕ, Bool, true, false, ◌≡◌, ◌||◌, List, Option, Some, None, get_or}
+use Rattle.std.specs.Prelude.{ℕ, Bool, true, false, ◌≡◌, ◌||◌, ◌&&◌, List, Option, Some, None, get_or}
 use Rattle.std.specs.List.{All}
 use Rattle.pp_history.specs.declared.marks.Marks.{Marks}
 
@@ -12,7 +12,7 @@ is_marked m (Some i) = is_set m i
 
 -- the mark is set, or a place without a mark was given, and then every record is searched
 abbrev pub is_covered : Marks → Option ℕ → Bool
-is_covered m mark = m.has_unmarked || is_marked m mark
+is_covered m mark = m.has_places && (m.has_unmarked || is_marked m mark)
 
 module _ {P : Type 0} (mark_of : P → Option ℕ) where
   abbrev pub covers : Marks → P → Bool
@@ -20,3 +20,7 @@ module _ {P : Type 0} (mark_of : P → Option ℕ) where
 
   abbrev pub AreCovered : Marks → List P → Type 0
   AreCovered m places = All (λ p. covers m p ≡ true) places
+
+  -- an undo record has none of the places that the marks cover
+  abbrev pub IsUnmarked : {R : Type 0} → (R → P → Option ℕ) → Marks → R → Type 0
+  IsUnmarked old_value m back = (p : P) → covers m p ≡ true → old_value back p ≡ None

@@ -1,11 +1,11 @@
 //! The newest actions with their undo records: one list, held in slots and rings.
 
-ghost use Rattle.std.specs.Prelude.{◌≡◌, ◌∷◌, [], take, drop, slice_get, slice_set, Some, None, Option, ℕ, List, ◌+◌, ◌-◌, ◌<◌, ◌≤◌, length, IfOk, IsSomeAnd, MatchOption, IfSome, IsNone, ◌↔◌, ◌*◌, min};
+ghost use Rattle.std.specs.Prelude.{◌≡◌, ◌∷◌, [], take, drop, slice_get, slice_set, Some, None, Option, false, ℕ, List, ◌+◌, ◌-◌, ◌<◌, ◌≤◌, length, IfOk, IsSomeAnd, MatchOption, IfSome, IsNone, ◌↔◌, ◌*◌, min};
 ghost use Rattle.circular_buffer.specs.Buffer.{buffer};
 ghost use Rattle.std.specs.List.{All};
 ghost use Rattle.pp_history.specs.Joining.{IsActed, IsNext, first_of, left_by};
 ghost use Rattle.pp_history.specs.LogValue.{IsPerformed, LogValue, log_of};
-ghost use Rattle.pp_history.specs.Marks.{AreCovered};
+ghost use Rattle.pp_history.specs.Marks.{AreCovered, IsUnmarked};
 ghost use Rattle.pp_history.specs.Parts.{IsSession, contents};
 ghost use Rattle.pp_history.specs.SessionValue.{Moves, after_back, after_forward};
 ghost use Rattle.pp_history.specs.Slots.{IsKeptSlot, IsNextSlot};
@@ -95,17 +95,27 @@ impl<T: Reversible> Log<T> {
     }
 
     /// Performs an action and keeps it. The actions ahead are discarded, and if the log is full, the oldest action too.
+    /// Returns `false` only if the undo record has none of the places that the given marks cover.
     #[inline(always)]
-    pub(crate) fn perform(&mut self, machine: &mut T, action: T::Action)
+    pub(crate) fn perform(
+        &mut self,
+        machine: &mut T,
+        action: T::Action,
+        marks: Option<&Marks>,
+    ) -> bool
         requires { T.admitted machine.old action }
-        ensures { IsPerformed T.Reversible machine.old machine.new
+        ensures performed { IsPerformed T.Reversible machine.old machine.new
             (log_of (take (self.old.capacity - 1) self.old.records) (action ∷ []) self.old.capacity) self.new }
+        ensures unmarked { result ≡ false → IfSome marks.entry (λ marks. IfSome (slice_get self.new.records 0) (λ newest.
+            IsUnmarked T.mark_of T.old_value marks.now newest.1)) }
     {
         let at = next_slot(self.end, self.slots.len());
         self.end = at + 1;
         self.kept = one_more(self.kept, self.slots.len());
         self.ahead = 0;
-        machine.perform(action, &mut self.slots[at], &mut self.tails);
+        let head = &mut self.slots[at];
+        machine.perform(action, head, &mut self.tails);
+        may_have::<T>(head, &self.tails, marks)
     }
 
     /// Undoes the newest n actions. The end is in a local variable meanwhile, so it is not written for each action.
@@ -203,6 +213,29 @@ fn undo_record<'a, T: Reversible>(
             Some(back) => Some(UndoRecord::Tail(back)),
             None => None,
         },
+    }
+}
+
+/// Returns `false` only if no marks are given, or if the undo record of a head, or else of the newest tail, has none of the
+/// places that they cover.
+#[inline(always)]
+fn may_have<T: Reversible>(
+    head: &Option<T::Head>,
+    tails: &Tails<T::Action, T::Record>,
+    marks: Option<&Marks>,
+) -> bool
+    ensures { result ≡ false → IfSome marks.entry (λ marks. IfSome (first_of T.unpacked in_tail head.now tails.now.ring.items) (λ newest.
+        IsUnmarked T.mark_of T.old_value marks.now newest.1)) }
+{
+    let Some(marks) = marks else {
+        return false;
+    };
+    if !marks.has_places {
+        return false;
+    }
+    match undo_record::<T>(head, tails, 0) {
+        Some(back) => T::may_have(&back, marks),
+        None => true,
     }
 }
 

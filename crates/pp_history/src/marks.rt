@@ -11,6 +11,8 @@ use crate::reversible::Reversible;
 #[derive(Drop)]
 pub struct Marks {
     marks: [bool; 256],
+    /// Whether a place was given.
+    pub(crate) has_places: bool,
     /// Whether one of the places has no mark. Then every undo record is searched.
     has_unmarked: bool,
 }
@@ -22,6 +24,7 @@ impl Marks {
     {
         let mut marks = Marks {
             marks: [false; 256],
+            has_places: false,
             has_unmarked: false,
         };
         for place in places {
@@ -35,6 +38,7 @@ impl Marks {
         ensures covers { is_covered self.new mark ≡ true }
         ensures keeps_covered { (m : Option ℕ) → is_covered self.old m ≡ true → is_covered self.new m ≡ true }
     {
+        self.has_places = true;
         match mark {
             Some(i) => self.marks[usize::from(i)] = true,
             None => self.has_unmarked = true,

@@ -137,4 +137,4 @@ pub not_in_turn : (m : Marks) (r : TurnRecord) → (r.rest.are_devices_called ||
     AreUnmarked m r.rest.slot (pp_pairs r.pp) → (p : Place) → covers mark_of m p ≡ true → lookup (turn_pairs r) p ≡ None
 not_in_turn m r impossible step p covered =
     let neither = or_parts r.rest.are_devices_called m.has_unmarked impossible in
-    lookup_unmarked m (turn_pairs r) p (turn_unmarked m r neither.0 step) (rw neither.1 at covered)
+    lookup_unmarked m (turn_pairs r) p (turn_unmarked m r neither.0 step) (rw neither.1 at (and_parts m.has_places (m.has_unmarked || is_marked m (mark_of p)) covered).1)

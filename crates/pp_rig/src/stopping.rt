@@ -1,14 +1,15 @@
 //! Runs of turns that stop at the first change of a watched number.
 ghost use Rattle.std.specs.Prelude.{◌≡◌, map, true};
 ghost use Rattle.pp_history.specs.Marks.{AreCovered};
-ghost use Rattle.pp_history.specs.SessionValue.{SessionValue, IsAt, after_act, replay};
+ghost use Rattle.pp_history.specs.SessionValue.{SessionValue, IsAt, Moves, after_act, replay};
 ghost use Rattle.pp_history.specs.UndoRecord.{whole_record};
 ghost use Rattle.pp_machine.specs.Machine.{Machine};
 ghost use Rattle.pp_rig.specs.Action.{FitsRecord, before};
 ghost use Rattle.pp_rig.specs.Marks.{mark_of};
 ghost use Rattle.pp_rig.specs.Rules.{rules};
 ghost use Rattle.pp_rig.specs.Short.{unpacked};
-ghost use Rattle.pp_rig.specs.Stopping.{first_change, stopped, after_turns};
+ghost use Rattle.pp_rig.specs.Stopping.{first_change, hit_of, stopped, after_turns};
+ghost use Rattle.pp_rig.specs.Turn.{turn};
 ghost use Rattle.pp_actions.specs.Watches.{watched_place, watches_of};
 
 use crate::rig::Rig;
@@ -58,30 +59,38 @@ fn first_changed(machine: &Rig, back: &UndoRecord<Rig>) -> Option<Hit>
     None
 }
 
-/// Returns the first watched place, in watch order, whose number the newest action, a turn, changed. After most turns the
-/// marks say that there is none.
+/// Returns the first watched place, in watch order, whose number the newest action, a turn, changed.
 #[inline(always)]
-fn first_change(session: &Session<Rig>, marks: &Marks) -> Option<Hit>
-    requires { AreCovered mark_of marks.now (map watched_place (watches_of session.now.machine)) }
+fn newest_change(session: &Session<Rig>) -> Option<Hit>
     ensures { (v : SessionValue Machine Action) → IsAt rules session.now (after_act v Action.Turn) →
         result ≡ first_change (replay rules v.start v.standing) session.now.machine (watches_of session.now.machine) }
 {
-    let machine = session.machine();
-    if machine.watches().is_empty() {
-        return None;
-    }
     let back = session.newest()?;
-    if !Rig::may_have(&back, marks) {
-        return None;
+    first_changed(session.machine(), &back)
+}
+
+/// Performs a turn, and returns the first watched place, in watch order, whose number it changed. After most turns the
+/// marks say that there is none.
+#[inline(always)]
+#[tactic(auto, unfolding(pp_actions::specs::Admitting::first_fault))]
+fn turn_watched(session: &mut Session<Rig>, marks: &Marks) -> Option<Hit>
+    requires { AreCovered mark_of marks.now (map watched_place (watches_of session.old.machine)) }
+    ensures machine { session.new.machine ≡ turn session.old.machine }
+    ensures at { Moves rules session.old session.new (λ v. after_act v Action.Turn) }
+    ensures hit { result ≡ hit_of session.old.machine }
+{
+    session.has_session_value();
+    if session.act_marked(Action::Turn, marks) {
+        newest_change(session)
+    } else {
+        None
     }
-    first_changed(machine, &back)
 }
 
 /// Performs turns until n were performed, or until one changed the number of a watched place.
 ///
 /// If a turn changed several watched numbers, the hit is the first in watch order. A turn in which a processor waits is
 /// a turn like any other. If n is 0, no turn is performed (this project's choice).
-#[tactic(auto, unfolding(pp_actions::specs::Admitting::first_fault))]
 pub fn run(session: &mut Session<Rig>, n: u32) -> Stopped
     ensures stops { result ≡ stopped n session.old.machine }
     ensures is_replay { (v : SessionValue Machine Action) → IsAt rules session.old v →
@@ -89,11 +98,9 @@ pub fn run(session: &mut Session<Rig>, n: u32) -> Stopped
     ensures at { (v : SessionValue Machine Action) → IsAt rules session.old v →
         IsAt rules session.new (after_turns result.turns v) }
 {
-    session.has_session_value();
     let marks = Marks::of::<Rig>(session.machine().watched_places().as_slice());
     for turns in 0..n {
-        session.act(Action::Turn);
-        if let Some(hit) = first_change(session, &marks) {
+        if let Some(hit) = turn_watched(session, &marks) {
             return Stopped {
                 turns: turns + 1,
                 hit: Some(hit),
