@@ -9,7 +9,7 @@ ghost use Rattle.pp_history.specs.Marks.{AreCovered, IsUnmarked};
 ghost use Rattle.pp_history.specs.Parts.{IsSession, contents};
 ghost use Rattle.pp_history.specs.SessionValue.{Moves, after_back, after_forward};
 ghost use Rattle.pp_history.specs.Slots.{IsKeptSlot, IsNextSlot};
-ghost use Rattle.pp_history.specs.Search.{changes, first_changing, differs_from};
+ghost use Rattle.pp_history.specs.Search.{IsSearched, first_changing, differs_from};
 ghost use Rattle.pp_history.specs.UndoRecord.{whole_record};
 ghost use Rattle.pp_history.specs.Tails.{in_tail, pushed};
 ghost use Rattle.std.specs.Option.{IsSome, option_map};
@@ -268,10 +268,7 @@ fn has_other<T: Reversible>(
     looks: &mut Looks,
 ) -> bool
     requires { All (λ place. T.has_place machine.now place) places.now }
-    ensures value { result ≡ changes T.Reversible (λ place. T.value_at machine.now place) places.now (whole_record T.unpacked back.now) }
-    ensures counts_up { looks.old.count ≤ looks.new.count }
-    ensures cost { looks.new.count ≤ looks.old.count + length places.now }
-    ensures looks_at_each { 1 ≤ length places.now → looks.old.count + 1 ≤ looks.new.count }
+    ensures { IsSearched T.Reversible machine.now places.now (whole_record T.unpacked back.now) looks.old.count looks.new.count result }
 {
     for place in places {
         if is_other(machine, place, back.was(place), looks) {
@@ -291,10 +288,7 @@ fn has_other_by_kind<T: Reversible>(
     looks: &mut Looks,
 ) -> bool
     requires { All (λ place. T.has_place machine.now place) places.now }
-    ensures value { result ≡ changes T.Reversible (λ place. T.value_at machine.now place) places.now (whole_record T.unpacked back.now) }
-    ensures counts_up { looks.old.count ≤ looks.new.count }
-    ensures cost { looks.new.count ≤ looks.old.count + length places.now }
-    ensures looks_at_each { 1 ≤ length places.now → looks.old.count + 1 ≤ looks.new.count }
+    ensures { IsSearched T.Reversible machine.now places.now (whole_record T.unpacked back.now) looks.old.count looks.new.count result }
 {
     match *back {
         UndoRecord::Head(head) => has_other(machine, &UndoRecord::Head(head), places, looks),
@@ -313,10 +307,7 @@ fn is_changed<T: Reversible>(
 ) -> bool
     requires has_places { All (λ place. T.has_place machine.now place) places.now }
     requires covers { AreCovered T.mark_of marks.now places.now }
-    ensures value { result ≡ changes T.Reversible (λ place. T.value_at machine.now place) places.now (whole_record T.unpacked back.now) }
-    ensures counts_up { looks.old.count ≤ looks.new.count }
-    ensures cost { looks.new.count ≤ looks.old.count + length places.now }
-    ensures looks_at_each { 1 ≤ length places.now → looks.old.count + 1 ≤ looks.new.count }
+    ensures { IsSearched T.Reversible machine.now places.now (whole_record T.unpacked back.now) looks.old.count looks.new.count result }
 {
     if !T::may_have(back, marks) {
         looks.count_skipped(places);
