@@ -87,29 +87,10 @@ pub words-no_letter : (text : List ℕ) → position is_letter text ≡ None →
 words-no_letter text e = words-all_blank text (pick-none (position_or_len is_letter text) (length text) e)
 
 -- the first word of a text, and the others
-pub words-cut : (text : List ℕ) (start : ℕ) → position is_letter text ≡ Some start →
-    words text ≡ take (position_or_len is_blank (drop start text)) (drop start text) ∷ words (drop (position_or_len is_blank (drop start text)) (drop start text))
-words-cut text start e =
-    let found = pick-some (position_or_len is_letter text) (length text) start e in
-    rw (← found.0) (words-blanks text ∙ words-first (drop (position_or_len is_letter text) text) (letter-after text found.1))
-
--- a word is not empty
-pub word-some : (text : List ℕ) (start : ℕ) → position is_letter text ≡ Some start → 0 < position_or_len is_blank (drop start text)
-word-some text start e =
-    let found = pick-some (position_or_len is_letter text) (length text) start e in
-    rw (← found.0) (begun (drop (position_or_len is_letter text) text) (letter-after text found.1))
-  where
-    begun : (bytes : List ℕ) → goes_on bytes ≡ true → 0 < position_or_len is_blank bytes
-    begun [] h = cc
-    begun (byte ∷ bytes) h = rw (len-more is_blank byte bytes (no-letter byte h)) (omega arith)
-
--- the result of cutting a text
-module _ (text : List ℕ) (start len : ℕ) (rest front back : List ℕ) (found : position is_letter text ≡ Some start)
-    (from : rest ≡ drop start text) (size : len ≡ position_or_len is_blank rest) (first : front ≡ take len rest) (others : back ≡ drop len rest) where
-  pub cut-words : words text ≡ front ∷ words back
-  cut-words = rw (first, others, size, from) (words-cut text start found)
-
-  pub cut-shorter : length back < length text
-  cut-shorter =
-      let place = pick-some (position_or_len is_letter text) (length text) start found in
-      grind (arith, length-drop, place.0, place.1, word-some text start found)
+pub cut-words : (text : List ℕ) (start len : ℕ) (rest front back : List ℕ) → position is_letter text ≡ Some start →
+    rest ≡ drop start text → len ≡ position_or_len is_blank rest → front ≡ take len rest → back ≡ drop len rest →
+    words text ≡ front ∷ words back
+cut-words text start len rest front back found from size first others =
+    let at = pick-some (position_or_len is_letter text) (length text) start found in
+    rw (first, others, size, from, ← at.0) (words-blanks text
+    ∙ words-first (drop (position_or_len is_letter text) text) (letter-after text at.1))
