@@ -58,15 +58,24 @@ feed-splits : (text : List ℕ) → before_feed text < length text → text ≡ 
 feed-splits [] less = absurd (omega arith)
 feed-splits (byte ∷ text) less = grind (arith, nat_tests, len-stop (λ byte. byte == 10) byte text, len-more (λ byte. byte == 10) byte text, feed-splits text)
 
+-- the line feed found is the first one
+feed-found : (text : List ℕ) (feed : ℕ) → position (λ byte. byte == 10) text ≡ Some feed → before_feed text ≡ feed
+feed-found text feed e =
+    let first = position-Some (λ byte. byte == 10) text feed 0 e in
+    position_or_len_is (λ byte. byte == 10) text feed 0 (omega (arith, first.0)) first.2 (λ within. first.1)
+
 -- a text in which no line feed is found
-pub feed-none : (text : List ℕ) → position (λ byte. byte == 10) text ≡ None → finished text ≡ []
-feed-none text e = grind (arith, nat_tests, take_all (before_feed text) text, before-open text)
+pub feed_none : (text : List ℕ) → position (λ byte. byte == 10) text ≡ None → finished text ≡ []
+feed_none text e = grind (arith, nat_tests, take_all (before_feed text) text, before-open text)
 
 -- a text that is cut at the line feed found
-pub feed-cut : (text : List ℕ) (feed : ℕ) (line rest : List ℕ) → position (λ byte. byte == 10) text ≡ Some feed → line ≡ take feed text → rest ≡ drop feed text →
-    (text ≡ line ++ 10 ∷ take (length rest - 1) (drop 1 rest)) × (finished line ≡ [])
-feed-cut text feed line rest e front back =
+pub feed_cut : (text : List ℕ) (feed : ℕ) → position (λ byte. byte == 10) text ≡ Some feed →
+    text ≡ take feed text ++ 10 ∷ take (length (drop feed text) - 1) (drop 1 (drop feed text))
+feed_cut text feed e =
     let first = position-Some (λ byte. byte == 10) text feed 0 e in
-    let found : before_feed text ≡ feed = position_or_len_is (λ byte. byte == 10) text feed 0 (omega (arith, first.0)) first.2 (λ within. first.1) in
-    let later : take (length rest - 1) (drop 1 rest) ≡ drop (suc (before_feed text)) text = slice_from 1 rest ∙ ap (drop 1) back ∙ rw found (rw add-one at (drop-drop 1 feed text)) in
-    rw (later, front, ← found) (feed-splits text (omega (arith, found, first.0)), before-open text)
+    let found = feed-found text feed e in
+    rw (slice_from 1 (drop feed text), ← found) (rw (drop-drop 1 (before_feed text) text, add-one) (feed-splits text (omega (arith, found, first.0))))
+
+-- no line feed comes before it
+pub feed_open : (text : List ℕ) (feed : ℕ) → position (λ byte. byte == 10) text ≡ Some feed → finished (take feed text) ≡ []
+feed_open text feed e = rw (← feed-found text feed e) (before-open text)

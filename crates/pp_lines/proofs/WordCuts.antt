@@ -1,11 +1,12 @@
 -- The words of a line, one after another.
 use Rattle.std.proofs.lemmas.Bool.Decides.{nat_tests}
-use Rattle.std.proofs.Common.{◌≡◌, ◌∙◌, ℕ, suc, ◌<◌, ◌≤◌, Bool, true, false, cond, List, [], ◌∷◌, length, take, drop, refl, ap, arith, one-add, length-drop, None, Some, not, position, unwrap_or, nat_lt}
+use Rattle.std.proofs.Common.{◌≡◌, ◌∙◌, ℕ, suc, ◌<◌, ◌≤◌, Bool, true, false, cond, List, [], ◌∷◌, length, take, drop, refl, sym, ap, arith, one-add, length-drop, None, Some, not, position, unwrap_or, nat_lt}
 use Rattle.std.specs.List.{position_or_len}
 use Rattle.std.proofs.lemmas.List.{drop_all}
 use Rattle.std.proofs.lemmas.List.Sums.{prefix_len-le-length}
 use Rattle.pp_lines.specs.Lines.{extend_first}
 use Rattle.pp_lines.specs.Words.{is_blank, goes_on, words}
+use Rattle.pp_lines.proofs.Writing.{slice_from}
 
 -- the bytes of a word
 abbrev pub is_letter : ℕ → Bool
@@ -79,18 +80,19 @@ pick-or : (n len : ℕ) → n ≤ len → unwrap_or (cond (nat_lt n len) (Some n
 pick-or n len h = grind (arith, nat_tests)
 
 -- the position of the first byte that passes a test, or the length of the text
-pub position-or : (test : ℕ → Bool) (text : List ℕ) → unwrap_or (position test text) (length text) ≡ position_or_len test text
-position-or test text = pick-or (position_or_len test text) (length text) (prefix_len-le-length (λ byte. not (test byte)) text)
+pub position_or : (test : ℕ → Bool) (text : List ℕ) → unwrap_or (position test text) (length text) ≡ position_or_len test text
+position_or test text = pick-or (position_or_len test text) (length text) (prefix_len-le-length (λ byte. not (test byte)) text)
 
 -- no word
-pub words-no_letter : (text : List ℕ) → position is_letter text ≡ None → words text ≡ []
-words-no_letter text e = words-all_blank text (pick-none (position_or_len is_letter text) (length text) e)
+pub words_no_letter : (text : List ℕ) → position is_letter text ≡ None → words text ≡ []
+words_no_letter text e = words-all_blank text (pick-none (position_or_len is_letter text) (length text) e)
 
 -- the first word of a text, and the others
-pub cut-words : (text : List ℕ) (start len : ℕ) (rest front back : List ℕ) → position is_letter text ≡ Some start →
-    rest ≡ drop start text → len ≡ position_or_len is_blank rest → front ≡ take len rest → back ≡ drop len rest →
-    words text ≡ front ∷ words back
-cut-words text start len rest front back found from size first others =
-    let at = pick-some (position_or_len is_letter text) (length text) start found in
-    rw (first, others, size, from, ← at.0) (words-blanks text
-    ∙ words-first (drop (position_or_len is_letter text) text) (letter-after text at.1))
+pub words_cut : (text : List ℕ) (start : ℕ) → position is_letter text ≡ Some start →
+    take (position_or_len is_blank (drop start text)) (drop start text) ∷ words (drop (position_or_len is_blank (drop start text)) (drop start text)) ≡ words text
+words_cut text start e =
+    let found = pick-some (position_or_len is_letter text) (length text) start e in
+    rw (← found.0) (sym (words-blanks text ∙ words-first (drop (position_or_len is_letter text) text) (letter-after text found.1)))
+
+-- what a cut after the first word needs
+pub ruleset cuts = (words_no_letter, words_cut, slice_from)

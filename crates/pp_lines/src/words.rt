@@ -28,6 +28,7 @@ fn first_letter(text: &[u8]) -> Option<usize>
 }
 
 /// Returns the length of the word that the text begins with.
+#[tactic(auto, using(crate::proofs::WordCuts::position_or))]
 fn word_len(text: &[u8]) -> usize
     ensures len { result ≡ position_or_len is_blank text.now }
     ensures within { result ≤ length text.now }
@@ -37,6 +38,7 @@ fn word_len(text: &[u8]) -> usize
 
 /// Returns the first word of a text and the text after it, or `None` if the text has only blanks and
 /// tabs.
+#[tactic(auto, using(crate::proofs::WordCuts::cuts))]
 pub fn next_word(text: &[u8]) -> Option<(&[u8], &[u8])>
     ensures cut { MatchOption result (words text.now ≡ [])
         (λ cut. words text.now ≡ cut.0.now ∷ words cut.1.now) }
