@@ -1,5 +1,6 @@
 -- Places and numbers of write lists.
-use Rattle.std.proofs.Common.{arith, suc, ap, ◌∙◌, sym, append_assoc, ℕ, ◌≡◌, ◌+◌, ◌-◌, ◌<◌, ◌≤◌, false, Option, List, [], ◌∷◌, ◌++◌, drop, take, get_or, length, map, refl}
+use Rattle.std.proofs.Common.{arith, zero, suc, ap, ◌∙◌, sym, append_assoc, ℕ, ◌≡◌, ◌+◌, ◌-◌, ◌<◌, ◌≤◌, false, Option, List, [], ◌∷◌, ◌++◌, drop, take, get_or, length, map, refl}
+use Rattle.std.proofs.lemmas.Grind.{common_steps}
 use Rattle.std.proofs.lemmas.List.{append-nil, drop_all, drop_more, take_more}
 use Rattle.pp_machine.specs.Prelude.{Machine, old_values, number, Writes, places, write_list, write_list-append, lookup, same_place, old_values-append}
 use Rattle.pp_machine.specs.declared.place.Write.{Write}
@@ -39,41 +40,25 @@ numbers-append (pair ∷ a) b = ap (λ ns. pair.1 ∷ ns) (numbers-append a b)
 
 -- ---- lists that are made pair by pair
 
-pub push-number : (ks : List Write) (list pushed : List ℕ) (i : ℕ) (d : Write) → i < length ks → list ≡ numbers (write_list (take i ks)) → pushed ≡ list ++ (get_or ks i d).number ∷ [] → pushed ≡ numbers (write_list (take (i + 1) ks))
-push-number ks list pushed i d h so e =
-    rw (e, so, take_more ks i d h, write_list-append (take i ks), numbers-append) refl
-
 pub push-old : (m : Machine) (ks list pushed : List Write) (i : ℕ) (d : Write) → i < length ks → write_list list ≡ old_values m (write_list (take i ks)) → pushed ≡ list ++ record { place = (get_or ks i d).place; number = number m (get_or ks i d).place } ∷ [] → write_list pushed ≡ old_values m (write_list (take (i + 1) ks))
 push-old m ks list pushed i d h so e =
     rw (e, write_list-append, so, take_more ks i d h, write_list-append (take i ks), old_values-append number m) refl
 
-pub push-state : (c : ℕ) (ss : List ℕ) (list pushed : List Write) (k : Write) (all : Writes Place) → write_list list ++ state_writes c (drop c ss) ≡ all → c < length ss → k ≡ record { place = ChannelMode c; number = get_or ss c 0 } → pushed ≡ list ++ k ∷ [] → write_list pushed ++ state_writes (c + 1) (drop (c + 1) ss) ≡ all
-push-state c ss list pushed k all so h e logs =
-    rw (logs, write_list-append, e, append_assoc) (rw (drop_more ss c 0 h) at so)
-
-pub push-waiting : (n : ℕ) (list pushed : List Write) (all : Writes Place) → n < 9 → write_list list ++ all_waiting (n + 1) (9 - n) ≡ all → write_list pushed ≡ write_list list ++ waiting (n + 1) → write_list pushed ++ all_waiting (n + 1 + 1) (9 - (n + 1)) ≡ all
+pub all_waiting-next : (n count : ℕ) → 0 < count → all_waiting n count ≡ waiting n ++ all_waiting (n + 1) (count - 1)
 unfolding all_waiting
-push-waiting n list pushed all h so e =
-    let count : 9 - n ≡ suc (9 - (n + 1)) = omega arith in
-    rw (e, append_assoc) (rw count at so)
+all_waiting-next n zero h = absurd (omega arith)
+all_waiting-next n (suc count) h = let e : suc count - 1 ≡ count = omega arith in rw e refl
 
-pub push-waiting-done : (n : ℕ) (list : List Write) (all : Writes Place) → 9 ≤ n → write_list list ++ all_waiting (n + 1) (9 - n) ≡ all → write_list list ≡ all
+pub all_waiting-none : (n : ℕ) → all_waiting n 0 ≡ []
 unfolding all_waiting
-push-waiting-done n list all h so =
-    let count : 9 - n ≡ 0 = omega arith in
-    rw (count, append-nil) at so
+all_waiting-none n = refl
 
-pub push-with_new_numbers : (ks : List Write) (ns : List ℕ) (i : ℕ) (d : Write) (list pushed : List Write) (k : Write) (all : Writes Place) → write_list list ++ with_new_numbers (write_list (drop i ks)) (drop i ns) ≡ all → i < length ks → i < length ns → k ≡ record { place = (get_or ks i d).place; number = get_or ns i 0 } → pushed ≡ list ++ k ∷ [] → write_list pushed ++ with_new_numbers (write_list (drop (i + 1) ks)) (drop (i + 1) ns) ≡ all
-push-with_new_numbers ks ns i d list pushed k all so h l e logs =
-    rw (logs, write_list-append, e, append_assoc) (rw (drop_more ks i d h, drop_more ns i 0 l) at so)
-
-with_new_numbers-none : (w : Writes Place) → with_new_numbers w [] ≡ []
+pub with_new_numbers-none : (w : Writes Place) → with_new_numbers w [] ≡ []
 with_new_numbers-none [] = refl
 with_new_numbers-none (pair ∷ w) = refl
 
-pub push-with_new_numbers-done : (ks : List Write) (ns : List ℕ) (i : ℕ) (list : List Write) (all : Writes Place) → write_list list ++ with_new_numbers (write_list (drop i ks)) (drop i ns) ≡ all → length ns ≤ i → write_list list ≡ all
-push-with_new_numbers-done ks ns i list all so h =
-    rw (drop_all i ns h, with_new_numbers-none, append-nil) at so
+-- what lists that are made pair by pair need
+pub ruleset pair_lists = (common_steps, write_list-append, numbers-append, with_new_numbers-none, all_waiting-next, all_waiting-none)
 
 -- the first of the watch entries is not at the place
 pub lookup-entry : (i k : ℕ) (ws : List Watched) (d : Watched) (p : Place) (found : Option ℕ) → found ≡ lookup (entry_writes (i + k) (map watch_code (drop k ws))) p → k < length ws → same_place (WatchEntry (i + k)) p ≡ false → found ≡ lookup (entry_writes (i + (k + 1)) (map watch_code (drop (k + 1) ws))) p

@@ -1,4 +1,6 @@
 //! The numbers that a dead start sets.
+#![tactic(auto, using(crate::proofs::WriteLists::pair_lists))]
+
 ghost use Rattle.std.specs.Prelude.{◌≡◌, ◌+◌, ◌<◌, ◌≤◌, ◌^◌, ◌++◌, All, length, replicate};
 ghost use Rattle.arrayvec.specs.ArrayVec.{array_vec_len};
 ghost use Rattle.pp_machine.specs.Prelude.{write_list};
@@ -60,6 +62,7 @@ fn push_states(list: &mut ArrayVec<Write, 76>, states: &[u64])
 }
 
 /// Returns all that a dead start by this panel writes.
+#[tactic(auto, using(crate::proofs::WriteLists::pair_lists), unfolding(crate::specs::Deadstart::deadstart_write_list, crate::specs::Deadstart::all_states))]
 pub fn deadstart_settings(panel: &[u16; 12]) -> ArrayVec<Write, 76>
     ensures list { write_list result.items ≡ deadstart_write_list panel.now }
     ensures words { length panel.now ≡ 12 }

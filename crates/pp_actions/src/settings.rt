@@ -11,6 +11,7 @@ use arrayvec::ArrayVec;
 use pp_machine::{Place, Write};
 
 /// Appends the settings of values in cells from a on. The first cell of the memory follows the last.
+#[tactic(auto, using(crate::proofs::WriteLists::pair_lists))]
 pub(crate) fn push_cells<const N: usize>(
     list: &mut ArrayVec<Write, N>,
     pp: u8,

@@ -65,17 +65,20 @@ feed-found text feed e =
     position_or_len_is (λ byte. byte == 10) text feed 0 (omega (arith, first.0)) first.2 (λ within. first.1)
 
 -- a text in which no line feed is found
-pub feed_none : (text : List ℕ) → position (λ byte. byte == 10) text ≡ None → finished text ≡ []
-feed_none text e = grind (arith, nat_tests, take_all (before_feed text) text, before-open text)
+pub feed-none : (text : List ℕ) → position (λ byte. byte == 10) text ≡ None → finished text ≡ []
+feed-none text e = grind (arith, nat_tests, take_all (before_feed text) text, before-open text)
 
 -- a text that is cut at the line feed found
-pub feed_cut : (text : List ℕ) (feed : ℕ) → position (λ byte. byte == 10) text ≡ Some feed →
+pub feed-cut : (text : List ℕ) (feed : ℕ) → position (λ byte. byte == 10) text ≡ Some feed →
     text ≡ take feed text ++ 10 ∷ take (length (drop feed text) - 1) (drop 1 (drop feed text))
-feed_cut text feed e =
+feed-cut text feed e =
     let first = position-Some (λ byte. byte == 10) text feed 0 e in
     let found = feed-found text feed e in
     rw (slice_from 1 (drop feed text), ← found) (rw (drop-drop 1 (before_feed text) text, add-one) (feed-splits text (omega (arith, found, first.0))))
 
 -- no line feed comes before it
-pub feed_open : (text : List ℕ) (feed : ℕ) → position (λ byte. byte == 10) text ≡ Some feed → finished (take feed text) ≡ []
-feed_open text feed e = rw (← feed-found text feed e) (before-open text)
+pub feed-open : (text : List ℕ) (feed : ℕ) → position (λ byte. byte == 10) text ≡ Some feed → finished (take feed text) ≡ []
+feed-open text feed e = rw (← feed-found text feed e) (before-open text)
+
+-- what a cut at the first line feed needs
+pub ruleset feed_cuts = (feed-none, feed-cut, feed-open)

@@ -1,6 +1,6 @@
 -- The words of a line, one after another.
 use Rattle.std.proofs.lemmas.Bool.Decides.{nat_tests}
-use Rattle.std.proofs.Common.{◌≡◌, ◌∙◌, ℕ, suc, ◌<◌, ◌≤◌, Bool, true, false, cond, List, [], ◌∷◌, length, take, drop, refl, sym, ap, arith, one-add, length-drop, None, Some, not, position, unwrap_or, nat_lt}
+use Rattle.std.proofs.Common.{◌≡◌, ◌∙◌, ℕ, suc, ◌<◌, ◌≤◌, Bool, true, false, cond, List, [], ◌∷◌, length, take, drop, refl, sym, ap, arith, one-add, None, Some, not, position, unwrap_or, nat_lt}
 use Rattle.std.specs.List.{position_or_len}
 use Rattle.std.proofs.lemmas.List.{drop_all}
 use Rattle.std.proofs.lemmas.List.Sums.{prefix_len-le-length}
@@ -84,15 +84,15 @@ pub position_or : (test : ℕ → Bool) (text : List ℕ) → unwrap_or (positio
 position_or test text = pick-or (position_or_len test text) (length text) (prefix_len-le-length (λ byte. not (test byte)) text)
 
 -- no word
-pub words_no_letter : (text : List ℕ) → position is_letter text ≡ None → words text ≡ []
-words_no_letter text e = words-all_blank text (pick-none (position_or_len is_letter text) (length text) e)
+pub words-no_letter : (text : List ℕ) → position is_letter text ≡ None → words text ≡ []
+words-no_letter text e = words-all_blank text (pick-none (position_or_len is_letter text) (length text) e)
 
 -- the first word of a text, and the others
-pub words_cut : (text : List ℕ) (start : ℕ) → position is_letter text ≡ Some start →
+pub words-cut : (text : List ℕ) (start : ℕ) → position is_letter text ≡ Some start →
     take (position_or_len is_blank (drop start text)) (drop start text) ∷ words (drop (position_or_len is_blank (drop start text)) (drop start text)) ≡ words text
-words_cut text start e =
+words-cut text start e =
     let found = pick-some (position_or_len is_letter text) (length text) start e in
     rw (← found.0) (sym (words-blanks text ∙ words-first (drop (position_or_len is_letter text) text) (letter-after text found.1)))
 
 -- what a cut after the first word needs
-pub ruleset cuts = (words_no_letter, words_cut, slice_from)
+pub ruleset cuts = (words-no_letter, words-cut, slice_from)

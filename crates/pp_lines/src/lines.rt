@@ -78,7 +78,7 @@ fn first_feed(text: &[u8]) -> Option<usize>
 }
 
 /// Returns the bytes before the first line feed and those after it, or `None` if there is no line feed.
-#[tactic(auto, using(crate::proofs::OpenTexts::feed_none, crate::proofs::OpenTexts::feed_cut, crate::proofs::OpenTexts::feed_open))]
+#[tactic(auto, using(crate::proofs::OpenTexts::feed_cuts))]
 pub fn next_line(text: &[u8]) -> Option<(&[u8], &[u8])>
     ensures cut { MatchOption result (finished text.now ≡ [])
         (λ cut. (text.now ≡ cut.0.now ++ 10 ∷ cut.1.now) × (finished cut.0.now ≡ [])) }
