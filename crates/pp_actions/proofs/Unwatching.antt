@@ -1,21 +1,23 @@
 -- Watched places that are removed and restored.
 use Rattle.std.specs.List.{remove}
 use Rattle.std.proofs.Common.{arith, zero, suc, ap, sym, subst, append_assoc, add-one, ◌∙◌, ⊎_elim, ℕ, ◌≡◌, ◌+◌, ◌-◌, ◌<◌, ◌≤◌, ◌==◌, ◌≢◌, All, Some, position, List, [], ◌∷◌, ◌++◌, drop, take, get_or, set, length, map, replicate, refl}
+use Rattle.std.proofs.lemmas.Grind.{common_steps}
 use Rattle.std.proofs.lemmas.Bool.Decides.{eqb_tells, nat_tests}
 use Rattle.std.proofs.Math.Seq.{get_or-append_seam, drop-append-add}
 use Rattle.std.proofs.lemmas.List.{map-append, length-map, length-append, length-drop, length-set, length-take-le, drop_more, take-append-drop, set_at, length_push}
+use Rattle.std.proofs.lemmas.List.Edits.{length-remove}
 use Rattle.std.proofs.lemmas.List.Elements.{All-take, All-drop, All-append}
 use Rattle.std.proofs.lemmas.List.Quantifiers.{all_pairs_remove}
 use Rattle.pp_machine.specs.Prelude.{Machine, over, old_values, put, Has, HasAll, IsShaped}
 use Rattle.pp_machine.specs.declared.place.Place.TheVariants.{WatchEntry}
 use Rattle.pp_actions.specs.Unwatching.{moved_up, unwatch_writes}
-use Rattle.pp_actions.specs.Watches.{AreWatches, watched_at, watched_in, watched_place}
+use Rattle.pp_actions.specs.Watches.{AreWatches, HaveCodes, watched_at, watched_in, watched_place}
 use Rattle.pp_actions.specs.WatchCodes.{watch_code, watch_entries, first_zero}
 use Rattle.pp_actions.specs.RecordLists.{with_entries, entries_at}
 use Rattle.pp_actions.specs.WriteLists.{entry_writes}
 use Rattle.pp_actions.specs.declared.watched.Watched.{Watched}
 use Rattle.pp_actions.specs.declared.watched.Watched.TheVariants.{RegA}
-use Rattle.pp_actions.proofs.WatchCodes.{code-no_zero, AreWatches-entries, length-watched_in}
+use Rattle.pp_actions.proofs.WatchCodes.{code-no_zero, AreWatches-entries, entries, length-watched_in}
 
 pub over-entries : (m : Machine) (i : ℕ) (codes : List ℕ) → over m (entry_writes i codes) ≡ record m { watches = with_entries m.watches i codes }
 over-entries m i [] = refl
@@ -123,8 +125,19 @@ back-at ws i h at_most =
     let restored = entries-restored (take i ws) (drop (i + 1) ws) (drop i ws) i (length-take-le i ws (omega arith)) (omega (arith, length-drop i ws, length-drop (i + 1) ws)) (omega (arith, length-drop i ws)) in
     rw removed (sym restored ∙ ap watch_entries (take-append-drop i ws))
 
-pub read_back-remove : (ws : List Watched) (i : ℕ) → All (λ w. watched_at (watch_code w) ≡ w) ws → All (λ w. watched_at (watch_code w) ≡ w) (remove ws i)
-read_back-remove ws i read_back = All-append (λ w. watched_at (watch_code w) ≡ w) (take i ws) (drop (suc i) ws) (All-take (λ w. watched_at (watch_code w) ≡ w) i ws read_back) (All-drop (λ w. watched_at (watch_code w) ≡ w) (suc i) ws read_back)
+-- the places left have codes
+pub HaveCodes-remove : (ws : List Watched) (i : ℕ) → i < length ws → HaveCodes ws → HaveCodes (remove ws i)
+HaveCodes-remove ws i h codes =
+    let reads_back : Watched → Type 0 = λ w. watched_at (watch_code w) ≡ w in
+    let kept = All-take reads_back i ws codes.read_back in
+    let later = All-drop reads_back (suc i) ws codes.read_back in
+    record {
+      at_most = omega (arith, length-remove ws i h, codes.at_most);
+      read_back = All-append reads_back (take i ws) (drop (suc i) ws) kept later;
+    }
+
+-- what removing and restoring a place needs
+pub ruleset removals = (common_steps, entries, removed-at, old-at, restored-at, back-at, HaveCodes-remove)
 
 -- ---- on the machine
 

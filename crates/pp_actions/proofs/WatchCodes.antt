@@ -12,7 +12,7 @@ use Rattle.std.proofs.lemmas.List.{map_push, set_at, length-map, length_push as 
 use Rattle.pp_machine.specs.Prelude.{Has, words_of}
 use Rattle.pp_machine.specs.declared.central.CentralSize.{CentralSize}
 use Rattle.pp_machine.proofs.Sizes.{most_words}
-use Rattle.pp_actions.specs.Watches.{watched_in, watched_at, watched_of_kind, watched_place, AreWatches}
+use Rattle.pp_actions.specs.Watches.{watched_in, watched_at, watched_of_kind, watched_place, AreWatches, HaveCodes}
 use Rattle.pp_actions.specs.WatchCodes.{watch_code, watch_entries, first_zero}
 use Rattle.pp_actions.specs.declared.watched.Watched.{Watched}
 use Rattle.pp_actions.specs.declared.watched.Watched.TheVariants.{Cell, RegA, RegP, RegQ, Central, Register}
@@ -126,5 +126,11 @@ AreWatches-push size entries w at_most ok room has new =
     let more = AreWatches-entries size (ws ++ w ∷ []) at_most (All-push (λ v. Has size (watched_place v)) ws w ok.present has) (all_pairs_push (λ v u. watch_code v ≢ watch_code u) ws w ok.distinct (λ k d l. other-code ws w k d none l)) in
     rw (watch_entries-push ws w (omega arith), ok.closed_up, count) at more
 
+-- with one more place each has its code
+pub HaveCodes-push : (ws : List Watched) (w : Watched) → HaveCodes ws → length ws < 8 → watched_at (watch_code w) ≡ w → HaveCodes (ws ++ w ∷ [])
+HaveCodes-push ws w codes room code =
+    let read_back = All-push (λ w. watched_at (watch_code w) ≡ w) ws w codes.read_back code in
+    record { at_most = omega (arith, length-push ws w); read_back = read_back }
+
 -- what the entries of a list of places say of it
-pub ruleset entries = (first_zero-entries, length-watched_in, watched_in-entries, any-entries, position-entries, zero-no_code)
+pub ruleset entries = (first_zero-entries, length-watched_in, watched_in-entries, any-entries, position-entries, watch_entries-push, zero-no_code, HaveCodes-push)

@@ -19,6 +19,7 @@ fn places_from(places: &[Watched], i: u8) -> ArrayVec<Watched, 8>
     list_of(&places[i as usize..])
 }
 
+#[tactic(auto, using(crate::proofs::Unwatching::removals))]
 impl WatchList {
     /// Returns the entry of the place, or `None` if it is not watched.
     pub fn entry_of(&self, watched: Watched) -> Option<u8>
