@@ -17,8 +17,8 @@ module _ (size : ℕ) (m m' : Machine) (shaped : IsShaped size m) (shaped' : IsS
       let cells = same-list 4096 (λ s. (processor s n).cells) (shaped.memories n at_most) (shaped'.memories n at_most) (λ a within. each (Cell n a) (at_most, within)) in
       λ i. record { a = each (RegA n) at_most i; p = each (RegP n) at_most i; q = each (RegQ n) at_most i; phase = each (Phase n) at_most i; cells = cells i })
 
-  pub same-machines : m.setup ≡ m'.setup → m.reader.deck ≡ m'.reader.deck → m ≡ m'
-  same-machines setup deck = λ i. machine_with
+  pub same_machines : m.setup ≡ m'.setup → m.reader.deck ≡ m'.reader.deck → m ≡ m'
+  same_machines setup deck = λ i. machine_with
       (same-devices size m m' shaped shaped' each setup deck i)
       (processors i)
       (record {

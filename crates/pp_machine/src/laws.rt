@@ -7,6 +7,7 @@ use crate::place::Place;
 
 /// A machine is its numbers. Two machines with the same shape, setup and deck that have the same number at each
 /// place are equal.
+#[tactic(auto, using(crate::proofs::Same::same_machines))]
 pub fn numbers_make_the_machine()
     ensures { (size : ℕ) (m other : Machine) → IsShaped size m → IsShaped size other → m.setup ≡ other.setup →
         m.reader.deck ≡ other.reader.deck →

@@ -1,6 +1,7 @@
 //! Numbers in pieces, so an undo record has no gaps between its fields. A compiled program reads and writes such a number
 //! as one.
-ghost use Rattle.std.specs.Prelude.{◌≡◌};
+ghost use Rattle.std.proofs.Common.{arith, ap₂};
+ghost use Rattle.std.specs.Prelude.{ℕ, ◌≡◌, ◌+◌, ◌*◌, ◌/◌, ◌%◌, ◌<◌};
 
 use std::marker::Model;
 
@@ -12,9 +13,6 @@ pub struct Unaligned16 {
 }
 
 impl Model for Unaligned16 {
-    ghost use Rattle.std.proofs.Common.{arith, ap₂};
-    ghost use Rattle.std.specs.Prelude.{ℕ, ◌+◌, ◌*◌, ◌/◌, ◌%◌, ◌<◌};
-
     ghost Value = { ℕ };
 
     ghost view = { λ n. n.high * 0x100 + n.low };
@@ -55,9 +53,6 @@ pub struct Unaligned32 {
 }
 
 impl Model for Unaligned32 {
-    ghost use Rattle.std.proofs.Common.{arith, ap₂};
-    ghost use Rattle.std.specs.Prelude.{ℕ, ◌+◌, ◌*◌, ◌/◌, ◌%◌, ◌<◌};
-
     ghost Value = { ℕ };
 
     ghost view = { λ n. n.high * 0x10000 + n.low };
@@ -98,9 +93,6 @@ pub struct Unaligned64 {
 }
 
 impl Model for Unaligned64 {
-    ghost use Rattle.std.proofs.Common.{arith, ap₂};
-    ghost use Rattle.std.specs.Prelude.{ℕ, ◌+◌, ◌*◌, ◌/◌, ◌%◌, ◌<◌};
-
     ghost Value = { ℕ };
 
     ghost view = { λ n. n.high * 0x100000000 + n.low };
