@@ -19,6 +19,9 @@ three_bits zero = refl
 three_bits (suc digits) =
     grind (arith, pow-add 2 (3 * digits) 3, three_bits digits, pow-suc 8 digits)
 
+-- what writing digits needs
+pub ruleset digits_pushed = (common_steps, digit-next, three_bits)
+
 -- a value with no bits above its last `width` digits is below 8 ^ width
 pub fits : (width value : ℕ) → value / 2 ^ (3 * width) ≡ 0 → value < 8 ^ width
 fits width value e =

@@ -8,6 +8,7 @@ use arrayvec::ArrayVec;
 
 /// Appends the last `digits` octal digits of the value to the line, most significant first: a number of
 /// fixed width. `digits` is 0 to 22, and the line has room for them.
+#[tactic(auto, using(crate::proofs::OctalDigits::digits_pushed), unfolding(crate::specs::Octal::octal_digits))]
 pub fn push_octal<const N: usize>(line: &mut ArrayVec<u8, N>, value: u64, digits: u8)
     requires at_most { digits ≤ 22 }
     requires room { array_vec_len line.old + digits ≤ N }

@@ -1,5 +1,6 @@
 -- Numbers that are read one after another.
 use Rattle.std.proofs.Common.{◌≡◌, ℕ, List, [], ◌∷◌, ◌++◌, refl, sym, ap, append_assoc, Result, Ok, Err, append-nil}
+use Rattle.std.proofs.lemmas.Grind.{common_steps, elements}
 use Rattle.pp_command.specs.declared.fault.LineFault.{LineFault}
 use Rattle.pp_command.specs.Numbers.{number, numbers, ◌>>=◌}
 
@@ -24,3 +25,6 @@ numbers-fails most front word others fault e = rw e refl
 -- no word is left
 pub numbers-none : (most : ℕ) (front : List ℕ) → with_front front (numbers most []) ≡ Ok front
 numbers-none most front = ap Ok (append-nil front)
+
+-- what reading numbers one after another needs
+pub ruleset number_lists = (common_steps, elements, numbers-next, numbers-fails, numbers-none)

@@ -29,6 +29,7 @@ fn count_words(text: &[u8]) -> usize
 }
 
 /// Reads the numbers in all words of the text, at most eight, each 0 to 7777 octal.
+#[tactic(auto, using(crate::proofs::NumberLists::number_lists))]
 fn cell_values(text: &[u8]) -> Result<Values, LineFault>
     requires { length (words text.now) ≤ 8 }
     ensures value { result ≡ numbers 0o7777 (words text.now) }
