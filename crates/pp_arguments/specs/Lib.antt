@@ -1,3 +1,4 @@
 pub mod CommandLine
 pub mod Decimal
+pub mod Inner
 pub mod Options

@@ -1,11 +1,13 @@
 //! The options of the program: what the words of the command line ask for, or why they are rejected.
-ghost use Rattle.pp_arguments.specs.CommandLine.{faults_of};
+ghost use Rattle.pp_arguments.specs.CommandLine.{Text, faults_of};
+ghost use Rattle.pp_arguments.specs.Inner.{AreGiven, AreNumbersInRange, AreNumbersOf};
 ghost use Rattle.pp_arguments.specs.Options.{AreAskedBy, AreInRange, IsCauseOf, IsMemoryOrChannel, are_admitted, asked_or, central_read, channel_read, history_read, size_of};
-ghost use Rattle.std.specs.Prelude.{◌≡◌, ◌≤◌, [], map, option_map, IfErr, IfOk, IfSome, IsTrue, OnOk};
+ghost use Rattle.std.specs.Prelude.{◌≡◌, ◌≤◌, [], List, map, option_map, IfErr, IfOk, IfSome, IsTrue, OnOk};
 ghost use Rattle.std.specs.String.{string_bytes};
 
 use crate::command_line::read_words;
 use crate::decimal::read_decimal;
+use clap::ArgMatches;
 use pp_arith::read_octal;
 use pp_machine::CentralSize;
 use std::alloc::Global;
@@ -42,6 +44,15 @@ pub enum ArgFault {
     BadArguments,
     /// A device's channel is not octal, or is above 13 octal.
     BadChannel,
+}
+
+/// The numbers among the options.
+#[derive(Clone, Copy)]
+struct Numbers {
+    history: u32,
+    central: CentralSize,
+    reader: u8,
+    printer: u8,
 }
 
 /// The largest number of actions in an undo history.
@@ -115,14 +126,16 @@ fn file(alloc: Global, word: Option<&str>) -> Result<Option<String>, ArgFault>
     }
 }
 
-fn read_options(alloc: Global, words: &[String]) -> Result<Options, ArgFault>
-    ensures asked { IfOk result (AreAskedBy (map string_bytes words.now)) }
-    ensures ranges { IfOk result AreInRange }
-    ensures line { OnOk result (faults_of (map string_bytes words.now) ≡ []) }
-    ensures cause { IfErr result (IsCauseOf (map string_bytes words.now)) }
-    ensures admitted { IsTrue (are_admitted (map string_bytes words.now)) → IfErr result IsMemoryOrChannel }
+/// Returns the numbers that the words with these matches ask for.
+///
+/// # Errors
+/// `BadArguments` and `BadChannel`.
+fn read_numbers(matches: &ArgMatches) -> Result<Numbers, ArgFault>
+    ensures asked { (words : List Text) → AreGiven words matches.now → IfOk result (AreNumbersOf words) }
+    ensures ranges { IfOk result AreNumbersInRange }
+    ensures cause { (words : List Text) → AreGiven words matches.now → faults_of words ≡ [] → IfErr result (IsCauseOf words) }
+    ensures admitted { (words : List Text) → AreGiven words matches.now → IsTrue (are_admitted words) → IfErr result IsMemoryOrChannel }
 {
-    let matches = read_words(alloc, words)?;
     let Some(history) = history(matches.get_str("history")) else {
         return Err(ArgFault::BadArguments);
     };
@@ -135,15 +148,45 @@ fn read_options(alloc: Global, words: &[String]) -> Result<Options, ArgFault>
     let Some(printer) = channel(matches.get_str("printer"), PRINTER_CHANNEL) else {
         return Err(ArgFault::BadChannel);
     };
-    Ok(Options {
+    Ok(Numbers {
         history,
         central,
-        deck: file(alloc, matches.get_str("deck"))?,
         reader,
         printer,
+    })
+}
+
+/// Returns the options that the words with these matches ask for.
+///
+/// # Errors
+/// `NoMemory`, `BadArguments` and `BadChannel`.
+fn options_of(alloc: Global, matches: &ArgMatches) -> Result<Options, ArgFault>
+    ensures asked { (words : List Text) → AreGiven words matches.now → IfOk result (AreAskedBy words) }
+    ensures ranges { IfOk result AreInRange }
+    ensures cause { (words : List Text) → AreGiven words matches.now → faults_of words ≡ [] → IfErr result (IsCauseOf words) }
+    ensures admitted { (words : List Text) → AreGiven words matches.now → IsTrue (are_admitted words) → IfErr result IsMemoryOrChannel }
+{
+    let numbers = read_numbers(matches)?;
+    Ok(Options {
+        history: numbers.history,
+        central: numbers.central,
+        deck: file(alloc, matches.get_str("deck"))?,
+        reader: numbers.reader,
+        printer: numbers.printer,
         panel: file(alloc, matches.get_str("panel"))?,
         script: file(alloc, matches.get_str("script"))?,
     })
+}
+
+fn read_options(alloc: Global, words: &[String]) -> Result<Options, ArgFault>
+    ensures asked { IfOk result (AreAskedBy (map string_bytes words.now)) }
+    ensures ranges { IfOk result AreInRange }
+    ensures line { OnOk result (faults_of (map string_bytes words.now) ≡ []) }
+    ensures cause { IfErr result (IsCauseOf (map string_bytes words.now)) }
+    ensures admitted { IsTrue (are_admitted (map string_bytes words.now)) → IfErr result IsMemoryOrChannel }
+{
+    let matches = read_words(alloc, words)?;
+    options_of(alloc, &matches)
 }
 
 /// Returns the options that the words ask for. The first word is the program's name:
