@@ -1,8 +1,8 @@
 -- Watched places that are removed and restored.
 use Rattle.std.specs.List.{remove}
-use Rattle.std.proofs.Common.{arith, zero, suc, ap, sym, subst, append_assoc, add-one, ◌∙◌, ⊎_elim, ℕ, ◌≡◌, ◌+◌, ◌-◌, ◌<◌, ◌≤◌, ◌==◌, ◌≢◌, All, Some, position, List, [], ◌∷◌, ◌++◌, drop, take, get_or, set, length, map, replicate, refl}
+use Rattle.std.proofs.Common.{arith, zero, suc, ap, sym, append_assoc, add-one, ◌∙◌, ⊎_elim, ℕ, ◌≡◌, ◌+◌, ◌-◌, ◌<◌, ◌≤◌, ◌==◌, ◌≢◌, Some, position, List, [], ◌∷◌, ◌++◌, drop, take, get_or, length, map, replicate, refl}
 use Rattle.std.proofs.lemmas.Grind.{common_steps}
-use Rattle.std.proofs.lemmas.Bool.Decides.{eqb_tells, nat_tests}
+use Rattle.std.proofs.lemmas.Bool.Decides.{eqb_tells}
 use Rattle.std.proofs.Math.Seq.{get_or-append_seam, drop-append-add}
 use Rattle.std.proofs.lemmas.List.{map-append, length-map, length-append, length-drop, length-set, length-take-le, drop_more, take-append-drop, set_at, length_push}
 use Rattle.std.proofs.lemmas.List.Edits.{length-remove}

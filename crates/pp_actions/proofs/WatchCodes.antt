@@ -1,7 +1,7 @@
 -- Watched places and their codes.
 use Rattle.std.specs.List.{list_any, position_from, AllPairs}
-use Rattle.std.proofs.Common.{arith, zero, suc, sym, ap, subst, append_assoc, add-one, ◌∙◌, ⊎_elim, ℕ, ◌+◌, ◌-◌, ◌*◌, ◌<◌, ◌==◌, ◌≢◌, All, ◌≤◌, ◌≡◌, ◌||◌, Bool, false, eqb, cond, position, Some, None, get_or, set, List, [], ◌∷◌, ◌++◌, length, map, replicate, refl}
-use Rattle.std.proofs.lemmas.Bool.Decides.{eqb_tells, nat_tests}
+use Rattle.std.proofs.Common.{arith, zero, suc, sym, ap, append_assoc, ◌∙◌, ℕ, ◌+◌, ◌-◌, ◌*◌, ◌<◌, ◌==◌, ◌≢◌, All, ◌≤◌, ◌≡◌, ◌||◌, Bool, false, eqb, cond, position, Some, get_or, set, List, [], ◌∷◌, ◌++◌, length, map, replicate, refl}
+use Rattle.std.proofs.lemmas.Bool.Decides.{nat_tests}
 use Rattle.std.proofs.lemmas.Iterator.Adapters.{position_from-zero}
 use Rattle.std.proofs.lemmas.Bool.{false≢true, eq-eqb}
 use Rattle.std.proofs.lemmas.List.Elements.{All-tail, All-push}

@@ -1,16 +1,16 @@
 -- Places and numbers of write lists.
-use Rattle.std.proofs.Common.{arith, zero, suc, ap, ◌∙◌, sym, append_assoc, ℕ, ◌≡◌, ◌+◌, ◌-◌, ◌<◌, ◌≤◌, false, Option, List, [], ◌∷◌, ◌++◌, drop, take, get_or, length, map, refl}
+use Rattle.std.proofs.Common.{arith, zero, suc, ap, ℕ, ◌≡◌, ◌+◌, ◌-◌, ◌<◌, false, Option, List, [], ◌∷◌, ◌++◌, drop, take, get_or, length, map, refl}
 use Rattle.std.proofs.lemmas.Grind.{common_steps}
-use Rattle.std.proofs.lemmas.List.{append-nil, drop_all, drop_more, take_more}
+use Rattle.std.proofs.lemmas.List.{drop_more, take_more}
 use Rattle.pp_machine.specs.Prelude.{Machine, old_values, number, Writes, places, write_list, write_list-append, lookup, same_place, old_values-append}
 use Rattle.pp_machine.specs.declared.place.Write.{Write}
-use Rattle.pp_machine.specs.declared.place.Place.TheVariants.{ChannelMode, WatchEntry}
+use Rattle.pp_machine.specs.declared.place.Place.TheVariants.{WatchEntry}
 use Rattle.pp_actions.specs.Deadstart.{all_waiting, waiting}
 use Rattle.pp_actions.specs.WatchCodes.{watch_code}
 use Rattle.pp_actions.specs.declared.watched.Watched.{Watched}
 use Rattle.pp_machine.specs.declared.place.Place.{Place}
 use Rattle.pp_actions.specs.RecordLists.{numbers, with_new_numbers}
-use Rattle.pp_actions.specs.WriteLists.{cell_writes, state_writes, entry_writes}
+use Rattle.pp_actions.specs.WriteLists.{cell_writes, entry_writes}
 
 pub length-old_values : (m : Machine) (w : Writes Place) → length (old_values m w) ≡ length w
 length-old_values m [] = refl

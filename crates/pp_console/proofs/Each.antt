@@ -10,15 +10,14 @@ each-more line first (suc count) =
     rw (each-more line (first + 1) count, at, append_assoc)
 
 -- one more line, after others
-pub each-next : (before : List ℕ) (line : ℕ → List ℕ) (first count : ℕ) → (before ++ each line first count) ++ line (first + count) ≡ before ++ each line first (count + 1)
-each-next before line first count =
-    rw (add-one, each-more line first count, append_assoc)
+pub each_next : (line : ℕ → List ℕ) (first count : ℕ) → each line first (count + 1) ≡ each line first count ++ line (first + count)
+each_next line first count = rw (add-one, each-more line first count)
 
 -- one more line, in a range that starts at zero
-pub each-push : (line : ℕ → List ℕ) (count : ℕ) → each line 0 count ++ line count ≡ each line 0 (count + 1)
-each-push line count =
+pub each_push : (line : ℕ → List ℕ) (count : ℕ) → each line 0 (count + 1) ≡ each line 0 count ++ line count
+each_push line count =
     let at : 0 + count ≡ count = omega arith in
-    ap (λ n. each line 0 count ++ line n) (sym at) ∙ each-next [] line 0 count
+    each_next line 0 count ∙ ap (λ n. each line 0 count ++ line n) at
 
 -- the first line, and the others
 pub each-first : (line : ℕ → List ℕ) (first end : ℕ) → first < end → each line first (end - first) ≡ line first ++ each line (first + 1) (end - (first + 1))

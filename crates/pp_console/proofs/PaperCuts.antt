@@ -2,7 +2,7 @@
 use Rattle.std.proofs.Common.{◌≡◌, ◌∙◌, ℕ, ◌-◌, cond, eqb, Bool, true, false, List, [], ◌∷◌, ◌++◌, length, take, drop, refl, sym, ap, append_assoc, None, Some, ◌==◌, map, position, codes}
 use Rattle.std.specs.List.{position_or_len, flat_map}
 use Rattle.std.proofs.lemmas.List.{drop-map, length-map, map-append, take-append-drop, take-map}
-use Rattle.pp_lines.proofs.OpenTexts.{open-first, feed-cut, feed-none, unfinished-text}
+use Rattle.pp_lines.proofs.OpenTexts.{open-first, feed-cut, feed-none, feed-open, unfinished-text}
 use Rattle.pp_lines.specs.Lines.{extend_first, finished, unfinished, last_line}
 use Rattle.pp_console.specs.DisplayCode.{character}
 use Rattle.pp_console.specs.Paper.{marked, lines_of_paper, paper_text}
@@ -32,13 +32,16 @@ first-end : (symbols : List ℕ) → position (λ byte. byte == 10) (map charact
 first-end symbols = rw (ends symbols, length-map) refl
 
 -- a paper that is cut at its first line end
-pub paper-cut : (symbols : List ℕ) (end : ℕ) (line rest : List ℕ) → position is_line_end symbols ≡ Some end → line ≡ take end symbols → rest ≡ drop end symbols →
-    paper_text symbols ≡ marked (codes "|") (map character line) ++ paper_text (take (length rest - 1) (drop 1 rest))
+pub paper-cut : (symbols : List ℕ) (end : ℕ) → position is_line_end symbols ≡ Some end →
+    paper_text symbols ≡ marked (codes "|") (map character (take end symbols)) ++ paper_text (take (length (drop end symbols) - 1) (drop 1 (drop end symbols)))
 unfolding paper_text
-paper-cut symbols end line rest e front back =
-    let cut = feed-cut (map character symbols) end (map character line) (map character rest) (first-end symbols ∙ e) (ap (map character) front ∙ sym (take-map character end symbols)) (ap (map character) back ∙ sym (drop-map character end symbols)) in
-    let later : map character (take (length rest - 1) (drop 1 rest)) ≡ take (length (map character rest) - 1) (drop 1 (map character rest)) = rw (length-map, drop-map character 1 rest, take-map character (length rest - 1) (drop 1 rest)) refl in
-    rw (cut.0, later) (paper-first (map character line) (take (length (map character rest) - 1) (drop 1 (map character rest))) cut.1)
+paper-cut symbols end e =
+    let text = map character symbols in
+    let later = take (length (drop end text) - 1) (drop 1 (drop end text)) in
+    let here : map character (take end symbols) ≡ take end text = sym (take-map character end symbols) in
+    let there : map character (take (length (drop end symbols) - 1) (drop 1 (drop end symbols))) ≡ later = simp (length-map, drop-map, take-map) in
+    let found = first-end symbols ∙ e in
+    rw (here, there) (ap lines_of_paper (feed-cut text end found) ∙ paper-first (take end text) later (feed-open text end found))
 
 -- a paper that has no line end
 pub paper-uncut : (symbols : List ℕ) → position is_line_end symbols ≡ None → paper_text symbols ≡ rest_text symbols
@@ -46,6 +49,9 @@ unfolding paper_text lines_of_paper
 paper-uncut symbols e =
     let none = feed-none (map character symbols) (first-end symbols ∙ e) in
     rw (none, unfinished-text [] (map character symbols) none) refl
+
+-- what a cut at the first line end needs
+pub ruleset paper_cuts = (paper-cut, paper-uncut)
 
 -- the characters of a piece, and those after it
 pub characters-piece : (symbols : List ℕ) (n : ℕ) (piece later text : List ℕ) → piece ≡ take n symbols → later ≡ drop n symbols → text ≡ map character piece →

@@ -127,7 +127,7 @@ fn push_channel(lines: &mut ArrayVec<u8, 160>, machine: &Rig, c: u8)
 }
 
 /// Returns the lines of the twelve channels and the clock.
-#[tactic(auto, unfolding(crate::specs::Dumps::channels_text))]
+#[tactic(auto, unfolding(crate::specs::Dumps::channels_text), using(crate::proofs::Each::each_push))]
 pub fn channel_lines(machine: &Rig) -> ArrayVec<u8, 160>
     ensures { result.items ≡ channels_text machine.now }
 {
@@ -154,7 +154,7 @@ fn push_frame_word(lines: &mut ArrayVec<u8, 432>, machine: &Rig, i: u8)
 }
 
 /// Returns the lines of the sixteen words of the exchange package.
-#[tactic(auto, unfolding(crate::specs::Dumps::frame_text))]
+#[tactic(auto, unfolding(crate::specs::Dumps::frame_text), using(crate::proofs::Each::each_push))]
 pub fn frame_lines(machine: &Rig) -> ArrayVec<u8, 432>
     ensures { result.items ≡ frame_text machine.now }
 {

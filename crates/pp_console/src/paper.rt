@@ -79,6 +79,7 @@ fn line_end(symbols: &[u8]) -> Option<usize>
 }
 
 /// Returns the first line of the paper without its line end, and the symbols after it.
+#[tactic(auto, using(crate::proofs::PaperCuts::paper_cuts))]
 fn next_line(symbols: &[u8]) -> Option<(&[u8], &[u8])>
     ensures cut { MatchOption result (paper_text symbols.now ≡ rest_text symbols.now)
         (λ cut. paper_text symbols.now

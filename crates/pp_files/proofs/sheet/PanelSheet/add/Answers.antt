@@ -1,4 +1,4 @@
-use Rattle.std.proofs.Common.{◌∙◌, ◌≡◌, ◌≤◌, ◌++◌, ◌+◌, refl, ap, length, length-append}
+use Rattle.std.proofs.Common.{◌∙◌, ◌≡◌, ◌++◌, ◌+◌, refl, ap, length-append}
 use Rattle.pp_lines.specs.Words.{words}
 use Rattle.pp_files.specs.Rows.{numbers}
 use Rattle.pp_files.proofs.MoreRows.{panel-more}
