@@ -1,5 +1,5 @@
 -- The start of a script.
-use Rattle.std.proofs.Common.{◌≡◌, ℕ, List, [], take, arith}
+use Rattle.std.proofs.Common.{◌≡◌, ℕ, List, [], arith}
 use Rattle.std.proofs.lemmas.Grind.{common_steps}
 use Rattle.pp_history.specs.SessionValue.{IsAt}
 use Rattle.pp_lines.specs.Output.{Written}

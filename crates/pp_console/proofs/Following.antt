@@ -1,5 +1,5 @@
 -- One more line of a script.
-use Rattle.std.proofs.Common.{◌≡◌, ◌∙◌, ℕ, ◌+◌, List, [], ◌∷◌, ◌++◌, take, refl, sym, ap, arith, append_assoc, Bool, Result, Ok, Err, MatchResult, not}
+use Rattle.std.proofs.Common.{◌≡◌, ℕ, ◌+◌, List, [], ◌∷◌, ◌++◌, take, refl, ap, arith, append_assoc, Bool, Result, Ok, Err, MatchResult, not}
 use Rattle.std.proofs.lemmas.List.Sums.{fold-append}
 use Rattle.pp_console.specs.declared.progress.TheConstants.{KEPT}
 use Rattle.pp_lines.specs.declared.device.Sink.{Ghosts}

@@ -1,5 +1,5 @@
 -- For a line that is too long, a kept prefix is as good as the whole line.
-use Rattle.std.proofs.Common.{◌≡◌, ℕ, ◌<◌, true, List, length, take, refl, arith, nat_lt, Err}
+use Rattle.std.proofs.Common.{◌≡◌, ℕ, ◌<◌, List, length, take, arith, Err}
 use Rattle.std.proofs.lemmas.Bool.Decides.{nat_tests}
 use Rattle.pp_lines.proofs.LongLines.{read-kept}
 use Rattle.pp_command.specs.declared.fault.LineFault.TheVariants.{TooLong}

@@ -1,9 +1,9 @@
 -- The lines of the paper, one after another.
-use Rattle.std.proofs.Common.{◌≡◌, ◌∙◌, ℕ, ◌-◌, cond, eqb, Bool, true, false, List, [], ◌∷◌, ◌++◌, length, take, drop, refl, sym, ap, append_assoc, None, Some, ◌==◌, map, position, codes}
+use Rattle.std.proofs.Common.{◌≡◌, ◌∙◌, ℕ, ◌-◌, List, [], ◌∷◌, ◌++◌, length, take, drop, refl, sym, ap, append_assoc, None, Some, ◌==◌, map, position, codes}
 use Rattle.std.specs.List.{position_or_len, flat_map}
 use Rattle.std.proofs.lemmas.List.{drop-map, length-map, map-append, take-append-drop, take-map}
 use Rattle.pp_lines.proofs.OpenTexts.{open-first, feed-cut, feed-none, feed-open, unfinished-text}
-use Rattle.pp_lines.specs.Lines.{extend_first, finished, unfinished, last_line}
+use Rattle.pp_lines.specs.Lines.{finished, unfinished, last_line}
 use Rattle.pp_console.specs.DisplayCode.{character}
 use Rattle.pp_console.specs.Paper.{marked, lines_of_paper, paper_text}
 use Rattle.pp_console.specs.PaperCuts.{is_line_end, rest_text}

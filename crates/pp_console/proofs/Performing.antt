@@ -1,8 +1,8 @@
 -- The answers to commands, by the results of the session's calls.
-use Rattle.std.proofs.Common.{◌≡◌, ℕ, ◌<◌, ◌≤◌, length, List, [], ◌∷◌, refl, arith, Bool, true, false, ap, sym, ◌∙◌, Some, None, Result, IfOk, nat_lt, not, map}
+use Rattle.std.proofs.Common.{◌≡◌, ℕ, ◌<◌, ◌≤◌, length, List, [], ◌∷◌, refl, arith, Bool, true, false, ap, sym, ◌∙◌, Some, None, Result, IfOk, not, map}
 use Rattle.std.proofs.lemmas.Bool.Decides.{nat_tests}
 use Rattle.std.proofs.lemmas.Result.{IfOk-weaker}
-use Rattle.pp_history.specs.SessionValue.{after_back, after_forward}
+use Rattle.pp_history.specs.SessionValue.{IsAt, after_back, after_forward}
 use Rattle.pp_history.specs.Change.{change}
 use Rattle.pp_machine.specs.Machine.{Machine}
 use Rattle.pp_machine.specs.declared.place.Place.{Place}
@@ -11,7 +11,6 @@ use Rattle.pp_actions.specs.Watches.{watched_place, watches_of}
 use Rattle.pp_console.specs.Dumps.{central_text}
 use Rattle.pp_console.specs.Moves.{back_name, forward_name}
 use Rattle.pp_console.specs.Refusals.{range_text, no_change_text, nothing_watched_text}
-use Rattle.pp_history.specs.SessionValue.{IsAt}
 use Rattle.pp_lines.specs.Device.{Counts}
 use Rattle.pp_lines.specs.Output.{Writes}
 use Rattle.pp_lines.specs.declared.device.Sink.{Ghosts}

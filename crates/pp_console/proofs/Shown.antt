@@ -1,5 +1,5 @@
 -- Texts that end with the text written last.
-use Rattle.std.proofs.Common.{◌≡◌, ◌∙◌, ℕ, List, [], ◌++◌, refl, sym, Result, Ok, Err, append-nil}
+use Rattle.std.proofs.Common.{ℕ, List, [], ◌++◌, sym, Result, Ok, Err, append-nil}
 use Rattle.pp_lines.specs.Output.{Appends, Writes, Written}
 use Rattle.pp_lines.proofs.Writing.{Appends-again, Appends-same, Remains, Remains-fails, front_after}
 

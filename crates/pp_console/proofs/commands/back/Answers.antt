@@ -1,7 +1,6 @@
-use Rattle.std.proofs.Common.{◌∙◌, ap, sym}
 use Rattle.pp_history.specs.SessionValue.{after_back}
-use Rattle.pp_console.specs.Moves.{moved_text, back_name}
-use Rattle.pp_console.specs.Commands.{back_answer, answered}
+use Rattle.pp_console.specs.Moves.{back_name}
+use Rattle.pp_console.specs.Commands.{back_answer}
 use Rattle.pp_console.proofs.Performing.{performs-answered, back-within}
 use Rattle.pp_console.proofs.commands.back.Goals as goal
 

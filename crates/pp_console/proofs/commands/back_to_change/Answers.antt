@@ -1,10 +1,10 @@
-use Rattle.std.proofs.Common.{◌≡◌, ◌<◌, ◌∙◌, ap, arith, sym, refl, length, map}
+use Rattle.std.proofs.Common.{◌<◌, ◌∙◌, ap, arith, refl, length, map}
 use Rattle.std.proofs.lemmas.Bool.Decides.{nat_tests}
 use Rattle.pp_history.specs.SessionValue.{after_back}
 use Rattle.pp_machine.specs.Machine.{Machine}
 use Rattle.pp_actions.specs.Watches.{watched_place, watches_of}
-use Rattle.pp_console.specs.Commands.{change_answer, answered}
-use Rattle.pp_console.specs.Moves.{moved_text, back_name}
+use Rattle.pp_console.specs.Commands.{change_answer}
+use Rattle.pp_console.specs.Moves.{back_name}
 use Rattle.pp_console.specs.Refusals.{no_change_text, nothing_watched_text}
 use Rattle.pp_console.proofs.Performing.{performs-answered, performs-rejected, change-unwatched, change-found, change-none}
 use Rattle.pp_console.proofs.commands.back_to_change.Goals as goal

@@ -1,7 +1,6 @@
-use Rattle.std.proofs.Common.{◌∙◌, ap, sym}
 use Rattle.pp_history.specs.SessionValue.{after_forward}
-use Rattle.pp_console.specs.Moves.{moved_text, forward_name}
-use Rattle.pp_console.specs.Commands.{forward_answer, answered}
+use Rattle.pp_console.specs.Moves.{forward_name}
+use Rattle.pp_console.specs.Commands.{forward_answer}
 use Rattle.pp_console.proofs.Performing.{performs-answered, forward-within}
 use Rattle.pp_console.proofs.commands.forward.Goals as goal
 

@@ -1,4 +1,4 @@
-use Rattle.std.proofs.Common.{◌<◌, ◌++◌, [], length, refl, arith, append-nil}
+use Rattle.std.proofs.Common.{◌++◌, [], refl, arith, append-nil}
 use Rattle.std.proofs.lemmas.Bool.Decides.{nat_tests}
 use Rattle.pp_lines.specs.declared.fault.IoFault.TheVariants.{LineLimit}
 use Rattle.pp_console.specs.ServingSteps.{Interrupts}

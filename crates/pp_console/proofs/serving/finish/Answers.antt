@@ -1,4 +1,4 @@
-use Rattle.std.proofs.Common.{◌∙◌, ◌≡◌, ◌<◌, [], length, arith, inr, append-nil}
+use Rattle.std.proofs.Common.{◌∙◌, [], arith, inr, append-nil}
 use Rattle.std.proofs.lemmas.Bool.Decides.{nat_tests}
 use Rattle.pp_lines.specs.Lines.{finished, unfinished}
 use Rattle.pp_lines.proofs.Limits.{lines-last}
