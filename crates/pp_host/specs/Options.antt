@@ -1,5 +1,5 @@
 -- What the words of the command line ask for.
-use Rattle.std.specs.Prelude.{◌≡◌, ℕ, ◌⊎◌, List, [], Option, Some, None, Result, Ok, Err, option_map}
+use Rattle.std.specs.Prelude.{◌≡◌, ℕ, ◌⊎◌, List, [], Option, Some, None, Result, Ok, Err, codes, option_map}
 use Rattle.std.specs.String.{string_bytes}
 use Rattle.pp_arguments.specs.CommandLine.{IsFaultOf, Text, faults_of, given}
 use Rattle.pp_arguments.specs.Options.{central_of, history_of, printer_of, reader_of}
@@ -10,7 +10,6 @@ use Rattle.pp_machine.specs.declared.central.CentralSize.{CentralSize}
 use Rattle.pp_trouble.specs.Trouble.{of_arguments}
 use Rattle.pp_trouble.specs.declared.trouble.Trouble.{Trouble}
 use Rattle.pp_trouble.specs.declared.trouble.Trouble.TheVariants.{BadArguments, BadChannel}
-use Rattle.std.specs.Prelude.{codes}
 
 pub record Asked : Type 0 where
   pub history : ℕ
