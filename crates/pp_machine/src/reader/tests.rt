@@ -17,7 +17,6 @@ use std::process::Abort;
 use std::test::Fail;
 
 /// Returns a card that begins with the columns 1, 2, 3.
-#[tactic(auto, using(std::proofs::lemmas::Grind::elements))]
 fn card() -> [u16; 80]
     ensures { IsCard result }
 {
