@@ -1,10 +1,10 @@
 -- Marks of places, a Bloom filter with one hash. They show of most undo records that they have none of the places.
-use Rattle.std.specs.Prelude.{ℕ, Bool, true, false, ◌≡◌, ◌||◌, ◌&&◌, List, Option, Some, None, get_or}
+use Rattle.std.specs.Prelude.{ℕ, Bool, true, false, ◌≡◌, ◌%◌, ◌||◌, ◌&&◌, List, Option, Some, None, get_or}
 use Rattle.std.specs.List.{All}
 use Rattle.pp_history.specs.declared.marks.Marks.{Marks}
 
 abbrev pub is_set : Marks → ℕ → Bool
-is_set m i = get_or m.marks i false
+is_set m i = get_or m.marks (i % 1024) false
 
 abbrev pub is_marked : Marks → Option ℕ → Bool
 is_marked m None = false

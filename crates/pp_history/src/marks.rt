@@ -10,7 +10,8 @@ use crate::reversible::Reversible;
 /// not given may share its mark with one that was.
 #[derive(Drop)]
 pub struct Marks {
-    marks: [bool; 256],
+    /// A flag for each mark, modulo 1024 (decimal).
+    marks: [bool; 1024],
     /// Whether a place was given.
     pub(crate) has_places: bool,
     /// Whether one of the places has no mark. Then every undo record is searched.
@@ -23,7 +24,7 @@ impl Marks {
         ensures { AreCovered T.mark_of result places.now }
     {
         let mut marks = Marks {
-            marks: [false; 256],
+            marks: [false; 1024],
             has_places: false,
             has_unmarked: false,
         };
@@ -34,13 +35,13 @@ impl Marks {
     }
 
     /// Sets a mark, or notes that a place has none.
-    fn add(&mut self, mark: Option<u8>)
+    fn add(&mut self, mark: Option<u16>)
         ensures covers { is_covered self.new mark ≡ true }
         ensures keeps_covered { (m : Option ℕ) → is_covered self.old m ≡ true → is_covered self.new m ≡ true }
     {
         self.has_places = true;
         match mark {
-            Some(i) => self.marks[usize::from(i)] = true,
+            Some(i) => self.marks[usize::from(i % 1024)] = true,
             None => self.has_unmarked = true,
         }
     }
@@ -55,9 +56,9 @@ impl Marks {
 
     /// Returns whether one of the places has the mark.
     #[inline(always)]
-    pub fn is_set(&self, mark: u8) -> bool
+    pub fn is_set(&self, mark: u16) -> bool
         ensures { result ≡ spec.is_set self.now mark }
     {
-        self.marks[usize::from(mark)]
+        self.marks[usize::from(mark % 1024)]
     }
 }

@@ -54,14 +54,14 @@ module _ (m : Marks) (n : ℕ) where
   cell_unmarked : (a i : ℕ) → i ≤ 4 → is_set m (cell_mark n a) ≡ false → is_set m (cell_mark n (a + 4)) ≡ false →
       is_set m (cell_mark n (cell_after a i)) ≡ false
   cell_unmarked a i near first last =
-      let wrapped : cell_after a i / 8 % 16 ≡ (a + i) / 8 % 16 = omega arith in
-      let mark = λ (block : ℕ). is_set m (n % 16 * 16 + block % 16) in
+      let wrapped : cell_after a i / 8 % 64 ≡ (a + i) / 8 % 64 = omega arith in
+      let mark = λ (block : ℕ). is_set m (n * 64 + block % 64) in
       let unset : mark ((a + i) / 8) ≡ false =
       elim (cases_lt (a / 8) ((a + i) / 8)) [
         | inl behind ↦ (let same : (a + i) / 8 ≡ (a + 4) / 8 = omega (arith, near, behind) in ap mark same ∙ last)
         | inr within ↦ (let same : (a + i) / 8 ≡ a / 8 = omega (arith, near, within) in ap mark same ∙ first)
       ] in
-      ap (λ block. is_set m (n % 16 * 16 + block)) wrapped ∙ unset
+      ap (λ block. is_set m (n * 64 + block)) wrapped ∙ unset
 
   pub cells_unmarked : (a : ℕ) (parts : List ℕ) → is_set m (cell_mark n a) ≡ false → is_set m (cell_mark n (a + 4)) ≡ false →
       AreUnmarked m n (five_cells a parts)
@@ -73,14 +73,14 @@ module _ (m : Marks) (n : ℕ) where
   word_unmarked : (a i : ℕ) → i ≤ 15 → is_set m (central_mark a) ≡ false → is_set m (central_mark (a + 15)) ≡ false →
       is_set m (central_mark (central_after a i)) ≡ false
   word_unmarked a i near first last =
-      let wrapped : central_after a i / 16 % 64 ≡ (a + i) / 16 % 64 = omega arith in
-      let mark = λ (block : ℕ). is_set m (192 + block % 64) in
+      let wrapped : central_after a i / 16 % 256 ≡ (a + i) / 16 % 256 = omega arith in
+      let mark = λ (block : ℕ). is_set m (768 + block % 256) in
       let unset : mark ((a + i) / 16) ≡ false =
       elim (cases_lt (a / 16) ((a + i) / 16)) [
         | inl behind ↦ (let same : (a + i) / 16 ≡ (a + 15) / 16 = omega (arith, near, behind) in ap mark same ∙ last)
         | inr within ↦ (let same : (a + i) / 16 ≡ a / 16 = omega (arith, near, within) in ap mark same ∙ first)
       ] in
-      ap (λ block. is_set m (192 + block)) wrapped ∙ unset
+      ap (λ block. is_set m (768 + block)) wrapped ∙ unset
 
   if_written : (b : Bool) (x : PpPlace) (w : ℕ) (ws : Writes PpPlace) → is_marked m (mark_of (pp_place n x)) ≡ false → AreUnmarked m n ws →
       AreUnmarked m n (if b then (x, w) ∷ ws else ws)

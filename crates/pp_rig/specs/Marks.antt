@@ -9,14 +9,14 @@ use Rattle.pp_step.specs.View.{PpPlace, pp_place}
 
 -- by processor and block of eight cells
 abbrev pub cell_mark : ℕ → ℕ → ℕ
-cell_mark n a = n % 16 * 16 + a / 8 % 16
+cell_mark n a = n * 64 + a / 8 % 64
 
 -- by block of sixteen words
 abbrev pub central_mark : ℕ → ℕ
-central_mark a = 192 + a / 16 % 64
+central_mark a = 768 + a / 16 % 256
 
 abbrev pub channel_mark : ℕ → ℕ
-channel_mark c = 176 + c % 16
+channel_mark c = 640 + c
 
 -- the number of the mark of a cell, a central word or a channel's register; several places may share a mark
 abbrev pub mark_of : Place → Option ℕ

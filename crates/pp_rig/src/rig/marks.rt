@@ -15,33 +15,33 @@ use pp_history::Marks;
 use pp_machine::Place;
 use pp_step::{PpRecord, StepRecord, Target};
 
-/// Returns the number of the mark of a cell: 0 to 159 (decimal), by processor and block of eight cells.
+/// Returns the number of the mark of a cell: 0 to 639 (decimal), by processor and block of eight cells.
 #[inline(always)]
-fn cell_mark(pp: u8, a: u64) -> u8
+fn cell_mark(pp: u8, a: u64) -> u16
     ensures { result ≡ spec.cell_mark pp a }
 {
-    pp % 16 * 16 + (a / 8 % 16) as u8
+    u16::from(pp) * 64 + (a / 8 % 64) as u16
 }
 
-/// Returns the number of the mark of a central word: 192 to 255 (decimal), by block of sixteen words.
+/// Returns the number of the mark of a central word: 768 to 1023 (decimal), by block of sixteen words.
 #[inline(always)]
-fn central_mark(a: u64) -> u8
+fn central_mark(a: u64) -> u16
     ensures { result ≡ spec.central_mark a }
 {
-    192 + (a / 16 % 64) as u8
+    768 + (a / 16 % 256) as u16
 }
 
-/// Returns the number of the mark of a channel's register: 176 to 191 (decimal).
+/// Returns the number of the mark of a channel's register: 640 to 651 (decimal).
 #[inline(always)]
-fn channel_mark(c: u8) -> u8
+fn channel_mark(c: u8) -> u16
     ensures { result ≡ spec.channel_mark c }
 {
-    176 + c % 16
+    640 + u16::from(c)
 }
 
 /// Returns the number of the mark of a place, or `None` if places of its kind have none: registers of processors and the
 /// clock are in nearly every undo record.
-pub(super) fn mark_of(place: &Place) -> Option<u8>
+pub(super) fn mark_of(place: &Place) -> Option<u16>
     ensures { IfSome result (λ mark. mark_of place.now ≡ Some mark) }
 {
     match *place {
