@@ -33,16 +33,14 @@ const LOAD: [Exchange; 6] = [
     ),
 ];
 
+const HIT: &[u8] = b"TURNS 25 SLOT 01\nHIT M 00 0050 0000 0005\n";
+
 /// A run that stops at a change, which is undone.
 const CHANGE: [Exchange; 8] = [
     (b"SET M 0 100 1405 2400 3450\n", b"OK\n", 1),
     (b"SET P 0 100\n", b"OK\n", 2),
     (b"WATCH M 0 50\n", b"OK\n", 3),
-    (
-        b"STEP 1000\n",
-        b"TURNS 25 SLOT 01\nHIT M 00 0050 0000 0005\n",
-        24,
-    ),
+    (b"STEP 1000\n", HIT, 24),
     (b"BACK W\n", b"BACK 1 SLOT 00\n", 23),
     (b"DUMP M 0 50 50\n", b"0050 0000\n", 23),
     (b"BACK W\n", b"ERR 10 NO CHANGE KEPT\n", 23),
@@ -175,19 +173,6 @@ fn script_fails_at_each_take(
     source_stops(rt, alloc, &mut source, exchanges, Ok(summary))
 }
 
-/// Makes the source fail at each of its calls in turn, with pieces of the given length.
-fn fails_at_each_take(
-    rt: &impl Abort,
-    alloc: Global,
-    exchanges: &[Exchange],
-    piece: usize,
-) -> Result<(), Fail>
-    requires { 0 < piece }
-{
-    let script = lines_of(alloc, exchanges)?;
-    script_fails_at_each_take(rt, alloc, exchanges, script.as_slice(), piece)
-}
-
 /// Makes the sink fail at one call, or at none, and compares what is written before.
 fn sink_stops(
     rt: &impl Abort,
@@ -248,46 +233,52 @@ fn script_fails_at_each_put(
     sink_stops(rt, alloc, script, &mut out, summary, text.as_slice(), kept)
 }
 
-/// Makes the sink fail at each of its calls in turn. Each call takes at most `piece` bytes.
-fn fails_at_each_put(
+const SCRIPTS: [&[Exchange]; 3] = [&LOAD, &CHANGE, &REFUSED];
+
+/// The side of a program that fails.
+#[derive(Clone, Copy)]
+enum Side {
+    Source,
+    Sink,
+}
+
+/// Makes a side fail at each of its calls in turn. Each call takes at most `piece` bytes.
+fn fails_at_each_call(
     rt: &impl Abort,
     alloc: Global,
     exchanges: &[Exchange],
+    side: Side,
     piece: usize,
 ) -> Result<(), Fail>
     requires { 0 < piece }
 {
-    let script = lines_of(alloc, exchanges)?;
-    let mut text = Vec::new(alloc);
-    script_fails_at_each_put(rt, alloc, exchanges, script.as_slice(), piece, &mut text)
+    let lines = lines_of(alloc, exchanges)?;
+    let script = lines.as_slice();
+    match side {
+        Side::Source => script_fails_at_each_take(rt, alloc, exchanges, script, piece),
+        Side::Sink => {
+            let mut text = Vec::new(alloc);
+            script_fails_at_each_put(rt, alloc, exchanges, script, piece, &mut text)
+        }
+    }
 }
 
-const SCRIPTS: [&[Exchange]; 3] = [&LOAD, &CHANGE, &REFUSED];
-
-fn source_fails(rt: &impl Abort, alloc: Global, exchanges: &[Exchange]) -> Result<(), Fail> {
-    fails_at_each_take(rt, alloc, exchanges, 1)?;
-    fails_at_each_take(rt, alloc, exchanges, 4096)
+fn each_script_fails(rt: &impl Abort, alloc: Global, side: Side) -> Result<(), Fail> {
+    for i in 0..SCRIPTS.len() {
+        fails_at_each_call(rt, alloc, SCRIPTS[i], side, 1)?;
+        fails_at_each_call(rt, alloc, SCRIPTS[i], side, 4096)?;
+    }
+    Ok(())
 }
 
 #[test]
 fn source_fails_at_each_call(rt: HostRuntime) -> Result<(), Fail> {
-    for i in 0..SCRIPTS.len() {
-        source_fails(&rt, rt.alloc(), SCRIPTS[i])?;
-    }
-    Ok(())
-}
-
-fn sink_fails(rt: &impl Abort, alloc: Global, exchanges: &[Exchange]) -> Result<(), Fail> {
-    fails_at_each_put(rt, alloc, exchanges, 1)?;
-    fails_at_each_put(rt, alloc, exchanges, 4096)
+    each_script_fails(&rt, rt.alloc(), Side::Source)
 }
 
 #[test]
 fn sink_fails_at_each_call(rt: HostRuntime) -> Result<(), Fail> {
-    for i in 0..SCRIPTS.len() {
-        sink_fails(&rt, rt.alloc(), SCRIPTS[i])?;
-    }
-    Ok(())
+    each_script_fails(&rt, rt.alloc(), Side::Sink)
 }
 
 /// The call that fails, counted from 1.
@@ -397,11 +388,6 @@ const UNFINISHED: [Part; 3] = [
     },
 ];
 
-#[test]
-fn unfinished_line_waits_for_the_end(rt: HostRuntime) -> Result<(), Fail> {
-    parts_end(&rt, rt.alloc(), &UNFINISHED)
-}
-
 /// A command is performed even if its answer can't be written.
 const UNANSWERED: [Part; 2] = [
     Part {
@@ -421,6 +407,11 @@ const UNANSWERED: [Part; 2] = [
         a: 7,
     },
 ];
+
+#[test]
+fn unfinished_line_waits_for_the_end(rt: HostRuntime) -> Result<(), Fail> {
+    parts_end(&rt, rt.alloc(), &UNFINISHED)
+}
 
 #[test]
 fn command_stands_without_its_answer(rt: HostRuntime) -> Result<(), Fail> {
