@@ -15,56 +15,9 @@ use super::{Rig, RigRecord, ShortTurn, TurnRecord, TurnRest};
 use pp_actions::Action;
 use pp_history::Tails;
 use pp_machine::{AllRecords, Devices};
-use pp_step::{PpRecord, StepRecord};
+use pp_step::{PpRecord, StepRecord, step_into, step_short, undo_by, undo_short};
 
 impl Rig {
-    fn step_processor(&mut self, back: &mut PpRecord)
-        ensures { IsSlotStep self.old self.new back.new }
-    {
-        self.processors[self.slot as usize].step(
-            &mut self.channels,
-            &mut self.central,
-            &mut self.frame,
-            back,
-        );
-    }
-
-    #[inline(always)]
-    fn step_processor_short(&mut self, back: &mut StepRecord) -> bool
-        ensures step { IsTrue result → IsSlotStep self.old self.new (PpRecord.Step back.new) }
-        ensures unchanged { result ≡ false → self.new ≡ self.old }
-        ensures is_exchange { result ≡ false → IsExchange (pp_of self.old.slot self.old) }
-    {
-        self.processors[self.slot as usize].step_short(
-            &mut self.channels,
-            &mut self.central,
-            &self.frame,
-            back,
-        )
-    }
-
-    fn undo_processor(&mut self, slot: u8, back: &PpRecord)
-        requires slot { slot < 10 }
-        requires fits { FitsPp self.old.setup.central_words back.now }
-        ensures { self.new ≡ over self.old (renamed (pp_place slot) (pp_pairs back.now)) }
-    {
-        self.processors[slot as usize].undo(
-            back,
-            &mut self.channels,
-            &mut self.central,
-            &mut self.frame,
-        );
-    }
-
-    #[inline(always)]
-    fn undo_processor_short(&mut self, slot: u8, back: &StepRecord)
-        requires slot { slot < 10 }
-        requires fits { FitsPp self.old.setup.central_words (PpRecord.Step back.now) }
-        ensures { self.new ≡ over self.old (renamed (pp_place slot) (pp_pairs (PpRecord.Step back.now))) }
-    {
-        self.processors[slot as usize].undo_short(back, &mut self.channels, &mut self.central);
-    }
-
     /// Steps the devices. This is a separate function because in most turns no channel of a device is active.
     #[inline(never)]
     fn step_called_devices(&mut self, back: &mut TurnRest)
@@ -170,7 +123,15 @@ impl Rig {
     pub(super) fn turn(&mut self, back: &mut TurnRecord)
         ensures { IsTurned self.old self.new back.new }
     {
-        self.step_processor(&mut back.pp);
+        let processor = &mut self.processors[self.slot as usize];
+        step_into(
+            &mut processor.pp,
+            &mut processor.memory,
+            &mut self.channels,
+            &mut self.central,
+            &mut self.frame,
+            &mut back.pp,
+        );
         self.finish_turn(&mut back.rest);
     }
 
@@ -182,11 +143,19 @@ impl Rig {
         ensures unchanged { result ≡ false → self.new ≡ self.old }
         ensures is_exchange { result ≡ false → IsExchange (pp_of self.old.slot self.old) }
     {
-        if !self.step_processor_short(&mut back.pp) {
-            return false;
+        let processor = &mut self.processors[self.slot as usize];
+        let is_done = step_short(
+            &mut processor.pp,
+            &mut processor.memory,
+            &mut self.channels,
+            &mut self.central,
+            &self.frame,
+            &mut back.pp,
+        );
+        if is_done {
+            self.finish_turn(&mut back.rest);
         }
-        self.finish_turn(&mut back.rest);
-        true
+        is_done
     }
 
     /// Performs one turn of the barrel and keeps it: in `head`, or in a tail if the processor makes an exchange.
@@ -233,7 +202,15 @@ impl Rig {
         ensures { self.new ≡ over self.old (turn_pairs back.now) }
     {
         self.undo_rest(&back.rest);
-        self.undo_processor(back.rest.slot, &back.pp);
+        let processor = &mut self.processors[back.rest.slot as usize];
+        undo_by(
+            &back.pp,
+            &mut processor.pp,
+            &mut processor.memory,
+            &mut self.channels,
+            &mut self.central,
+            &mut self.frame,
+        );
     }
 
     #[inline(always)]
@@ -243,6 +220,13 @@ impl Rig {
     {
         let slot = back.rest.slot;
         self.undo_rest(&back.rest);
-        self.undo_processor_short(slot, &back.pp);
+        let processor = &mut self.processors[slot as usize];
+        undo_short(
+            &back.pp,
+            &mut processor.pp,
+            &mut processor.memory,
+            &mut self.channels,
+            &mut self.central,
+        );
     }
 }

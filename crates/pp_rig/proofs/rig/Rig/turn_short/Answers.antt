@@ -1,8 +1,18 @@
-use Rattle.std.proofs.Common.{refl}
-use Rattle.pp_rig.proofs.Stepped.{turned}
+use Rattle.pp_step.specs.declared.record.PpRecord.TheVariants.{Step}
+use Rattle.pp_rig.specs.RigView.{machine_of}
+use Rattle.pp_rig.proofs.Stepped.{IsMachine-short, slot-stepped, turned}
 use Rattle.pp_rig.proofs.rig.Rig.turn_short.Goals as goal
 
-pub returns-clause-turns : goal.returns-clause-turns
-returns-clause-turns c = λ done.
+pub invariant_of-self : goal.invariant_of-self
+invariant_of-self c =
+    let read = rw (← c.processor.view_is) at c.index_mut-processor.ensures.value in
+    let step = c.step_short-is_done.ensures in
+    IsMachine-short (machine_of c.self.inside) _ _ (Step c.step_short-is_done.new.back) c.self.invariant read c.step_short-is_done.result step.step step.unchanged
+
+pub returns-then-is_done-clause-turns : goal.returns-then-is_done-clause-turns
+returns-then-is_done-clause-turns c = λ done.
+    let m = machine_of c.self.inside in
+    let read = rw (← c.processor.view_is) at c.index_mut-processor.ensures.value in
     let rest = c.finish_turn.ensures in
-    turned _ c.step_processor_short.new.self _ _ (c.if-not-step_processor_short.ensures.step refl) rest.performed rest.fits rest.slot rest.setup rest.machine
+    rw (← c.self.view_is) (turned m _ _ _ (slot-stepped m _ _ _ c.self.invariant read (c.step_short-is_done.ensures.step done))
+    rest.performed rest.fits rest.slot rest.setup rest.machine)
