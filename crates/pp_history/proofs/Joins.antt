@@ -140,15 +140,7 @@ module _ {A R H : Type 0} (unpacked : H → A × R) where
     put_value = rw (put_records, put_length, sub-one) refl
 
     pub put_log : IsLog unpacked (others ++ head ∷ []) tails'.ring undone n' 0
-    put_log = record {
-      some_room = rw put_length log.some_room;
-      bounded = rw put_length log.bounded;
-      room_for_tails = kept_capacity head action back tails tails' kept ∙ log.room_for_tails ∙ sym put_length;
-      room_for_undone = log.room_for_undone ∙ sym put_length;
-      full = rw put_length (omega (arith, more));
-      ahead = refl;
-      kept = rw put_records (omega (arith, more, log.kept, log.full, length-take (length others) (kept_in unpacked (take n (reverse (oldest ∷ others))) tails.ring.items)));
-    }
+    put_log = grind (arith, put_length, put_records, kept_capacity head action back tails tails' kept, length-take)
 
   -- a log whose newest action was undone: its head is now the first
   module _ (heads others : List (Option H)) (head : Option H) (is : heads ≡ others ++ head ∷ []) (tails tails' : Tails A R) (undone undone' : Buffer A) (n m : ℕ)
@@ -175,15 +167,7 @@ module _ {A R H : Type 0} (unpacked : H → A × R) where
     back_value = rw (back_records, back_ahead, all) refl
 
     pub back_log : IsLog unpacked (head ∷ others) tails'.ring undone' (n - 1) (m + 1)
-    back_log = record {
-      some_room = rw (← all) log.some_room;
-      bounded = rw (← all) log.bounded;
-      room_for_tails = ap (λ ring. ring.capacity) behind ∙ log.room_for_tails ∙ all;
-      room_for_undone = next_capacity head newest.item.0 undone undone' next ∙ log.room_for_undone ∙ all;
-      full = omega (arith, log.full, all, some);
-      ahead = rw back_ahead (omega (arith, log.ahead));
-      kept = rw back_records (omega (arith, log.kept, some, length-drop 1 (kept_in unpacked (take n (reverse heads)) tails.ring.items)));
-    }
+    back_log = grind (arith, all, back_ahead, back_records, next_capacity head newest.item.0 undone undone' next, length-drop)
 
   -- the next action to perform again
   pub record NextAt (ahead : ℕ) (head : Option H) (others : List (Option H)) (undone : List A) : Type 0 where
@@ -226,12 +210,4 @@ module _ {A R H : Type 0} (unpacked : H → A × R) where
     again_value = rw (again_records, again_ahead, again_all) refl
 
     pub again_log : IsLog unpacked (others ++ head' ∷ []) tails'.ring undone' (n + 1) (ahead - 1)
-    again_log = record {
-      some_room = rw again_all log.some_room;
-      bounded = rw again_all log.bounded;
-      room_for_tails = kept_capacity head' action back tails tails' kept ∙ log.room_for_tails ∙ sym again_all;
-      room_for_undone = rw (behind, again_all) log.room_for_undone;
-      full = omega (arith, log.full, again_all, again_few.0);
-      ahead = rw again_ahead (omega (arith, log.ahead, again_few.0, length-drop 1 (ahead_in unpacked (take ahead (head ∷ others)) undone.items)));
-      kept = rw again_records (omega (arith, log.kept));
-    }
+    again_log = grind (arith, again_all, again_few, again_ahead, again_records, kept_capacity head' action back tails tails' kept, length-drop)
