@@ -19,11 +19,6 @@ loop-step-preserved g c =
       ahead = c.loop-step.invariant.ahead;
     }
 
-pub invariant_of-self : goal.invariant_of-self
-invariant_of-self g c =
-    let last : c.loop-step._step ≡ c.args.n = omega arith in
-    rw (← last, c.loop-step.invariant.kept, c.loop-step.invariant.ahead) c.loop-step.invariant.run.log
-
 pub returns : goal.returns
 returns g c = λ v at.
     let last : c.loop-step._step ≡ c.args.n = omega arith in
