@@ -96,8 +96,8 @@ module _ {A R H : Type 0} (unpacked : H → A × R) where
   back_at (suc n) [] = tt
   back_at (suc n) (tail ∷ tails) = back_at n tails
 
-  pub back_out : (n : ℕ) (head : Option H) (tails : List (Tail A R)) (result : Option R) → head ≡ None → option_and_then (λ (tail : Tail A R). tail.back) (slice_get tails n) ≡ result → IfSome (first_of unpacked in_tail head (drop n tails)) (λ entry. result ≡ Some (entry.1))
-  back_out n head tails result none is = rw (none, ← is) (back_at n tails)
+  pub back_out : (n : ℕ) (head : Option H) (tails : List (Tail A R)) {found : Option (Tail A R)} {result : Option R} → head ≡ None → found ≡ slice_get tails n → option_and_then (λ (tail : Tail A R). tail.back) found ≡ result → IfSome (first_of unpacked in_tail head (drop n tails)) (λ entry. result ≡ Some (entry.1))
+  back_out n head tails none at is = rw (none, ← is, at) (back_at n tails)
 
   kept_capacity : (head : Option H) (action : A) (back : R) (old new : Tails A R) → IsKept unpacked head action back old new → new.ring.capacity ≡ old.ring.capacity
   kept_capacity (Some head) action back old new kept = cc
