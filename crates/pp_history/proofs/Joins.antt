@@ -19,8 +19,7 @@ pub take-one : {X : Type 0} (n : ℕ) (xs : List X) (x : X) → slice_get xs n �
 take-one n xs x found = take-suc xs n x (slice_get_within xs n x found) ∙ ap (λ z. take n xs ++ z ∷ []) (get_or_from_slice_get xs n x x found)
 
 first_take : {X : Type 0} (n : ℕ) (first : Option X) (later : List X) → with_first first (take n later) ≡ take (suc n) (with_first first later)
-first_take n None later = refl
-first_take n first later = refl
+first_take n first later = grind arith
 
 module _ {H B X : Type 0} (in_head : H → X) (in_other : B → Option X) where
   -- what belongs to the first n heads
@@ -46,8 +45,7 @@ module _ {H B X : Type 0} (in_head : H → X) (in_other : B → Option X) where
     pub split : joined in_head in_other (drop n heads) others ≡ item ∷ joined in_head in_other (drop (n + 1) heads) (left_by head others)
 
   with-some : (first : Option X) (later : List X) → 0 < length (with_first first later) → (item : X) × (first ≡ Some item) × (with_first first later ≡ item ∷ later)
-  with-some None later some = absurd (omega arith)
-  with-some (Some item) later some = (item, refl, refl)
+  with-some first later some = grind arith
 
   pub item-at : (n : ℕ) (heads : List (Option H)) (others : List B) (head : Option H) → n + length (joined in_head in_other (drop n heads) others) ≡ length heads → slice_get heads n ≡ Some head → ItemAt n heads others head
   item-at n heads others head kept found =
@@ -77,9 +75,7 @@ behind_newest : {X : Type 0} (n : ℕ) (head : X) (others : List X) → 0 < n �
 behind_newest n head others some at_most = rw (reverse-append others (head ∷ []), reverse-first head others) (grind (arith, common_steps, length-reverse others))
 
 back-both : {A R : Type 0} (action : Option A) (back : Option R) → IfSome (both action back) (λ entry. back ≡ Some (entry.1))
-back-both None back = tt
-back-both (Some action) None = tt
-back-both (Some action) (Some back) = refl
+back-both action back = grind arith
 
 module _ {A R H : Type 0} (unpacked : H → A × R) where
   -- the undo record of the newest head is handed out
@@ -100,8 +96,7 @@ module _ {A R H : Type 0} (unpacked : H → A × R) where
   back_out n head tails none at is = rw (none, ← is, at) (back_at n tails)
 
   kept_capacity : (head : Option H) (action : A) (back : R) (old new : Tails A R) → IsKept unpacked head action back old new → new.ring.capacity ≡ old.ring.capacity
-  kept_capacity (Some head) action back old new kept = cc
-  kept_capacity None action back old new kept = cc
+  kept_capacity head action back old new kept = grind arith
 
   -- one more kept action
   kept_more : (head : Option H) (action : A) (back : R) (old new : Tails A R) (older : List (Option H)) → IsKept unpacked head action back old new → length older < old.ring.capacity → kept_in unpacked (head ∷ older) new.ring.items ≡ (action, back) ∷ kept_in unpacked older old.ring.items
@@ -117,8 +112,7 @@ module _ {A R H : Type 0} (unpacked : H → A × R) where
       rw (next, some) (ap (λ actions. entry.0 ∷ actions) (joined_enough (λ head. (unpacked head).0) Some (old.capacity - 1) later old.items (omega arith)))
 
   next_capacity : (head : Option H) (action : A) (old new : Buffer A) → IsNext unpacked head action old new → new.capacity ≡ old.capacity
-  next_capacity None action old new next = ap (λ ring. ring.capacity) next
-  next_capacity head action old new next = ap (λ ring. ring.capacity) next
+  next_capacity head action old new next = grind arith
 
   -- a log with one more kept action, and none ahead: its head is in the slot of the oldest one
   module _ (oldest head : Option H) (others : List (Option H)) (tails tails' : Tails A R) (undone : Buffer A) (n n' ahead : ℕ) (action : A) (back : R)

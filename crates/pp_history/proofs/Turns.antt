@@ -1,12 +1,12 @@
 -- A log in slots with one more action or one fewer, and a run of such steps.
-use Rattle.std.proofs.Common.{◌≡◌, ℕ, ◌+◌, ◌-◌, ◌<◌, ◌≤◌, List, [], ◌∷◌, ◌++◌, Option, Some, None, IsSomeAnd, suc, min, length, take, drop, set, get_or, reverse, slice_get, refl, sym, ap, subst, ◌∙◌, arith, length-take, length-set}
+use Rattle.std.proofs.Common.{◌≡◌, ℕ, ◌+◌, ◌-◌, ◌<◌, ◌≤◌, List, [], ◌∷◌, Option, Some, None, IsSomeAnd, suc, min, length, take, drop, set, get_or, reverse, slice_get, refl, sym, ap, subst, ◌∙◌, arith, length-take, length-set}
 use Rattle.std.proofs.lemmas.List.{length-reverse}
 use Rattle.std.proofs.lemmas.Option.{slice_get_read}
 use Rattle.circular_buffer.specs.Buffer.{Buffer, buffer}
 use Rattle.pp_history.specs.Contents.{Contents}
-use Rattle.pp_history.specs.Joining.{IsActed, IsLog, IsNext, first_of, left_by, kept_in, ahead_in, log_value}
+use Rattle.pp_history.specs.Joining.{IsActed, IsLog, IsNext, first_of, left_by, ahead_in, log_value}
 use Rattle.pp_history.specs.LogValue.{LogValue, log_of}
-use Rattle.pp_history.specs.Parts.{IsSession, contents}
+use Rattle.pp_history.specs.Parts.{contents}
 use Rattle.pp_history.specs.SessionValue.{SessionValue, AdmitsInTurn, IsAt, Moves, after_back, after_forward}
 use Rattle.pp_history.specs.Slots.{IsEnd, IsKeptSlot, IsNextSlot, turned}
 use Rattle.pp_history.specs.Tails.{IsKept, in_tail}
