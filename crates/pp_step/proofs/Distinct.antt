@@ -81,5 +81,5 @@ step-once s size =
     (effect-once (instruction_at s.p s.cells).code (instruction_at s.p s.cells) s size)
     (block-once (code_of (s.phase / 0o100)) (s.phase % 0o100) s)
 
-pub step-each-once : (s : PpView) → length s.frame ≡ 16 → AllPairs (λ one other. one ≢ other) (places (pp_writes s))
-step-each-once s size = each-once same_place self (pp_writes s) (step-once s size).holds
+pub step_each_once : (s : PpView) → length s.frame ≡ 16 → AllPairs (λ one other. one ≢ other) (places (pp_writes s))
+step_each_once s size = each-once same_place self (pp_writes s) (step-once s size).holds

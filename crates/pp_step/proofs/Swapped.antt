@@ -36,14 +36,15 @@ stored-at a k (suc j) words (w ∷ ws) at_most below within =
     ∙ ap (λ n. slice_index (stored_over a (k + 1) words ws) (central_after a n)) next
     ∙ later
 
-pub frame-exchange : (s : PpView) (next i : ℕ) → length s.frame ≡ 16 → i < 16 → number (over s (exchange next s.a s.central s.frame)) (FrameWord i) ≡ frame_word i (number s (Central (central_after s.a i)))
-frame-exchange s next i size below =
-    ap (λ v. number v (FrameWord i)) (over-swap s next s.a (loaded s.a s.central) s.frame (size ∙ sym (length-loaded s.a s.central)))
+-- the frame after an exchange, whatever P becomes
+pub frame_exchange : (s : PpView) (i : ℕ) → length s.frame ≡ 16 → i < 16 → number (over s (exchange 0 s.a s.central s.frame)) (FrameWord i) ≡ frame_word i (number s (Central (central_after s.a i)))
+frame_exchange s i size below =
+    ap (λ v. number v (FrameWord i)) (over-swap s 0 s.a (loaded s.a s.central) s.frame (size ∙ sym (length-loaded s.a s.central)))
     ∙ loaded-at s.a s.central i below
 
-pub central-exchange : (s : PpView) (next i : ℕ) → length s.frame ≡ 16 → i < 16 → central_after s.a i < length s.central → number (over s (exchange next s.a s.central s.frame)) (Central (central_after s.a i)) ≡ number s (FrameWord i)
-central-exchange s next i size below within =
+pub central_exchange : (s : PpView) (i : ℕ) → length s.frame ≡ 16 → i < 16 → central_after s.a i < length s.central → number (over s (exchange 0 s.a s.central s.frame)) (Central (central_after s.a i)) ≡ number s (FrameWord i)
+central_exchange s i size below within =
     let here : 0 + i ≡ i = zero-add i in
     let at = stored-at s.a 0 i s.central s.frame (omega (arith, size)) (omega (arith, size)) (subst (λ n. central_after s.a n < length s.central) (sym here) within) in
-    ap (λ v. number v (Central (central_after s.a i))) (over-swap s next s.a (loaded s.a s.central) s.frame (size ∙ sym (length-loaded s.a s.central)))
+    ap (λ v. number v (Central (central_after s.a i))) (over-swap s 0 s.a (loaded s.a s.central) s.frame (size ∙ sym (length-loaded s.a s.central)))
     ∙ subst (λ n. slice_index (stored_over s.a 0 s.central s.frame) (central_after s.a n) ≡ slice_index s.frame i) here at
