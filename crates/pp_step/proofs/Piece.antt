@@ -1,5 +1,7 @@
 -- Sixteen central words that are one piece of the memory.
 use Rattle.std.proofs.Common.{ℕ, suc, List, [], ◌∷◌, ◌++◌, ◌+◌, ◌<◌, ◌≤◌, ◌≡◌, take, drop, length, slice_index, slice_set, ap, sym, ◌∙◌, add-zero, arith}
+use Rattle.std.proofs.lemmas.Bool.Decides.{nat_tests}
+use Rattle.std.proofs.lemmas.Grind.{common_steps}
 use Rattle.std.proofs.lemmas.List.{append_assoc, get_or-drop, get_or-take, length-take-le, set_at, take-append-drop, take_more}
 use Rattle.pp_step.specs.Inner.{stored_over}
 use Rattle.pp_step.specs.Words.{central_after}
@@ -29,3 +31,6 @@ pub stored_over-sixteen : (a : ℕ) (words ws : List ℕ) → length ws ≡ 16 �
 stored_over-sixteen a words ws size fits at_most =
     stored_over-piece a 0 words ws (omega (arith, fits, size)) at_most
     ∙ (ap (λ n. take n words ++ (ws ++ drop (n + length ws) words)) (add-zero a) ∙ ap (λ n. take a words ++ (ws ++ drop (a + n) words)) size)
+
+-- what reading and writing sixteen words in one piece needs
+pub ruleset pieces = (common_steps, nat_tests, piece-at, stored_over-sixteen)
