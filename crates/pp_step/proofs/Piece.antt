@@ -28,8 +28,7 @@ stored_over-piece a i words (w ∷ ws) fits at_most =
 
 pub stored_over-sixteen : (a : ℕ) (words ws : List ℕ) → length ws ≡ 16 → a + 16 ≤ length words → length words ≤ 0o400000 → stored_over a 0 words ws ≡ take a words ++ (ws ++ drop (a + 16) words)
 stored_over-sixteen a words ws size fits at_most =
-    stored_over-piece a 0 words ws (omega (arith, fits, size)) at_most
-    ∙ (ap (λ n. take n words ++ (ws ++ drop (n + length ws) words)) (add-zero a) ∙ ap (λ n. take a words ++ (ws ++ drop (a + n) words)) size)
+    rw (← size) (rw add-zero at (stored_over-piece a 0 words ws (omega (arith, fits, size)) at_most))
 
 -- what reading and writing sixteen words in one piece needs
 pub ruleset pieces = (common_steps, nat_tests, piece-at, stored_over-sixteen)

@@ -82,11 +82,7 @@ module _ (size n : ℕ) (is_processor : n < 10) where
       either (is_in Inactive i.d s.states) _ _ (λ ready. let c = data_channel Inactive i.d s.states ready in (is_processor, (c, (c, tt)))) (λ waits. tt)
   effect_held code.Fnc i s h words =
       either (is_in Inactive i.d s.states) _ _ (λ ready. let c = data_channel Inactive i.d s.states ready in (is_processor, (c, (c, tt)))) (λ waits. tt)
-  effect_held code.Crm i s h words = (is_processor, (is_processor, (is_processor, ((is_processor, lit< tt), tt))))
-  effect_held code.Cwm i s h words = (is_processor, (is_processor, (is_processor, ((is_processor, lit< tt), tt))))
-  effect_held code.Iam i s h words = (is_processor, (is_processor, ((is_processor, lit< tt), tt)))
-  effect_held code.Oam i s h words = (is_processor, (is_processor, ((is_processor, lit< tt), tt)))
-  effect_held _ i s h words = assumption is_processor
+  effect_held _ i s h words = search (is_processor, arith)
 
   -- in a block transfer
   block_held : (c : Code) (d : ℕ) (s : PpView) → s.p < 4096 → length s.central ≡ size → Held size n (block c d s)
