@@ -10,8 +10,7 @@ without some u b h = grind (arith, nat_tests)
 
 -- a place is covered if the mark that is returned for it was added
 covered_by : (m : Marks) (mark own : Option ℕ) → IfSome mark (λ i. own ≡ Some i) → is_covered m mark ≡ true → is_covered m own ≡ true
-covered_by m None own same h = without m.has_places m.has_unmarked _ h
-covered_by m (Some i) own same h = rw same h
+covered_by m mark own same h = grind (arith, nat_tests)
 
 -- what covers some places, and then one more
 pub covers_more : {P : Type 0} (mark_of : P → Option ℕ) (old new : Marks) (mark : Option ℕ) (places : List P) (i : ℕ) (d item : P) →

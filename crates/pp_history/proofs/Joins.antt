@@ -19,8 +19,7 @@ pub take-one : {X : Type 0} (n : ℕ) (xs : List X) (x : X) → slice_get xs n �
 take-one n xs x found = take-suc xs n x (slice_get_within xs n x found) ∙ ap (λ z. take n xs ++ z ∷ []) (get_or_from_slice_get xs n x x found)
 
 first_take : {X : Type 0} (n : ℕ) (first : Option X) (later : List X) → with_first first (take n later) ≡ take (suc n) (with_first first later)
-first_take n None later = refl
-first_take n first later = refl
+first_take n first later = grind arith
 
 module _ {H B X : Type 0} (in_head : H → X) (in_other : B → Option X) where
   -- what belongs to the first n heads
@@ -46,8 +45,7 @@ module _ {H B X : Type 0} (in_head : H → X) (in_other : B → Option X) where
     pub split : joined in_head in_other (drop n heads) others ≡ item ∷ joined in_head in_other (drop (n + 1) heads) (left_by head others)
 
   with-some : (first : Option X) (later : List X) → 0 < length (with_first first later) → (item : X) × (first ≡ Some item) × (with_first first later ≡ item ∷ later)
-  with-some None later some = absurd (omega arith)
-  with-some (Some item) later some = (item, refl, refl)
+  with-some first later some = grind arith
 
   pub item-at : (n : ℕ) (heads : List (Option H)) (others : List B) (head : Option H) → n + length (joined in_head in_other (drop n heads) others) ≡ length heads → slice_get heads n ≡ Some head → ItemAt n heads others head
   item-at n heads others head kept found =
@@ -77,9 +75,7 @@ behind_newest : {X : Type 0} (n : ℕ) (head : X) (others : List X) → 0 < n �
 behind_newest n head others some at_most = rw (reverse-append others (head ∷ []), reverse-first head others) (grind (arith, common_steps, length-reverse others))
 
 back-both : {A R : Type 0} (action : Option A) (back : Option R) → IfSome (both action back) (λ entry. back ≡ Some (entry.1))
-back-both None back = tt
-back-both (Some action) None = tt
-back-both (Some action) (Some back) = refl
+back-both action back = grind arith
 
 module _ {A R H : Type 0} (unpacked : H → A × R) where
   -- the undo record of the newest head is handed out
@@ -96,12 +92,11 @@ module _ {A R H : Type 0} (unpacked : H → A × R) where
   back_at (suc n) [] = tt
   back_at (suc n) (tail ∷ tails) = back_at n tails
 
-  pub back_out : (n : ℕ) (head : Option H) (tails : List (Tail A R)) (result : Option R) → head ≡ None → option_and_then (λ (tail : Tail A R). tail.back) (slice_get tails n) ≡ result → IfSome (first_of unpacked in_tail head (drop n tails)) (λ entry. result ≡ Some (entry.1))
-  back_out n head tails result none is = rw (none, ← is) (back_at n tails)
+  pub back_out : (n : ℕ) (head : Option H) (tails : List (Tail A R)) {found : Option (Tail A R)} {result : Option R} → head ≡ None → found ≡ slice_get tails n → option_and_then (λ (tail : Tail A R). tail.back) found ≡ result → IfSome (first_of unpacked in_tail head (drop n tails)) (λ entry. result ≡ Some (entry.1))
+  back_out n head tails none at is = rw (none, ← is, at) (back_at n tails)
 
   kept_capacity : (head : Option H) (action : A) (back : R) (old new : Tails A R) → IsKept unpacked head action back old new → new.ring.capacity ≡ old.ring.capacity
-  kept_capacity (Some head) action back old new kept = cc
-  kept_capacity None action back old new kept = cc
+  kept_capacity head action back old new kept = grind arith
 
   -- one more kept action
   kept_more : (head : Option H) (action : A) (back : R) (old new : Tails A R) (older : List (Option H)) → IsKept unpacked head action back old new → length older < old.ring.capacity → kept_in unpacked (head ∷ older) new.ring.items ≡ (action, back) ∷ kept_in unpacked older old.ring.items
@@ -117,8 +112,7 @@ module _ {A R H : Type 0} (unpacked : H → A × R) where
       rw (next, some) (ap (λ actions. entry.0 ∷ actions) (joined_enough (λ head. (unpacked head).0) Some (old.capacity - 1) later old.items (omega arith)))
 
   next_capacity : (head : Option H) (action : A) (old new : Buffer A) → IsNext unpacked head action old new → new.capacity ≡ old.capacity
-  next_capacity None action old new next = ap (λ ring. ring.capacity) next
-  next_capacity head action old new next = ap (λ ring. ring.capacity) next
+  next_capacity head action old new next = grind arith
 
   -- a log with one more kept action, and none ahead: its head is in the slot of the oldest one
   module _ (oldest head : Option H) (others : List (Option H)) (tails tails' : Tails A R) (undone : Buffer A) (n n' ahead : ℕ) (action : A) (back : R)
@@ -140,15 +134,7 @@ module _ {A R H : Type 0} (unpacked : H → A × R) where
     put_value = rw (put_records, put_length, sub-one) refl
 
     pub put_log : IsLog unpacked (others ++ head ∷ []) tails'.ring undone n' 0
-    put_log = record {
-      some_room = rw put_length log.some_room;
-      bounded = rw put_length log.bounded;
-      room_for_tails = kept_capacity head action back tails tails' kept ∙ log.room_for_tails ∙ sym put_length;
-      room_for_undone = log.room_for_undone ∙ sym put_length;
-      full = rw put_length (omega (arith, more));
-      ahead = refl;
-      kept = rw put_records (omega (arith, more, log.kept, log.full, length-take (length others) (kept_in unpacked (take n (reverse (oldest ∷ others))) tails.ring.items)));
-    }
+    put_log = grind (arith, put_length, put_records, kept_capacity head action back tails tails' kept, length-take)
 
   -- a log whose newest action was undone: its head is now the first
   module _ (heads others : List (Option H)) (head : Option H) (is : heads ≡ others ++ head ∷ []) (tails tails' : Tails A R) (undone undone' : Buffer A) (n m : ℕ)
@@ -175,15 +161,7 @@ module _ {A R H : Type 0} (unpacked : H → A × R) where
     back_value = rw (back_records, back_ahead, all) refl
 
     pub back_log : IsLog unpacked (head ∷ others) tails'.ring undone' (n - 1) (m + 1)
-    back_log = record {
-      some_room = rw (← all) log.some_room;
-      bounded = rw (← all) log.bounded;
-      room_for_tails = ap (λ ring. ring.capacity) behind ∙ log.room_for_tails ∙ all;
-      room_for_undone = next_capacity head newest.item.0 undone undone' next ∙ log.room_for_undone ∙ all;
-      full = omega (arith, log.full, all, some);
-      ahead = rw back_ahead (omega (arith, log.ahead));
-      kept = rw back_records (omega (arith, log.kept, some, length-drop 1 (kept_in unpacked (take n (reverse heads)) tails.ring.items)));
-    }
+    back_log = grind (arith, all, back_ahead, back_records, next_capacity head newest.item.0 undone undone' next, length-drop)
 
   -- the next action to perform again
   pub record NextAt (ahead : ℕ) (head : Option H) (others : List (Option H)) (undone : List A) : Type 0 where
@@ -226,12 +204,4 @@ module _ {A R H : Type 0} (unpacked : H → A × R) where
     again_value = rw (again_records, again_ahead, again_all) refl
 
     pub again_log : IsLog unpacked (others ++ head' ∷ []) tails'.ring undone' (n + 1) (ahead - 1)
-    again_log = record {
-      some_room = rw again_all log.some_room;
-      bounded = rw again_all log.bounded;
-      room_for_tails = kept_capacity head' action back tails tails' kept ∙ log.room_for_tails ∙ sym again_all;
-      room_for_undone = rw (behind, again_all) log.room_for_undone;
-      full = omega (arith, log.full, again_all, again_few.0);
-      ahead = rw again_ahead (omega (arith, log.ahead, again_few.0, length-drop 1 (ahead_in unpacked (take ahead (head ∷ others)) undone.items)));
-      kept = rw again_records (omega (arith, log.kept));
-    }
+    again_log = grind (arith, again_all, again_few, again_ahead, again_records, kept_capacity head' action back tails tails' kept, length-drop)

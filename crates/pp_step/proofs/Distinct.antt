@@ -26,8 +26,7 @@ self A = refl
 self _ = search eq-eqb
 
 keep_front : (b : Bool) (x : PpPlace) (w : ℕ) (ws rest : Writes PpPlace) → lookup (ws ++ rest) x ≡ None → once same_place (ws ++ rest) ≡ true → once same_place ((if b then (x, w) ∷ ws else ws) ++ rest) ≡ true
-keep_front true x w ws rest e h = rw e h
-keep_front false x w ws rest e h = h
+keep_front b x w ws rest e h = grind arith
 
 -- places of different numbers, in front of other places
 once-from : (place : ℕ → PpPlace) (is_there : ℕ → Bool) (i : ℕ) (ws : List ℕ) (rest : Writes PpPlace) → ((j k : ℕ) → i ≤ j → j < k → k < i + length ws → same_place (place k) (place j) ≡ false) → ((k : ℕ) → lookup rest (place k) ≡ None) → once same_place rest ≡ true → once same_place (pairs_from place is_there i ws ++ rest) ≡ true
@@ -81,5 +80,5 @@ step-once s size =
     (effect-once (instruction_at s.p s.cells).code (instruction_at s.p s.cells) s size)
     (block-once (code_of (s.phase / 0o100)) (s.phase % 0o100) s)
 
-pub step-each-once : (s : PpView) → length s.frame ≡ 16 → AllPairs (λ one other. one ≢ other) (places (pp_writes s))
-step-each-once s size = each-once same_place self (pp_writes s) (step-once s size).holds
+pub step_each_once : (s : PpView) → length s.frame ≡ 16 → AllPairs (λ one other. one ≢ other) (places (pp_writes s))
+step_each_once s size = each-once same_place self (pp_writes s) (step-once s size).holds

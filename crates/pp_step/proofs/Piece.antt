@@ -1,5 +1,7 @@
 -- Sixteen central words that are one piece of the memory.
 use Rattle.std.proofs.Common.{ℕ, suc, List, [], ◌∷◌, ◌++◌, ◌+◌, ◌<◌, ◌≤◌, ◌≡◌, take, drop, length, slice_index, slice_set, ap, sym, ◌∙◌, add-zero, arith}
+use Rattle.std.proofs.lemmas.Bool.Decides.{nat_tests}
+use Rattle.std.proofs.lemmas.Grind.{common_steps}
 use Rattle.std.proofs.lemmas.List.{append_assoc, get_or-drop, get_or-take, length-take-le, set_at, take-append-drop, take_more}
 use Rattle.pp_step.specs.Inner.{stored_over}
 use Rattle.pp_step.specs.Words.{central_after}
@@ -19,13 +21,14 @@ stored_over-piece a i words (w ∷ ws) fits at_most =
     let next : a + (i + 1) ≡ a + i + 1 = omega arith in
     let last : a + (i + 1) + length ws ≡ a + i + suc (length ws) = omega arith in
     let later = stored_over-piece a (i + 1) words ws (omega (arith, fits)) at_most in
-    let front : take (a + (i + 1)) words ≡ take (a + i) words ++ slice_index words (a + i) ∷ [] = ap (λ n. take n words) next ∙ take_more words (a + i) 0 (omega (arith, fits)) in
+    let front = take_more words (a + i) 0 (omega (arith, fits)) in
     let rest = ws ++ drop (a + i + suc (length ws)) words in
-    ap (λ at. slice_set (stored_over a (i + 1) words ws) at w) here
-    ∙ (ap (λ xs. slice_set xs (a + i) w) (later ∙ (ap (λ n. take (a + (i + 1)) words ++ (ws ++ drop n words)) last ∙ (ap (λ xs. xs ++ rest) front ∙ append_assoc (take (a + i) words) (slice_index words (a + i) ∷ []) rest)))
-    ∙ set_at (take (a + i) words) (slice_index words (a + i)) rest w (a + i) (length-take-le (a + i) words (omega (arith, fits))))
+    rw (here, later, last, next, front, append_assoc (take (a + i) words) (slice_index words (a + i) ∷ []) rest)
+    (set_at (take (a + i) words) (slice_index words (a + i)) rest w (a + i) (length-take-le (a + i) words (omega (arith, fits))))
 
 pub stored_over-sixteen : (a : ℕ) (words ws : List ℕ) → length ws ≡ 16 → a + 16 ≤ length words → length words ≤ 0o400000 → stored_over a 0 words ws ≡ take a words ++ (ws ++ drop (a + 16) words)
 stored_over-sixteen a words ws size fits at_most =
-    stored_over-piece a 0 words ws (omega (arith, fits, size)) at_most
-    ∙ (ap (λ n. take n words ++ (ws ++ drop (n + length ws) words)) (add-zero a) ∙ ap (λ n. take a words ++ (ws ++ drop (a + n) words)) size)
+    rw (← size) (rw add-zero at (stored_over-piece a 0 words ws (omega (arith, fits, size)) at_most))
+
+-- what reading and writing sixteen words in one piece needs
+pub ruleset pieces = (common_steps, nat_tests, piece-at, stored_over-sixteen)

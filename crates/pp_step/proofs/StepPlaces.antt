@@ -29,8 +29,7 @@ cell_in cells k small =
     ⊎_elim (λ within. omega (arith, small k 0 within)) (λ past. omega (arith, get_or_past cells k 0 past)) (cases_lt k (length cells))
 
 either_below : (b : Bool) (x y bound : ℕ) → x < bound → y < bound → (if b then x else y) < bound
-either_below true x y bound h k = h
-either_below false x y bound h k = k
+either_below b x y bound h k = grind arith
 
 index_in : (m x : ℕ) → m < 4096 → x < 4096 → index12 m x < 4096
 index_in m x h k = grind (arith, nat_tests)
@@ -46,8 +45,7 @@ address_in Constant d m cells at_most low small = low
 -- ---- channels of a step
 
 first_part : (x y : Bool) → (x && y) ≡ true → x ≡ true
-first_part true y h = refl
-first_part false y h = h
+first_part x y h = grind arith
 
 data_channel : (state : ChannelState) (c : ℕ) (states : List ℕ) → is_in state c states ≡ true → c < 12
 data_channel state c states h =
@@ -84,11 +82,7 @@ module _ (size n : ℕ) (is_processor : n < 10) where
       either (is_in Inactive i.d s.states) _ _ (λ ready. let c = data_channel Inactive i.d s.states ready in (is_processor, (c, (c, tt)))) (λ waits. tt)
   effect_held code.Fnc i s h words =
       either (is_in Inactive i.d s.states) _ _ (λ ready. let c = data_channel Inactive i.d s.states ready in (is_processor, (c, (c, tt)))) (λ waits. tt)
-  effect_held code.Crm i s h words = (is_processor, (is_processor, (is_processor, ((is_processor, lit< tt), tt))))
-  effect_held code.Cwm i s h words = (is_processor, (is_processor, (is_processor, ((is_processor, lit< tt), tt))))
-  effect_held code.Iam i s h words = (is_processor, (is_processor, ((is_processor, lit< tt), tt)))
-  effect_held code.Oam i s h words = (is_processor, (is_processor, ((is_processor, lit< tt), tt)))
-  effect_held _ i s h words = assumption is_processor
+  effect_held _ i s h words = search (is_processor, arith)
 
   -- in a block transfer
   block_held : (c : Code) (d : ℕ) (s : PpView) → s.p < 4096 → length s.central ≡ size → Held size n (block c d s)

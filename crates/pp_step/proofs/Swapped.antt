@@ -1,10 +1,12 @@
 -- The number at each place after an exchange.
-use Rattle.std.proofs.Common.{◌≡◌, ◌≢◌, ℕ, zero, suc, List, [], ◌∷◌, ◌+◌, ◌<◌, ◌≤◌, length, slice_index, sym, ◌∙◌, ap, subst, refl, arith, add-zero, zero-add}
+use Rattle.std.proofs.Common.{◌≡◌, ◌≢◌, ℕ, zero, suc, List, [], ◌∷◌, ◌++◌, ◌+◌, ◌<◌, ◌≤◌, length, slice_index, sym, ◌∙◌, ap, subst, refl, arith, add-zero, zero-add}
+use Rattle.std.proofs.lemmas.Grind.{common_steps}
 use Rattle.std.proofs.lemmas.List.{get_or-set_same, get_or-set_other}
 use Rattle.std.proofs.lemmas.List.FromFn.{get_or-map-range_with_len}
 use Rattle.pp_machine.specs.Frame.{frame_word}
-use Rattle.pp_step.proofs.Exchanged.{over-swap, length-stored_over}
-use Rattle.pp_step.specs.Exchange.{exchange, loaded, loaded_word}
+use Rattle.pp_step.proofs.FewPlaces.{few_exchanged}
+use Rattle.pp_step.proofs.Exchanged.{over-exchange, over-swap, length-stored_over}
+use Rattle.pp_step.specs.Exchange.{exchange, frame_pairs, loaded, loaded_word, word_pairs}
 use Rattle.pp_step.specs.Inner.{stored_over}
 use Rattle.pp_step.specs.View.{PpView, FrameWord, Central, number, over}
 use Rattle.pp_step.specs.Words.{central_after}
@@ -36,14 +38,22 @@ stored-at a k (suc j) words (w ∷ ws) at_most below within =
     ∙ ap (λ n. slice_index (stored_over a (k + 1) words ws) (central_after a n)) next
     ∙ later
 
-pub frame-exchange : (s : PpView) (next i : ℕ) → length s.frame ≡ 16 → i < 16 → number (over s (exchange next s.a s.central s.frame)) (FrameWord i) ≡ frame_word i (number s (Central (central_after s.a i)))
-frame-exchange s next i size below =
-    ap (λ v. number v (FrameWord i)) (over-swap s next s.a (loaded s.a s.central) s.frame (size ∙ sym (length-loaded s.a s.central)))
+-- the state after an exchange, but for P
+pub over-exchanged : (s : PpView) (a : ℕ) (words ws : List ℕ) → words ≡ s.central → length s.frame ≡ 16 → over s (frame_pairs 0 (loaded a words) ++ word_pairs (length words) a 0 ws) ≡ record s { frame = loaded a words; central = stored_over a 0 words ws }
+over-exchanged s a words ws same size = rw same (over-swap s a (loaded a s.central) ws (size ∙ sym (length-loaded a s.central)))
+
+-- the frame after an exchange, whatever P becomes
+pub frame_exchange : (s : PpView) (i : ℕ) → length s.frame ≡ 16 → i < 16 → number (over s (exchange 0 s.a s.central s.frame)) (FrameWord i) ≡ frame_word i (number s (Central (central_after s.a i)))
+frame_exchange s i size below =
+    ap (λ v. number v (FrameWord i)) (over-exchanged s s.a s.central s.frame refl size)
     ∙ loaded-at s.a s.central i below
 
-pub central-exchange : (s : PpView) (next i : ℕ) → length s.frame ≡ 16 → i < 16 → central_after s.a i < length s.central → number (over s (exchange next s.a s.central s.frame)) (Central (central_after s.a i)) ≡ number s (FrameWord i)
-central-exchange s next i size below within =
+pub central_exchange : (s : PpView) (i : ℕ) → length s.frame ≡ 16 → i < 16 → central_after s.a i < length s.central → number (over s (exchange 0 s.a s.central s.frame)) (Central (central_after s.a i)) ≡ number s (FrameWord i)
+central_exchange s i size below within =
     let here : 0 + i ≡ i = zero-add i in
     let at = stored-at s.a 0 i s.central s.frame (omega (arith, size)) (omega (arith, size)) (subst (λ n. central_after s.a n < length s.central) (sym here) within) in
-    ap (λ v. number v (Central (central_after s.a i))) (over-swap s next s.a (loaded s.a s.central) s.frame (size ∙ sym (length-loaded s.a s.central)))
+    ap (λ v. number v (Central (central_after s.a i))) (over-exchanged s s.a s.central s.frame refl size)
     ∙ subst (λ n. slice_index (stored_over s.a 0 s.central s.frame) (central_after s.a n) ≡ slice_index s.frame i) here at
+
+-- what an exchange, and putting it back, needs
+pub ruleset swaps = (common_steps, over-exchange, over-exchanged, few_exchanged)

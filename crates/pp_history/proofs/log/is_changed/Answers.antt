@@ -1,4 +1,4 @@
-use Rattle.std.proofs.Common.{rules, sym}
+use Rattle.std.proofs.Common.{arith}
 use Rattle.pp_history.specs.UndoRecord.{whole_record}
 use Rattle.pp_history.proofs.Search.{unmarked_unchanged}
 use Rattle.pp_history.proofs.log.is_changed.Goals as goal
@@ -6,10 +6,5 @@ use Rattle.pp_history.proofs.log.is_changed.Goals as goal
 pub returns-then-not-may_have : goal.returns-then-not-may_have
 returns-then-not-may_have g c =
     let T = g.T.Reversible in
-    record {
-      value = sym (unmarked_unchanged T (λ place. T.value_at c.args.machine.now place) c.args.marks.now
-          (whole_record T.unpacked c.args.back.now) c.args.places.now (c.may_have.ensures c.if-not-may_have.true) c.requires.covers);
-      counts_up = search rules;
-      cost = search rules;
-      looks_at_each = search rules;
-    }
+    grind (arith, unmarked_unchanged T (λ place. T.value_at c.args.machine.now place) c.args.marks.now
+        (whole_record T.unpacked c.args.back.now) c.args.places.now (c.may_have.ensures c.if-not-may_have.true) c.requires.covers)

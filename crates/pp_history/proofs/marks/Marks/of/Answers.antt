@@ -1,5 +1,4 @@
-use Rattle.std.proofs.Common.{subst, take_all}
-use Rattle.pp_history.specs.Marks.{AreCovered}
+use Rattle.std.proofs.Common.{take_all}
 use Rattle.pp_history.proofs.Covering.{covers_more}
 use Rattle.pp_history.proofs.marks.Marks.of.Goals as goal
 
@@ -10,5 +9,4 @@ loop-place-preserved g c =
     c.place-item.result c.place-item.is added.keeps_covered added.covers c.mark.ensures c.loop-place-test.true c.loop-place.invariant
 
 pub returns : goal.returns
-returns g c = subst (AreCovered g.T.Reversible.mark_of c.loop-place.marks)
-    (take_all c.loop-place.place-index c.args.places.now c.loop-place-test.false) c.loop-place.invariant
+returns g c = rw (take_all c.loop-place.place-index c.args.places.now c.loop-place-test.false) at c.loop-place.invariant
