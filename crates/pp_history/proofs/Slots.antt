@@ -4,7 +4,7 @@ use Rattle.std.proofs.Common.{◌≡◌, ℕ, suc, ◌+◌, ◌-◌, ◌<◌, �
 use Rattle.std.proofs.lemmas.List.{drop_all, take_all, drop-set-lt, get_or-reverse, length-reverse}
 use Rattle.std.proofs.lemmas.Option.{get_or_from_slice_get, slice_get_read}
 use Rattle.std.proofs.Math.Seq.{take-suc-set}
-use Rattle.pp_history.specs.Slots.{IsEnd, IsKeptSlot, IsNextSlot, turned}
+use Rattle.pp_history.specs.Slots.{IsEnd, IsKeptSlot, IsLastEnd, IsNextSlot, turned}
 use Rattle.pp_history.proofs.Joins.{drop-at, take-one}
 
 -- the items of the other slots, from the next one on
@@ -20,6 +20,18 @@ length_turned end slots within = grind (arith, common_steps)
 -- reading from the end and from the next slot on is the same
 pub turned-next : {X : Type 0} (slots : List X) (end at : ℕ) → IsNextSlot end (length slots) at → turned end slots ≡ turned at slots
 turned-next slots end at next = grind (arith, common_steps)
+
+-- reading from the end and from the end as the index after that of a slot is the same
+pub turned-last : {X : Type 0} (slots : List X) (end last : ℕ) → IsLastEnd end (length slots) last → turned end slots ≡ turned last slots
+turned-last slots end last is = grind (arith, common_steps)
+
+-- the slot before the newest ones, whose slots are side by side
+pub side_by_side : (n end k : ℕ) → k < end → end ≤ n → IsKeptSlot (end - k) n 0 (end - 1 - k)
+side_by_side n end k some within = (omega arith, inl (omega arith))
+
+-- all slots, put back into the list that they are from
+pub put_back : {X : Type 0} (slots items : List X) (n : ℕ) → n ≡ length items → length slots ≡ length items → take n (slots ++ drop (length slots) items) ≡ slots
+put_back slots items n all same = grind (arith, common_steps)
 
 -- the item of the slot that is read first
 pub first-out : {X : Type 0} (slots : List X) (at : ℕ) (x : X) → slice_get slots at ≡ Some x → turned at slots ≡ x ∷ others at slots

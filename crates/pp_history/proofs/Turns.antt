@@ -6,7 +6,7 @@ use Rattle.circular_buffer.specs.Buffer.{Buffer, buffer}
 use Rattle.pp_history.specs.Contents.{Contents}
 use Rattle.pp_history.specs.Joining.{IsActed, IsLog, IsNext, first_of, left_by, ahead_in, log_value}
 use Rattle.pp_history.specs.LogValue.{LogValue, log_of}
-use Rattle.pp_history.specs.Parts.{contents}
+use Rattle.pp_history.specs.Parts.{IsSession, contents}
 use Rattle.pp_history.specs.SessionValue.{SessionValue, AdmitsInTurn, IsAt, Moves, after_back, after_forward}
 use Rattle.pp_history.specs.Slots.{IsEnd, IsKeptSlot, IsNextSlot, turned}
 use Rattle.pp_history.specs.Tails.{IsKept, in_tail}
@@ -99,6 +99,14 @@ pub record IsRun {M A R P H : Type 0} (rules : Ghosts M A R P H) (old : Contents
   pub log : IsEnd end slots × IsLog rules.unpacked (turned end slots) tails.ring undone n m
   pub moves : Moves rules old (parts rules machine end slots tails undone n m) after
 
+-- a run of no step yet, in slots that are read from another end
+pub no_step : {M A R P H : Type 0} (rules : Ghosts M A R P H) (after : SessionValue M A → SessionValue M A) (machine : M) (now : LogValue A R) {end n m : ℕ} {slots : List (Option H)} {tails : Tails A R} {undone : Buffer A}
+    → ((v : SessionValue M A) → after v ≡ v) → now ≡ log_value rules.unpacked (turned end slots) tails.ring undone n m → IsEnd end slots × IsLog rules.unpacked (turned end slots) tails.ring undone n m
+    → (last kept ahead : ℕ) → last ≤ length slots → turned end slots ≡ turned last slots → kept ≡ length now.records → ahead ≡ length now.ahead
+    → IsRun rules (contents machine now) after machine last slots tails undone kept ahead
+no_step rules after machine now none value log last kept ahead within same is_kept is_ahead =
+    rw (is_kept, is_ahead, value, log.1.kept, log.1.ahead) (record { log = (within, rw same at log.1); moves = λ v at. rw (none, ← same) at })
+
 module _ {M A R P H : Type 0} (rules : Ghosts M A R P H) (n m i : ℕ) {old : Contents M A R} {machine : M} {end at : ℕ} {slots : List (Option H)} {head : Option H} {tails : Tails A R} {undone : Buffer A} where
   -- the head is that of the newest kept action
   module _ (run : IsRun rules old (λ v. after_back v i) machine end slots tails undone (n - i) (m + i)) (is : head ≡ get_or slots at head) (newest : IsKeptSlot end (length slots) 0 at) (some : 0 < n - i) where
@@ -118,7 +126,7 @@ module _ {M A R P H : Type 0} (rules : Ghosts M A R P H) (n m i : ℕ) {old : Co
         let later : m + i + 1 ≡ m + (i + 1) = omega arith in
         rw (← kept, ← later) (record {
           log = back_in_log rules.unpacked slots tails run.log is newest some tails' undone' behind did.1;
-          moves = λ v at_v. rw (← after_back-more v i) (back_at rules machine machine' _ _ (item.item, item.first, did.0, same) _ (run.moves v at_v));
+          moves = λ v at_v. rw (← after_back-more v i 1) (back_at rules machine machine' _ _ (item.item, item.first, did.0, same) _ (run.moves v at_v));
         })
 
   -- the head is that of the next action ahead
@@ -142,5 +150,13 @@ module _ {M A R P H : Type 0} (rules : Ghosts M A R P H) (n m i : ℕ) {old : Co
         let later : m - i - 1 ≡ m - (i + 1) = omega arith in
         rw (← kept, ← later) (record {
           log = again_in_log rules.unpacked slots tails run.log is next some head' tails' undone' did.1.0 behind did.1.3;
-          moves = λ v at_v. rw (← after_forward-more v i) (forward_at rules machine machine' _ _ (ahead.action, did.1.0, ahead_first, did.0, did.1.1, did.1.2, same) _ (run.moves v at_v));
+          moves = λ v at_v. rw (← after_forward-more v i 1) (forward_at rules machine machine' _ _ (ahead.action, did.1.0, ahead_first, did.0, did.1.1, did.1.2, same) _ (run.moves v at_v));
         })
+
+-- a session that has moved is a session
+pub has_moved : {M A R P H : Type 0} {rules : Ghosts M A R P H} {machine machine' : M} {log log' : LogValue A R} (after : SessionValue M A → SessionValue M A) → ((v : SessionValue M A) → (after v).capacity ≡ v.capacity)
+    → IsSession rules machine log → Moves rules (contents machine log) (contents machine' log') after → IsSession rules machine' log'
+has_moved {log = log} {log' = log'} after keeps old moves =
+    let at = moves old.value old.is_at in
+    let capacity : log'.capacity ≡ log.capacity = at.capacity ∙ (keeps old.value ∙ sym old.is_at.capacity) in
+    record { some_room = rw capacity old.some_room; bounded = rw capacity old.bounded; value = after old.value; is_at = at }

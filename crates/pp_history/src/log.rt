@@ -8,7 +8,7 @@ ghost use Rattle.pp_history.specs.LogValue.{IsPerformed, LogValue, log_of};
 ghost use Rattle.pp_history.specs.Marks.{AreCovered, IsUnmarked};
 ghost use Rattle.pp_history.specs.Parts.{IsSession, contents};
 ghost use Rattle.pp_history.specs.SessionValue.{Moves, after_back, after_forward};
-ghost use Rattle.pp_history.specs.Slots.{IsKeptSlot, IsNextSlot};
+ghost use Rattle.pp_history.specs.Slots.{IsKeptSlot, IsLastEnd, IsNextSlot};
 ghost use Rattle.pp_history.specs.Search.{IsSearched, first_changing, differs_from};
 ghost use Rattle.pp_history.specs.UndoRecord.{whole_record};
 ghost use Rattle.pp_history.specs.Tails.{in_tail, pushed};
@@ -118,39 +118,76 @@ impl<T: Reversible> Log<T> {
         may_have::<T>(head, &self.tails, marks)
     }
 
-    /// Undoes the newest n actions. The end is in a local variable meanwhile, so it is not written for each action.
-    #[inline(always)]
+    /// Undoes the newest n actions.
     pub(crate) fn take_back(&mut self, machine: &mut T, n: u32)
         requires some { n ≤ length self.old.records }
         requires session { IsSession T.Reversible machine.old self.old }
         ensures { Moves T.Reversible (contents machine.old self.old) (contents machine.new self.new) (λ v. after_back v n) }
     {
-        let mut end = self.end;
-        for _step in 0..n {
-            let at = kept_slot(end, self.slots.len(), 0);
-            undo(machine, &self.slots[at], &mut self.tails, &mut self.undone);
-            end = at;
+        let mut left = n as usize;
+        while left > 0 {
+            left -= self.undo_span(machine, left);
         }
-        self.end = end;
-        self.kept -= n as usize;
-        self.ahead += n as usize;
     }
 
-    /// Performs the first n actions ahead again. As a function of its own it has registers for what its loop needs.
+    /// Undoes the newest actions, at most n, whose slots are side by side, and returns how many. So the next slot is
+    /// the one before, and the loop has no test for the end of the slots.
     #[inline(never)]
+    fn undo_span(&mut self, machine: &mut T, n: usize) -> usize
+        requires some { (1 ≤ n) × (n ≤ length self.old.records) }
+        requires session { IsSession T.Reversible machine.old self.old }
+        ensures some { (1 ≤ result) × (result ≤ n) }
+        ensures kept { length self.new.records ≡ length self.old.records - result }
+        ensures moves { Moves T.Reversible (contents machine.old self.old) (contents machine.new self.new) (λ v. after_back v result) }
+    {
+        let end = last_end(self.end, self.slots.len());
+        let count = at_most(n, end);
+        let slots = self.slots.as_slice();
+        let tails = &mut self.tails;
+        let undone = &mut self.undone;
+        for step in 0..count {
+            undo(machine, &slots[end - 1 - step], tails, undone);
+        }
+        self.end = end - count;
+        self.kept -= count;
+        self.ahead += count;
+        count
+    }
+
+    /// Performs the first n actions ahead again.
     pub(crate) fn perform_again(&mut self, machine: &mut T, n: u32)
         requires some { n ≤ length self.old.ahead }
         requires session { IsSession T.Reversible machine.old self.old }
         ensures { Moves T.Reversible (contents machine.old self.old) (contents machine.new self.new) (λ v. after_forward v n) }
     {
-        for _again in 0..n {
-            let at = next_slot(self.end, self.slots.len());
-            self.end = at + 1;
-            let head = &mut self.slots[at];
-            perform_next(machine, head, &mut self.tails, &mut self.undone);
+        let mut left = n as usize;
+        while left > 0 {
+            left -= self.perform_span(machine, left);
         }
-        self.kept += n as usize;
-        self.ahead -= n as usize;
+    }
+
+    /// Performs the first actions ahead again, at most n, whose slots are side by side, and returns how many. As a
+    /// function of its own it has registers for what its loop needs.
+    #[inline(never)]
+    fn perform_span(&mut self, machine: &mut T, n: usize) -> usize
+        requires some { (1 ≤ n) × (n ≤ length self.old.ahead) }
+        requires session { IsSession T.Reversible machine.old self.old }
+        ensures some { (1 ≤ result) × (result ≤ n) }
+        ensures ahead { length self.new.ahead ≡ length self.old.ahead - result }
+        ensures moves { Moves T.Reversible (contents machine.old self.old) (contents machine.new self.new) (λ v. after_forward v result) }
+    {
+        let from = next_slot(self.end, self.slots.len());
+        let count = at_most(n, self.slots.len() - from);
+        let slots = self.slots.as_mut_slice();
+        let tails = &mut self.tails;
+        let undone = &mut self.undone;
+        for step in 0..count {
+            perform_next(machine, &mut slots[from + step], tails, undone);
+        }
+        self.end = from + count;
+        self.kept += count;
+        self.ahead -= count;
+        count
     }
 
     /// Returns the newest undo record, or `None` if there is none.
@@ -347,6 +384,24 @@ fn next_slot(end: usize, capacity: usize) -> usize
     ensures { IsNextSlot end capacity result }
 {
     if end == capacity { 0 } else { end }
+}
+
+/// Returns n, or the limit if that is less.
+#[inline(always)]
+fn at_most(n: usize, limit: usize) -> usize
+    ensures { (result ≤ n) × (result ≤ limit) × (1 ≤ n → 1 ≤ limit → 1 ≤ result) }
+{
+    if n < limit { n } else { limit }
+}
+
+/// Returns the index after that of the newest kept action's slot: not 0, but the number of slots.
+#[inline(always)]
+fn last_end(end: usize, capacity: usize) -> usize
+    requires some { 1 ≤ capacity }
+    requires within { end ≤ capacity }
+    ensures { IsLastEnd end capacity result }
+{
+    if end == 0 { capacity } else { end }
 }
 
 /// Returns the index of the slot of the kept action behind k newer ones.

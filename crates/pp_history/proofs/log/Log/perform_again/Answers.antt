@@ -1,25 +1,21 @@
-use Rattle.std.proofs.Common.{◌≡◌, ◌-◌, ◌<◌, arith}
-use Rattle.pp_history.proofs.Turns.{admits_next, run_forward}
+use Rattle.std.proofs.Common.{◌≡◌, ◌+◌, ◌-◌, arith, refl}
+use Rattle.pp_history.proofs.Steps.{after_forward-more}
+use Rattle.pp_history.proofs.Turns.{has_moved}
 use Rattle.pp_history.proofs.log.Log.perform_again.Goals as goal
 
-pub perform_next-requires-clause-admitted : goal.perform_next-requires-clause-admitted
-perform_next-requires-clause-admitted g c =
-    let session = rw (← c.self.view_is) at c.requires.session in
-    let at = rw (c.len.ensures, c.loop-again.self-inside.slots.ok.0) at c.next_slot-at.ensures in
-    let some : 0 < c.self.inside.ahead - c.loop-again._again = omega (arith, c.loop-again-test.true, rw (← c.self.view_is) at c.requires.some, c.self.invariant.1.ahead) in
-    admits_next g.T.Reversible _ _ _ c.loop-again.invariant.run c.index_mut-head.ensures.value at some session.value session.is_at
+pub perform_span-left-requires-clause-session : goal.perform_span-left-requires-clause-session
+perform_span-left-requires-clause-session g c = has_moved _ (λ v. refl) c.requires.session c.loop-left.invariant.moves
 
-pub loop-again-preserved : goal.loop-again-preserved
-loop-again-preserved g c =
-    let at = rw (c.len.ensures, c.loop-again.self-inside.slots.ok.0) at c.next_slot-at.ensures in
-    let some : 0 < c.self.inside.ahead - c.loop-again._again = omega (arith, c.loop-again-test.true, rw (← c.self.view_is) at c.requires.some, c.self.invariant.1.ahead) in
+pub loop-left-preserved : goal.loop-left-preserved
+loop-left-preserved g c =
+    let did : c.args.n - (c.loop-left.left - c.perform_span-left.result) ≡ c.args.n - c.loop-left.left + c.perform_span-left.result = omega (arith, c.loop-left.invariant.at_most, c.perform_span-left.ensures.some) in
     record {
-      run = run_forward g.T.Reversible _ _ _ c.loop-again.invariant.run c.index_mut-head.ensures.value at some c.perform_next.new.head c.perform_next.ensures.kept c.perform_next.ensures.undone;
-      kept = c.loop-again.invariant.kept;
-      ahead = c.loop-again.invariant.ahead;
+      at_most = omega (arith, c.loop-left.invariant.at_most);
+      some = omega (arith, c.loop-left.invariant.some, c.perform_span-left.ensures.ahead);
+      moves = λ v at. rw (did, ← after_forward-more v (c.args.n - c.loop-left.left) c.perform_span-left.result) (c.perform_span-left.ensures.moves _ (c.loop-left.invariant.moves v at));
     }
 
 pub returns : goal.returns
 returns g c = λ v at.
-    let last : c.loop-again._again ≡ c.args.n = omega arith in
-    rw (← last, c.loop-again.invariant.kept, c.loop-again.invariant.ahead) (c.loop-again.invariant.run.moves v (rw (← c.self.view_is) at at))
+    let done : c.args.n - c.loop-left.left ≡ c.args.n = omega (arith, c.loop-left-test.false) in
+    rw (← done) (c.loop-left.invariant.moves v at)

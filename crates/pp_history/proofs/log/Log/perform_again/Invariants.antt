@@ -1,12 +1,14 @@
-use Rattle.std.proofs.Common.{◌≡◌, ◌+◌, ◌-◌}
-use Rattle.pp_history.specs.SessionValue.{after_forward}
-use Rattle.pp_history.proofs.Turns.{IsRun, parts}
+use Rattle.std.proofs.Common.{◌-◌, ◌≤◌, length}
+use Rattle.pp_history.specs.Parts.{contents}
+use Rattle.pp_history.specs.SessionValue.{Moves, after_forward}
 use Rattle.pp_history.proofs.log.Log.perform_again.Given as goal
 
-abbrev pub invariant-loop-again : goal.invariant-loop-again
-invariant-loop-again g l = let log = l.self-inside in let first = l.initial.self-inside in record {
-  run : IsRun g.T.Reversible (parts g.T.Reversible l.initial.machine first.end first.slots.items first.tails first.undone first.kept first.ahead) (λ v. after_forward v l._again)
-      l.machine log.end log.slots.items log.tails log.undone (first.kept + l._again) (first.ahead - l._again);
-  kept : log.kept ≡ first.kept;
-  ahead : log.ahead ≡ first.ahead;
+abbrev pub invariant-loop-left : goal.invariant-loop-left
+invariant-loop-left g l = record {
+  at_most : l.left ≤ l.n;
+  some : l.left ≤ length l.self.ahead;
+  moves : Moves g.T.Reversible (contents l.fn.machine l.fn.self) (contents l.machine l.self) (λ v. after_forward v (l.n - l.left));
 }
+
+abbrev pub decreases-loop-left : goal.decreases-loop-left
+decreases-loop-left g l = l.left
