@@ -1,6 +1,6 @@
 -- Marks cover the places that were added.
 use Rattle.std.proofs.lemmas.Bool.Decides.{nat_tests}
-use Rattle.std.proofs.Common.{arith, ℕ, Bool, true, false, ◌≡◌, ◌+◌, ◌<◌, ◌||◌, ◌&&◌, List, Option, Some, None, IfSome, get_or, length, take}
+use Rattle.std.proofs.Common.{arith, ℕ, Bool, true, false, ◌≡◌, ◌+◌, ◌<◌, ◌||◌, ◌&&◌, List, Option, Some, IfSome, get_or, length, take}
 use Rattle.std.proofs.lemmas.List.Elements.{All-from_get_or, All-get_or, All-more}
 use Rattle.pp_history.specs.Marks.{AreCovered, covers, is_covered}
 use Rattle.pp_history.specs.declared.marks.Marks.{Marks}

@@ -6,5 +6,8 @@ use Rattle.pp_history.proofs.log.is_changed.Goals as goal
 pub returns-then-not-may_have : goal.returns-then-not-may_have
 returns-then-not-may_have g c =
     let T = g.T.Reversible in
-    grind (arith, unmarked_unchanged T (λ place. T.value_at c.args.machine.now place) c.args.marks.now
-        (whole_record T.unpacked c.args.back.now) c.args.places.now (c.may_have.ensures c.if-not-may_have.true) c.requires.covers)
+    grind (
+      arith,
+      unmarked_unchanged T (λ place. T.value_at c.args.machine.now place) c.args.marks.now
+          (whole_record T.unpacked c.args.back.now) c.args.places.now (c.may_have.ensures c.if-not-may_have.true) c.requires.covers,
+    )
