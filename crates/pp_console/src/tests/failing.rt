@@ -269,25 +269,37 @@ fn source_fails(rt: &impl Abort, alloc: Global, exchanges: &[Exchange]) -> Resul
     fails_at_each_take(rt, alloc, exchanges, 4096)
 }
 
-#[test]
-fn source_fails_at_each_call(rt: HostRuntime) -> Result<(), Fail> {
-    for i in 0..SCRIPTS.len() {
-        source_fails(&rt, rt.alloc(), SCRIPTS[i])?;
-    }
-    Ok(())
-}
-
 fn sink_fails(rt: &impl Abort, alloc: Global, exchanges: &[Exchange]) -> Result<(), Fail> {
     fails_at_each_put(rt, alloc, exchanges, 1)?;
     fails_at_each_put(rt, alloc, exchanges, 4096)
 }
 
-#[test]
-fn sink_fails_at_each_call(rt: HostRuntime) -> Result<(), Fail> {
+/// The device that fails.
+#[derive(Clone, Copy)]
+enum Device {
+    Source,
+    Sink,
+}
+
+/// Makes the device fail at each of its calls in turn, in each script.
+fn device_fails(rt: &impl Abort, alloc: Global, device: Device) -> Result<(), Fail> {
     for i in 0..SCRIPTS.len() {
-        sink_fails(&rt, rt.alloc(), SCRIPTS[i])?;
+        match device {
+            Device::Source => source_fails(rt, alloc, SCRIPTS[i])?,
+            Device::Sink => sink_fails(rt, alloc, SCRIPTS[i])?,
+        }
     }
     Ok(())
+}
+
+#[test]
+fn source_fails_at_each_call(rt: HostRuntime) -> Result<(), Fail> {
+    device_fails(&rt, rt.alloc(), Device::Source)
+}
+
+#[test]
+fn sink_fails_at_each_call(rt: HostRuntime) -> Result<(), Fail> {
+    device_fails(&rt, rt.alloc(), Device::Sink)
 }
 
 /// The call that fails, counted from 1.
