@@ -50,10 +50,8 @@ frame_exchange s i size below =
 
 pub central_exchange : (s : PpView) (i : ℕ) → length s.frame ≡ 16 → i < 16 → central_after s.a i < length s.central → number (over s (exchange 0 s.a s.central s.frame)) (Central (central_after s.a i)) ≡ number s (FrameWord i)
 central_exchange s i size below within =
-    let here : 0 + i ≡ i = zero-add i in
-    let at = stored-at s.a 0 i s.central s.frame (omega (arith, size)) (omega (arith, size)) (subst (λ n. central_after s.a n < length s.central) (sym here) within) in
     ap (λ v. number v (Central (central_after s.a i))) (over-exchanged s s.a s.central s.frame refl size)
-    ∙ subst (λ n. slice_index (stored_over s.a 0 s.central s.frame) (central_after s.a n) ≡ slice_index s.frame i) here at
+    ∙ (rw zero-add at (stored-at s.a 0 i s.central s.frame (omega (arith, size)) (omega (arith, size)) (rw zero-add within)))
 
 -- what an exchange, and putting it back, needs
 pub ruleset swaps = (common_steps, over-exchange, over-exchanged, few_exchanged)
