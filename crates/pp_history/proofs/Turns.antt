@@ -57,19 +57,19 @@ module _ {A R H : Type 0} (unpacked : H → A × R) (slots : List (Option H)) (t
         some_first : 0 < length (ahead_in unpacked (take m (head ∷ others at slots)) undone.items)
         some_first = omega (arith, log.ahead, some)
 
-        abbrev it : NextAt unpacked m head (others at slots) undone.items
-        it = next-at unpacked m head (others at slots) undone.items some_first
+        abbrev next_in : NextAt unpacked m head (others at slots) undone.items
+        next_in = next-at unpacked m head (others at slots) undone.items some_first
 
-        next_first : slice_get value.ahead 0 ≡ Some it.action
-        next_first = rw first it.first
+        next_first : slice_get value.ahead 0 ≡ Some next_in.action
+        next_first = rw first next_in.first
 
         module _ (head' : Option H) (tails' : Tails A R) (undone' : Buffer A) (back : R)
-            (behind : undone' ≡ buffer (left_by head undone.items) undone.capacity) (kept : IsKept unpacked head' it.action back tails tails') where
+            (behind : undone' ≡ buffer (left_by head undone.items) undone.capacity) (kept : IsKept unpacked head' next_in.action back tails tails') where
           again_in_log : IsEnd (at + 1) (set slots at head') × IsLog unpacked (turned (at + 1) (set slots at head')) tails'.ring undone' (n + 1) (m - 1)
-          again_in_log = (end_in head', rw (last-in slots at head' next.0) (again_log unpacked head head' (others at slots) tails tails' undone undone' n m it.action back log some_first behind kept))
+          again_in_log = (end_in head', rw (last-in slots at head' next.0) (again_log unpacked head head' (others at slots) tails tails' undone undone' n m next_in.action back log some_first behind kept))
 
-          again_in_value : log_value unpacked (turned (at + 1) (set slots at head')) tails'.ring undone' (n + 1) (m - 1) ≡ log_of ((it.action, back) ∷ value.records) (drop 1 value.ahead) value.capacity
-          again_in_value = rw (last-in slots at head' next.0, first) (again_value unpacked head head' (others at slots) tails tails' undone undone' n m it.action back log some_first behind kept)
+          again_in_value : log_value unpacked (turned (at + 1) (set slots at head')) tails'.ring undone' (n + 1) (m - 1) ≡ log_of ((next_in.action, back) ∷ value.records) (drop 1 value.ahead) value.capacity
+          again_in_value = rw (last-in slots at head' next.0, first) (again_value unpacked head head' (others at slots) tails tails' undone undone' n m next_in.action back log some_first behind kept)
 
     -- the head is that of the newest kept action
     module _ (newest : IsKeptSlot end (length slots) 0 at) (some : 0 < n) where
@@ -132,7 +132,7 @@ module _ {M A R P H : Type 0} (rules : Ghosts M A R P H) (n m i : ℕ) {old : Co
   -- the head is that of the next action ahead
   module _ (run : IsRun rules old (λ v. after_forward v i) machine end slots tails undone (n + i) (m - i)) (is : head ≡ get_or slots at head) (next : IsNextSlot end (length slots) at) (some : 0 < m - i) where
     abbrev ahead : NextAt rules.unpacked (m - i) head (others at slots) undone.items
-    ahead = it rules.unpacked slots tails run.log is next some
+    ahead = next_in rules.unpacked slots tails run.log is next some
 
     abbrev ahead_first : slice_get (log_value rules.unpacked (turned end slots) tails.ring undone (n + i) (m - i)).ahead 0 ≡ Some ahead.action
     ahead_first = next_first rules.unpacked slots tails run.log is next some

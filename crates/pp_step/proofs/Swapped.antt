@@ -1,5 +1,5 @@
 -- The number at each place after an exchange.
-use Rattle.std.proofs.Common.{◌≡◌, ◌≢◌, ℕ, zero, suc, List, [], ◌∷◌, ◌++◌, ◌+◌, ◌<◌, ◌≤◌, length, slice_index, sym, ◌∙◌, ap, subst, refl, arith, add-zero, zero-add}
+use Rattle.std.proofs.Common.{◌≡◌, ◌≢◌, ℕ, zero, suc, List, [], ◌∷◌, ◌++◌, ◌+◌, ◌<◌, ◌≤◌, length, slice_index, sym, ◌∙◌, ap, refl, arith, add-zero, zero-add}
 use Rattle.std.proofs.lemmas.Grind.{common_steps}
 use Rattle.std.proofs.lemmas.List.{get_or-set_same, get_or-set_other}
 use Rattle.std.proofs.lemmas.List.FromFn.{get_or-map-range_with_len}
@@ -26,17 +26,14 @@ addresses_apart a k j at_most = λ same. omega (arith, same)
 stored-at : (a k j : ℕ) (words ws : List ℕ) → k + length ws ≤ 16 → j < length ws → central_after a (k + j) < length words → slice_index (stored_over a k words ws) (central_after a (k + j)) ≡ slice_index ws j
 stored-at a k j words [] at_most below within = absurd (omega arith)
 stored-at a k zero words (w ∷ ws) at_most below within =
-    let here : k + 0 ≡ k = add-zero k in
     let size = length-stored_over a (k + 1) words ws in
-    let fits : central_after a k < length words = subst (λ n. central_after a n < length words) here within in
-    ap (λ n. slice_index (stored_over a k words (w ∷ ws)) (central_after a n)) here
-    ∙ get_or-set_same (stored_over a (k + 1) words ws) (central_after a k) w 0 (omega (arith, size, fits))
+    let fits = rw add-zero at within in
+    rw add-zero (get_or-set_same (stored_over a (k + 1) words ws) (central_after a k) w 0 (omega (arith, size, fits)))
 stored-at a k (suc j) words (w ∷ ws) at_most below within =
     let next : k + suc j ≡ k + 1 + j = omega arith in
-    let later = stored-at a (k + 1) j words ws (omega arith) (omega arith) (subst (λ n. central_after a n < length words) next within) in
+    let later = stored-at a (k + 1) j words ws (omega arith) (omega arith) (rw next at within) in
     get_or-set_other (stored_over a (k + 1) words ws) (central_after a k) (central_after a (k + suc j)) w 0 (addresses_apart a k j (omega arith))
-    ∙ ap (λ n. slice_index (stored_over a (k + 1) words ws) (central_after a n)) next
-    ∙ later
+    ∙ rw next later
 
 -- the state after an exchange, but for P
 pub over-exchanged : (s : PpView) (a : ℕ) (words ws : List ℕ) → words ≡ s.central → length s.frame ≡ 16 → over s (frame_pairs 0 (loaded a words) ++ word_pairs (length words) a 0 ws) ≡ record s { frame = loaded a words; central = stored_over a 0 words ws }
@@ -50,10 +47,8 @@ frame_exchange s i size below =
 
 pub central_exchange : (s : PpView) (i : ℕ) → length s.frame ≡ 16 → i < 16 → central_after s.a i < length s.central → number (over s (exchange 0 s.a s.central s.frame)) (Central (central_after s.a i)) ≡ number s (FrameWord i)
 central_exchange s i size below within =
-    let here : 0 + i ≡ i = zero-add i in
-    let at = stored-at s.a 0 i s.central s.frame (omega (arith, size)) (omega (arith, size)) (subst (λ n. central_after s.a n < length s.central) (sym here) within) in
     ap (λ v. number v (Central (central_after s.a i))) (over-exchanged s s.a s.central s.frame refl size)
-    ∙ subst (λ n. slice_index (stored_over s.a 0 s.central s.frame) (central_after s.a n) ≡ slice_index s.frame i) here at
+    ∙ (rw zero-add at (stored-at s.a 0 i s.central s.frame (omega (arith, size)) (omega (arith, size)) (rw zero-add within)))
 
 -- what an exchange, and putting it back, needs
 pub ruleset swaps = (common_steps, over-exchange, over-exchanged, few_exchanged)
