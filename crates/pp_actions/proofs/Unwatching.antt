@@ -17,7 +17,7 @@ use Rattle.pp_actions.specs.RecordLists.{with_entries, entries_at}
 use Rattle.pp_actions.specs.WriteLists.{entry_writes}
 use Rattle.pp_actions.specs.declared.watched.Watched.{Watched}
 use Rattle.pp_actions.specs.declared.watched.Watched.TheVariants.{RegA}
-use Rattle.pp_actions.proofs.WatchCodes.{code-no_zero, AreWatches-entries, entries, length-watched_in}
+use Rattle.pp_actions.proofs.WatchCodes.{code-no_zero, first_zero-at, watched_at-code, words_of-at_most, AreWatches-entries, AreWatches-push, entries, length-watched_in}
 
 pub over-entries : (m : Machine) (i : ℕ) (codes : List ℕ) → over m (entry_writes i codes) ≡ record m { watches = with_entries m.watches i codes }
 over-entries m i [] = refl
@@ -164,3 +164,6 @@ pub AreWatches-removed : (size : ℕ) (entries : List ℕ) (i : ℕ) → size �
 AreWatches-removed size entries i at_most ok h =
     let ws = watched_in entries in
     AreWatches-entries size (remove ws i) at_most (All-append (λ w. Has size (watched_place w)) (take i ws) (drop (suc i) ws) (All-take (λ w. Has size (watched_place w)) i ws ok.present) (All-drop (λ w. Has size (watched_place w)) (suc i) ws ok.present)) (all_pairs_remove (λ v w. watch_code v ≢ watch_code w) ws i (omega (arith, length-watched_in entries)) ok.distinct)
+
+-- what a machine with other watched places needs
+pub ruleset watch_changes = (common_steps, over-entries, old_values-entries, length-entry_writes, HasAll-entries, length-with_entries, moved_up-last, AreWatches-removed, AreWatches-push, first_zero-at, watched_at-code, words_of-at_most)
