@@ -3,9 +3,9 @@ use Rattle.std.specs.List.{list_all}
 use Rattle.std.proofs.Common.{arith, ⊎_elim, ℕ, ◌≡◌, ◌≢◌, ◌<◌, ◌≤◌, ◌&&◌, nat_lt, nat_le, Bool, true, false, List, All, length, Option, Some, None, if◌then◌else◌, refl}
 use Rattle.std.proofs.lemmas.Bool.{and_parts}
 use Rattle.std.proofs.lemmas.Bool.Decides.{eqb_tells, nat_tests, Decides-by_and, Decides-ltb}
-use Rattle.pp_machine.specs.Prelude.{Machine, over, old_values, Has, state_number}
+use Rattle.pp_machine.specs.Prelude.{Machine, old_values, Has, state_number}
 use Rattle.pp_machine.specs.declared.channel.ChannelState.{ChannelState}
-use Rattle.pp_rig.specs.Action.{next, old_values_of, most_places}
+use Rattle.pp_rig.specs.Action.{writes, old_values_of, most_places}
 use Rattle.pp_actions.specs.Settings.{set_list}
 use Rattle.pp_actions.specs.Admitting.{first_fault, state_fault, is_in_range, is_watchable}
 use Rattle.pp_actions.specs.CellLaws.{AreSettings-cell_writes}
@@ -40,13 +40,6 @@ no_state_fault m action h = rw in_range at h
 
 -- ---- an action that sets numbers
 
--- it writes the numbers that it sets and nothing else, and each fits its place
-pub record IsSet (m : Machine) (done : Action) : Type 0 where
-  pub next : next m done ≡ over m (set_list done)
-  pub old_values : old_values_of m done ≡ old_values m (set_list done)
-  pub most : most_places done ≡ 8
-  pub settings : AreSettings m.setup.central_words (set_list done)
-
 of_processor : (n v most : ℕ) → (nat_lt n processor_count && nat_le v most) ≡ true → (n < 10) × (v ≤ most)
 of_processor n v most h =
     let t = and_parts (nat_lt n processor_count) (nat_le v most) h in
@@ -73,29 +66,33 @@ settings-channel m c state (Some word) h =
     let has = less c channel_count t.0 in
     (record { has = has; settable = tt; in_range = omega arith }, (record { has = has; settable = tt; in_range = at_most word twelve_bits u.1 }, tt))
 
-pub is_set : (m : Machine) (done : Action) → first_fault m done ≡ None → done ≢ Turn → ((w : Watched) → done ≢ Watch w) → ((w : Watched) → done ≢ Unwatch w) → done ≢ Deadstart → IsSet m done
-is_set m Turn h turn watch unwatch start = absurd (turn refl)
-is_set m (Watch w) h turn watch unwatch start = absurd (watch w refl)
-is_set m (Unwatch w) h turn watch unwatch start = absurd (unwatch w refl)
-is_set m Deadstart h turn watch unwatch start = absurd (start refl)
-is_set m (SetCells n a values) h turn watch unwatch start =
-    record { next = refl; old_values = refl; most = refl; settings = settings-cells m.setup.central_words n a values (in_range m (SetCells n a values) h) }
-is_set m (SetA n v) h turn watch unwatch start =
+-- each number that it sets fits its place
+pub settings_fit : (m : Machine) (done : Action) → first_fault m done ≡ None → AreSettings m.setup.central_words (set_list done)
+settings_fit m (SetCells n a values) h = settings-cells m.setup.central_words n a values (in_range m (SetCells n a values) h)
+settings_fit m (SetA n v) h =
     let t = of_processor n v eighteen_bits (in_range m (SetA n v) h) in
-    record { next = refl; old_values = refl; most = refl; settings = (record { has = t.0; settable = tt; in_range = t.1 }, tt) }
-is_set m (SetP n v) h turn watch unwatch start =
+    (record { has = t.0; settable = tt; in_range = t.1 }, tt)
+settings_fit m (SetP n v) h =
     let t = of_processor n v twelve_bits (in_range m (SetP n v) h) in
-    record { next = refl; old_values = refl; most = refl; settings = (record { has = t.0; settable = tt; in_range = t.1 }, (record { has = t.0; settable = tt; in_range = (omega arith, refl) }, tt)) }
-is_set m (SetQ n v) h turn watch unwatch start =
+    (record { has = t.0; settable = tt; in_range = t.1 }, (record { has = t.0; settable = tt; in_range = (omega arith, refl) }, tt))
+settings_fit m (SetQ n v) h =
     let t = of_processor n v twelve_bits (in_range m (SetQ n v) h) in
-    record { next = refl; old_values = refl; most = refl; settings = (record { has = t.0; settable = tt; in_range = t.1 }, tt) }
-is_set m (SetWord a v) h turn watch unwatch start =
+    (record { has = t.0; settable = tt; in_range = t.1 }, tt)
+settings_fit m (SetWord a v) h =
     let t = and_parts (nat_lt a m.setup.central_words) (nat_lt v past_sixty_bits) (in_range m (SetWord a v) h) in
-    record { next = refl; old_values = refl; most = refl; settings = (record { has = less a m.setup.central_words t.0; settable = tt; in_range = less v past_sixty_bits t.1 }, tt) }
-is_set m (SetChannel c state None) h turn watch unwatch start =
-    record { next = refl; old_values = refl; most = refl; settings = settings-channel m c state None (in_range m (SetChannel c state None) h) }
-is_set m (SetChannel c state (Some word)) h turn watch unwatch start =
-    record { next = refl; old_values = refl; most = refl; settings = settings-channel m c state (Some word) (in_range m (SetChannel c state (Some word)) h) }
+    (record { has = less a m.setup.central_words t.0; settable = tt; in_range = less v past_sixty_bits t.1 }, tt)
+settings_fit m (SetChannel c state None) h = settings-channel m c state None (in_range m (SetChannel c state None) h)
+settings_fit m (SetChannel c state (Some word)) h = settings-channel m c state (Some word) (in_range m (SetChannel c state (Some word)) h)
+settings_fit m done h = tt
+
+-- it writes these numbers and nothing else
+pub writes_settings : (m : Machine) (done : Action) → done ≢ Turn → ((w : Watched) → done ≢ Watch w) → ((w : Watched) → done ≢ Unwatch w) → done ≢ Deadstart →
+    (writes m done ≡ set_list done) × (old_values_of m done ≡ old_values m (set_list done)) × (most_places done ≡ 8)
+writes_settings m Turn turn watch unwatch start = absurd (turn refl)
+writes_settings m (Watch w) turn watch unwatch start = absurd (watch w refl)
+writes_settings m (Unwatch w) turn watch unwatch start = absurd (unwatch w refl)
+writes_settings m Deadstart turn watch unwatch start = absurd (start refl)
+writes_settings m done turn watch unwatch start = (refl, refl, refl)
 
 -- ---- a watch
 
@@ -126,11 +123,16 @@ pub record IsWatch (m : Machine) (w : Watched) : Type 0 where
   pub present : Has m.setup.central_words (watched_place w)
   pub other : is_watched m w ≡ false
 
-pub is_watch : (m : Machine) (w : Watched) → first_fault m (Watch w) ≡ None → IsWatch m w
+pub is_watch : (m : Machine) (w : Watched) → first_fault m (Watch w) ≡ None → (first_fault m (Watch w) ≡ None) × IsWatch m w
 is_watch m w h =
-    let t = free (nat_le 8 (length (watches_of m))) (is_watched m w) (no_state_fault m (Watch w) h) in
-    record {
-      room = room (first_zero m.watches) (rw length-watched_in at t.0);
-      present = Has-watchable m.setup.central_words w (in_range m (Watch w) h);
-      other = t.1;
-    }
+    let t = free (nat_le 8 (length (watches_of m))) (is_watched m w) (no_state_fault m (Watch w) h) in (
+      h,
+      record {
+        room = room (first_zero m.watches) (rw length-watched_in at t.0);
+        present = Has-watchable m.setup.central_words w (in_range m (Watch w) h);
+        other = t.1;
+      },
+    )
+
+-- what performing an action of any kind needs
+pub ruleset admitted = (settings_fit, writes_settings, is_watch)

@@ -45,7 +45,7 @@ shortest zero machine = record { within = omega arith; earlier = λ turns less. 
 shortest (suc most) machine = shortest-by most machine (stopped most (turn machine)) (hit_of machine) refl (shortest most (turn machine))
 
 -- the turns are the newest actions
-pub standing-turns : (turns : ℕ) (v : SessionValue Machine Action) → (after_turns turns v).standing ≡ replicate turns Turn ++ v.standing
+pub standing_turns : (turns : ℕ) (v : SessionValue Machine Action) → (after_turns turns v).standing ≡ replicate turns Turn ++ v.standing
 unfolding after_turns
-standing-turns zero v = refl
-standing-turns (suc turns) v = ap (λ actions. Turn ∷ actions) (standing-turns turns v)
+standing_turns zero v = refl
+standing_turns (suc turns) v = ap (λ actions. Turn ∷ actions) (standing_turns turns v)

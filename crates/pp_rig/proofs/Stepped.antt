@@ -1,12 +1,13 @@
 -- The parts of a turn: what each does to the machine, and what its undo record then has.
 use Rattle.std.proofs.Common.{ℕ, Bool, true, false, [], ◌∷◌, ◌<◌, ◌≡◌, ◌==◌, ◌∙◌, if◌then◌else◌, refl, ap, get_or, subst, sym}
+use Rattle.std.proofs.lemmas.Grind.{common_steps}
 use Rattle.std.proofs.lemmas.List.{get_or_read}
 use Rattle.pp_machine.proofs.AllDevices.{all-laws}
 use Rattle.pp_machine.specs.AllDevices.{all_model}
 use Rattle.pp_machine.specs.NumberLaws.{setup-over}
-use Rattle.pp_machine.specs.Parts.{ArePerformed}
+use Rattle.pp_machine.specs.Parts.{AreIdle, ArePerformed, after_parts, parts_old_values}
 use Rattle.pp_machine.specs.Prelude.{Machine, ProcessorNumbers, over, no_processor, Writes, renamed, Has, HasAll}
-use Rattle.pp_step.specs.Step.{pp_pairs, pp_writes, FitsPp, IsStep}
+use Rattle.pp_step.specs.Step.{pp_writes, FitsPp, IsStep}
 use Rattle.pp_step.specs.View.{PpPlace, PpView, over as over_pp, pp_place}
 use Rattle.pp_step.specs.declared.record.PpRecord.{PpRecord}
 use Rattle.pp_rig.specs.IsMachine.{IsMachine}
@@ -18,11 +19,11 @@ use Rattle.pp_machine.specs.declared.place.Place.TheVariants.{Clock}
 use Rattle.pp_step.specs.PpPlaces.{HasAll-pp}
 use Rattle.pp_rig.specs.IsSetup.{IsSetup}
 use Rattle.pp_rig.specs.Short.{IsTurned}
-use Rattle.pp_rig.specs.Turn.{AreDevicesStepped, FitsRest, FitsTurn, IsSlotStep, device_parts, end_old_values, end_parts, pp_step_writes, rest_of_turn, rest_pairs, turn_old_values, turn_pairs, turn_parts, turn_writes}
+use Rattle.pp_rig.specs.Turn.{FitsRest, FitsTurn, IsSlotStep, device_parts, end_old_values, end_parts, pp_step_writes, rest_of_turn, rest_pairs, turn_old_values, turn_pairs, turn_parts, turn_writes}
 use Rattle.pp_rig.specs.declared.rig.TurnRecord.{TurnRecord}
 use Rattle.pp_rig.specs.declared.rig.TurnRest.{TurnRest}
 use Rattle.pp_rig.proofs.Overwritten.{at_most-turn}
-use Rattle.pp_machine.proofs.Parts.{both-performed, led_back, one-performed, over-parts}
+use Rattle.pp_machine.proofs.Parts.{both-performed, led_back, none-performed, one-performed, over-parts}
 
 -- processor n, as it is read from the list, and as it is put back
 module _ (m : Machine) (n : ℕ) (x : ProcessorNumbers) (ok : IsMachine m) (in_slot : n < 10) (read : x ≡ get_or m.processors n x) where
@@ -65,20 +66,16 @@ module _ (m : Machine) (x : ProcessorNumbers) (new : PpView) (back : PpRecord) (
 
 -- ---- the rest of a turn: devices, clock and slot
 
-module _ (m m3 new : Machine) (stepped back : TurnRest) (devices : AreDevicesStepped m m3 stepped) (ended : ArePerformed end_parts m3 new (end_old_values back)) (called : back.are_devices_called ≡ stepped.are_devices_called) (records : back.devices ≡ stepped.devices) where
-  pub rest-performed : ArePerformed rest_of_turn m new (rest_pairs back)
-  unfolding rest_pairs
-  rest-performed = rw (called, records) (both-performed device_parts end_parts m m3 new _ _ devices.performed ended)
+-- the devices do nothing
+pub idle : (m : Machine) → AreIdle device_parts m → (after_parts device_parts m ≡ m) × (parts_old_values device_parts m ≡ [])
+idle m none = let same = none-performed device_parts m none in (sym same.step, sym same.old_values)
 
-  pub rest-fits : back.slot < 10 → (back.slot ≡ 9 → back.clock < 4096) → FitsRest back new
-  rest-fits in_slot in_clock = record {
-    slot = in_slot;
-    clock = in_clock;
-    devices = λ were_called.
-        let after = subst (all_model.Fits stepped.devices) (sym (led_back end_parts m3 new _ ended))
-        (devices.fits (sym called ∙ were_called)) in
-        subst (λ d. all_model.Fits d (over new (end_old_values back))) (sym records) after;
-  }
+-- the first part of the conclusion is there for `grind`, which looks for it
+pub rest_fits : (m new : Machine) (back : TurnRest) → ArePerformed end_parts m new (end_old_values back) → back.slot < 10 →
+    (back.slot ≡ 9 → back.clock < 4096) → (back.are_devices_called ≡ true → all_model.Fits back.devices m) →
+    ArePerformed end_parts m new (end_old_values back) × FitsRest back new
+rest_fits m new back ended in_slot in_clock devices =
+    (ended, record { slot = in_slot; clock = in_clock; devices = rw (led_back end_parts m new _ ended) devices })
 
 -- ---- a turn
 
@@ -114,7 +111,5 @@ turned m m1 new r step rest fits slot setup ok =
       at_most = at_most-turn r step.at_most;
     }
 
--- undoing the parts, the processor's last, leads back to the machine before
-pub turn-undone : (r : TurnRecord) (s s1 s0 : Machine) → s1 ≡ over s (rest_pairs r.rest) → s0 ≡ over s1 (renamed (pp_place r.rest.slot) (pp_pairs r.pp)) → s0 ≡ over s (turn_pairs r)
-unfolding turn_pairs
-turn-undone r s s1 s0 rest pp = simp (pp, rest, over-append)
+-- what the parts of a turn need
+pub ruleset parts = (common_steps, over-append, over-parts, idle, setup-over, rest_fits, turned)

@@ -98,15 +98,15 @@ deadstart-once (Some panel) at_most = each (deadstart_write_list panel) (panel-o
 
 -- ---- every action
 
-pub action-once : (s : Machine) (done : Action) → done ≢ action.Turn → length (writes s done) ≤ most_places done → EachOnce (writes s done)
-action-once s action.Turn other at_most = absurd (other refl)
-action-once s (action.SetCells n a values) other at_most = cells-once n a values (omega (arith, at_most, length-cell_writes n a values))
-action-once s (action.SetA n v) other at_most = each ((RegA n, v) ∷ []) refl
-action-once s (action.SetP n v) other at_most = each ((RegP n, v) ∷ (Phase n, 0) ∷ []) refl
-action-once s (action.SetQ n v) other at_most = each ((RegQ n, v) ∷ []) refl
-action-once s (action.SetWord a v) other at_most = each ((Central a, v) ∷ []) refl
-action-once s (action.SetChannel c state None) other at_most = each (writes s (action.SetChannel c state None)) refl
-action-once s (action.SetChannel c state (Some w)) other at_most = each (writes s (action.SetChannel c state (Some w))) refl
-action-once s (action.Watch w) other at_most = each (writes s (action.Watch w)) refl
-action-once s (action.Unwatch w) other at_most = without_entry-once s.watches (position (λ code. code == watch_code w) s.watches)
-action-once s action.Deadstart other at_most = deadstart-once s.setup.panel at_most
+pub written_once : (s : Machine) (done : Action) → done ≢ action.Turn → length (writes s done) ≤ most_places done → EachOnce (writes s done)
+written_once s action.Turn other at_most = absurd (other refl)
+written_once s (action.SetCells n a values) other at_most = cells-once n a values (omega (arith, at_most, length-cell_writes n a values))
+written_once s (action.SetA n v) other at_most = each ((RegA n, v) ∷ []) refl
+written_once s (action.SetP n v) other at_most = each ((RegP n, v) ∷ (Phase n, 0) ∷ []) refl
+written_once s (action.SetQ n v) other at_most = each ((RegQ n, v) ∷ []) refl
+written_once s (action.SetWord a v) other at_most = each ((Central a, v) ∷ []) refl
+written_once s (action.SetChannel c state None) other at_most = each (writes s (action.SetChannel c state None)) refl
+written_once s (action.SetChannel c state (Some w)) other at_most = each (writes s (action.SetChannel c state (Some w))) refl
+written_once s (action.Watch w) other at_most = each (writes s (action.Watch w)) refl
+written_once s (action.Unwatch w) other at_most = without_entry-once s.watches (position (λ code. code == watch_code w) s.watches)
+written_once s action.Deadstart other at_most = deadstart-once s.setup.panel at_most

@@ -5,7 +5,7 @@ use Rattle.std.proofs.lemmas.List.Quantifiers.{position-Some}
 use Rattle.pp_machine.specs.Prelude.{Machine, over, processor, no_processor, HasAll}
 use Rattle.pp_machine.specs.declared.place.Place.TheVariants.{Clock}
 use Rattle.pp_step.proofs.StepPlaces.{HasAll-step}
-use Rattle.pp_rig.proofs.Admitting.{IsSet, is_set, is_watch}
+use Rattle.pp_rig.proofs.Admitting.{settings_fit, is_watch}
 use Rattle.pp_rig.proofs.Deadstart.{AreSettings-deadstart}
 use Rattle.pp_machine.proofs.AllDevices.{all-laws}
 use Rattle.pp_machine.proofs.Parts.{HasAll-parts, each-append}
@@ -72,14 +72,11 @@ HasAll-deadstart size (Some panel) ok = HasAll-settings size (deadstart_write_li
 
 -- ---- every action
 
-HasAll-set : (s : Machine) (done : Action) → IsSet s done → HasAll s.setup.central_words (set_list done)
-HasAll-set s done set = HasAll-settings s.setup.central_words (set_list done) set.settings
-
-pub HasAll-action : (s : Machine) (done : Action) → IsWellFormed s → first_fault s done ≡ None → HasAll s.setup.central_words (writes s done)
-HasAll-action s action.Turn ok admitted = HasAll-turn_writes s ok
-HasAll-action s (action.Watch w) ok admitted = ((is_watch s w admitted).room, tt)
-HasAll-action s (action.Unwatch w) ok admitted =
+pub written_places : (s : Machine) (done : Action) → IsWellFormed s → first_fault s done ≡ None → HasAll s.setup.central_words (writes s done)
+written_places s action.Turn ok admitted = HasAll-turn_writes s ok
+written_places s (action.Watch w) ok admitted = ((is_watch s w admitted).1.room, tt)
+written_places s (action.Unwatch w) ok admitted =
     let found = position (λ code. code == watch_code w) s.watches in
     HasAll-without_entry s.setup.central_words s.watches found (position_within (λ code. code == watch_code w) s.watches found refl ok.sizes.watches) ok.sizes.watches
-HasAll-action s action.Deadstart ok admitted = HasAll-deadstart s.setup.central_words s.setup.panel ok.setup.panel
-HasAll-action s done ok admitted = HasAll-set s done (is_set s done admitted (λ e. cc) (λ w e. cc) (λ w e. cc) (λ e. cc))
+written_places s action.Deadstart ok admitted = HasAll-deadstart s.setup.central_words s.setup.panel ok.setup.panel
+written_places s done ok admitted = HasAll-settings s.setup.central_words (set_list done) (settings_fit s done admitted)

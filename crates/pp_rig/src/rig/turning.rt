@@ -84,6 +84,7 @@ impl Rig {
 
     /// Steps the devices, if the channel of one is active.
     #[inline(always)]
+    #[tactic(auto, using(crate::proofs::Stepped::parts))]
     fn step_devices(&mut self, back: &mut TurnRest)
         ensures { AreDevicesStepped self.old self.new back.new }
     {
@@ -130,6 +131,7 @@ impl Rig {
 
     /// Performs the part of a turn after the processor's step.
     #[inline(always)]
+    #[tactic(auto, using(crate::proofs::Stepped::parts))]
     fn finish_turn(&mut self, back: &mut TurnRest)
         ensures performed { ArePerformed rest_of_turn self.old self.new (rest_pairs back.new) }
         ensures fits { FitsRest back.new self.new }
@@ -155,6 +157,7 @@ impl Rig {
     }
 
     #[inline(always)]
+    #[tactic(auto, unfolding(crate::specs::Turn::rest_pairs), using(crate::proofs::Stepped::parts))]
     fn undo_rest(&mut self, back: &TurnRest)
         requires { FitsRest back.now self.old }
         ensures undoes { self.new ≡ over self.old (rest_pairs back.now) }
@@ -228,6 +231,7 @@ impl Rig {
         }
     }
 
+    #[tactic(auto, unfolding(crate::specs::Turn::turn_pairs), using(crate::proofs::Stepped::parts))]
     pub(super) fn undo_turn(&mut self, back: &TurnRecord)
         requires { FitsTurn back.now self.old }
         ensures { self.new ≡ over self.old (turn_pairs back.now) }
@@ -237,6 +241,7 @@ impl Rig {
     }
 
     #[inline(always)]
+    #[tactic(auto, unfolding(crate::specs::Turn::turn_pairs), using(crate::proofs::Stepped::parts))]
     pub(super) fn undo_turn_short(&mut self, back: &ShortTurn)
         requires { FitsTurn (whole_turn back.now) self.old }
         ensures { self.new ≡ over self.old (turn_pairs (whole_turn back.now)) }
