@@ -2,6 +2,7 @@
 use Rattle.std.specs.List.{list_all}
 use Rattle.std.proofs.Common.{arith, zero, suc, lit<, lit≤, ap, sym, ◌∙◌, ℕ, ◌≡◌, ◌+◌, ◌/◌, ◌<◌, ◌≤◌, ◌^◌, ◌==◌, ◌||◌, IsTrue, Bool, true, false, All, List, [], ◌∷◌, ◌++◌, length, replicate, refl, not, ◌&&◌, Some, None, if◌then◌else◌}
 use Rattle.std.proofs.lemmas.Bool.{and_parts}
+use Rattle.std.proofs.lemmas.Grind.{common_steps}
 use Rattle.pp_machine.specs.Prelude.{Machine, old_values, number, Writes, places, write_list, Has, lookup, same_place, places-append, places-old_values}
 use Rattle.pp_machine.specs.Phase.{is_phase}
 use Rattle.pp_machine.specs.declared.place.Write.{Write}
@@ -10,12 +11,12 @@ use Rattle.pp_machine.specs.declared.place.Place.TheVariants.{Cell, RegA, RegP, 
 use Rattle.pp_actions.specs.CellLaws.{AreSettings-cell_writes}
 use Rattle.pp_actions.specs.Deadstart.{loading, waiting, all_waiting, all_states, states, deadstart_write_list, deadstart_place_count, deadstart_places}
 use Rattle.pp_actions.specs.Ranges.{IsInRange, twelve_bits, eighteen_bits}
-use Rattle.pp_actions.specs.Settings.{IsSetting, IsSettable, AreSettings, AreSettings-append}
+use Rattle.pp_actions.specs.Settings.{IsSetting, IsSettable, AreSettings, AreSettings-append, HasAll-settings}
 use Rattle.pp_actions.specs.RecordLists.{numbers, with_new_numbers}
 use Rattle.pp_actions.specs.WriteLists.{cell_writes, register_writes, state_writes}
 use Rattle.pp_rig.proofs.Admitting.{all_at_most}
 use Rattle.std.proofs.lemmas.List.{length-append}
-use Rattle.pp_actions.proofs.WriteLists.{places-cell_writes, with_new_numbers-numbers}
+use Rattle.pp_actions.proofs.WriteLists.{length-old_values, places-cell_writes, with_new_numbers-numbers}
 
 one : (size : ℕ) (p : Place) (v : ℕ) → Has size p → IsSettable p → IsInRange p v → IsSetting size p v
 one size p v has settable in_range = record { has = has; settable = settable; in_range = in_range }
@@ -91,7 +92,7 @@ length-deadstart_write_list panel = simp (length-append, length-cell_writes) (om
 pub length-deadstart : (panel : List ℕ) → length panel ≡ 12 → length (deadstart_write_list panel) ≡ deadstart_place_count
 length-deadstart panel e = omega (arith, length-deadstart_write_list panel)
 
-places-old : (m : Machine) (panel : List ℕ) → length panel ≡ 12 → places (old_values m (deadstart_write_list panel)) ≡ places deadstart_places
+pub places-old : (m : Machine) (panel : List ℕ) → length panel ≡ 12 → places (old_values m (deadstart_write_list panel)) ≡ places deadstart_places
 places-old m panel e = places-old_values number m (deadstart_write_list panel) ∙ places-deadstart panel (replicate 12 0) e
 
 -- the old numbers of a dead start, at its places, are its old values
@@ -125,8 +126,13 @@ short-at size [] a s i d l = absurd (omega arith)
 short-at size (k ∷ ks) a s zero d l = short-number k.place k.number (and_parts (is_short k.place) (list_all is_short (places (write_list ks))) a).0 s.0.settable s.0.in_range
 short-at size (k ∷ ks) a s (suc i) d l = short-at size ks (and_parts (is_short k.place) (list_all is_short (places (write_list ks))) a).1 s.1 i d (omega arith)
 
-pub short-old : (size : ℕ) (m : Machine) (panel : List ℕ) (ks : List Write) → length panel ≡ 12 → write_list ks ≡ old_values m (deadstart_write_list panel) → AreSettings size (write_list ks) → All (λ k. k.number < 2 ^ 32) ks
-short-old size m panel ks count e s = short-at size ks (rw (e, places-old m panel count) short-places) s
+-- the first part of the conclusion is there for `grind`, which looks for it
+pub short-old : (size : ℕ) (ks : List Write) → AreSettings size (write_list ks) → places (write_list ks) ≡ places deadstart_places →
+    AreSettings size (write_list ks) × All (λ k. k.number < 2 ^ 32) ks
+short-old size ks s same = (s, short-at size ks (rw same short-places) s)
+
+-- what the undo record of a dead start needs
+pub ruleset deadstarts = (common_steps, places-old, with_new_numbers-old, short-old, length-deadstart, length-old_values, HasAll-settings)
 
 -- ---- what a dead start does not write
 

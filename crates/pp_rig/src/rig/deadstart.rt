@@ -11,6 +11,7 @@ use pp_machine::Write;
 
 impl Rig {
     /// Starts all processors anew, the first at the dead start panel.
+    #[tactic(auto, using(crate::proofs::Deadstart::deadstarts))]
     pub(super) fn deadstart(&mut self) -> RigRecord
         ensures step { self.new ≡ over self.old (deadstart_writes self.old.setup.panel) }
         ensures old_values { record_pairs result ≡ old_values self.old (deadstart_writes self.old.setup.panel) }
