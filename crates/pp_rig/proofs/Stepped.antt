@@ -1,6 +1,5 @@
 -- The parts of a turn: what each does to the machine, and what its undo record then has.
 use Rattle.std.proofs.Common.{ℕ, Bool, true, false, [], ◌∷◌, ◌<◌, ◌≡◌, ◌==◌, ◌∙◌, if◌then◌else◌, refl, ap, get_or, subst, sym}
-use Rattle.std.proofs.lemmas.Grind.{common_steps}
 use Rattle.std.proofs.lemmas.List.{get_or_read}
 use Rattle.pp_machine.proofs.AllDevices.{all-laws}
 use Rattle.pp_machine.specs.AllDevices.{all_model}
@@ -112,4 +111,4 @@ turned m m1 new r step rest fits slot setup ok =
     }
 
 -- what the parts of a turn need
-pub ruleset parts = (common_steps, over-append, over-parts, idle, setup-over, rest_fits, turned)
+pub ruleset parts = (over-append, over-parts, idle, setup-over, rest_fits, turned)

@@ -1,6 +1,5 @@
-use Rattle.std.proofs.Common.{All}
-use Rattle.pp_machine.specs.ReaderNumbers.{IsCard}
+use Rattle.std.proofs.Common.{◌≡◌, replicate}
 use Rattle.pp_rig.proofs.tests.deck_of.Given as goal
 
 abbrev pub invariant-loop-card : goal.invariant-loop-card
-invariant-loop-card l = All IsCard l.deck.items
+invariant-loop-card l = l.deck.items ≡ replicate l._card (replicate 80 l.column)
