@@ -1,13 +1,13 @@
 -- What a dead start writes fits the machine, and has a known length.
 use Rattle.std.specs.List.{list_all}
-use Rattle.std.proofs.Common.{arith, zero, suc, lit<, lit≤, ap, sym, ◌∙◌, ℕ, ◌≡◌, ◌+◌, ◌/◌, ◌<◌, ◌≤◌, ◌^◌, ◌==◌, ◌||◌, IsTrue, Bool, true, false, All, List, [], ◌∷◌, ◌++◌, length, replicate, refl, not, ◌&&◌, Some, None, if◌then◌else◌}
+use Rattle.std.proofs.Common.{arith, zero, suc, lit<, lit≤, ap, sym, ◌∙◌, ℕ, ◌≡◌, ◌+◌, ◌/◌, ◌<◌, ◌≤◌, ◌^◌, ◌==◌, ◌||◌, IsTrue, Bool, true, false, All, List, [], ◌∷◌, ◌++◌, length, replicate, refl, not, None}
 use Rattle.std.proofs.lemmas.Bool.{and_parts}
 use Rattle.std.proofs.lemmas.Grind.{common_steps}
 use Rattle.pp_machine.specs.Prelude.{Machine, old_values, number, Writes, places, write_list, Has, lookup, same_place, places-append, places-old_values}
 use Rattle.pp_machine.specs.Phase.{is_phase}
 use Rattle.pp_machine.specs.declared.place.Write.{Write}
 use Rattle.pp_machine.specs.declared.place.Place.{Place}
-use Rattle.pp_machine.specs.declared.place.Place.TheVariants.{Cell, RegA, RegP, RegQ, Phase, ChannelMode, ChannelWord, Central, Slot}
+use Rattle.pp_machine.specs.declared.place.Place.TheVariants.{Cell, RegA, RegP, RegQ, Phase, ChannelMode, Central, Slot}
 use Rattle.pp_actions.specs.CellLaws.{AreSettings-cell_writes}
 use Rattle.pp_actions.specs.Deadstart.{loading, waiting, all_waiting, all_states, states, deadstart_write_list, deadstart_place_count, deadstart_places}
 use Rattle.pp_actions.specs.Ranges.{IsInRange, twelve_bits, eighteen_bits}
@@ -106,16 +106,7 @@ is_short (Central a) = false
 is_short _ = true
 
 short-number : (p : Place) (v : ℕ) → is_short p ≡ true → IsSettable p → IsInRange p v → v < 2 ^ 32
-short-number (Central a) v s can h = absurd (cc)
-short-number (Cell n a) v s can h = omega (arith, h)
-short-number (RegA n) v s can h = omega (arith, h)
-short-number (RegP n) v s can h = omega (arith, h)
-short-number (RegQ n) v s can h = omega (arith, h)
-short-number (Phase n) v s can h = omega (arith, h.0)
-short-number (ChannelMode c) v s can h = omega (arith, h)
-short-number (ChannelWord c) v s can h = omega (arith, h)
-short-number Slot v s can h = omega (arith, h)
-short-number p v s can h = absurd can
+short-number p v s can h = grind arith
 
 short-places : list_all is_short (places deadstart_places) ≡ true
 unfolding deadstart_write_list all_waiting all_states
@@ -139,11 +130,7 @@ pub ruleset deadstarts = (common_steps, places-old, with_new_numbers-old, short-
 not_restarted : (w : Writes Place) (ns : List ℕ) (p : Place) → list_all (λ pair. not (same_place pair.0 p)) w ≡ true → lookup (with_new_numbers w ns) p ≡ None
 not_restarted [] ns p other = refl
 not_restarted (pair ∷ w) [] p other = refl
-not_restarted (pair ∷ w) (n ∷ ns) p other =
-    elim (same_place pair.0 p) as (λ b. (not b && list_all (λ pair. not (same_place pair.0 p)) w) ≡ true → (if b then Some n else lookup (with_new_numbers w ns) p) ≡ None) [
-      | true ↦ λ e. absurd (cc)
-      | false ↦ λ e. not_restarted w ns p e
-    ] other
+not_restarted (pair ∷ w) (n ∷ ns) p other = grind (arith, not_restarted w ns p)
 
 pub no_word_restarted : (ns : List ℕ) (a : ℕ) → lookup (with_new_numbers deadstart_places ns) (Central a) ≡ None
 unfolding deadstart_write_list all_waiting all_states

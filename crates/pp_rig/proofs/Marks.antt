@@ -1,5 +1,5 @@
 -- What the marks of places say of a turn's undo record.
-use Rattle.std.proofs.Common.{ℕ, Bool, true, false, ◌≡◌, ◌==◌, ◌≤◌, ◌&&◌, ◌||◌, ◌+◌, ◌*◌, ◌/◌, ◌%◌, inl, inr, [], ◌∷◌, List, None, if◌then◌else◌, nat_lt, length, refl, ap, sym, arith, ◌∙◌}
+use Rattle.std.proofs.Common.{ℕ, Bool, true, false, ◌≡◌, ◌==◌, ◌≤◌, ◌||◌, ◌+◌, ◌*◌, ◌/◌, ◌%◌, inl, inr, [], ◌∷◌, List, None, if◌then◌else◌, nat_lt, length, refl, ap, arith, ◌∙◌}
 use Rattle.std.proofs.lemmas.Bool.{and_parts, cases_lt, or_parts}
 use Rattle.std.proofs.lemmas.Bool.Decides.{nat_tests}
 use Rattle.pp_history.specs.Marks.{covers, is_marked, is_set}
@@ -9,8 +9,8 @@ use Rattle.pp_machine.specs.Prelude.{Writes, renamed, lookup, same_place, words_
 use Rattle.pp_machine.specs.Writes.{AllPlaces}
 use Rattle.pp_machine.specs.WriteLaws.{AllPlaces-append, AllPlaces-if, AllPlaces-renamed}
 use Rattle.pp_machine.specs.declared.place.Place.{Place}
-use Rattle.pp_machine.specs.declared.place.Place.TheVariants.{Cell, Central, ChannelWord, Clock, Slot}
-use Rattle.pp_rig.specs.Marks.{cell_mark, central_mark, channel_mark, mark_of, AreUnmarked}
+use Rattle.pp_machine.specs.declared.place.Place.TheVariants.{Clock, Slot}
+use Rattle.pp_rig.specs.Marks.{cell_mark, central_mark, mark_of, AreUnmarked}
 use Rattle.pp_rig.specs.Turn.{clock_old_values, rest_pairs, turn_pairs}
 use Rattle.pp_rig.specs.declared.rig.TurnRecord.{TurnRecord}
 use Rattle.pp_step.specs.Exchange.{frame_pairs, word_pairs}
@@ -24,23 +24,9 @@ use Rattle.pp_step.specs.declared.record.ExchangeRecord.{ExchangeRecord}
 use Rattle.pp_step.specs.declared.record.PpRecord.TheVariants.{Step, Exchange}
 use Rattle.pp_step.specs.declared.record.StepRecord.{StepRecord}
 
-false_unless : (b : Bool) → (b ≡ true → false ≡ true) → b ≡ false
-false_unless true wrong = sym (wrong refl)
-false_unless false wrong = refl
-
 -- an unmarked place is no marked place
 different_places : (m : Marks) (p q : Place) → is_marked m (mark_of q) ≡ false → is_marked m (mark_of p) ≡ true → same_place q p ≡ false
-different_places m (Cell n a) (Cell k b) unmarked marked =
-    false_unless (k == n && b == a)
-    (λ e. let both = and_parts (k == n) (b == a) e in
-    let same : cell_mark k b ≡ cell_mark n a = grind (arith, nat_tests, both) in sym unmarked ∙ (ap (is_set m) same ∙ marked))
-different_places m (Central a) (Central b) unmarked marked =
-    false_unless (b == a)
-    (λ e. let same : central_mark b ≡ central_mark a = grind (arith, nat_tests, e) in sym unmarked ∙ (ap (is_set m) same ∙ marked))
-different_places m (ChannelWord c) (ChannelWord k) unmarked marked =
-    false_unless (k == c)
-    (λ e. let same : channel_mark k ≡ channel_mark c = grind (arith, nat_tests, e) in sym unmarked ∙ (ap (is_set m) same ∙ marked))
-different_places m p q unmarked marked = cc
+different_places m p q unmarked marked = grind (arith, nat_tests)
 
 lookup_unmarked : (m : Marks) (ws : Writes Place) (p : Place) → AllPlaces (λ q. is_marked m (mark_of q) ≡ false) ws →
     is_marked m (mark_of p) ≡ true → lookup ws p ≡ None
@@ -82,17 +68,12 @@ module _ (m : Marks) (n : ℕ) where
       ] in
       ap (λ block. is_set m (192 + block)) wrapped ∙ unset
 
-  if_written : (b : Bool) (x : PpPlace) (w : ℕ) (ws : Writes PpPlace) → is_marked m (mark_of (pp_place n x)) ≡ false → AreUnmarked m n ws →
-      AreUnmarked m n (if b then (x, w) ∷ ws else ws)
-  if_written true x w ws here there = (here, there)
-  if_written false x w ws here there = there
-
   pub words_unmarked : (size a i : ℕ) (ws : List ℕ) → i + length ws ≤ 16 → is_set m (central_mark a) ≡ false →
       is_set m (central_mark (a + 15)) ≡ false → AreUnmarked m n (word_pairs size a i ws)
   words_unmarked size a i [] at_most first last = tt
   words_unmarked size a i (w ∷ ws) at_most first last =
-      if_written (nat_lt (central_after a i) size) (stepped.Central (central_after a i)) w (word_pairs size a (i + 1) ws)
-      (word_unmarked a i (omega arith) first last) (words_unmarked size a (i + 1) ws (omega arith) first last)
+      let rest = words_unmarked size a (i + 1) ws (omega arith) first last in
+      AllPlaces-if _ (nat_lt (central_after a i) size) _ _ (λ within. (word_unmarked a i (omega arith) first last, rest)) (λ past. rest)
 
   -- ---- a step: registers of processors and frame words have no marks
 

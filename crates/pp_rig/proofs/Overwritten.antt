@@ -1,5 +1,5 @@
 -- The old values of an action lead back, and are at the places that it writes.
-use Rattle.std.proofs.Common.{arith, IsPermutation, ℕ, Bool, true, false, ◌≡◌, ◌==◌, ◌≤◌, [], ◌∷◌, if◌then◌else◌, length}
+use Rattle.std.proofs.Common.{arith, IsPermutation, ◌≡◌, ◌≤◌, length}
 use Rattle.std.proofs.lemmas.List.{length-append}
 use Rattle.std.proofs.lemmas.List.Sorted.{IsPermutation-refl}
 use Rattle.pp_machine.specs.Prelude.{Machine, over, number, places, places-old_values}
@@ -7,8 +7,6 @@ use Rattle.pp_step.specs.Step.{pp_pairs, most_step_places}
 use Rattle.pp_step.specs.View.{pp_place}
 use Rattle.pp_rig.specs.Action.{writes, next, old_values_of}
 use Rattle.pp_rig.specs.Turn.{most_turn_places, rest_pairs, turn, turn_old_values, turn_pairs, turn_parts, turn_writes}
-use Rattle.pp_machine.specs.declared.place.Place.{Place}
-use Rattle.pp_machine.specs.declared.place.Place.TheVariants.{Clock}
 use Rattle.pp_actions.specs.declared.action.Action.{Action}
 use Rattle.pp_actions.specs.declared.action.Action.TheVariants.{Turn}
 use Rattle.pp_rig.specs.declared.rig.TurnRecord.{TurnRecord}
@@ -37,14 +35,9 @@ places_old_values_of m action = rw (places-old_values number m (writes m action)
 
 -- ---- how many places a turn's record has
 
-at_most-clock : (last : Bool) (clock : ℕ) → length {A = Place × ℕ} (if last then (Clock, clock) ∷ [] else []) ≤ 1
-at_most-clock true clock = omega arith
-at_most-clock false clock = omega arith
-
 pub at_most-turn : (r : TurnRecord) → length (pp_pairs r.pp) ≤ most_step_places → length (turn_pairs r) ≤ most_turn_places
 unfolding turn_pairs rest_pairs
 at_most-turn r at_most =
     let pp = length-renamed (pp_place r.rest.slot) (pp_pairs r.pp) in
     let devices = devices-at_most r.rest in
-    let clock = at_most-clock (r.rest.slot == 9) r.rest.clock in
-    simp length-append (omega arith)
+    simp length-append (grind arith)

@@ -1,5 +1,5 @@
 -- The parts of a turn: what each does to the machine, and what its undo record then has.
-use Rattle.std.proofs.Common.{ℕ, Bool, true, false, [], ◌∷◌, ◌<◌, ◌≡◌, ◌==◌, ◌∙◌, if◌then◌else◌, refl, ap, get_or, subst, sym}
+use Rattle.std.proofs.Common.{ℕ, Bool, true, false, [], ◌∷◌, ◌<◌, ◌≡◌, ◌==◌, ◌∙◌, refl, ap, get_or, subst, sym}
 use Rattle.std.proofs.lemmas.List.{get_or_read}
 use Rattle.pp_machine.proofs.AllDevices.{all-laws}
 use Rattle.pp_machine.specs.AllDevices.{all_model}
@@ -14,7 +14,6 @@ use Rattle.pp_rig.specs.Lift.{pp_of, step_view, with_pp}
 use Rattle.pp_rig.specs.LiftLaws.{step-pp, record-pp}
 use Rattle.pp_rig.specs.MachineLaws.{has_processor, IsMachine-with_pp}
 use Rattle.pp_machine.specs.WriteLaws.{AllPlaces-append, AllPlaces-if, over-append}
-use Rattle.pp_machine.specs.declared.place.Place.TheVariants.{Clock}
 use Rattle.pp_step.specs.PpPlaces.{HasAll-pp}
 use Rattle.pp_rig.specs.IsSetup.{IsSetup}
 use Rattle.pp_rig.specs.Short.{IsTurned}
@@ -78,10 +77,6 @@ rest_fits m new back ended in_slot in_clock devices =
 
 -- ---- a turn
 
-HasAll-clock : (size : ℕ) (last : Bool) (clock : ℕ) → HasAll size (if last then (Clock, clock) ∷ [] else [])
-HasAll-clock size true clock = (tt, tt)
-HasAll-clock size false clock = tt
-
 -- the places of a turn's record are places of the machine
 HasAll-turn : (r : TurnRecord) (s : Machine) → IsSetup s.setup → FitsTurn r s → HasAll s.setup.central_words (turn_pairs r)
 unfolding turn_pairs rest_pairs
@@ -90,7 +85,7 @@ HasAll-turn r s ok f =
     AllPlaces-append (Has size) _ _ (HasAll-pp size r.rest.slot f.rest.slot r.pp f.pp)
     (AllPlaces-append (Has size) _ _
     (AllPlaces-if (Has size) r.rest.are_devices_called _ _ (λ called. all-laws.pairs_has size r.rest.devices (over s (end_old_values r.rest)) (rw (setup-over s (end_old_values r.rest)) ok.channels) (f.rest.devices called)) (λ idle. tt))
-    (AllPlaces-append (Has size) _ _ (HasAll-clock size (r.rest.slot == 9) r.rest.clock) (tt, tt)))
+    (AllPlaces-append (Has size) _ _ (AllPlaces-if (Has size) (r.rest.slot == 9) _ _ (λ last. (tt, tt)) (λ other. tt)) (tt, tt)))
 
 turn-performed : (m m1 new : Machine) (r : TurnRecord) → IsSlotStep m m1 r.pp → ArePerformed rest_of_turn m1 new (rest_pairs r.rest) → r.rest.slot ≡ m1.slot → ArePerformed turn_parts m new (turn_pairs r)
 unfolding turn_pairs

@@ -1,9 +1,9 @@
 -- An admitted action writes only places that the machine has.
-use Rattle.std.proofs.Common.{◌≡◌, ℕ, ◌+◌, ◌%◌, ◌<◌, ◌≤◌, ◌==◌, Bool, true, false, if◌then◌else◌, List, [], ◌∷◌, drop, length, position, refl, arith, length-drop, ⊎_elim, Option, Some, None, IfSome}
+use Rattle.std.proofs.Common.{◌≡◌, ℕ, ◌+◌, ◌<◌, ◌≤◌, ◌==◌, Bool, List, [], ◌∷◌, drop, length, position, refl, arith, length-drop, ⊎_elim, Option, Some, None, IfSome}
 use Rattle.std.proofs.lemmas.Bool.Decides.{eqb_tells}
 use Rattle.std.proofs.lemmas.List.Quantifiers.{position-Some}
-use Rattle.pp_machine.specs.Prelude.{Machine, over, processor, no_processor, HasAll}
-use Rattle.pp_machine.specs.declared.place.Place.TheVariants.{Clock}
+use Rattle.pp_machine.specs.Prelude.{Machine, over, processor, no_processor, Has, HasAll}
+use Rattle.pp_machine.specs.WriteLaws.{AllPlaces-if}
 use Rattle.pp_step.proofs.StepPlaces.{HasAll-step}
 use Rattle.pp_rig.proofs.Admitting.{settings_fit, is_watch}
 use Rattle.pp_rig.proofs.Deadstart.{AreSettings-deadstart}
@@ -28,10 +28,6 @@ use Rattle.pp_actions.specs.declared.action.Action.TheVariants as action
 
 -- ---- a turn
 
-HasAll-clock_writes : (size value : ℕ) (last : Bool) → HasAll size (if last then (Clock, value) ∷ [] else [])
-HasAll-clock_writes size value true = (tt, tt)
-HasAll-clock_writes size value false = tt
-
 HasAll-turn_writes : (s : Machine) → IsWellFormed s → HasAll s.setup.central_words (turn_writes s)
 unfolding turn_writes
 HasAll-turn_writes s ok =
@@ -45,7 +41,7 @@ HasAll-turn_writes s ok =
       HasAll-step size s.slot ok.slot (pp_of s.slot s) low stepped.cells ok.sizes.central,
       each-append (λ part m. HasAll size (part m)) device_parts end_parts s1
           (all-laws.writes_has size s1 (rw (setup-over s (pp_step_writes s)) ok.setup.channels))
-          (HasAll-clock_writes size ((s3.channels.clock + 1) % 4096) (s3.slot == 9), ((tt, tt), tt)),
+          (AllPlaces-if (Has size) (s3.slot == 9) _ _ (λ last. (tt, tt)) (λ other. tt), ((tt, tt), tt)),
     )
 
 -- ---- watches
