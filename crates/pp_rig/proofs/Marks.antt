@@ -1,6 +1,6 @@
 -- What the marks of places say of a turn's undo record.
-use Rattle.std.proofs.Common.{ℕ, Bool, true, false, ◌≡◌, ◌==◌, ◌≤◌, ◌||◌, ◌+◌, ◌*◌, ◌/◌, ◌%◌, inl, inr, [], ◌∷◌, List, None, if◌then◌else◌, nat_lt, length, refl, ap, arith, ◌∙◌}
-use Rattle.std.proofs.lemmas.Bool.{and_parts, cases_lt, or_parts}
+use Rattle.std.proofs.Common.{ℕ, true, false, ◌≡◌, ◌==◌, ◌≤◌, ◌||◌, ◌+◌, [], ◌∷◌, List, None, if◌then◌else◌, nat_lt, length, refl, arith}
+use Rattle.std.proofs.lemmas.Bool.{and_parts, or_parts}
 use Rattle.std.proofs.lemmas.Bool.Decides.{nat_tests}
 use Rattle.pp_history.specs.Marks.{covers, is_marked, is_set}
 use Rattle.pp_history.specs.declared.marks.Marks.{Marks}
@@ -14,11 +14,11 @@ use Rattle.pp_rig.specs.Marks.{cell_mark, central_mark, mark_of, AreUnmarked}
 use Rattle.pp_rig.specs.Turn.{clock_old_values, rest_pairs, turn_pairs}
 use Rattle.pp_rig.specs.declared.rig.TurnRecord.{TurnRecord}
 use Rattle.pp_step.specs.Exchange.{frame_pairs, word_pairs}
-use Rattle.pp_step.specs.Pairs.{target_pairs, writes_p, written}
+use Rattle.pp_step.specs.Pairs.{target_pairs}
 use Rattle.pp_step.specs.Rows.{five_cells}
 use Rattle.pp_step.specs.Step.{pp_pairs}
 use Rattle.pp_step.specs.View as stepped
-use Rattle.pp_step.specs.View.{PpPlace, A, P, Q, Phase, pp_place}
+use Rattle.pp_step.specs.View.{pp_place}
 use Rattle.pp_step.specs.Words.{cell_after, central_after}
 use Rattle.pp_step.specs.declared.record.ExchangeRecord.{ExchangeRecord}
 use Rattle.pp_step.specs.declared.record.PpRecord.TheVariants.{Step, Exchange}
@@ -39,15 +39,7 @@ module _ (m : Marks) (n : ℕ) where
   -- a cell at most four behind another has its mark, or that of the fourth
   cell_unmarked : (a i : ℕ) → i ≤ 4 → is_set m (cell_mark n a) ≡ false → is_set m (cell_mark n (a + 4)) ≡ false →
       is_set m (cell_mark n (cell_after a i)) ≡ false
-  cell_unmarked a i near first last =
-      let wrapped : cell_after a i / 8 % 16 ≡ (a + i) / 8 % 16 = omega arith in
-      let mark = λ (block : ℕ). is_set m (n % 16 * 16 + block % 16) in
-      let unset : mark ((a + i) / 8) ≡ false =
-      elim (cases_lt (a / 8) ((a + i) / 8)) [
-        | inl behind ↦ (let same : (a + i) / 8 ≡ (a + 4) / 8 = omega (arith, near, behind) in ap mark same ∙ last)
-        | inr within ↦ (let same : (a + i) / 8 ≡ a / 8 = omega (arith, near, within) in ap mark same ∙ first)
-      ] in
-      ap (λ block. is_set m (n % 16 * 16 + block)) wrapped ∙ unset
+  cell_unmarked a i near first last = grind arith
 
   pub cells_unmarked : (a : ℕ) (parts : List ℕ) → is_set m (cell_mark n a) ≡ false → is_set m (cell_mark n (a + 4)) ≡ false →
       AreUnmarked m n (five_cells a parts)
@@ -58,15 +50,7 @@ module _ (m : Marks) (n : ℕ) where
   -- a central word at most fifteen behind another has its mark, or that of the fifteenth
   word_unmarked : (a i : ℕ) → i ≤ 15 → is_set m (central_mark a) ≡ false → is_set m (central_mark (a + 15)) ≡ false →
       is_set m (central_mark (central_after a i)) ≡ false
-  word_unmarked a i near first last =
-      let wrapped : central_after a i / 16 % 64 ≡ (a + i) / 16 % 64 = omega arith in
-      let mark = λ (block : ℕ). is_set m (192 + block % 64) in
-      let unset : mark ((a + i) / 16) ≡ false =
-      elim (cases_lt (a / 16) ((a + i) / 16)) [
-        | inl behind ↦ (let same : (a + i) / 16 ≡ (a + 15) / 16 = omega (arith, near, behind) in ap mark same ∙ last)
-        | inr within ↦ (let same : (a + i) / 16 ≡ a / 16 = omega (arith, near, within) in ap mark same ∙ first)
-      ] in
-      ap (λ block. is_set m (192 + block)) wrapped ∙ unset
+  word_unmarked a i near first last = grind arith
 
   pub words_unmarked : (size a i : ℕ) (ws : List ℕ) → i + length ws ≤ 16 → is_set m (central_mark a) ≡ false →
       is_set m (central_mark (a + 15)) ≡ false → AreUnmarked m n (word_pairs size a i ws)
@@ -77,16 +61,9 @@ module _ (m : Marks) (n : ℕ) where
 
   -- ---- a step: registers of processors and frame words have no marks
 
-  written_unmarked : (b : Bool) (x : PpPlace) (v : ℕ) (rest : Writes PpPlace) → is_marked m (mark_of (pp_place n x)) ≡ false →
-      AreUnmarked m n rest → AreUnmarked m n (written b x v rest)
-  written_unmarked true x v rest here there = (here, there)
-  written_unmarked false x v rest here there = there
-
   pub step_unmarked : (r : StepRecord) → AreUnmarked m n (target_pairs r) → AreUnmarked m n (pp_pairs (Step r))
   unfolding pp_pairs
-  step_unmarked r target =
-      written_unmarked (writes_p r.target) P r.p _ refl (written_unmarked r.writes_a A r.a _ refl
-      (written_unmarked r.writes_q Q r.q _ refl (written_unmarked r.writes_phase Phase r.phase _ refl target)))
+  step_unmarked r target = grind arith
 
   frame_unmarked : (i : ℕ) (ws : List ℕ) → AreUnmarked m n (frame_pairs i ws)
   frame_unmarked i [] = tt
