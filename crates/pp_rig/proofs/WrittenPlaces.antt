@@ -1,6 +1,5 @@
 -- An admitted action writes only places that the machine has.
-use Rattle.std.proofs.Common.{◌≡◌, ℕ, ◌+◌, ◌<◌, ◌≤◌, ◌==◌, Bool, List, [], ◌∷◌, drop, length, position, refl, arith, length-drop, ⊎_elim, Option, Some, None, IfSome}
-use Rattle.std.proofs.lemmas.Bool.Decides.{eqb_tells}
+use Rattle.std.proofs.Common.{◌≡◌, ℕ, ◌+◌, ◌<◌, ◌≤◌, ◌==◌, Bool, List, [], ◌∷◌, drop, length, position, refl, arith, length-drop, Option, Some, None, IfSome}
 use Rattle.std.proofs.lemmas.List.Quantifiers.{position-Some}
 use Rattle.pp_machine.specs.Prelude.{Machine, over, processor, no_processor, Has, HasAll}
 use Rattle.pp_machine.specs.WriteLaws.{AllPlaces-if}
@@ -12,13 +11,12 @@ use Rattle.pp_machine.proofs.Parts.{HasAll-parts, each-append}
 use Rattle.pp_actions.proofs.Unwatching.{HasAll-entries}
 use Rattle.pp_rig.specs.Action.{writes}
 use Rattle.pp_actions.specs.Unwatching.{moved_up, without_entry}
-use Rattle.pp_actions.specs.Settings.{set_list}
+use Rattle.pp_actions.specs.Settings.{set_list, HasAll-settings}
 use Rattle.pp_actions.specs.Admitting.{first_fault}
 use Rattle.pp_actions.specs.Deadstart.{deadstart_writes, deadstart_write_list}
 use Rattle.pp_rig.specs.IsSetup.{IsPanel}
 use Rattle.pp_rig.specs.Lift.{pp_of}
 use Rattle.pp_machine.specs.NumberLaws.{setup-over}
-use Rattle.pp_actions.specs.Settings.{HasAll-settings}
 use Rattle.pp_machine.specs.Parts.{after_parts}
 use Rattle.pp_rig.specs.Turn.{device_parts, end_parts, pp_step_writes, turn_parts, turn_writes}
 use Rattle.pp_actions.specs.WatchCodes.{watch_code}
@@ -48,8 +46,7 @@ HasAll-turn_writes s ok =
 
 length-moved_up : (codes : List ℕ) → length (moved_up codes) ≤ length codes + 1
 length-moved_up [] = omega arith
-length-moved_up (code ∷ codes) =
-    ⊎_elim (λ t. rw t.0 (omega arith)) (λ t. rw t.0 (omega (arith, length-moved_up codes))) (eqb_tells code 0)
+length-moved_up (code ∷ codes) = grind (arith, length-moved_up codes)
 
 HasAll-without_entry : (size : ℕ) (entries : List ℕ) (found : Option ℕ) → IfSome found (λ i. i < 8) → length entries ≡ 8 → HasAll size (without_entry entries found)
 HasAll-without_entry size entries None within all = tt
