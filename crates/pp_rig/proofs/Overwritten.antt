@@ -15,22 +15,16 @@ use Rattle.pp_machine.proofs.MachineStore.{taken_back}
 use Rattle.pp_machine.proofs.Parts.{parts-taken_back, same_places}
 use Rattle.pp_machine.specs.WriteLaws.{length-renamed}
 
-turn-taken_back : (m : Machine) → over (turn m) (turn_old_values m) ≡ m
-unfolding turn_writes turn_old_values
-turn-taken_back = parts-taken_back turn_parts
-
 -- the old values lead back to the machine before the action
 pub action_taken_back : (m : Machine) (action : Action) → over (next m action) (old_values_of m action) ≡ m
-action_taken_back m Turn = turn-taken_back m
-action_taken_back m action = taken_back m (writes m action)
-
-places-turn : (m : Machine) → IsPermutation (places (turn_old_values m)) (places (turn_writes m))
 unfolding turn_writes turn_old_values
-places-turn = same_places turn_parts
+action_taken_back m Turn = parts-taken_back turn_parts m
+action_taken_back m action = taken_back m (writes m action)
 
 -- the old values are at the places of the write list
 pub places_old_values_of : (m : Machine) (action : Action) → IsPermutation (places (old_values_of m action)) (places (writes m action))
-places_old_values_of m Turn = places-turn m
+unfolding turn_writes turn_old_values
+places_old_values_of m Turn = same_places turn_parts m
 places_old_values_of m action = rw (places-old_values number m (writes m action)) (IsPermutation-refl (places (writes m action)))
 
 -- ---- how many places a turn's record has

@@ -87,16 +87,11 @@ HasAll-turn r s ok f =
     (AllPlaces-if (Has size) r.rest.are_devices_called _ _ (λ called. all-laws.pairs_has size r.rest.devices (over s (end_old_values r.rest)) (rw (setup-over s (end_old_values r.rest)) ok.channels) (f.rest.devices called)) (λ idle. tt))
     (AllPlaces-append (Has size) _ _ (AllPlaces-if (Has size) (r.rest.slot == 9) _ _ (λ last. (tt, tt)) (λ other. tt)) (tt, tt)))
 
-turn-performed : (m m1 new : Machine) (r : TurnRecord) → IsSlotStep m m1 r.pp → ArePerformed rest_of_turn m1 new (rest_pairs r.rest) → r.rest.slot ≡ m1.slot → ArePerformed turn_parts m new (turn_pairs r)
-unfolding turn_pairs
-turn-performed m m1 new r step rest slot =
-    both-performed (pp_step_writes ∷ []) rest_of_turn m m1 new _ _
-    (one-performed pp_step_writes m m1 _ step.step (rw (slot ∙ step.kept.slot) step.old_values)) rest
-
 pub turned : (m m1 new : Machine) (r : TurnRecord) → IsSlotStep m m1 r.pp → ArePerformed rest_of_turn m1 new (rest_pairs r.rest) → FitsRest r.rest new → r.rest.slot ≡ m1.slot → new.setup ≡ m1.setup → IsMachine new → IsTurned m new r
-unfolding turn_writes turn_old_values
+unfolding turn_writes turn_old_values turn_pairs
 turned m m1 new r step rest fits slot setup ok =
-    let performed = turn-performed m m1 new r step rest slot in
+    let first = one-performed pp_step_writes m m1 _ step.step (rw (slot ∙ step.kept.slot) step.old_values) in
+    let performed = both-performed (pp_step_writes ∷ []) rest_of_turn m m1 new _ _ first rest in
     let fits_turn : FitsTurn r new = record { rest = fits; pp = rw setup step.fits } in
     record {
       step = performed.step ∙ sym (over-parts turn_parts m);
@@ -106,4 +101,4 @@ turned m m1 new r step rest fits slot setup ok =
     }
 
 -- what the parts of a turn need
-pub ruleset parts = (over-append, over-parts, idle, setup-over, rest_fits, turned)
+pub ruleset parts = (over-append, over-parts, idle, setup-over, rest_fits)

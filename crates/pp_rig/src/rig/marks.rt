@@ -77,7 +77,6 @@ impl TurnRecord {
     /// Returns `false` only if the record has none of the places that the marks cover. Here it is the record of an
     /// exchange: any other turn has a short one.
     #[inline(always)]
-    #[tactic(auto, using(crate::proofs::Marks::not_in_turn, crate::proofs::Marks::exchange_unmarked))]
     pub(super) fn may_have(&self, marks: &Marks) -> bool
         ensures { result ≡ false → (p : Place) → covers mark_of marks.now p ≡ true → lookup (turn_pairs self.now) p ≡ None }
     {
@@ -125,7 +124,6 @@ fn are_cells_marked(slot: u8, step: &StepRecord, marks: &Marks) -> bool
 /// Returns whether one of the sixteen central words from an address on is marked. These are in the blocks of the first
 /// and the last, as cells are.
 #[inline(always)]
-#[tactic(auto, using(crate::proofs::Marks::words_unmarked))]
 fn are_words_marked(first: u32, words: &[u64; 16], marks: &Marks) -> bool
     ensures { result ≡ false → (slot size : ℕ) → AreUnmarked marks.now slot (word_pairs size first 0 words.now) }
 {
