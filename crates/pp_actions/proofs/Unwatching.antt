@@ -157,4 +157,4 @@ AreWatches-removed size entries i at_most ok h =
     AreWatches-entries size (remove ws i) at_most (All-append (λ w. Has size (watched_place w)) (take i ws) (drop (suc i) ws) (All-take (λ w. Has size (watched_place w)) i ws ok.present) (All-drop (λ w. Has size (watched_place w)) (suc i) ws ok.present)) (all_pairs_remove (λ v w. watch_code v ≢ watch_code w) ws i (omega (arith, length-watched_in entries)) ok.distinct)
 
 -- what a machine with other watched places needs
-pub ruleset watch_changes = (common_steps, over-entries, old_values-entries, length-entry_writes, length-with_entries, moved_up-last, first_zero-at, watched_at-code, words_of-at_most)
+pub ruleset watch_changes = (length-map, length-set, over-entries, old_values-entries, length-entry_writes, length-with_entries, moved_up-last, first_zero-at, watched_at-code, words_of-at_most)

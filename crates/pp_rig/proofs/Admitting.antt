@@ -1,6 +1,6 @@
 -- What is known of an admitted action.
 use Rattle.std.specs.List.{list_all}
-use Rattle.std.proofs.Common.{arith, ℕ, ◌≡◌, ◌≢◌, ◌<◌, ◌≤◌, nat_le, true, false, List, All, Some, None}
+use Rattle.std.proofs.Common.{arith, ℕ, ◌≡◌, ◌≢◌, ◌<◌, ◌≤◌, nat_le, true, false, List, All, None}
 use Rattle.std.proofs.lemmas.Grind.{common_steps}
 use Rattle.std.proofs.lemmas.Bool.Decides.{nat_tests}
 use Rattle.pp_machine.specs.Prelude.{Machine, old_values, Has}
@@ -14,7 +14,7 @@ use Rattle.pp_actions.specs.WatchCodes.{first_zero}
 use Rattle.pp_actions.proofs.WatchCodes.{length-watched_in}
 use Rattle.pp_actions.specs.declared.watched.Watched.{Watched}
 use Rattle.pp_actions.specs.declared.action.Action.{Action}
-use Rattle.pp_actions.specs.declared.action.Action.TheVariants.{Turn, SetCells, SetA, SetP, SetQ, SetWord, SetChannel, Watch, Unwatch, Deadstart}
+use Rattle.pp_actions.specs.declared.action.Action.TheVariants.{Turn, SetCells, Watch, Unwatch, Deadstart}
 
 pub all_at_most : (most : ℕ) (values : List ℕ) → list_all (λ value. nat_le value most) values ≡ true → All (λ v. v ≤ most) values
 all_at_most most values h = grind (arith, common_steps)
@@ -34,13 +34,7 @@ pub settings_fit : (m : Machine) (done : Action) → first_fault m done ≡ None
 settings_fit m (SetCells n a values) h =
     let ranges = in_range m (SetCells n a values) h in
     AreSettings-cell_writes m.setup.central_words n a values (grind (arith, nat_tests, ranges)) (all_at_most twelve_bits values (grind (arith, ranges)))
-settings_fit m (SetA n v) h = grind (arith, nat_tests, in_range m (SetA n v) h)
-settings_fit m (SetP n v) h = grind (arith, nat_tests, in_range m (SetP n v) h)
-settings_fit m (SetQ n v) h = grind (arith, nat_tests, in_range m (SetQ n v) h)
-settings_fit m (SetWord a v) h = grind (arith, nat_tests, in_range m (SetWord a v) h)
-settings_fit m (SetChannel c state None) h = grind (arith, nat_tests, in_range m (SetChannel c state None) h)
-settings_fit m (SetChannel c state (Some word)) h = grind (arith, nat_tests, in_range m (SetChannel c state (Some word)) h)
-settings_fit m done h = tt
+settings_fit m done h = grind (arith, nat_tests, in_range m done h)
 
 -- it writes these numbers and nothing else
 pub writes_settings : (m : Machine) (done : Action) → done ≢ Turn → ((w : Watched) → done ≢ Watch w) → ((w : Watched) → done ≢ Unwatch w) → done ≢ Deadstart →

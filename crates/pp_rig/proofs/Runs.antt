@@ -1,6 +1,6 @@
 -- Runs, one turn after another.
 use Rattle.std.proofs.lemmas.Bool.Decides.{nat_tests}
-use Rattle.std.proofs.Common.{drop, get_or, length, map, ◌≡◌, ◌==◌, true, ◌∷◌, ℕ, suc, ◌+◌, ◌-◌, ◌<◌, ◌≤◌, refl, ap, sym, arith, List, Option, Some, None, [], unwrap_or}
+use Rattle.std.proofs.Common.{drop, get_or, length, map, ◌≡◌, true, ◌∷◌, ℕ, suc, ◌+◌, ◌-◌, ◌<◌, ◌≤◌, refl, ap, sym, arith, List, Option, Some, None, [], unwrap_or}
 use Rattle.std.proofs.lemmas.Grind.{common_steps}
 use Rattle.std.proofs.lemmas.List.Elements.{recursion_from_All}
 use Rattle.std.specs.List.{AllByRecursion}
@@ -13,7 +13,7 @@ use Rattle.pp_history.specs.declared.marks.Marks.{Marks}
 use Rattle.pp_history.specs.SessionLaws.{machine_at}
 use Rattle.pp_history.specs.SessionValue.{SessionValue, after_act}
 use Rattle.pp_rig.specs.Marks.{mark_of}
-use Rattle.pp_rig.specs.Stopping.{first_change, hit_of, hit_or, stopped, after_turns}
+use Rattle.pp_rig.specs.Stopping.{first_change, hit_of, stopped, after_turns}
 use Rattle.pp_rig.specs.Turn.{turn}
 use Rattle.pp_actions.specs.Watches.{watches_of, watched_place}
 use Rattle.pp_rig.proofs.Turns.{turn-watches}
@@ -49,19 +49,14 @@ pub before_next : (n turns : ℕ) (machine : Machine) → turns < n →
 unfolding stopped turns_before
 before_next n turns machine more =
     let left : n - turns ≡ suc (n - (turns + 1)) = omega arith in
-    let rest = stopped (n - (turns + 1)) (turn machine) in
-    rw left (elim (hit_of machine) as (λ found. turns_before turns (hit_or found rest) ≡ hit_before turns found rest) [
-      | None ↦ (let count : turns + suc rest.turns ≡ turns + 1 + rest.turns = omega arith in rw count refl)
-      | Some hit ↦ refl
-    ])
+    rw left (grind arith)
 
 -- no turn is left
 pub before_end : (n turns : ℕ) (machine : Machine) → n ≤ turns → turns ≤ n → turns_before turns (stopped (n - turns) machine) ≡ record { turns = n; hit = None }
 unfolding stopped turns_before
 before_end n turns machine none within =
     let left : n - turns ≡ 0 = omega arith in
-    let count : turns + 0 ≡ n = omega arith in
-    rw (left, count) refl
+    rw left (grind arith)
 
 -- one more turn
 pub after_turns_more : (turns : ℕ) (v : SessionValue Machine Action) → after_turns (turns + 1) v ≡ after_act (after_turns turns v) Turn
@@ -91,9 +86,8 @@ pub none_changed : (m : Machine) (back : RigRecord) (Watches : Place → Type 0)
     first_change (before back m) m watches ≡ None
 none_changed m back Watches [] fits none all = refl
 none_changed m back Watches (w ∷ ws) fits none all =
-    let same : number (before back m) (watched_place w) ≡ number m (watched_place w) = rw (none (watched_place w) all.0) at (record_was back m (watched_place w) fits) in
-    let equal : (number m (watched_place w) == number (before back m) (watched_place w)) ≡ true = grind (arith, nat_tests, same) in
-    rw equal (none_changed m back Watches ws fits none all.1)
+    let same = rw (none (watched_place w) all.0) at (record_was back m (watched_place w) fits) in
+    grind (arith, nat_tests, same, none_changed m back Watches ws fits none all.1)
 
 -- a turn whose record has no marked place changed no watched number
 pub unmarked-hit : (old new : Machine) (marks : Marks) (back : RigRecord) → new ≡ turn old → FitsRecord back new → before back new ≡ old →

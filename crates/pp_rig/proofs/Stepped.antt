@@ -5,7 +5,7 @@ use Rattle.pp_machine.proofs.AllDevices.{all-laws}
 use Rattle.pp_machine.specs.AllDevices.{all_model}
 use Rattle.pp_machine.specs.NumberLaws.{setup-over}
 use Rattle.pp_machine.specs.Parts.{AreIdle, ArePerformed, after_parts, parts_old_values}
-use Rattle.pp_machine.specs.Prelude.{Machine, ProcessorNumbers, over, no_processor, Writes, renamed, Has, HasAll}
+use Rattle.pp_machine.specs.Prelude.{Machine, ProcessorNumbers, over, put, no_processor, Writes, renamed, Has, HasAll}
 use Rattle.pp_step.specs.Step.{pp_writes, FitsPp, IsStep}
 use Rattle.pp_step.specs.View.{PpPlace, PpView, over as over_pp, pp_place}
 use Rattle.pp_step.specs.declared.record.PpRecord.{PpRecord}
@@ -17,7 +17,7 @@ use Rattle.pp_machine.specs.WriteLaws.{AllPlaces-append, AllPlaces-if, over-appe
 use Rattle.pp_step.specs.PpPlaces.{HasAll-pp}
 use Rattle.pp_rig.specs.IsSetup.{IsSetup}
 use Rattle.pp_rig.specs.Short.{IsTurned}
-use Rattle.pp_rig.specs.Turn.{FitsRest, FitsTurn, IsSlotStep, device_parts, end_old_values, end_parts, pp_step_writes, rest_of_turn, rest_pairs, turn_old_values, turn_pairs, turn_parts, turn_writes}
+use Rattle.pp_rig.specs.Turn.{FitsRest, FitsTurn, IsSlotStep, device_parts, devices_old_values, end_old_values, end_parts, pp_step_writes, rest_of_turn, rest_pairs, turn_old_values, turn_pairs, turn_parts, turn_writes}
 use Rattle.pp_rig.specs.declared.rig.TurnRecord.{TurnRecord}
 use Rattle.pp_rig.specs.declared.rig.TurnRest.{TurnRest}
 use Rattle.pp_rig.proofs.Overwritten.{at_most-turn}
@@ -64,6 +64,11 @@ module _ (m : Machine) (x : ProcessorNumbers) (new : PpView) (back : PpRecord) (
 
 -- ---- the rest of a turn: devices, clock and slot
 
+-- undone, the end first
+pub rest_undone : (r : TurnRest) (s : Machine) → over s (rest_pairs r) ≡ over (over s (end_old_values r)) (devices_old_values r)
+unfolding rest_pairs
+rest_undone r s = over-append put s (devices_old_values r) (end_old_values r)
+
 -- the devices do nothing
 pub idle : (m : Machine) → AreIdle device_parts m → (after_parts device_parts m ≡ m) × (parts_old_values device_parts m ≡ [])
 idle m none = let same = none-performed device_parts m none in (sym same.step, sym same.old_values)
@@ -101,4 +106,4 @@ turned m m1 new r step rest fits slot setup ok =
     }
 
 -- what the parts of a turn need
-pub ruleset parts = (over-append, over-parts, idle, setup-over, rest_fits)
+pub ruleset parts = (over-append, over-parts)

@@ -48,14 +48,11 @@ length-moved_up : (codes : List ℕ) → length (moved_up codes) ≤ length code
 length-moved_up [] = omega arith
 length-moved_up (code ∷ codes) = grind (arith, length-moved_up codes)
 
-HasAll-without_entry : (size : ℕ) (entries : List ℕ) (found : Option ℕ) → IfSome found (λ i. i < 8) → length entries ≡ 8 → HasAll size (without_entry entries found)
-HasAll-without_entry size entries None within all = tt
-HasAll-without_entry size entries (Some i) within all =
+HasAll-without_entry : (size : ℕ) (test : ℕ → Bool) (entries : List ℕ) (found : Option ℕ) → position test entries ≡ found → length entries ≡ 8 → HasAll size (without_entry entries found)
+HasAll-without_entry size test entries None e all = tt
+HasAll-without_entry size test entries (Some i) e all =
+    let within = (position-Some test entries i 0 e).0 in
     HasAll-entries size i (moved_up (drop (i + 1) entries)) (omega (arith, within, all, length-moved_up (drop (i + 1) entries), length-drop (i + 1) entries))
-
-position_within : (test : ℕ → Bool) (entries : List ℕ) (found : Option ℕ) → position test entries ≡ found → length entries ≡ 8 → IfSome found (λ i. i < 8)
-position_within test entries None e all = tt
-position_within test entries (Some i) e all = omega (arith, (position-Some test entries i 0 e).0, all)
 
 -- ---- a dead start
 
@@ -69,7 +66,6 @@ pub written_places : (s : Machine) (done : Action) → IsWellFormed s → first_
 written_places s action.Turn ok admitted = HasAll-turn_writes s ok
 written_places s (action.Watch w) ok admitted = ((is_watch s w admitted).1.room, tt)
 written_places s (action.Unwatch w) ok admitted =
-    let found = position (λ code. code == watch_code w) s.watches in
-    HasAll-without_entry s.setup.central_words s.watches found (position_within (λ code. code == watch_code w) s.watches found refl ok.sizes.watches) ok.sizes.watches
+    HasAll-without_entry s.setup.central_words (λ code. code == watch_code w) s.watches _ refl ok.sizes.watches
 written_places s action.Deadstart ok admitted = HasAll-deadstart s.setup.central_words s.setup.panel ok.setup.panel
 written_places s done ok admitted = HasAll-settings s.setup.central_words (set_list done) (settings_fit s done admitted)
