@@ -1,4 +1,6 @@
 //! The dead start.
+#![tactic(auto, using(crate::proofs::Deadstart::deadstarts))]
+
 ghost use Rattle.std.specs.Prelude.{◌≡◌, ◌≤◌, length};
 ghost use Rattle.pp_machine.specs.Prelude.{over, old_values};
 ghost use Rattle.pp_rig.specs.Action.{FitsRecord, record_pairs};
@@ -11,7 +13,6 @@ use pp_machine::Write;
 
 impl Rig {
     /// Starts all processors anew, the first at the dead start panel.
-    #[tactic(auto, using(crate::proofs::Deadstart::deadstarts))]
     pub(super) fn deadstart(&mut self) -> RigRecord
         ensures step { self.new ≡ over self.old (deadstart_writes self.old.setup.panel) }
         ensures old_values { record_pairs result ≡ old_values self.old (deadstart_writes self.old.setup.panel) }
