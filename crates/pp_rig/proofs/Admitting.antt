@@ -19,22 +19,18 @@ use Rattle.pp_actions.specs.declared.action.Action.TheVariants.{Turn, SetCells, 
 pub all_at_most : (most : ℕ) (values : List ℕ) → list_all (λ value. nat_le value most) values ≡ true → All (λ v. v ≤ most) values
 all_at_most most values h = grind (arith, common_steps)
 
-in_range : (m : Machine) (action : Action) → first_fault m action ≡ None → is_in_range m.setup.central_words action ≡ true
+no_fault : (m : Machine) (action : Action) → first_fault m action ≡ None → (is_in_range m.setup.central_words action ≡ true) × (state_fault m action ≡ None)
 unfolding first_fault
-in_range m action h = grind arith
-
-no_state_fault : (m : Machine) (action : Action) → first_fault m action ≡ None → state_fault m action ≡ None
-unfolding first_fault
-no_state_fault m action h = rw in_range at h
+no_fault m action h = grind arith
 
 -- ---- an action that sets numbers
 
 -- each number that it sets fits its place
 pub settings_fit : (m : Machine) (done : Action) → first_fault m done ≡ None → AreSettings m.setup.central_words (set_list done)
 settings_fit m (SetCells n a values) h =
-    let ranges = in_range m (SetCells n a values) h in
+    let ranges = (no_fault m (SetCells n a values) h).0 in
     AreSettings-cell_writes m.setup.central_words n a values (grind (arith, nat_tests, ranges)) (all_at_most twelve_bits values (grind (arith, ranges)))
-settings_fit m done h = grind (arith, nat_tests, in_range m done h)
+settings_fit m done h = grind (arith, nat_tests, no_fault m done h)
 
 -- it writes these numbers and nothing else
 pub writes_settings : (m : Machine) (done : Action) → done ≢ Turn → ((w : Watched) → done ≢ Watch w) → ((w : Watched) → done ≢ Unwatch w) → done ≢ Deadstart →
@@ -54,8 +50,9 @@ pub record IsWatch (m : Machine) (w : Watched) : Type 0 where
 
 pub is_watch : (m : Machine) (w : Watched) → first_fault m (Watch w) ≡ None → (first_fault m (Watch w) ≡ None) × IsWatch m w
 is_watch m w h =
-    let has = Has-watchable m.setup.central_words w (in_range m (Watch w) h) in
-    (h, grind (arith, nat_tests, length-watched_in, no_state_fault m (Watch w) h, has))
+    let fault = no_fault m (Watch w) h in
+    let has = Has-watchable m.setup.central_words w fault.0 in
+    (h, grind (arith, nat_tests, length-watched_in, fault, has))
 
 -- what performing an action of any kind needs
 pub ruleset admitted = (settings_fit, writes_settings, is_watch)

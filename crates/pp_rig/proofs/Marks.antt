@@ -1,6 +1,5 @@
 -- What the marks of places say of a turn's undo record.
 use Rattle.std.proofs.Common.{ℕ, true, false, ◌≡◌, ◌==◌, ◌≤◌, ◌||◌, ◌+◌, [], ◌∷◌, List, None, if◌then◌else◌, nat_lt, length, refl, arith}
-use Rattle.std.proofs.lemmas.Bool.{and_parts, or_parts}
 use Rattle.std.proofs.lemmas.Bool.Decides.{nat_tests}
 use Rattle.pp_history.specs.Marks.{covers, is_marked, is_set}
 use Rattle.pp_history.specs.declared.marks.Marks.{Marks}
@@ -94,5 +93,4 @@ turn_unmarked m r idle step =
 pub not_in_turn : (m : Marks) (r : TurnRecord) → (r.rest.are_devices_called || m.has_unmarked) ≡ false →
     AreUnmarked m r.rest.slot (pp_pairs r.pp) → (p : Place) → covers mark_of m p ≡ true → lookup (turn_pairs r) p ≡ None
 not_in_turn m r impossible step p covered =
-    let neither = or_parts r.rest.are_devices_called m.has_unmarked impossible in
-    lookup_unmarked m (turn_pairs r) p (turn_unmarked m r neither.0 step) (rw neither.1 at (and_parts m.has_places (m.has_unmarked || is_marked m (mark_of p)) covered).1)
+    lookup_unmarked m (turn_pairs r) p (turn_unmarked m r (grind arith) step) (grind arith)
