@@ -42,9 +42,7 @@ module _ (m : Marks) (n : ℕ) where
 
   pub cells_unmarked : (a : ℕ) (parts : List ℕ) → is_set m (cell_mark n a) ≡ false → is_set m (cell_mark n (a + 4)) ≡ false →
       AreUnmarked m n (five_cells a parts)
-  cells_unmarked a parts first last =
-      let each : (i : ℕ) → i ≤ 4 → is_set m (cell_mark n (cell_after a i)) ≡ false = λ i near. cell_unmarked a i near first last in
-      (each 0 (omega arith), (each 1 (omega arith), (each 2 (omega arith), (each 3 (omega arith), (each 4 (omega arith), tt)))))
+  cells_unmarked a parts first last = grind (arith, cell_unmarked a)
 
   -- a central word at most fifteen behind another has its mark, or that of the fifteenth
   word_unmarked : (a i : ℕ) → i ≤ 15 → is_set m (central_mark a) ≡ false → is_set m (central_mark (a + 15)) ≡ false →

@@ -1,6 +1,6 @@
 -- Runs, one turn after another.
 use Rattle.std.proofs.lemmas.Bool.Decides.{nat_tests}
-use Rattle.std.proofs.Common.{drop, get_or, length, map, ◌≡◌, true, ◌∷◌, ℕ, suc, ◌+◌, ◌-◌, ◌<◌, ◌≤◌, refl, ap, sym, arith, List, Option, Some, None, [], unwrap_or}
+use Rattle.std.proofs.Common.{add-one, drop, get_or, length, map, ◌≡◌, true, ◌∷◌, ℕ, suc, ◌+◌, ◌-◌, ◌<◌, ◌≤◌, refl, sym, arith, List, Option, Some, None, [], unwrap_or}
 use Rattle.std.proofs.lemmas.Grind.{common_steps}
 use Rattle.std.proofs.lemmas.List.Elements.{recursion_from_All}
 use Rattle.std.specs.List.{AllByRecursion}
@@ -35,8 +35,7 @@ pub before_start : (n : ℕ) (machine : Machine) → stopped n machine ≡ turns
 unfolding turns_before
 before_start n machine =
     let all : n - 0 ≡ n = omega arith in
-    let s = stopped n machine in
-    rw all (ap (λ turns. record { turns = turns; hit = s.hit }) (let same : s.turns ≡ 0 + s.turns = omega arith in same))
+    rw all (grind arith)
 
 -- a turn that changed a watched number, or the turns after it
 abbrev pub hit_before : ℕ → Option Hit → Stopped → Stopped
@@ -61,9 +60,7 @@ before_end n turns machine none within =
 -- one more turn
 pub after_turns_more : (turns : ℕ) (v : SessionValue Machine Action) → after_turns (turns + 1) v ≡ after_act (after_turns turns v) Turn
 unfolding after_turns
-after_turns_more turns v =
-    let more : turns + 1 ≡ suc turns = omega arith in
-    rw more refl
+after_turns_more turns v = rw add-one refl
 
 -- before the first turn
 pub after_turns_none : (v : SessionValue Machine Action) → after_turns 0 v ≡ v

@@ -12,8 +12,7 @@ use Rattle.pp_machine.specs.Parts.{after_parts}
 use Rattle.pp_rig.specs.Turn.{device_parts, end_parts, pp_step_writes, turn, turn_parts, turn_writes}
 
 keeps-pp : (n : ℕ) (m : Machine) (p : PpPlace) (v : ℕ) → (put m (pp_place n p) v).watches ≡ m.watches
-keeps-pp n m stepped.A v = refl
-keeps-pp n m p v = refl
+keeps-pp n m p v = grind arith
 
 -- no turn changes which places are watched
 pub turn-watches : (m : Machine) → (turn m).watches ≡ m.watches
