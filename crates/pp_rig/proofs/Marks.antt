@@ -18,7 +18,7 @@ use Rattle.pp_step.specs.Rows.{five_cells}
 use Rattle.pp_step.specs.Step.{pp_pairs}
 use Rattle.pp_step.specs.View as stepped
 use Rattle.pp_step.specs.View.{pp_place}
-use Rattle.pp_step.specs.Words.{cell_after, central_after}
+use Rattle.pp_step.specs.Words.{central_after}
 use Rattle.pp_step.specs.declared.record.ExchangeRecord.{ExchangeRecord}
 use Rattle.pp_step.specs.declared.record.PpRecord.TheVariants.{Step, Exchange}
 use Rattle.pp_step.specs.declared.record.StepRecord.{StepRecord}
@@ -36,25 +36,17 @@ lookup_unmarked m (w ∷ ws) p unmarked marked = rw (different_places m p w.0 un
 
 module _ (m : Marks) (n : ℕ) where
   -- a cell at most four behind another has its mark, or that of the fourth
-  cell_unmarked : (a i : ℕ) → i ≤ 4 → is_set m (cell_mark n a) ≡ false → is_set m (cell_mark n (a + 4)) ≡ false →
-      is_set m (cell_mark n (cell_after a i)) ≡ false
-  cell_unmarked a i near first last = grind arith
-
   pub cells_unmarked : (a : ℕ) (parts : List ℕ) → is_set m (cell_mark n a) ≡ false → is_set m (cell_mark n (a + 4)) ≡ false →
       AreUnmarked m n (five_cells a parts)
-  cells_unmarked a parts first last = grind (arith, cell_unmarked a)
+  cells_unmarked a parts first last = grind arith
 
   -- a central word at most fifteen behind another has its mark, or that of the fifteenth
-  word_unmarked : (a i : ℕ) → i ≤ 15 → is_set m (central_mark a) ≡ false → is_set m (central_mark (a + 15)) ≡ false →
-      is_set m (central_mark (central_after a i)) ≡ false
-  word_unmarked a i near first last = grind arith
-
   pub words_unmarked : (size a i : ℕ) (ws : List ℕ) → i + length ws ≤ 16 → is_set m (central_mark a) ≡ false →
       is_set m (central_mark (a + 15)) ≡ false → AreUnmarked m n (word_pairs size a i ws)
   words_unmarked size a i [] at_most first last = tt
   words_unmarked size a i (w ∷ ws) at_most first last =
       let rest = words_unmarked size a (i + 1) ws (omega arith) first last in
-      AllPlaces-if _ (nat_lt (central_after a i) size) _ _ (λ within. (word_unmarked a i (omega arith) first last, rest)) (λ past. rest)
+      AllPlaces-if _ (nat_lt (central_after a i) size) _ _ (λ within. (grind arith, rest)) (λ past. rest)
 
   -- ---- a step: registers of processors and frame words have no marks
 
