@@ -23,9 +23,7 @@ length-old_values m (pair ∷ w) = ap suc (length-old_values m w)
 -- the places of a list, with the numbers of another list of the same places, are that other list
 pub with_new_numbers-numbers : (w old_values : Writes Place) → places w ≡ places old_values → with_new_numbers w (numbers old_values) ≡ old_values
 with_new_numbers-numbers [] [] e = refl
-with_new_numbers-numbers (pair ∷ w) (old ∷ old_values) e =
-    let first : pair.0 ≡ old.0 = cc in
-    rw (first, with_new_numbers-numbers w old_values cc)
+with_new_numbers-numbers (pair ∷ w) (old ∷ old_values) e = grind (arith, with_new_numbers-numbers w old_values cc)
 with_new_numbers-numbers w old_values e = absurd (cc)
 
 -- the places of cells from a on do not depend on the values
