@@ -1,7 +1,6 @@
 -- Runs, one turn after another.
 use Rattle.std.proofs.lemmas.Bool.Decides.{nat_tests}
 use Rattle.std.proofs.Common.{add-one, drop, get_or, length, map, ◌≡◌, true, ◌∷◌, ℕ, suc, ◌+◌, ◌-◌, ◌<◌, ◌≤◌, refl, sym, arith, List, Option, Some, None, [], unwrap_or}
-use Rattle.std.proofs.lemmas.Grind.{common_steps}
 use Rattle.std.proofs.lemmas.List.Elements.{recursion_from_All}
 use Rattle.std.specs.List.{AllByRecursion}
 use Rattle.pp_machine.specs.NumberLaws.{number-over}
@@ -96,7 +95,7 @@ unmarked-hit old new marks back turned fits led_back none covered =
     sym (rw (led_back, turned) at (none_changed new back Covered (watches_of old) fits none all))
 
 -- what a search for a change needs
-pub ruleset changes = (common_steps, first_step, record_was)
+pub ruleset changes = (first_step, record_was)
 
 -- what a run needs
-pub ruleset runs = (common_steps, before_start, before_next, before_end, after_turns_more, after_turns_none, turn-watches, machine_at)
+pub ruleset runs = (before_start, before_next, before_end, after_turns_more, after_turns_none, turn-watches, machine_at)

@@ -84,7 +84,6 @@ impl Rig {
 
     /// Steps the devices, if the channel of one is active.
     #[inline(always)]
-    #[tactic(auto, using(crate::proofs::Stepped::idle))]
     fn step_devices(&mut self, back: &mut TurnRest)
         ensures { AreDevicesStepped self.old self.new back.new }
     {
