@@ -1,6 +1,6 @@
 -- Watched places that are removed and restored.
 use Rattle.std.specs.List.{remove}
-use Rattle.std.proofs.Common.{arith, zero, suc, ap, sym, append_assoc, add-one, ◌∙◌, ⊎_elim, ℕ, ◌≡◌, ◌+◌, ◌-◌, ◌<◌, ◌≤◌, ◌==◌, ◌≢◌, Some, position, List, [], ◌∷◌, ◌++◌, drop, take, get_or, length, map, replicate, refl}
+use Rattle.std.proofs.Common.{arith, zero, suc, ap, sym, append_assoc, add-one, ◌∙◌, ⊎_elim, ℕ, ◌≡◌, ◌+◌, ◌-◌, ◌<◌, ◌≤◌, ◌≢◌, List, [], ◌∷◌, ◌++◌, drop, take, get_or, length, map, replicate, refl}
 use Rattle.std.proofs.lemmas.Grind.{common_steps}
 use Rattle.std.proofs.lemmas.Bool.Decides.{eqb_tells}
 use Rattle.std.proofs.Math.Seq.{get_or-append_seam, drop-append-add}
@@ -8,16 +8,16 @@ use Rattle.std.proofs.lemmas.List.{map-append, length-map, length-append, length
 use Rattle.std.proofs.lemmas.List.Edits.{length-remove}
 use Rattle.std.proofs.lemmas.List.Elements.{All-take, All-drop, All-append}
 use Rattle.std.proofs.lemmas.List.Quantifiers.{all_pairs_remove}
-use Rattle.pp_machine.specs.Prelude.{Machine, over, old_values, put, Has, HasAll, IsShaped}
+use Rattle.pp_machine.specs.Prelude.{Machine, over, old_values, put, Has, HasAll}
 use Rattle.pp_machine.specs.declared.place.Place.TheVariants.{WatchEntry}
-use Rattle.pp_actions.specs.Unwatching.{moved_up, unwatch_writes}
+use Rattle.pp_actions.specs.Unwatching.{moved_up}
 use Rattle.pp_actions.specs.Watches.{AreWatches, HaveCodes, watched_at, watched_in, watched_place}
 use Rattle.pp_actions.specs.WatchCodes.{watch_code, watch_entries, first_zero}
 use Rattle.pp_actions.specs.RecordLists.{with_entries, entries_at}
 use Rattle.pp_actions.specs.WriteLists.{entry_writes}
 use Rattle.pp_actions.specs.declared.watched.Watched.{Watched}
 use Rattle.pp_actions.specs.declared.watched.Watched.TheVariants.{RegA}
-use Rattle.pp_actions.proofs.WatchCodes.{code-no_zero, AreWatches-entries, entries, length-watched_in}
+use Rattle.pp_actions.proofs.WatchCodes.{code-no_zero, first_zero-at, watched_at-code, words_of-at_most, AreWatches-entries, entries, length-watched_in}
 
 pub over-entries : (m : Machine) (i : ℕ) (codes : List ℕ) → over m (entry_writes i codes) ≡ record m { watches = with_entries m.watches i codes }
 over-entries m i [] = refl
@@ -141,18 +141,9 @@ pub ruleset removals = (common_steps, entries, removed-at, old-at, restored-at, 
 
 -- ---- on the machine
 
-pub unwatched : (m : Machine) (w : Watched) (i : ℕ) (entries : List ℕ) → position (λ code. code == watch_code w) m.watches ≡ Some i → entries ≡ with_entries m.watches i (moved_up (drop (i + 1) m.watches)) → record m { watches = entries } ≡ over m (unwatch_writes m w)
-unwatched m w i entries found e = rw (found, e) (sym (over-entries m i (moved_up (drop (i + 1) m.watches))))
-
-pub unwatched-old : (m : Machine) (w : Watched) (i : ℕ) (codes : List ℕ) → position (λ code. code == watch_code w) m.watches ≡ Some i → codes ≡ entries_at m.watches i (moved_up (drop (i + 1) m.watches)) → entry_writes i codes ≡ old_values m (unwatch_writes m w)
-unwatched-old m w i codes found e = rw (found, e) (sym (old_values-entries m i (moved_up (drop (i + 1) m.watches))))
-
 pub length-with_entries : (entries : List ℕ) (i : ℕ) (codes : List ℕ) → length (with_entries entries i codes) ≡ length entries
 length-with_entries entries i [] = refl
 length-with_entries entries i (code ∷ codes) = length-set (with_entries entries (i + 1) codes) i code ∙ length-with_entries entries (i + 1) codes
-
-pub IsShaped-watches : (size : ℕ) (m : Machine) (entries : List ℕ) → IsShaped size m → length entries ≡ 8 → IsShaped size (record m { watches = entries })
-IsShaped-watches size m entries s e = assumption (s, e)
 
 -- behind the last place there is nothing to move up
 pub moved_up-last : (entries : List ℕ) → moved_up (drop (first_zero entries) entries) ≡ 0 ∷ []
@@ -164,3 +155,6 @@ pub AreWatches-removed : (size : ℕ) (entries : List ℕ) (i : ℕ) → size �
 AreWatches-removed size entries i at_most ok h =
     let ws = watched_in entries in
     AreWatches-entries size (remove ws i) at_most (All-append (λ w. Has size (watched_place w)) (take i ws) (drop (suc i) ws) (All-take (λ w. Has size (watched_place w)) i ws ok.present) (All-drop (λ w. Has size (watched_place w)) (suc i) ws ok.present)) (all_pairs_remove (λ v w. watch_code v ≢ watch_code w) ws i (omega (arith, length-watched_in entries)) ok.distinct)
+
+-- what a machine with other watched places needs
+pub ruleset watch_changes = (length-map, length-set, over-entries, old_values-entries, length-entry_writes, length-with_entries, moved_up-last, first_zero-at, watched_at-code, words_of-at_most)

@@ -1,25 +1,22 @@
 -- Watched places and their codes.
 use Rattle.std.specs.List.{list_any, position_from, AllPairs}
-use Rattle.std.proofs.Common.{arith, zero, suc, sym, ap, append_assoc, ◌∙◌, ℕ, ◌+◌, ◌-◌, ◌*◌, ◌<◌, ◌==◌, ◌≢◌, All, ◌≤◌, ◌≡◌, ◌||◌, Bool, false, eqb, cond, position, Some, get_or, set, List, [], ◌∷◌, ◌++◌, length, map, replicate, refl}
+use Rattle.std.proofs.Common.{arith, zero, suc, sym, ap, append_assoc, ◌∙◌, ℕ, ◌+◌, ◌-◌, ◌<◌, ◌==◌, ◌≢◌, All, ◌≤◌, ◌≡◌, ◌||◌, Bool, false, eqb, cond, position, Some, get_or, set, List, [], ◌∷◌, ◌++◌, length, map, replicate, refl}
 use Rattle.std.proofs.lemmas.Bool.Decides.{nat_tests}
 use Rattle.std.proofs.lemmas.Iterator.Adapters.{position_from-zero}
 use Rattle.std.proofs.lemmas.Bool.{false≢true, eq-eqb}
 use Rattle.std.proofs.lemmas.List.Elements.{All-tail, All-push}
 use Rattle.std.proofs.lemmas.List.Folds.{list_any_at}
 use Rattle.std.proofs.lemmas.List.Quantifiers.{all_pairs_push}
-use Rattle.std.proofs.lemmas.Nat.{div-mul-add, mod-mul-add}
 use Rattle.std.proofs.lemmas.List.{map_push, set_at, length-map, length_push as length-push}
 use Rattle.pp_machine.specs.Prelude.{Has, words_of}
 use Rattle.pp_machine.specs.declared.central.CentralSize.{CentralSize}
 use Rattle.pp_machine.proofs.Sizes.{most_words}
-use Rattle.pp_actions.specs.Watches.{watched_in, watched_at, watched_of_kind, watched_place, AreWatches, HaveCodes}
+use Rattle.pp_actions.specs.Watches.{watched_in, watched_at, watched_place, AreWatches, HaveCodes}
 use Rattle.pp_actions.specs.WatchCodes.{watch_code, watch_entries, first_zero}
 use Rattle.pp_actions.specs.declared.watched.Watched.{Watched}
-use Rattle.pp_actions.specs.declared.watched.Watched.TheVariants.{Cell, RegA, RegP, RegQ, Central, Register}
 
 code-below : (w : Watched) → 0 < watch_code w
-code-below (Cell n a) = omega arith
-code-below w = omega arith
+code-below w = grind arith
 
 pub code-no_zero : (w : Watched) → eqb (watch_code w) 0 ≡ false
 code-no_zero w = grind (arith, nat_tests, code-below w)
@@ -75,26 +72,13 @@ position-entries test ws e =
 
 -- ---- from a code back to its place
 
-kind-of : (k rest : ℕ) → rest < 2097152 → watched_at (k * 2097152 + rest) ≡ watched_of_kind k rest
-kind-of k rest h = rw (div-mul-add k 2097152 rest h, mod-mul-add k 2097152 rest h) refl
-
-register-below : (size c : ℕ) → Has size (watched_place (Register c)) → c < 2097152
-register-below size c has = grind (arith, nat_tests)
-
 -- central memory has no more words than this
 pub words_of-at_most : (size : CentralSize) → words_of size ≤ 2097152
 words_of-at_most size = omega (arith, most_words size)
 
 -- in a machine of at most this many central words, each place is determined by its code
 pub watched_at-code : (size : ℕ) (w : Watched) → size ≤ 2097152 → Has size (watched_place w) → watched_at (watch_code w) ≡ w
-watched_at-code size (Cell n a) at_most has =
-    let code : 2097152 + n * 4096 + a ≡ 1 * 2097152 + (n * 4096 + a) = omega arith in
-    rw (code, kind-of 1 (n * 4096 + a) (omega (arith, has.0, has.1)), div-mul-add n 4096 a has.1, mod-mul-add n 4096 a has.1) refl
-watched_at-code size (RegA n) at_most has = kind-of 2 n (omega (arith, has))
-watched_at-code size (RegP n) at_most has = kind-of 3 n (omega (arith, has))
-watched_at-code size (RegQ n) at_most has = kind-of 4 n (omega (arith, has))
-watched_at-code size (Central a) at_most has = kind-of 5 a (omega (arith, has))
-watched_at-code size (Register c) at_most has = kind-of 6 c (register-below size c has)
+watched_at-code size w at_most has = grind (arith, nat_tests)
 
 in-codes : (ws : List Watched) (k : ℕ) → All (λ w. watched_at (watch_code w) ≡ w) ws → watched_in (map watch_code ws ++ replicate k 0) ≡ ws
 in-codes [] zero read_back = refl

@@ -1,6 +1,5 @@
 -- What the marks of places say of a turn's undo record.
-use Rattle.std.proofs.Common.{ℕ, Bool, true, false, ◌≡◌, ◌==◌, ◌≤◌, ◌&&◌, ◌||◌, ◌+◌, ◌*◌, ◌/◌, ◌%◌, inl, inr, [], ◌∷◌, List, None, if◌then◌else◌, nat_lt, length, refl, ap, sym, arith, ◌∙◌}
-use Rattle.std.proofs.lemmas.Bool.{and_parts, cases_lt, or_parts}
+use Rattle.std.proofs.Common.{ℕ, true, false, ◌≡◌, ◌==◌, ◌≤◌, ◌||◌, ◌+◌, [], ◌∷◌, List, None, if◌then◌else◌, nat_lt, length, refl, arith}
 use Rattle.std.proofs.lemmas.Bool.Decides.{nat_tests}
 use Rattle.pp_history.specs.Marks.{covers, is_marked, is_set}
 use Rattle.pp_history.specs.declared.marks.Marks.{Marks}
@@ -9,38 +8,23 @@ use Rattle.pp_machine.specs.Prelude.{Writes, renamed, lookup, same_place, words_
 use Rattle.pp_machine.specs.Writes.{AllPlaces}
 use Rattle.pp_machine.specs.WriteLaws.{AllPlaces-append, AllPlaces-if, AllPlaces-renamed}
 use Rattle.pp_machine.specs.declared.place.Place.{Place}
-use Rattle.pp_machine.specs.declared.place.Place.TheVariants.{Cell, Central, ChannelWord, Clock, Slot}
-use Rattle.pp_rig.specs.Marks.{cell_mark, central_mark, channel_mark, mark_of, AreUnmarked}
+use Rattle.pp_machine.specs.declared.place.Place.TheVariants.{Clock, Slot}
+use Rattle.pp_rig.specs.Marks.{cell_mark, central_mark, mark_of, AreUnmarked}
 use Rattle.pp_rig.specs.Turn.{clock_old_values, rest_pairs, turn_pairs}
 use Rattle.pp_rig.specs.declared.rig.TurnRecord.{TurnRecord}
 use Rattle.pp_step.specs.Exchange.{frame_pairs, word_pairs}
-use Rattle.pp_step.specs.Pairs.{target_pairs, writes_p, written}
+use Rattle.pp_step.specs.Pairs.{target_pairs}
 use Rattle.pp_step.specs.Rows.{five_cells}
 use Rattle.pp_step.specs.Step.{pp_pairs}
-use Rattle.pp_step.specs.View as stepped
-use Rattle.pp_step.specs.View.{PpPlace, A, P, Q, Phase, pp_place}
-use Rattle.pp_step.specs.Words.{cell_after, central_after}
+use Rattle.pp_step.specs.View.{pp_place}
+use Rattle.pp_step.specs.Words.{central_after}
 use Rattle.pp_step.specs.declared.record.ExchangeRecord.{ExchangeRecord}
 use Rattle.pp_step.specs.declared.record.PpRecord.TheVariants.{Step, Exchange}
 use Rattle.pp_step.specs.declared.record.StepRecord.{StepRecord}
 
-false_unless : (b : Bool) → (b ≡ true → false ≡ true) → b ≡ false
-false_unless true wrong = sym (wrong refl)
-false_unless false wrong = refl
-
 -- an unmarked place is no marked place
 different_places : (m : Marks) (p q : Place) → is_marked m (mark_of q) ≡ false → is_marked m (mark_of p) ≡ true → same_place q p ≡ false
-different_places m (Cell n a) (Cell k b) unmarked marked =
-    false_unless (k == n && b == a)
-    (λ e. let both = and_parts (k == n) (b == a) e in
-    let same : cell_mark k b ≡ cell_mark n a = grind (arith, nat_tests, both) in sym unmarked ∙ (ap (is_set m) same ∙ marked))
-different_places m (Central a) (Central b) unmarked marked =
-    false_unless (b == a)
-    (λ e. let same : central_mark b ≡ central_mark a = grind (arith, nat_tests, e) in sym unmarked ∙ (ap (is_set m) same ∙ marked))
-different_places m (ChannelWord c) (ChannelWord k) unmarked marked =
-    false_unless (k == c)
-    (λ e. let same : channel_mark k ≡ channel_mark c = grind (arith, nat_tests, e) in sym unmarked ∙ (ap (is_set m) same ∙ marked))
-different_places m p q unmarked marked = cc
+different_places m p q unmarked marked = grind (arith, nat_tests)
 
 lookup_unmarked : (m : Marks) (ws : Writes Place) (p : Place) → AllPlaces (λ q. is_marked m (mark_of q) ≡ false) ws →
     is_marked m (mark_of p) ≡ true → lookup ws p ≡ None
@@ -51,61 +35,23 @@ lookup_unmarked m (w ∷ ws) p unmarked marked = rw (different_places m p w.0 un
 
 module _ (m : Marks) (n : ℕ) where
   -- a cell at most four behind another has its mark, or that of the fourth
-  cell_unmarked : (a i : ℕ) → i ≤ 4 → is_set m (cell_mark n a) ≡ false → is_set m (cell_mark n (a + 4)) ≡ false →
-      is_set m (cell_mark n (cell_after a i)) ≡ false
-  cell_unmarked a i near first last =
-      let wrapped : cell_after a i / 8 % 64 ≡ (a + i) / 8 % 64 = omega arith in
-      let mark = λ (block : ℕ). is_set m (n * 64 + block % 64) in
-      let unset : mark ((a + i) / 8) ≡ false =
-      elim (cases_lt (a / 8) ((a + i) / 8)) [
-        | inl behind ↦ (let same : (a + i) / 8 ≡ (a + 4) / 8 = omega (arith, near, behind) in ap mark same ∙ last)
-        | inr within ↦ (let same : (a + i) / 8 ≡ a / 8 = omega (arith, near, within) in ap mark same ∙ first)
-      ] in
-      ap (λ block. is_set m (n * 64 + block)) wrapped ∙ unset
-
   pub cells_unmarked : (a : ℕ) (parts : List ℕ) → is_set m (cell_mark n a) ≡ false → is_set m (cell_mark n (a + 4)) ≡ false →
       AreUnmarked m n (five_cells a parts)
-  cells_unmarked a parts first last =
-      let each : (i : ℕ) → i ≤ 4 → is_set m (cell_mark n (cell_after a i)) ≡ false = λ i near. cell_unmarked a i near first last in
-      (each 0 (omega arith), (each 1 (omega arith), (each 2 (omega arith), (each 3 (omega arith), (each 4 (omega arith), tt)))))
+  cells_unmarked a parts first last = grind arith
 
   -- a central word at most fifteen behind another has its mark, or that of the fifteenth
-  word_unmarked : (a i : ℕ) → i ≤ 15 → is_set m (central_mark a) ≡ false → is_set m (central_mark (a + 15)) ≡ false →
-      is_set m (central_mark (central_after a i)) ≡ false
-  word_unmarked a i near first last =
-      let wrapped : central_after a i / 16 % 256 ≡ (a + i) / 16 % 256 = omega arith in
-      let mark = λ (block : ℕ). is_set m (768 + block % 256) in
-      let unset : mark ((a + i) / 16) ≡ false =
-      elim (cases_lt (a / 16) ((a + i) / 16)) [
-        | inl behind ↦ (let same : (a + i) / 16 ≡ (a + 15) / 16 = omega (arith, near, behind) in ap mark same ∙ last)
-        | inr within ↦ (let same : (a + i) / 16 ≡ a / 16 = omega (arith, near, within) in ap mark same ∙ first)
-      ] in
-      ap (λ block. is_set m (768 + block)) wrapped ∙ unset
-
-  if_written : (b : Bool) (x : PpPlace) (w : ℕ) (ws : Writes PpPlace) → is_marked m (mark_of (pp_place n x)) ≡ false → AreUnmarked m n ws →
-      AreUnmarked m n (if b then (x, w) ∷ ws else ws)
-  if_written true x w ws here there = (here, there)
-  if_written false x w ws here there = there
-
   pub words_unmarked : (size a i : ℕ) (ws : List ℕ) → i + length ws ≤ 16 → is_set m (central_mark a) ≡ false →
       is_set m (central_mark (a + 15)) ≡ false → AreUnmarked m n (word_pairs size a i ws)
   words_unmarked size a i [] at_most first last = tt
   words_unmarked size a i (w ∷ ws) at_most first last =
-      if_written (nat_lt (central_after a i) size) (stepped.Central (central_after a i)) w (word_pairs size a (i + 1) ws)
-      (word_unmarked a i (omega arith) first last) (words_unmarked size a (i + 1) ws (omega arith) first last)
+      let rest = words_unmarked size a (i + 1) ws (omega arith) first last in
+      AllPlaces-if _ (nat_lt (central_after a i) size) _ _ (λ within. (grind arith, rest)) (λ past. rest)
 
   -- ---- a step: registers of processors and frame words have no marks
 
-  written_unmarked : (b : Bool) (x : PpPlace) (v : ℕ) (rest : Writes PpPlace) → is_marked m (mark_of (pp_place n x)) ≡ false →
-      AreUnmarked m n rest → AreUnmarked m n (written b x v rest)
-  written_unmarked true x v rest here there = (here, there)
-  written_unmarked false x v rest here there = there
-
   pub step_unmarked : (r : StepRecord) → AreUnmarked m n (target_pairs r) → AreUnmarked m n (pp_pairs (Step r))
   unfolding pp_pairs
-  step_unmarked r target =
-      written_unmarked (writes_p r.target) P r.p _ refl (written_unmarked r.writes_a A r.a _ refl
-      (written_unmarked r.writes_q Q r.q _ refl (written_unmarked r.writes_phase Phase r.phase _ refl target)))
+  step_unmarked r target = grind arith
 
   frame_unmarked : (i : ℕ) (ws : List ℕ) → AreUnmarked m n (frame_pairs i ws)
   frame_unmarked i [] = tt
@@ -136,5 +82,4 @@ turn_unmarked m r idle step =
 pub not_in_turn : (m : Marks) (r : TurnRecord) → (r.rest.are_devices_called || m.has_unmarked) ≡ false →
     AreUnmarked m r.rest.slot (pp_pairs r.pp) → (p : Place) → covers mark_of m p ≡ true → lookup (turn_pairs r) p ≡ None
 not_in_turn m r impossible step p covered =
-    let neither = or_parts r.rest.are_devices_called m.has_unmarked impossible in
-    lookup_unmarked m (turn_pairs r) p (turn_unmarked m r neither.0 step) (rw neither.1 at (and_parts m.has_places (m.has_unmarked || is_marked m (mark_of p)) covered).1)
+    lookup_unmarked m (turn_pairs r) p (turn_unmarked m r (grind arith) step) (grind arith)

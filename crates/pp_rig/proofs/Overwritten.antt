@@ -1,14 +1,12 @@
 -- The old values of an action lead back, and are at the places that it writes.
-use Rattle.std.proofs.Common.{arith, IsPermutation, ℕ, Bool, true, false, ◌≡◌, ◌==◌, ◌≤◌, [], ◌∷◌, if◌then◌else◌, length}
+use Rattle.std.proofs.Common.{arith, IsPermutation, ◌≡◌, ◌≤◌, length}
 use Rattle.std.proofs.lemmas.List.{length-append}
 use Rattle.std.proofs.lemmas.List.Sorted.{IsPermutation-refl}
 use Rattle.pp_machine.specs.Prelude.{Machine, over, number, places, places-old_values}
 use Rattle.pp_step.specs.Step.{pp_pairs, most_step_places}
 use Rattle.pp_step.specs.View.{pp_place}
 use Rattle.pp_rig.specs.Action.{writes, next, old_values_of}
-use Rattle.pp_rig.specs.Turn.{most_turn_places, rest_pairs, turn, turn_old_values, turn_pairs, turn_parts, turn_writes}
-use Rattle.pp_machine.specs.declared.place.Place.{Place}
-use Rattle.pp_machine.specs.declared.place.Place.TheVariants.{Clock}
+use Rattle.pp_rig.specs.Turn.{most_turn_places, rest_pairs, turn_old_values, turn_pairs, turn_parts, turn_writes}
 use Rattle.pp_actions.specs.declared.action.Action.{Action}
 use Rattle.pp_actions.specs.declared.action.Action.TheVariants.{Turn}
 use Rattle.pp_rig.specs.declared.rig.TurnRecord.{TurnRecord}
@@ -17,34 +15,23 @@ use Rattle.pp_machine.proofs.MachineStore.{taken_back}
 use Rattle.pp_machine.proofs.Parts.{parts-taken_back, same_places}
 use Rattle.pp_machine.specs.WriteLaws.{length-renamed}
 
-turn-taken_back : (m : Machine) → over (turn m) (turn_old_values m) ≡ m
-unfolding turn_writes turn_old_values
-turn-taken_back = parts-taken_back turn_parts
-
 -- the old values lead back to the machine before the action
-pub action-taken_back : (m : Machine) (action : Action) → over (next m action) (old_values_of m action) ≡ m
-action-taken_back m Turn = turn-taken_back m
-action-taken_back m action = taken_back m (writes m action)
-
-places-turn : (m : Machine) → IsPermutation (places (turn_old_values m)) (places (turn_writes m))
+pub action_taken_back : (m : Machine) (action : Action) → over (next m action) (old_values_of m action) ≡ m
 unfolding turn_writes turn_old_values
-places-turn = same_places turn_parts
+action_taken_back m Turn = parts-taken_back turn_parts m
+action_taken_back m action = taken_back m (writes m action)
 
 -- the old values are at the places of the write list
-pub places-old_values_of : (m : Machine) (action : Action) → IsPermutation (places (old_values_of m action)) (places (writes m action))
-places-old_values_of m Turn = places-turn m
-places-old_values_of m action = rw (places-old_values number m (writes m action)) (IsPermutation-refl (places (writes m action)))
+pub places_old_values_of : (m : Machine) (action : Action) → IsPermutation (places (old_values_of m action)) (places (writes m action))
+unfolding turn_writes turn_old_values
+places_old_values_of m Turn = same_places turn_parts m
+places_old_values_of m action = rw (places-old_values number m (writes m action)) (IsPermutation-refl (places (writes m action)))
 
 -- ---- how many places a turn's record has
-
-at_most-clock : (last : Bool) (clock : ℕ) → length {A = Place × ℕ} (if last then (Clock, clock) ∷ [] else []) ≤ 1
-at_most-clock true clock = omega arith
-at_most-clock false clock = omega arith
 
 pub at_most-turn : (r : TurnRecord) → length (pp_pairs r.pp) ≤ most_step_places → length (turn_pairs r) ≤ most_turn_places
 unfolding turn_pairs rest_pairs
 at_most-turn r at_most =
     let pp = length-renamed (pp_place r.rest.slot) (pp_pairs r.pp) in
     let devices = devices-at_most r.rest in
-    let clock = at_most-clock (r.rest.slot == 9) r.rest.clock in
-    simp length-append (omega arith)
+    simp length-append (grind arith)

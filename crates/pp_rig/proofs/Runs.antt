@@ -1,14 +1,20 @@
 -- Runs, one turn after another.
 use Rattle.std.proofs.lemmas.Bool.Decides.{nat_tests}
-use Rattle.std.proofs.Common.{drop, get_or, length, map, ◌≡◌, ◌==◌, true, false, ◌∷◌, ℕ, suc, ◌+◌, ◌-◌, ◌<◌, ◌≤◌, refl, ap, subst, sym, ◌∙◌, arith, List, Option, Some, None, [], MatchOption}
+use Rattle.std.proofs.Common.{add-one, drop, get_or, length, map, ◌≡◌, true, ◌∷◌, ℕ, suc, ◌+◌, ◌-◌, ◌<◌, ◌≤◌, refl, sym, arith, List, Option, Some, None, [], unwrap_or}
+use Rattle.std.proofs.lemmas.List.Elements.{recursion_from_All}
 use Rattle.std.specs.List.{AllByRecursion}
+use Rattle.pp_machine.specs.NumberLaws.{number-over}
 use Rattle.pp_machine.specs.Prelude.{Machine, number, lookup}
-use Rattle.pp_rig.specs.Action.{FitsRecord, before, record_pairs, record_restores}
+use Rattle.pp_rig.specs.Action.{FitsRecord, before, record_pairs}
 use Rattle.pp_rig.specs.declared.rig.RigRecord.{RigRecord}
+use Rattle.pp_history.specs.Marks.{AreCovered, covers}
+use Rattle.pp_history.specs.declared.marks.Marks.{Marks}
+use Rattle.pp_history.specs.SessionLaws.{machine_at}
 use Rattle.pp_history.specs.SessionValue.{SessionValue, after_act}
+use Rattle.pp_rig.specs.Marks.{mark_of}
 use Rattle.pp_rig.specs.Stopping.{first_change, hit_of, stopped, after_turns}
 use Rattle.pp_rig.specs.Turn.{turn}
-use Rattle.pp_actions.specs.Watches.{watches_of, watched_in, watched_place}
+use Rattle.pp_actions.specs.Watches.{watches_of, watched_place}
 use Rattle.pp_rig.proofs.Turns.{turn-watches}
 use Rattle.pp_actions.specs.declared.action.Action.{Action}
 use Rattle.pp_actions.specs.declared.action.Action.TheVariants.{Turn}
@@ -20,89 +26,55 @@ use Rattle.pp_rig.specs.declared.stopping.Hit.{Hit}
 use Rattle.pp_rig.specs.declared.stopping.Stopped.{Stopped}
 
 -- this many turns before the rest of a run
-abbrev pub turns_before : ℕ → Stopped → Stopped
+unfoldable pub turns_before : ℕ → Stopped → Stopped
 turns_before turns rest = record { turns = turns + rest.turns; hit = rest.hit }
 
 -- before any turn
-pub stopped-start : (n : ℕ) (machine : Machine) → stopped n machine ≡ turns_before 0 (stopped (n - 0) machine)
-stopped-start n machine =
+pub before_start : (n : ℕ) (machine : Machine) → stopped n machine ≡ turns_before 0 (stopped (n - 0) machine)
+unfolding turns_before
+before_start n machine =
     let all : n - 0 ≡ n = omega arith in
-    let s = stopped n machine in
-    rw all (ap (λ turns. record { turns = turns; hit = s.hit }) (let same : s.turns ≡ 0 + s.turns = omega arith in same))
+    rw all (grind arith)
 
--- a turn that changed no watched number
-pub stopped-on : (n turns : ℕ) (machine : Machine) → turns < n → hit_of machine ≡ None →
-    turns_before turns (stopped (n - turns) machine) ≡ turns_before (turns + 1) (stopped (n - (turns + 1)) (turn machine))
-unfolding stopped
-stopped-on n turns machine more none =
-    let left : n - turns ≡ suc (n - (turns + 1)) = omega arith in
-    let count : turns + suc (stopped (n - (turns + 1)) (turn machine)).turns ≡ turns + 1 + (stopped (n - (turns + 1)) (turn machine)).turns = omega arith in
-    rw (left, none, count) refl
+-- a turn that changed a watched number, or the turns after it
+abbrev pub hit_before : ℕ → Option Hit → Stopped → Stopped
+hit_before turns None rest = turns_before (turns + 1) rest
+hit_before turns (Some hit) rest = record { turns = turns + 1; hit = Some hit }
 
--- a turn that changed a watched number
-pub stopped-hit : (n turns : ℕ) (machine : Machine) (hit : Hit) → turns < n → hit_of machine ≡ Some hit →
-    turns_before turns (stopped (n - turns) machine) ≡ record { turns = turns + 1; hit = Some hit }
-unfolding stopped
-stopped-hit n turns machine hit more found =
+-- one turn of those that are left
+pub before_next : (n turns : ℕ) (machine : Machine) → turns < n →
+    turns_before turns (stopped (n - turns) machine) ≡ hit_before turns (hit_of machine) (stopped (n - (turns + 1)) (turn machine))
+unfolding stopped turns_before
+before_next n turns machine more =
     let left : n - turns ≡ suc (n - (turns + 1)) = omega arith in
-    rw (left, found) refl
+    rw left (grind arith)
 
 -- no turn is left
-pub stopped-end : (n turns : ℕ) (machine : Machine) → n ≤ turns → turns ≤ n → turns_before turns (stopped (n - turns) machine) ≡ record { turns = n; hit = None }
-unfolding stopped
-stopped-end n turns machine none within =
+pub before_end : (n turns : ℕ) (machine : Machine) → n ≤ turns → turns ≤ n → turns_before turns (stopped (n - turns) machine) ≡ record { turns = n; hit = None }
+unfolding stopped turns_before
+before_end n turns machine none within =
     let left : n - turns ≡ 0 = omega arith in
-    let count : turns + 0 ≡ n = omega arith in
-    rw (left, count) refl
+    rw left (grind arith)
 
 -- one more turn
-pub after_turns-more : (turns : ℕ) (v : SessionValue Machine Action) → after_act (after_turns turns v) Turn ≡ after_turns (turns + 1) v
+pub after_turns_more : (turns : ℕ) (v : SessionValue Machine Action) → after_turns (turns + 1) v ≡ after_act (after_turns turns v) Turn
 unfolding after_turns
-after_turns-more turns v =
-    let more : turns + 1 ≡ suc turns = omega arith in
-    rw more refl
+after_turns_more turns v = rw add-one refl
 
 -- before the first turn
-pub after_turns-none : (v : SessionValue Machine Action) → after_turns 0 v ≡ v
+pub after_turns_none : (v : SessionValue Machine Action) → after_turns 0 v ≡ v
 unfolding after_turns
-after_turns-none v = refl
-
--- a turn does not change which places are watched
-pub turned-watches : (old new : Machine) → new ≡ turn old → watches_of new ≡ watches_of old
-turned-watches old new turned = ap watches_of turned ∙ ap watched_in (turn-watches old)
-
--- the change between the machines before and after a turn is the one that the turn made
-pub hit-found : (old new before : Machine) {found : Option Hit} → new ≡ turn old → old ≡ before → found ≡ first_change before new (watches_of new) → hit_of old ≡ found
-hit-found old new before {found} turned same seen =
-    let watched : watches_of (turn old) ≡ watches_of old = ap watched_in (turn-watches old) in
-    let after : found ≡ first_change old (turn old) (watches_of (turn old)) = seen ∙ (ap (λ m. first_change m new (watches_of new)) (sym same) ∙ ap (λ m. first_change old m (watches_of m)) turned) in
-    sym (after ∙ ap (first_change old (turn old)) watched)
+after_turns_none v = refl
 
 -- the search for a change, at watched place i
-module _ (old new : Machine) (watches seen : List Watched) (i : ℕ) (place : Place) (same_watches : seen ≡ watches) (at_place : place ≡ watched_place (get_or seen i (Cell 0 0))) (within : i < length seen) (before : first_change old new watches ≡ first_change old new (drop i watches)) where
-  to_next : first_change old new watches ≡ first_change old new (get_or seen i (Cell 0 0) ∷ drop (i + 1) watches)
-  to_next =
-      before ∙ (ap (λ w. first_change old new (drop i w)) (sym same_watches)
-      ∙ (at_drop_more (first_change old new) seen i (Cell 0 0) within ∙ ap (λ w. first_change old new (get_or seen i (Cell 0 0) ∷ drop (i + 1) w)) same_watches))
-
-  -- the number at the place is the same
-  pub first-passed : number old place ≡ number new place → first_change old new watches ≡ first_change old new (drop (i + 1) watches)
-  first-passed same =
-      let here : number old (watched_place (get_or seen i (Cell 0 0))) ≡ number new (watched_place (get_or seen i (Cell 0 0))) = rw (← at_place) same in
-      let equal : (number new (watched_place (get_or seen i (Cell 0 0))) == number old (watched_place (get_or seen i (Cell 0 0)))) ≡ true = grind (arith, nat_tests, here) in
-      to_next ∙ rw equal refl
-
-  -- the number at the place is another
-  pub first-hit : (was now : ℕ) → number old place ≡ was → now ≡ number new place → (now == was) ≡ false → first_change old new watches ≡ Some (record { place = get_or seen i (Cell 0 0); was = was; now = now })
-  first-hit was now at_old at_new other =
-      let was_here : number old (watched_place (get_or seen i (Cell 0 0))) ≡ was = rw (← at_place) at_old in
-      let now_here : number new (watched_place (get_or seen i (Cell 0 0))) ≡ now = rw (← at_place) (sym at_new) in
-      to_next ∙ rw (was_here, now_here, other) refl
+pub first_step : (old new : Machine) (watches : List Watched) (i : ℕ) → i < length watches →
+    first_change old new (drop i watches) ≡ first_change old new (get_or watches i (Cell 0 0) ∷ drop (i + 1) watches)
+first_step old new watches i within = at_drop_more (first_change old new) watches i (Cell 0 0) within
 
 -- an undo record has the number before its action
-pub record-read_back : (m : Machine) (back : RigRecord) (place : Place) → FitsRecord back m → (named : Option ℕ) → named ≡ lookup (record_pairs back) place → MatchOption named (number (before back m) place ≡ number m place) (λ was. number (before back m) place ≡ was)
-record-read_back m back place fits named e =
-    subst (λ o. MatchOption o (number (before back m) place ≡ number m place) (λ was. number (before back m) place ≡ was)) (sym e) (record_restores back m place fits)
+pub record_was : (back : RigRecord) (m : Machine) (place : Place) → FitsRecord back m →
+    number (before back m) place ≡ unwrap_or (lookup (record_pairs back) place) (number m place)
+record_was back m place fits = number-over m.setup.central_words m (record_pairs back) place fits.shaped fits.places
 
 -- an action whose record has no watched place changed none
 pub none_changed : (m : Machine) (back : RigRecord) (Watches : Place → Type 0) (watches : List Watched) → FitsRecord back m →
@@ -110,6 +82,20 @@ pub none_changed : (m : Machine) (back : RigRecord) (Watches : Place → Type 0)
     first_change (before back m) m watches ≡ None
 none_changed m back Watches [] fits none all = refl
 none_changed m back Watches (w ∷ ws) fits none all =
-    let same : number (before back m) (watched_place w) ≡ number m (watched_place w) = record-read_back m back (watched_place w) fits None (sym (none (watched_place w) all.0)) in
-    let equal : (number m (watched_place w) == number (before back m) (watched_place w)) ≡ true = grind (arith, nat_tests, same) in
-    rw equal (none_changed m back Watches ws fits none all.1)
+    let same = rw (none (watched_place w) all.0) at (record_was back m (watched_place w) fits) in
+    grind (arith, nat_tests, same, none_changed m back Watches ws fits none all.1)
+
+-- a turn whose record has no marked place changed no watched number
+pub unmarked-hit : (old new : Machine) (marks : Marks) (back : RigRecord) → new ≡ turn old → FitsRecord back new → before back new ≡ old →
+    ((p : Place) → covers mark_of marks p ≡ true → lookup (record_pairs back) p ≡ None) →
+    AreCovered mark_of marks (map watched_place (watches_of old)) → None ≡ hit_of old
+unmarked-hit old new marks back turned fits led_back none covered =
+    let Covered = λ (p : Place). covers mark_of marks p ≡ true in
+    let all = recursion_from_All Covered (map watched_place (watches_of old)) covered in
+    sym (rw (led_back, turned) at (none_changed new back Covered (watches_of old) fits none all))
+
+-- what a search for a change needs
+pub ruleset changes = (first_step, record_was)
+
+-- what a run needs
+pub ruleset runs = (before_start, before_next, before_end, after_turns_more, after_turns_none, turn-watches, machine_at)

@@ -19,25 +19,19 @@ none-first : (machine : Machine) (turns : ℕ) → hit_of machine ≡ None → (
 none-first machine zero e f = e
 none-first machine (suc turns) e f = sym (ap hit_of (turned-first turns machine)) ∙ f turns refl
 
-shortest-hit : (most : ℕ) (machine : Machine) (hit : Hit) (rest : Stopped) → hit_of machine ≡ Some hit → IsShortest (suc most) machine (hit_or (Some hit) rest)
-shortest-hit most machine hit rest e = record {
+shortest-by : (most : ℕ) (machine : Machine) (rest : Stopped) (found : Option Hit) → hit_of machine ≡ found → IsShortest most (turn machine) rest → IsShortest (suc most) machine (hit_or found rest)
+shortest-by most machine rest (Some hit) e ih = record {
   within = omega arith;
   earlier = λ turns less. absurd (omega arith);
   hit = λ h same. (0, (let one : 1 ≡ 0 + 1 = omega arith in one), e ∙ same);
   none = λ same. cc;
 }
-
-shortest-on : (most : ℕ) (machine : Machine) (rest : Stopped) → hit_of machine ≡ None → IsShortest most (turn machine) rest → IsShortest (suc most) machine (hit_or None rest)
-shortest-on most machine rest e ih = record {
+shortest-by most machine rest None e ih = record {
   within = omega (arith, ih.within);
   earlier = λ turns less. none-first machine turns e (λ n same. ih.earlier n (omega arith));
   hit = λ h same. let last = ih.hit h same in (suc last.0, (let count : suc rest.turns ≡ suc last.0 + 1 = omega (arith, last.1) in count), sym (ap hit_of (turned-first last.0 machine)) ∙ last.2);
   none = λ same. let all = ih.none same in (ap suc all.0, λ turns less. none-first machine turns e (λ n more. all.1 n (omega arith)));
 }
-
-shortest-by : (most : ℕ) (machine : Machine) (rest : Stopped) (found : Option Hit) → hit_of machine ≡ found → IsShortest most (turn machine) rest → IsShortest (suc most) machine (hit_or found rest)
-shortest-by most machine rest (Some hit) e ih = shortest-hit most machine hit rest e
-shortest-by most machine rest None e ih = shortest-on most machine rest e ih
 
 pub shortest : (most : ℕ) (machine : Machine) → IsShortest most machine (stopped most machine)
 unfolding stopped
@@ -45,7 +39,7 @@ shortest zero machine = record { within = omega arith; earlier = λ turns less. 
 shortest (suc most) machine = shortest-by most machine (stopped most (turn machine)) (hit_of machine) refl (shortest most (turn machine))
 
 -- the turns are the newest actions
-pub standing-turns : (turns : ℕ) (v : SessionValue Machine Action) → (after_turns turns v).standing ≡ replicate turns Turn ++ v.standing
+pub standing_turns : (turns : ℕ) (v : SessionValue Machine Action) → (after_turns turns v).standing ≡ replicate turns Turn ++ v.standing
 unfolding after_turns
-standing-turns zero v = refl
-standing-turns (suc turns) v = ap (λ actions. Turn ∷ actions) (standing-turns turns v)
+standing_turns zero v = refl
+standing_turns (suc turns) v = ap (λ actions. Turn ∷ actions) (standing_turns turns v)

@@ -1,11 +1,11 @@
 -- The parts of a turn: what each does to the machine, and what its undo record then has.
-use Rattle.std.proofs.Common.{ℕ, Bool, true, false, [], ◌∷◌, ◌<◌, ◌≡◌, ◌==◌, ◌∙◌, if◌then◌else◌, refl, ap, get_or, subst, sym}
+use Rattle.std.proofs.Common.{ℕ, Bool, true, false, [], ◌∷◌, ◌<◌, ◌≡◌, ◌==◌, ◌∙◌, refl, ap, get_or, subst, sym}
 use Rattle.std.proofs.lemmas.List.{get_or_read}
 use Rattle.pp_machine.proofs.AllDevices.{all-laws}
 use Rattle.pp_machine.specs.AllDevices.{all_model}
 use Rattle.pp_machine.specs.NumberLaws.{setup-over}
-use Rattle.pp_machine.specs.Parts.{ArePerformed}
-use Rattle.pp_machine.specs.Prelude.{Machine, ProcessorNumbers, over, no_processor, Writes, renamed, Has, HasAll}
+use Rattle.pp_machine.specs.Parts.{AreIdle, ArePerformed, after_parts, parts_old_values}
+use Rattle.pp_machine.specs.Prelude.{Machine, ProcessorNumbers, over, put, no_processor, Writes, renamed, Has, HasAll}
 use Rattle.pp_step.specs.Step.{pp_pairs, pp_writes, FitsPp, IsStep}
 use Rattle.pp_step.specs.View.{PpPlace, PpView, over as over_pp, pp_place}
 use Rattle.pp_step.specs.declared.record.PpRecord.{PpRecord}
@@ -14,15 +14,14 @@ use Rattle.pp_rig.specs.Lift.{pp_of, step_view, with_pp}
 use Rattle.pp_rig.specs.LiftLaws.{step-pp, record-pp}
 use Rattle.pp_rig.specs.MachineLaws.{has_processor, IsMachine-with_pp}
 use Rattle.pp_machine.specs.WriteLaws.{AllPlaces-append, AllPlaces-if, over-append}
-use Rattle.pp_machine.specs.declared.place.Place.TheVariants.{Clock}
 use Rattle.pp_step.specs.PpPlaces.{HasAll-pp}
 use Rattle.pp_rig.specs.IsSetup.{IsSetup}
 use Rattle.pp_rig.specs.Short.{IsTurned}
-use Rattle.pp_rig.specs.Turn.{AreDevicesStepped, FitsRest, FitsTurn, IsSlotStep, device_parts, end_old_values, end_parts, pp_step_writes, rest_of_turn, rest_pairs, turn_old_values, turn_pairs, turn_parts, turn_writes}
+use Rattle.pp_rig.specs.Turn.{FitsRest, FitsTurn, IsSlotStep, device_parts, devices_old_values, end_old_values, end_parts, pp_step_writes, rest_of_turn, rest_pairs, turn_old_values, turn_pairs, turn_parts, turn_writes}
 use Rattle.pp_rig.specs.declared.rig.TurnRecord.{TurnRecord}
 use Rattle.pp_rig.specs.declared.rig.TurnRest.{TurnRest}
 use Rattle.pp_rig.proofs.Overwritten.{at_most-turn}
-use Rattle.pp_machine.proofs.Parts.{both-performed, led_back, one-performed, over-parts}
+use Rattle.pp_machine.proofs.Parts.{both-performed, led_back, none-performed, one-performed, over-parts}
 
 -- processor n, as it is read from the list, and as it is put back
 module _ (m : Machine) (n : ℕ) (x : ProcessorNumbers) (ok : IsMachine m) (in_slot : n < 10) (read : x ≡ get_or m.processors n x) where
@@ -65,26 +64,23 @@ module _ (m : Machine) (x : ProcessorNumbers) (new : PpView) (back : PpRecord) (
 
 -- ---- the rest of a turn: devices, clock and slot
 
-module _ (m m3 new : Machine) (stepped back : TurnRest) (devices : AreDevicesStepped m m3 stepped) (ended : ArePerformed end_parts m3 new (end_old_values back)) (called : back.are_devices_called ≡ stepped.are_devices_called) (records : back.devices ≡ stepped.devices) where
-  pub rest-performed : ArePerformed rest_of_turn m new (rest_pairs back)
-  unfolding rest_pairs
-  rest-performed = rw (called, records) (both-performed device_parts end_parts m m3 new _ _ devices.performed ended)
+-- undone, the end first
+pub rest_undone : (r : TurnRest) (s : Machine) → over s (rest_pairs r) ≡ over (over s (end_old_values r)) (devices_old_values r)
+unfolding rest_pairs
+rest_undone r s = over-append put s (devices_old_values r) (end_old_values r)
 
-  pub rest-fits : back.slot < 10 → (back.slot ≡ 9 → back.clock < 4096) → FitsRest back new
-  rest-fits in_slot in_clock = record {
-    slot = in_slot;
-    clock = in_clock;
-    devices = λ were_called.
-        let after = subst (all_model.Fits stepped.devices) (sym (led_back end_parts m3 new _ ended))
-        (devices.fits (sym called ∙ were_called)) in
-        subst (λ d. all_model.Fits d (over new (end_old_values back))) (sym records) after;
-  }
+-- the devices do nothing
+pub idle : (m : Machine) → AreIdle device_parts m → (after_parts device_parts m ≡ m) × (parts_old_values device_parts m ≡ [])
+idle m none = let same = none-performed device_parts m none in (sym same.step, sym same.old_values)
+
+-- the first part of the conclusion is there for `grind`, which looks for it
+pub rest_fits : (m new : Machine) (back : TurnRest) → ArePerformed end_parts m new (end_old_values back) → back.slot < 10 →
+    (back.slot ≡ 9 → back.clock < 4096) → (back.are_devices_called ≡ true → all_model.Fits back.devices m) →
+    ArePerformed end_parts m new (end_old_values back) × FitsRest back new
+rest_fits m new back ended in_slot in_clock devices =
+    (ended, record { slot = in_slot; clock = in_clock; devices = rw (led_back end_parts m new _ ended) devices })
 
 -- ---- a turn
-
-HasAll-clock : (size : ℕ) (last : Bool) (clock : ℕ) → HasAll size (if last then (Clock, clock) ∷ [] else [])
-HasAll-clock size true clock = (tt, tt)
-HasAll-clock size false clock = tt
 
 -- the places of a turn's record are places of the machine
 HasAll-turn : (r : TurnRecord) (s : Machine) → IsSetup s.setup → FitsTurn r s → HasAll s.setup.central_words (turn_pairs r)
@@ -94,18 +90,13 @@ HasAll-turn r s ok f =
     AllPlaces-append (Has size) _ _ (HasAll-pp size r.rest.slot f.rest.slot r.pp f.pp)
     (AllPlaces-append (Has size) _ _
     (AllPlaces-if (Has size) r.rest.are_devices_called _ _ (λ called. all-laws.pairs_has size r.rest.devices (over s (end_old_values r.rest)) (rw (setup-over s (end_old_values r.rest)) ok.channels) (f.rest.devices called)) (λ idle. tt))
-    (AllPlaces-append (Has size) _ _ (HasAll-clock size (r.rest.slot == 9) r.rest.clock) (tt, tt)))
-
-turn-performed : (m m1 new : Machine) (r : TurnRecord) → IsSlotStep m m1 r.pp → ArePerformed rest_of_turn m1 new (rest_pairs r.rest) → r.rest.slot ≡ m1.slot → ArePerformed turn_parts m new (turn_pairs r)
-unfolding turn_pairs
-turn-performed m m1 new r step rest slot =
-    both-performed (pp_step_writes ∷ []) rest_of_turn m m1 new _ _
-    (one-performed pp_step_writes m m1 _ step.step (rw (slot ∙ step.kept.slot) step.old_values)) rest
+    (AllPlaces-append (Has size) _ _ (AllPlaces-if (Has size) (r.rest.slot == 9) _ _ (λ last. (tt, tt)) (λ other. tt)) (tt, tt)))
 
 pub turned : (m m1 new : Machine) (r : TurnRecord) → IsSlotStep m m1 r.pp → ArePerformed rest_of_turn m1 new (rest_pairs r.rest) → FitsRest r.rest new → r.rest.slot ≡ m1.slot → new.setup ≡ m1.setup → IsMachine new → IsTurned m new r
-unfolding turn_writes turn_old_values
+unfolding turn_writes turn_old_values turn_pairs
 turned m m1 new r step rest fits slot setup ok =
-    let performed = turn-performed m m1 new r step rest slot in
+    let first = one-performed pp_step_writes m m1 _ step.step (rw (slot ∙ step.kept.slot) step.old_values) in
+    let performed = both-performed (pp_step_writes ∷ []) rest_of_turn m m1 new _ _ first rest in
     let fits_turn : FitsTurn r new = record { rest = fits; pp = rw setup step.fits } in
     record {
       step = performed.step ∙ sym (over-parts turn_parts m);
@@ -118,3 +109,6 @@ turned m m1 new r step rest fits slot setup ok =
 pub turn-undone : (r : TurnRecord) (s s1 s0 : Machine) → s1 ≡ over s (rest_pairs r.rest) → s0 ≡ over s1 (renamed (pp_place r.rest.slot) (pp_pairs r.pp)) → s0 ≡ over s (turn_pairs r)
 unfolding turn_pairs
 turn-undone r s s1 s0 rest pp = simp (pp, rest, over-append)
+
+-- what the parts of a turn need
+pub ruleset parts = (over-append, over-parts)

@@ -1,7 +1,7 @@
 -- Which parts of a turn's record may have a place.
-use Rattle.std.proofs.Common.{ℕ, Bool, true, false, ◌≡◌, ◌==◌, [], ◌∷◌, ◌++◌, Option, Some, None, if◌then◌else◌, refl, ◌∙◌}
+use Rattle.std.proofs.Common.{arith, ℕ, false, ◌≡◌, Option, Some, None, if◌then◌else◌, refl}
 use Rattle.pp_machine.specs.Attached.{of_device}
-use Rattle.pp_machine.specs.Prelude.{Writes, renamed, first_of_two, lookup, same_place}
+use Rattle.pp_machine.specs.Prelude.{renamed, first_of_two, lookup, same_place}
 use Rattle.pp_machine.specs.WriteLaws.{lookup-append}
 use Rattle.pp_machine.specs.declared.place.Place.{Place}
 use Rattle.pp_machine.specs.declared.place.Place.TheVariants.{Clock, Slot}
@@ -27,40 +27,22 @@ by_kind r Slot = Some r.slot
 by_kind r p = if of_device p then by_devices r p else None
 
 first_alone : (o : Option ℕ) → first_of_two o None ≡ o
-first_alone None = refl
-first_alone (Some v) = refl
+first_alone o = grind arith
 
 lookup_parts : (r : TurnRest) (p : Place) → lookup (rest_pairs r) p ≡ first_of_two (by_devices r p) (by_end r p)
 unfolding rest_pairs
 lookup_parts r p = simp lookup-append
 
-past_clock : (last : Bool) (v : ℕ) (w : Writes Place) (p : Place) → same_place Clock p ≡ false → lookup ((if last then (Clock, v) ∷ [] else []) ++ w) p ≡ lookup w p
-past_clock true v w p e = rw e refl
-past_clock false v w p e = refl
-
--- a place other than the clock
-slot_alone : (r : TurnRest) (p : Place) → same_place Clock p ≡ false → by_end r p ≡ lookup ((Slot, r.slot) ∷ []) p
-slot_alone r p clock = past_clock (r.slot == 9) r.clock ((Slot, r.slot) ∷ []) p clock
-
-not_at_end : (r : TurnRest) (p : Place) → same_place Clock p ≡ false → same_place Slot p ≡ false → by_end r p ≡ None
-not_at_end r p clock slot = slot_alone r p clock ∙ rw slot refl
-
--- a place that no device has
-end_alone : (r : TurnRest) (p : Place) → of_device p ≡ false → lookup (rest_pairs r) p ≡ by_end r p
-end_alone r p device = lookup_parts r p ∙ rw (not_by_devices r p device) refl
-
-none_unless : (b : Bool) (o : Option ℕ) → (b ≡ false → o ≡ None) → o ≡ (if b then o else None)
-none_unless true o none = refl
-none_unless false o none = none refl
-
 -- a place other than the clock and the slot
+not_at_end : (r : TurnRest) (p : Place) → same_place Clock p ≡ false → same_place Slot p ≡ false → by_end r p ≡ None
+not_at_end r p clock slot = grind arith
+
 devices_alone : (r : TurnRest) (p : Place) → same_place Clock p ≡ false → same_place Slot p ≡ false → lookup (rest_pairs r) p ≡ (if of_device p then by_devices r p else None)
-devices_alone r p clock slot =
-    lookup_parts r p ∙ (rw (not_at_end r p clock slot) (first_alone (by_devices r p)) ∙ none_unless (of_device p) (by_devices r p) (not_by_devices r p))
+devices_alone r p clock slot = grind (arith, lookup_parts r p, not_at_end r p clock slot, first_alone (by_devices r p), not_by_devices r p)
 
 pub lookup_by_kind : (r : TurnRest) (p : Place) → lookup (rest_pairs r) p ≡ by_kind r p
-lookup_by_kind r Clock = end_alone r Clock refl
-lookup_by_kind r Slot = end_alone r Slot refl ∙ slot_alone r Slot refl
+lookup_by_kind r Clock = grind (arith, lookup_parts r Clock, not_by_devices r Clock)
+lookup_by_kind r Slot = grind (arith, lookup_parts r Slot, not_by_devices r Slot)
 lookup_by_kind r p = devices_alone r p refl refl
 
 -- the first pair for a place in a turn's record
@@ -70,4 +52,4 @@ lookup_turn r p = simp lookup-append
 
 -- a place that the rest of the turn's record does not have
 pub lookup_processor : (r : TurnRecord) (p : Place) → by_kind r.rest p ≡ None → lookup (turn_pairs r) p ≡ lookup (renamed (pp_place r.rest.slot) (pp_pairs r.pp)) p
-lookup_processor r p none = lookup_turn r p ∙ rw (lookup_by_kind r.rest p, none) (first_alone (lookup (renamed (pp_place r.rest.slot) (pp_pairs r.pp)) p))
+lookup_processor r p none = grind (arith, lookup_turn r p, lookup_by_kind r.rest p)

@@ -1,9 +1,7 @@
 -- What a turn leaves unchanged.
-use Rattle.std.proofs.Common.{ap, ◌∙◌, ℕ, ◌+◌, ◌%◌, ◌≡◌, [], ◌∷◌, Bool, true, false, if◌then◌else◌, ◌==◌, refl}
+use Rattle.std.proofs.Common.{arith, ap, ◌∙◌, ℕ, ◌≡◌, refl}
 use Rattle.pp_machine.specs.Machine.{Machine, put, over}
-use Rattle.pp_machine.specs.declared.place.Place.TheVariants.{Clock}
 use Rattle.pp_step.specs.View.{PpPlace, pp_place}
-use Rattle.pp_step.specs.View as stepped
 use Rattle.pp_step.specs.Step.{pp_writes}
 use Rattle.pp_machine.proofs.AllDevices.{all-laws}
 use Rattle.pp_machine.proofs.DevicesLaws.{watches-over}
@@ -13,12 +11,7 @@ use Rattle.pp_machine.specs.Parts.{after_parts}
 use Rattle.pp_rig.specs.Turn.{device_parts, end_parts, pp_step_writes, turn, turn_parts, turn_writes}
 
 keeps-pp : (n : ℕ) (m : Machine) (p : PpPlace) (v : ℕ) → (put m (pp_place n p) v).watches ≡ m.watches
-keeps-pp n m stepped.A v = refl
-keeps-pp n m p v = refl
-
-keeps-clock : (m : Machine) (last : Bool) (v : ℕ) → (over m (if last then (Clock, v) ∷ [] else [])).watches ≡ m.watches
-keeps-clock m true v = refl
-keeps-clock m false v = refl
+keeps-pp n m p v = grind arith
 
 -- no turn changes which places are watched
 pub turn-watches : (m : Machine) → (turn m).watches ≡ m.watches
@@ -30,5 +23,5 @@ turn-watches m =
     ∙ kept-after (λ s. s.watches) turn_parts m (
       watches-over (pp_place m.slot) (keeps-pp m.slot) m (pp_writes (pp_of m.slot m)),
       each-append (λ part s. (over s (part s)).watches ≡ s.watches) device_parts end_parts m1 (all-laws.watches m1)
-          (keeps-clock m3 (m3.slot == 9) ((m3.channels.clock + 1) % 4096), (refl, tt)),
+          (grind arith, (refl, tt)),
     )

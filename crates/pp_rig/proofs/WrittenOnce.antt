@@ -4,7 +4,7 @@ use Rattle.std.specs.List.{All, AllPairs}
 use Rattle.std.proofs.lemmas.List.Kept.{AllPairs-cons}
 use Rattle.pp_machine.specs.Prelude.{Machine, Writes, places, same_place}
 use Rattle.pp_machine.specs.declared.place.Place.{Place}
-use Rattle.pp_machine.specs.declared.place.Place.TheVariants.{Cell, RegA, RegP, RegQ, Phase, Central, WatchEntry}
+use Rattle.pp_machine.specs.declared.place.Place.TheVariants.{Cell, WatchEntry}
 use Rattle.pp_machine.proofs.DeviceLaws.{same-self}
 use Rattle.pp_machine.proofs.Once.{once, each-once}
 use Rattle.pp_rig.proofs.Deadstart.{length-cell_writes, length-deadstart_write_list}
@@ -46,9 +46,7 @@ cell_writes-listed n a [] = refl
 cell_writes-listed n a (v ∷ vs) = ap (λ w. (Cell n (a % 4096), v) ∷ w) (cell_writes-listed n (a + 1) vs)
 
 cells_apart : (n i j : ℕ) → i < j → j < i + 4096 → Cell n (i % 4096) ≢ Cell n (j % 4096)
-cells_apart n i j less near same =
-    let equal : i % 4096 ≡ j % 4096 = cc in
-    absurd (omega (arith, equal))
+cells_apart n i j less near = grind arith
 
 cells-once : (n a : ℕ) (vs : List ℕ) → length vs ≤ 4096 → EachOnce (cell_writes n a vs)
 cells-once n a vs at_most = rw cell_writes-listed (listed-once (λ i. Cell n (i % 4096)) 4096 (cells_apart n) a vs at_most)
@@ -57,13 +55,8 @@ entry_writes-listed : (i : ℕ) (codes : List ℕ) → entry_writes i codes ≡ 
 entry_writes-listed i [] = refl
 entry_writes-listed i (code ∷ codes) = ap (λ w. (WatchEntry i, code) ∷ w) (entry_writes-listed (i + 1) codes)
 
-entries_apart : (i j : ℕ) → i < j → WatchEntry i ≢ WatchEntry j
-entries_apart i j less same =
-    let equal : i ≡ j = cc in
-    absurd (omega (arith, equal))
-
 entries-once : (i : ℕ) (codes : List ℕ) → EachOnce (entry_writes i codes)
-entries-once i codes = rw entry_writes-listed (listed-once WatchEntry (length codes) (λ k l less near. entries_apart k l less) i codes (omega arith))
+entries-once i codes = rw entry_writes-listed (listed-once WatchEntry (length codes) (λ k l less near. grind arith) i codes (omega arith))
 
 without_entry-once : (entries : List ℕ) (found : Option ℕ) → EachOnce (without_entry entries found)
 without_entry-once entries None = λ i j d less within. absurd (omega (arith, within))
@@ -98,15 +91,11 @@ deadstart-once (Some panel) at_most = each (deadstart_write_list panel) (panel-o
 
 -- ---- every action
 
-pub action-once : (s : Machine) (done : Action) → done ≢ action.Turn → length (writes s done) ≤ most_places done → EachOnce (writes s done)
-action-once s action.Turn other at_most = absurd (other refl)
-action-once s (action.SetCells n a values) other at_most = cells-once n a values (omega (arith, at_most, length-cell_writes n a values))
-action-once s (action.SetA n v) other at_most = each ((RegA n, v) ∷ []) refl
-action-once s (action.SetP n v) other at_most = each ((RegP n, v) ∷ (Phase n, 0) ∷ []) refl
-action-once s (action.SetQ n v) other at_most = each ((RegQ n, v) ∷ []) refl
-action-once s (action.SetWord a v) other at_most = each ((Central a, v) ∷ []) refl
-action-once s (action.SetChannel c state None) other at_most = each (writes s (action.SetChannel c state None)) refl
-action-once s (action.SetChannel c state (Some w)) other at_most = each (writes s (action.SetChannel c state (Some w))) refl
-action-once s (action.Watch w) other at_most = each (writes s (action.Watch w)) refl
-action-once s (action.Unwatch w) other at_most = without_entry-once s.watches (position (λ code. code == watch_code w) s.watches)
-action-once s action.Deadstart other at_most = deadstart-once s.setup.panel at_most
+pub written_once : (s : Machine) (done : Action) → done ≢ action.Turn → length (writes s done) ≤ most_places done → EachOnce (writes s done)
+written_once s action.Turn other at_most = absurd (other refl)
+written_once s (action.SetCells n a values) other at_most = cells-once n a values (omega (arith, at_most, length-cell_writes n a values))
+written_once s (action.SetChannel c state None) other at_most = each (writes s (action.SetChannel c state None)) refl
+written_once s (action.SetChannel c state (Some w)) other at_most = each (writes s (action.SetChannel c state (Some w))) refl
+written_once s (action.Unwatch w) other at_most = without_entry-once s.watches (position (λ code. code == watch_code w) s.watches)
+written_once s action.Deadstart other at_most = deadstart-once s.setup.panel at_most
+written_once s done other at_most = each (writes s done) refl

@@ -1,24 +1,22 @@
 -- An admitted action writes only places that the machine has.
-use Rattle.std.proofs.Common.{◌≡◌, ℕ, ◌+◌, ◌%◌, ◌<◌, ◌≤◌, ◌==◌, Bool, true, false, if◌then◌else◌, List, [], ◌∷◌, drop, length, position, refl, arith, length-drop, ⊎_elim, Option, Some, None, IfSome}
-use Rattle.std.proofs.lemmas.Bool.Decides.{eqb_tells}
+use Rattle.std.proofs.Common.{◌≡◌, ℕ, ◌+◌, ◌<◌, ◌≤◌, ◌==◌, Bool, List, [], ◌∷◌, drop, length, position, refl, arith, length-drop, Option, Some, None, IfSome}
 use Rattle.std.proofs.lemmas.List.Quantifiers.{position-Some}
-use Rattle.pp_machine.specs.Prelude.{Machine, over, processor, no_processor, HasAll}
-use Rattle.pp_machine.specs.declared.place.Place.TheVariants.{Clock}
+use Rattle.pp_machine.specs.Prelude.{Machine, over, processor, no_processor, Has, HasAll}
+use Rattle.pp_machine.specs.WriteLaws.{AllPlaces-if}
 use Rattle.pp_step.proofs.StepPlaces.{HasAll-step}
-use Rattle.pp_rig.proofs.Admitting.{IsSet, is_set, is_watch}
+use Rattle.pp_rig.proofs.Admitting.{settings_fit, is_watch}
 use Rattle.pp_rig.proofs.Deadstart.{AreSettings-deadstart}
 use Rattle.pp_machine.proofs.AllDevices.{all-laws}
 use Rattle.pp_machine.proofs.Parts.{HasAll-parts, each-append}
 use Rattle.pp_actions.proofs.Unwatching.{HasAll-entries}
 use Rattle.pp_rig.specs.Action.{writes}
 use Rattle.pp_actions.specs.Unwatching.{moved_up, without_entry}
-use Rattle.pp_actions.specs.Settings.{set_list}
+use Rattle.pp_actions.specs.Settings.{set_list, HasAll-settings}
 use Rattle.pp_actions.specs.Admitting.{first_fault}
 use Rattle.pp_actions.specs.Deadstart.{deadstart_writes, deadstart_write_list}
 use Rattle.pp_rig.specs.IsSetup.{IsPanel}
 use Rattle.pp_rig.specs.Lift.{pp_of}
 use Rattle.pp_machine.specs.NumberLaws.{setup-over}
-use Rattle.pp_actions.specs.Settings.{HasAll-settings}
 use Rattle.pp_machine.specs.Parts.{after_parts}
 use Rattle.pp_rig.specs.Turn.{device_parts, end_parts, pp_step_writes, turn_parts, turn_writes}
 use Rattle.pp_actions.specs.WatchCodes.{watch_code}
@@ -27,10 +25,6 @@ use Rattle.pp_actions.specs.declared.action.Action.{Action}
 use Rattle.pp_actions.specs.declared.action.Action.TheVariants as action
 
 -- ---- a turn
-
-HasAll-clock_writes : (size value : ℕ) (last : Bool) → HasAll size (if last then (Clock, value) ∷ [] else [])
-HasAll-clock_writes size value true = (tt, tt)
-HasAll-clock_writes size value false = tt
 
 HasAll-turn_writes : (s : Machine) → IsWellFormed s → HasAll s.setup.central_words (turn_writes s)
 unfolding turn_writes
@@ -45,24 +39,20 @@ HasAll-turn_writes s ok =
       HasAll-step size s.slot ok.slot (pp_of s.slot s) low stepped.cells ok.sizes.central,
       each-append (λ part m. HasAll size (part m)) device_parts end_parts s1
           (all-laws.writes_has size s1 (rw (setup-over s (pp_step_writes s)) ok.setup.channels))
-          (HasAll-clock_writes size ((s3.channels.clock + 1) % 4096) (s3.slot == 9), ((tt, tt), tt)),
+          (AllPlaces-if (Has size) (s3.slot == 9) _ _ (λ last. (tt, tt)) (λ other. tt), ((tt, tt), tt)),
     )
 
 -- ---- watches
 
 length-moved_up : (codes : List ℕ) → length (moved_up codes) ≤ length codes + 1
 length-moved_up [] = omega arith
-length-moved_up (code ∷ codes) =
-    ⊎_elim (λ t. rw t.0 (omega arith)) (λ t. rw t.0 (omega (arith, length-moved_up codes))) (eqb_tells code 0)
+length-moved_up (code ∷ codes) = grind (arith, length-moved_up codes)
 
-HasAll-without_entry : (size : ℕ) (entries : List ℕ) (found : Option ℕ) → IfSome found (λ i. i < 8) → length entries ≡ 8 → HasAll size (without_entry entries found)
-HasAll-without_entry size entries None within all = tt
-HasAll-without_entry size entries (Some i) within all =
+HasAll-without_entry : (size : ℕ) (test : ℕ → Bool) (entries : List ℕ) (found : Option ℕ) → position test entries ≡ found → length entries ≡ 8 → HasAll size (without_entry entries found)
+HasAll-without_entry size test entries None e all = tt
+HasAll-without_entry size test entries (Some i) e all =
+    let within = (position-Some test entries i 0 e).0 in
     HasAll-entries size i (moved_up (drop (i + 1) entries)) (omega (arith, within, all, length-moved_up (drop (i + 1) entries), length-drop (i + 1) entries))
-
-position_within : (test : ℕ → Bool) (entries : List ℕ) (found : Option ℕ) → position test entries ≡ found → length entries ≡ 8 → IfSome found (λ i. i < 8)
-position_within test entries None e all = tt
-position_within test entries (Some i) e all = omega (arith, (position-Some test entries i 0 e).0, all)
 
 -- ---- a dead start
 
@@ -72,14 +62,10 @@ HasAll-deadstart size (Some panel) ok = HasAll-settings size (deadstart_write_li
 
 -- ---- every action
 
-HasAll-set : (s : Machine) (done : Action) → IsSet s done → HasAll s.setup.central_words (set_list done)
-HasAll-set s done set = HasAll-settings s.setup.central_words (set_list done) set.settings
-
-pub HasAll-action : (s : Machine) (done : Action) → IsWellFormed s → first_fault s done ≡ None → HasAll s.setup.central_words (writes s done)
-HasAll-action s action.Turn ok admitted = HasAll-turn_writes s ok
-HasAll-action s (action.Watch w) ok admitted = ((is_watch s w admitted).room, tt)
-HasAll-action s (action.Unwatch w) ok admitted =
-    let found = position (λ code. code == watch_code w) s.watches in
-    HasAll-without_entry s.setup.central_words s.watches found (position_within (λ code. code == watch_code w) s.watches found refl ok.sizes.watches) ok.sizes.watches
-HasAll-action s action.Deadstart ok admitted = HasAll-deadstart s.setup.central_words s.setup.panel ok.setup.panel
-HasAll-action s done ok admitted = HasAll-set s done (is_set s done admitted (λ e. cc) (λ w e. cc) (λ w e. cc) (λ e. cc))
+pub written_places : (s : Machine) (done : Action) → IsWellFormed s → first_fault s done ≡ None → HasAll s.setup.central_words (writes s done)
+written_places s action.Turn ok admitted = HasAll-turn_writes s ok
+written_places s (action.Watch w) ok admitted = ((is_watch s w admitted).1.room, tt)
+written_places s (action.Unwatch w) ok admitted =
+    HasAll-without_entry s.setup.central_words (λ code. code == watch_code w) s.watches _ refl ok.sizes.watches
+written_places s action.Deadstart ok admitted = HasAll-deadstart s.setup.central_words s.setup.panel ok.setup.panel
+written_places s done ok admitted = HasAll-settings s.setup.central_words (set_list done) (settings_fit s done admitted)

@@ -14,6 +14,7 @@ ghost use Rattle.pp_actions.specs.declared.action.Action.TheVariants.{Turn};
 use pp_actions::Action;
 
 /// A run ends with the first turn that changes a watched number, and its turns are the newest actions of the session.
+#[tactic(auto, using(crate::proofs::Shortest::shortest, crate::proofs::Shortest::standing_turns))]
 pub fn runs_are_shortest()
     ensures shortest { (most : ℕ) (m : Machine) → IsShortest most m (stopped most m) }
     ensures standing { (turns : ℕ) (v : SessionValue Machine Action) →
@@ -27,6 +28,7 @@ pub fn runs_are_shortest()
 /// `pp_machine::device_writes_are_distinct`), and the clock and the slot are one place each. The list of the whole turn
 /// may have a place twice, because a processor and a device can both write the state of one channel. The machine then
 /// has the number of the later part. In the record the first pair counts, which has the number before the turn.
+#[tactic(auto, using(crate::proofs::WrittenOnce::written_once))]
 pub fn actions_write_each_place_once()
     ensures { (s : Machine) (action : Action) → action ≢ Turn →
         length (writes s action) ≤ most_places action →
@@ -34,6 +36,7 @@ pub fn actions_write_each_place_once()
 {}
 
 /// An admitted action writes only places that the machine has, if the machine is well formed. This includes a turn.
+#[tactic(auto, using(crate::proofs::WrittenPlaces::written_places))]
 pub fn actions_write_places_of_the_machine()
     ensures { (s : Machine) (action : Action) → IsWellFormed s → first_fault s action ≡ None →
         HasAll s.setup.central_words (writes s action) }
@@ -42,6 +45,7 @@ pub fn actions_write_places_of_the_machine()
 /// A turn performs its parts one after another, each on the machine that the parts before it left: the step of the
 /// processor in the slot, the steps of the reader and of the printer, the clock and the slot (the manual, peripheral
 /// processors; the devices are this project's own).
+#[tactic(auto, unfolding(crate::specs::Turn::turn_writes), using(crate::proofs::Stepped::parts))]
 pub fn turns_perform_their_parts()
     ensures { (s : Machine) → next s Turn ≡ after_parts turn_parts s }
 {}

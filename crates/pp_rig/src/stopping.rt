@@ -38,6 +38,7 @@ pub struct Stopped {
 
 /// Returns the first watched place, in watch order, whose number an action with this undo record changed.
 #[inline(always)]
+#[tactic(auto, using(crate::proofs::Runs::changes))]
 fn first_changed(machine: &Rig, back: &UndoRecord<Rig>) -> Option<Hit>
     requires { FitsRecord (whole_record unpacked back.now) machine.now }
     ensures { result ≡ first_change (before (whole_record unpacked back.now) machine.now) machine.now (watches_of machine.now) }
@@ -72,7 +73,7 @@ fn newest_change(session: &Session<Rig>) -> Option<Hit>
 /// Performs a turn, and returns the first watched place, in watch order, whose number it changed. After most turns the
 /// marks say that there is none.
 #[inline(always)]
-#[tactic(auto, unfolding(pp_actions::specs::Admitting::first_fault))]
+#[tactic(auto, unfolding(pp_actions::specs::Admitting::first_fault), using(crate::proofs::Runs::runs))]
 fn turn_watched(session: &mut Session<Rig>, marks: &Marks) -> Option<Hit>
     requires { AreCovered mark_of marks.now (map watched_place (watches_of session.old.machine)) }
     ensures machine { session.new.machine ≡ turn session.old.machine }
@@ -91,6 +92,7 @@ fn turn_watched(session: &mut Session<Rig>, marks: &Marks) -> Option<Hit>
 ///
 /// If a turn changed several watched numbers, the hit is the first in watch order. A turn in which a processor waits is
 /// a turn like any other. If n is 0, no turn is performed (this project's choice).
+#[tactic(auto, using(crate::proofs::Runs::runs))]
 pub fn run(session: &mut Session<Rig>, n: u32) -> Stopped
     ensures stops { result ≡ stopped n session.old.machine }
     ensures is_replay { (v : SessionValue Machine Action) → IsAt rules session.old v →

@@ -1,4 +1,6 @@
 //! The dead start.
+#![tactic(auto, using(crate::proofs::Deadstart::deadstarts))]
+
 ghost use Rattle.std.specs.Prelude.{◌≡◌, ◌≤◌, length};
 ghost use Rattle.pp_machine.specs.Prelude.{over, old_values};
 ghost use Rattle.pp_rig.specs.Action.{FitsRecord, record_pairs};

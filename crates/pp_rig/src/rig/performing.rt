@@ -29,6 +29,7 @@ impl Rig {
     }
 
     /// Performs an action that the rig admits, and returns its undo record.
+    #[tactic(auto, using(crate::proofs::Admitting::admitted))]
     pub(super) fn act_by_kind(&mut self, action: &Action) -> RigRecord
         requires { first_fault self.old action.now ≡ None }
         ensures step { self.new ≡ next self.old action.now }

@@ -23,6 +23,7 @@ fn is_entry(place: &Place, n: u32) -> bool
 }
 
 /// Returns the code for a place, if it is one of the watch entries from i on, which have the codes of these places.
+#[tactic(auto, using(pp_actions::proofs::WriteLists::lookup_entry))]
 fn entry_was(i: u8, watches: &[Watched], place: &Place) -> Option<u64>
     requires { length watches.now ≤ 8 }
     ensures { result ≡ lookup (entry_writes i (map watch_code watches.now)) place.now }

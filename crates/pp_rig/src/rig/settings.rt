@@ -1,4 +1,6 @@
 //! Numbers that an action sets at places.
+#![tactic(auto, using(pp_actions::proofs::WriteLists::overwritten_lists))]
+
 ghost use Rattle.std.specs.Prelude.{◌≡◌, ◌<◌, ◌≤◌, length};
 ghost use Rattle.pp_machine.specs.Prelude.{over, old_values, put, write_list, IsShaped};
 ghost use Rattle.pp_rig.specs.Action.{FitsRecord, record_pairs};

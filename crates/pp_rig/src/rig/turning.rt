@@ -83,6 +83,7 @@ impl Rig {
 
     /// Performs the part of a turn after the processor's step.
     #[inline(always)]
+    #[tactic(auto, using(crate::proofs::Stepped::rest_fits))]
     fn finish_turn(&mut self, back: &mut TurnRest)
         ensures performed { ArePerformed rest_of_turn self.old self.new (rest_pairs back.new) }
         ensures fits { FitsRest back.new self.new }
@@ -108,6 +109,7 @@ impl Rig {
     }
 
     #[inline(always)]
+    #[tactic(auto, using(crate::proofs::Stepped::rest_undone))]
     fn undo_rest(&mut self, back: &TurnRest)
         requires { FitsRest back.now self.old }
         ensures undoes { self.new ≡ over self.old (rest_pairs back.now) }

@@ -35,6 +35,7 @@ impl Rig {
     }
 
     /// Watches one more place.
+    #[tactic(auto, using(pp_actions::proofs::Unwatching::watch_changes))]
     pub(super) fn watch(&mut self, watched: Watched) -> RigRecord
         requires room { first_zero self.old.watches < 8 }
         requires has_places { Has self.old.setup.central_words (watched_place watched) }
@@ -50,6 +51,7 @@ impl Rig {
     }
 
     /// Stops watching a place.
+    #[tactic(auto, using(pp_actions::proofs::Unwatching::watch_changes))]
     pub(super) fn unwatch(&mut self, watched: Watched) -> RigRecord
         ensures step { self.new ≡ over self.old (unwatch_writes self.old watched) }
         ensures old_values { record_pairs result ≡ old_values self.old (unwatch_writes self.old watched) }
@@ -64,6 +66,7 @@ impl Rig {
     }
 
     /// Restores the watched places from entry i on, the first of which was removed.
+    #[tactic(auto, using(pp_actions::proofs::Unwatching::watch_changes))]
     pub(super) fn rewatch(&mut self, i: u8, places: &[Watched])
         requires { FitsUnwatched i places.now self.old }
         ensures { self.new ≡ over self.old (entry_writes i (map watch_code places.now)) }
@@ -72,6 +75,7 @@ impl Rig {
     }
 
     /// Stops watching the last place.
+    #[tactic(auto, using(pp_actions::proofs::Unwatching::watch_changes))]
     pub(super) fn unwatch_last(&mut self, i: u8)
         requires { first_zero self.old.watches ≡ i + 1 }
         ensures { self.new ≡ over self.old ((Place.WatchEntry i, 0) ∷ []) }

@@ -1,8 +1,7 @@
-use Rattle.std.proofs.Common.{◌∙◌, ap, refl, sym}
+use Rattle.std.proofs.Common.{◌∙◌, arith, refl, sym}
 use Rattle.pp_machine.proofs.Parts.{over-parts}
 use Rattle.pp_machine.specs.NumberLaws.{setup-over}
 use Rattle.pp_machine.specs.Parts.{parts_writes}
-use Rattle.pp_machine.specs.Prelude.{Machine}
 use Rattle.pp_rig.specs.MachineLaws.{IsMachine-over}
 use Rattle.pp_rig.specs.RigView.{machine_of}
 use Rattle.pp_rig.specs.Turn.{device_parts}
@@ -11,15 +10,13 @@ use Rattle.pp_rig.proofs.rig.Rig.step_called_devices.Goals as goal
 pub invariant_of-self : goal.invariant_of-self
 invariant_of-self c =
     let m = machine_of c.self.inside in
-    IsMachine-over m _ (parts_writes device_parts m) c.self.invariant
-    ((c.step-back.ensures m).performed.step ∙ sym (over-parts device_parts m)) refl refl
+    IsMachine-over m _ (parts_writes device_parts m) c.self.invariant ((c.step-back.ensures m).performed.step ∙ sym (over-parts device_parts m)) refl refl
 
 pub returns : goal.returns
 returns c =
-    let m = machine_of c.self.inside in
-    let stepped = c.step-back.ensures m in
+    let stepped = c.step-back.ensures (machine_of c.self.inside) in
     rw (← c.self.view_is) (record {
       performed = stepped.performed;
       fits = λ called. stepped.fits;
-      kept = record { slot = refl; setup = ap (λ (s : Machine). s.setup) (stepped.performed.step ∙ sym (over-parts device_parts m)) ∙ setup-over m (parts_writes device_parts m) };
+      kept = grind (arith, setup-over, stepped.performed.step);
     })
