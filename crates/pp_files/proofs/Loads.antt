@@ -1,5 +1,6 @@
 -- The progress of a file, and the faults that are reported.
 use Rattle.std.proofs.Common.{◌≡◌, ◌∙◌, ℕ, ◌+◌, ◌<◌, ◌≤◌, eqb, false, List, [], ◌∷◌, ◌++◌, length, take, refl, sym, ap, arith, rules, inl, inr, length-append, append_assoc, Option, Result, Ok, Err, MatchResult, ◌⊎◌, append-nil}
+use Rattle.std.proofs.lemmas.Grind.{common_steps}
 use Rattle.std.specs.Io.KnownBytes.{Consumes, IsAtEnd}
 use Rattle.pp_files.specs.declared.fault.LoadFault.{LoadFault}
 use Rattle.pp_files.specs.declared.fault.LoadFault.TheVariants.{NoMemory, FileTooLong}
@@ -21,12 +22,7 @@ use Rattle.pp_files.proofs.MoreLines.{row_of_front, line-kept, lines-one, lines-
 -- a fault at the kept prefix of a line is a fault at the line
 pub FailsAt-kept : (rule : Rule) (k : ℕ) (rows : List Row) (front line : List ℕ) (fault : LoadFault) → front ≡ take KEPT line →
     FailsAt rule k rows front fault → FailsAt rule k rows line fault
-FailsAt-kept rule k rows front line fault e (inl fails) = inl (sym (line-kept rule k rows front line e) ∙ fails)
-FailsAt-kept rule k rows front line fault e (inr rejected) = inr (
-  rejected.0,
-  (rejected.1.0, sym (line-kept rule k rows front line e) ∙ rejected.1.1),
-  (rejected.2.0, sym (row_of_front k front line e) ∙ rejected.2.1),
-)
+FailsAt-kept rule k rows front line fault e fails = grind (arith, row_of_front k front line e)
 
 -- a fault at a line of a file is a fault of the file
 FailsIn-line : (rule : Rule) (limit : ℕ) (bytes : List ℕ) (rows : List Row) (done : List (List ℕ)) (line : List ℕ) (later : List (List ℕ)) (fault : LoadFault) →
@@ -34,10 +30,9 @@ FailsIn-line : (rule : Rule) (limit : ℕ) (bytes : List ℕ) (rows : List Row) 
     (rows_of_file rule limit bytes ≡ Err fault) ⊎ ((fault ≡ NoMemory) × RunsOut rule limit bytes)
 FailsIn-line rule limit bytes rows done line later fault split read (inl fails) =
     inl (file-fault rule limit bytes (done ++ line ∷ []) later fault split (lines-one rule rows done line read ∙ fails))
-FailsIn-line rule limit bytes rows done line later fault split read (inr rejected) = inr (
-  rejected.0,
-  (done, line, later, split ∙ append_assoc done (line ∷ []) later, (rejected.1.0, lines-one rule rows done line read ∙ rejected.1.1), rejected.2),
-)
+FailsIn-line rule limit bytes rows done line later fault split read (inr rejected) =
+    let one = lines-one rule rows done line read in
+    inr (rejected.0, (done, line, later, grind (arith, common_steps), grind arith, rejected.2))
 
 -- ---- the progress of a file
 
@@ -47,22 +42,12 @@ HasRead-within progress rule Holds bytes has_read = rw (← has_read.counts_byte
 -- before the first byte
 pub HasRead-new : (progress : Progress) (rule : Rule) (Holds : List Row → Type 0) → progress.cutter ≡ [] → progress.bytes ≡ 0 → progress.lines ≡ 0 → Holds [] → HasRead progress rule Holds []
 unfolding with_lines
-HasRead-new progress rule Holds front no_bytes no_lines held = record {
-  keeps = rw front (search rules);
-  counts_bytes = no_bytes;
-  counts_lines = no_lines;
-  reads = ([], refl, held);
-}
+HasRead-new progress rule Holds front no_bytes no_lines held = grind (arith, common_steps)
 
 -- a byte that is not a line feed
 pub HasRead-byte : (old new : Progress) (rule : Rule) (Holds : List Row → Type 0) (bytes : List ℕ) (byte : ℕ) → eqb byte 10 ≡ false → HasRead old rule Holds bytes →
     IsPrefixOf KEPT new.cutter (bytes ++ byte ∷ []) → new.bytes ≡ old.bytes + 1 → new.lines ≡ old.lines → HasRead new rule Holds (bytes ++ byte ∷ [])
-HasRead-byte old new rule Holds bytes byte h has_read front more_bytes same_lines = record {
-  keeps = front;
-  counts_bytes = more_bytes ∙ rw (length-append bytes (byte ∷ [])) (ap (λ n. n + 1) has_read.counts_bytes);
-  counts_lines = rw (finished-byte bytes byte h) (same_lines ∙ has_read.counts_lines);
-  reads = rw (finished-byte bytes byte h) has_read.reads;
-}
+HasRead-byte old new rule Holds bytes byte h has_read front more_bytes same_lines = grind (arith, common_steps, finished-byte bytes byte h)
 
 -- a line feed
 pub HasRead-feed : (old new : Progress) (rule : Rule) (Holds Holds' : List Row → Type 0) (bytes : List ℕ) → HasRead old rule Holds bytes →
@@ -74,8 +59,8 @@ HasRead-feed old new rule Holds Holds' bytes has_read front more_bytes more_line
     let next = line read.0 read.2 in
     record {
       keeps = front;
-      counts_bytes = more_bytes ∙ rw (length-append bytes (10 ∷ [])) (ap (λ n. n + 1) has_read.counts_bytes);
-      counts_lines = rw (finished-feed bytes, length-append (finished bytes) (unfinished bytes ∷ [])) (more_lines ∙ ap (λ n. n + 1) has_read.counts_lines);
+      counts_bytes = grind (arith, common_steps);
+      counts_lines = grind (arith, common_steps, finished-feed bytes);
       reads = (
         next.0,
         rw (finished-feed bytes, lines-one rule read.0 (finished bytes) (unfinished bytes) read.1, ← line-kept rule (length (finished bytes) + 1) read.0 old.cutter (unfinished bytes) has_read.keeps, ← has_read.counts_lines) next.1,
@@ -105,8 +90,11 @@ HasRead-long old rule Holds bytes more byte has_read full =
 pub file-whole : (progress : Progress) (rule : Rule) (Holds : List Row → Type 0) (bytes : List ℕ) → HasRead progress rule Holds bytes → length progress.cutter ≡ 0 →
     Reads Holds (rows_of_file rule file_limit bytes)
 file-whole progress rule Holds bytes has_read empty =
-    let read = has_read.reads in
-    (read.0, rw (file-short rule file_limit bytes (HasRead-within progress rule Holds bytes has_read), lines-whole KEPT progress.cutter bytes (omega arith) has_read.keeps empty) read.1, read.2)
+    grind (
+      arith,
+      file-short rule file_limit bytes (HasRead-within progress rule Holds bytes has_read),
+      lines-whole KEPT progress.cutter bytes (omega arith) has_read.keeps empty,
+    )
 
 -- the last line does not end with a line feed
 pub file-last : {T : Type 0} (progress : Progress) (rule : Rule) (Holds Holds' : List Row → Type 0) (result : Result T LoadFault) (bytes : List ℕ) → HasRead progress rule Holds bytes → 0 < length progress.cutter →
@@ -114,17 +102,13 @@ pub file-last : {T : Type 0} (progress : Progress) (rule : Rule) (Holds Holds' :
     MatchResult result (λ _. Reads Holds' (rows_of_file rule file_limit bytes)) (λ fault. FailsIn rule bytes fault)
 file-last progress rule Holds Holds' (Ok value) bytes has_read begun line =
     let read = has_read.reads in
-    let next = line read.0 read.2 in
-    let all = lines-last KEPT progress.cutter bytes has_read.keeps begun in (
-      next.0,
-      rw (
-        file-short rule file_limit bytes (HasRead-within progress rule Holds bytes has_read),
-        all,
-        lines-one rule read.0 (finished bytes) (unfinished bytes) read.1,
-        ← line-kept rule (length (finished bytes) + 1) read.0 progress.cutter (unfinished bytes) has_read.keeps,
-        ← has_read.counts_lines,
-      ) next.1,
-      next.2,
+    let kept = line-kept rule (length (finished bytes) + 1) read.0 progress.cutter (unfinished bytes) has_read.keeps in
+    grind (
+      arith,
+      file-short rule file_limit bytes (HasRead-within progress rule Holds bytes has_read),
+      lines-last KEPT progress.cutter bytes has_read.keeps begun,
+      lines-one rule read.0 (finished bytes) (unfinished bytes) read.1,
+      line read.0 read.2,
     )
 file-last progress rule Holds Holds' (Err fault) bytes has_read begun line =
     let read = has_read.reads in
@@ -136,17 +120,12 @@ file-last progress rule Holds Holds' (Err fault) bytes has_read begun line =
 
 -- ---- the bytes that were read
 
--- a fault of the file, or memory that ran out, is the cause
-caused : (rule : Rule) (taken bytes : List ℕ) (fault : LoadFault) → FailsIn rule bytes fault → IsCauseOf rule (rows_of_file rule file_limit) taken bytes fault
-caused rule taken bytes fault (inl fails) = inl fails
-caused rule taken bytes fault (inr rejected) = inr (inl rejected)
-
 -- a fault that occurs for all later bytes is the cause
 pub fails-in : (rule : Rule) (first second : Option (List ℕ)) (taken : List ℕ) (fault : LoadFault) → Consumes first second taken →
     ((later : List ℕ) → FailsIn rule (taken ++ later) fault) → IsCauseOf rule (rows_of_file rule file_limit) taken (all_bytes first taken) fault
 fails-in rule first second taken fault p fails =
     let rest = unread first second taken p in
-    rw rest.1 (caused rule taken (taken ++ rest.0) fault (fails rest.0))
+    rw rest.1 (grind (arith, fails rest.0))
 
 -- the source failed
 pub breaks-off : (progress : Progress) (rule : Rule) (Holds : List Row → Type 0) (taken : List ℕ) → HasRead progress rule Holds taken → BreaksOff rule file_limit taken
@@ -156,5 +135,4 @@ breaks-off progress rule Holds taken has_read = (HasRead-within progress rule Ho
 pub ends : {T : Type 0} (result : Result T LoadFault) (P : T → Type 0) (rule : Rule) (first second : Option (List ℕ)) (taken : List ℕ) → Consumes first second taken → IsAtEnd second →
     MatchResult result P (λ fault. FailsIn rule taken fault) →
     MatchResult result P (λ fault. IsCauseOf rule (rows_of_file rule file_limit) taken (all_bytes first taken) fault)
-ends (Ok value) P rule first second taken p end known = known
-ends (Err fault) P rule first second taken p end known = rw (all-read first second taken p end) (caused rule taken taken fault known)
+ends result P rule first second taken p end known = grind (arith, all-read first second taken p end)
