@@ -42,12 +42,9 @@ unfolding with_lines
 lines-both rule k rows [] more =
     let same : k ≡ k + 0 = omega arith in
     ap (λ n. with_lines rule n rows more) same
-lines-both rule k rows (line ∷ done) more = by_first (λ read. lines-both rule (k + 1) read done more) (with_line rule (k + 1) rows line)
-  where
-    by_first : ((read : List Row) → with_lines rule (k + 1) read (done ++ more) ≡ (with_lines rule (k + 1) read done >>= λ last. with_lines rule (k + 1 + length done) last more)) → (first : Result (List Row) LoadFault) →
-        (first >>= λ read. with_lines rule (k + 1) read (done ++ more)) ≡ ((first >>= λ read. with_lines rule (k + 1) read done) >>= λ read. with_lines rule (k + length (line ∷ done)) read more)
-    by_first later (Ok read) = let same : k + length (line ∷ done) ≡ k + 1 + length done = omega arith in rw same (later read)
-    by_first later (Err e) = refl
+lines-both rule k rows (line ∷ done) more =
+    let later = λ (read : List Row). lines-both rule (k + 1) read done more in
+    grind (arith, later)
 
 -- one more line
 pub lines-one : (rule : Rule) (rows : List Row) (done : List (List ℕ)) (line : List ℕ) → rows_of_lines rule done ≡ Ok rows →
@@ -63,16 +60,11 @@ lines-fault rule done more fault e = rw (lines-both rule 0 [] done more, e)
 
 -- ---- a file
 
-file-lines : (rule : Rule) (limit : ℕ) (bytes : List ℕ) (read : Result (List Row) LoadFault) → rows_of_lines rule (lines_of_file limit bytes) ≡ read →
-    rows_of_file rule limit bytes ≡ (read >>= λ rows. cond (nat_le (length bytes) limit) (Ok rows) (Err FileTooLong))
-unfolding rows_of_file
-file-lines rule limit bytes read e = rw e
-
 -- the first fault of the lines is the fault of the file
 pub file-fault : (rule : Rule) (limit : ℕ) (bytes : List ℕ) (done more : List (List ℕ)) (fault : LoadFault) → lines_of_file limit bytes ≡ done ++ more →
     rows_of_lines rule done ≡ Err fault → rows_of_file rule limit bytes ≡ Err fault
-file-fault rule limit bytes done more fault split e =
-    file-lines rule limit bytes (Err fault) (ap (rows_of_lines rule) split ∙ lines-fault rule done more fault e)
+unfolding rows_of_file
+file-fault rule limit bytes done more fault split e = rw (split, lines-fault rule done more fault e)
 
 pub lines-short : (limit : ℕ) (bytes : List ℕ) → length bytes ≤ limit → lines_of_file limit bytes ≡ lines bytes
 lines-short limit bytes h = grind (arith, nat_tests)
@@ -82,17 +74,17 @@ lines-long limit bytes h = grind (arith, nat_tests)
 
 -- a file within the limit
 pub file-short : (rule : Rule) (limit : ℕ) (bytes : List ℕ) → length bytes ≤ limit → rows_of_file rule limit bytes ≡ rows_of_lines rule (lines bytes)
-file-short rule limit bytes h =
-    file-lines rule limit bytes _ (ap (rows_of_lines rule) (lines-short limit bytes h)) ∙ grind (arith, nat_tests, bind-ok (rows_of_lines rule (lines bytes)))
+unfolding rows_of_file
+file-short rule limit bytes h = grind (arith, nat_tests, bind-ok (rows_of_lines rule (lines bytes)))
 
 -- a file that is too long
 pub file-long : (rule : Rule) (rows : List Row) (limit : ℕ) (bytes more : List ℕ) (byte : ℕ) → length bytes ≡ limit → rows_of_lines rule (finished bytes) ≡ Ok rows →
     rows_of_file rule limit (bytes ++ byte ∷ more) ≡ Err FileTooLong
+unfolding rows_of_file
 file-long rule rows limit bytes more byte full e =
     let front : take limit (bytes ++ byte ∷ more) ≡ bytes = rw (← full) (take-append_seam bytes (byte ∷ more)) in
     let size = length-append bytes (byte ∷ more) in
-    file-lines rule limit (bytes ++ byte ∷ more) (Ok rows)
-    (ap (rows_of_lines rule) (lines-long limit (bytes ++ byte ∷ more) (omega (arith, size)) ∙ ap finished front) ∙ e) ∙ grind (arith, nat_tests)
+    grind (arith, nat_tests)
 
 append-next : (bytes more : List ℕ) (byte : ℕ) → bytes ++ byte ∷ more ≡ (bytes ++ byte ∷ []) ++ more
 append-next bytes more byte = sym (append_assoc bytes (byte ∷ []) more)
@@ -108,13 +100,9 @@ finished-feed_more bytes more = rw finished-feed at (finished-more (bytes ++ 10 
 -- the lines of a file begin with these lines, if the last one ends with a line feed within the limit
 pub lines_of_file-feed : (limit : ℕ) (bytes more : List ℕ) → length bytes < limit →
     (extra : List (List ℕ)) × (lines_of_file limit (bytes ++ 10 ∷ more) ≡ (finished bytes ++ unfinished bytes ∷ []) ++ extra)
-lines_of_file-feed limit bytes more h = by_test (nat_le (length (bytes ++ 10 ∷ more)) limit) refl
-  where
-    by_test : (short : Bool) → nat_le (length (bytes ++ 10 ∷ more)) limit ≡ short →
-        (extra : List (List ℕ)) × (lines_of_file limit (bytes ++ 10 ∷ more) ≡ (finished bytes ++ unfinished bytes ∷ []) ++ extra)
-    by_test true e =
-        let further = finished-feed_more bytes more in
-        (further.0 ++ last_line (unfinished ((bytes ++ 10 ∷ []) ++ more)), rw (e, lines_split (bytes ++ 10 ∷ more), append-next bytes more 10, further.1) (simp append_assoc))
-    by_test false e =
-        let further = finished-feed_more bytes (take (limit - (length bytes + 1)) more) in
-        (further.0, rw e (ap finished (take-past limit bytes more 10 h) ∙ further.1))
+lines_of_file-feed limit bytes more h =
+    let all = bytes ++ 10 ∷ more in
+    let whole = finished-feed_more bytes more in
+    let front = finished-feed_more bytes (take (limit - (length bytes + 1)) more) in
+    let extra = cond (nat_le (length all) limit) (whole.0 ++ last_line (unfinished all)) front.0 in
+    (extra, grind (arith, common_steps, lines_split all, append-next bytes more 10, take-past limit bytes more 10 h))
