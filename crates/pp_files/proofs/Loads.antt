@@ -1,5 +1,6 @@
 -- The progress of a file, and the faults that are reported.
 use Rattle.std.proofs.Common.{◌≡◌, ◌∙◌, ℕ, ◌+◌, ◌<◌, ◌≤◌, eqb, false, List, [], ◌∷◌, ◌++◌, length, take, refl, sym, ap, arith, rules, inl, inr, length-append, append_assoc, Option, Result, Ok, Err, MatchResult, ◌⊎◌, append-nil}
+use Rattle.std.proofs.lemmas.Bool.Decides.{nat_tests}
 use Rattle.std.proofs.lemmas.Grind.{common_steps}
 use Rattle.std.specs.Io.KnownBytes.{Consumes, IsAtEnd}
 use Rattle.pp_files.specs.declared.fault.LoadFault.{LoadFault}
@@ -44,11 +45,6 @@ pub HasRead-new : (progress : Progress) (rule : Rule) (Holds : List Row → Type
 unfolding with_lines
 HasRead-new progress rule Holds front no_bytes no_lines held = grind (arith, common_steps)
 
--- a byte that is not a line feed
-pub HasRead-byte : (old new : Progress) (rule : Rule) (Holds : List Row → Type 0) (bytes : List ℕ) (byte : ℕ) → eqb byte 10 ≡ false → HasRead old rule Holds bytes →
-    IsPrefixOf KEPT new.cutter (bytes ++ byte ∷ []) → new.bytes ≡ old.bytes + 1 → new.lines ≡ old.lines → HasRead new rule Holds (bytes ++ byte ∷ [])
-HasRead-byte old new rule Holds bytes byte h has_read front more_bytes same_lines = grind (arith, common_steps, finished-byte bytes byte h)
-
 -- a line feed
 pub HasRead-feed : (old new : Progress) (rule : Rule) (Holds Holds' : List Row → Type 0) (bytes : List ℕ) → HasRead old rule Holds bytes →
     IsPrefixOf KEPT new.cutter (bytes ++ 10 ∷ []) → new.bytes ≡ old.bytes + 1 → new.lines ≡ old.lines + 1 →
@@ -79,10 +75,8 @@ HasRead-fault old rule Holds fault bytes more has_read room line =
     FailsIn-line rule file_limit (bytes ++ 10 ∷ more) read.0 (finished bytes) (unfinished bytes) further.0 fault further.1 read.1
     (FailsAt-kept rule (length (finished bytes) + 1) read.0 old.cutter (unfinished bytes) fault has_read.keeps fails)
 
--- a byte above the limit
-pub HasRead-long : (old : Progress) (rule : Rule) (Holds : List Row → Type 0) (bytes more : List ℕ) (byte : ℕ) → HasRead old rule Holds bytes → old.bytes ≡ file_limit → FailsIn rule (bytes ++ byte ∷ more) FileTooLong
-HasRead-long old rule Holds bytes more byte has_read full =
-    inl (file-long rule has_read.reads.0 file_limit bytes more byte (sym has_read.counts_bytes ∙ full) has_read.reads.1)
+-- what a byte that is no line feed needs, and a byte above the limit
+pub ruleset bytes_read = (common_steps, nat_tests, finished-byte, file-long)
 
 -- ---- the end of a file
 

@@ -10,6 +10,7 @@ use Rattle.pp_lines.specs.Lines.{lines, finished, unfinished, last_line}
 use Rattle.pp_lines.proofs.LineCuts.{lines_split, finished-more, finished-feed}
 use Rattle.pp_lines.proofs.LongLines.{read-kept}
 use Rattle.pp_files.specs.Rows.{Row, row_of_text, row_of_line}
+use Rattle.pp_files.specs.Loading.{HasRows}
 use Rattle.pp_files.specs.Files.{Rule, ◌>>=◌, with_line, with_lines, with_row, rows_of_lines, lines_of_file, rows_of_file}
 
 -- ---- one line
@@ -78,10 +79,10 @@ unfolding rows_of_file
 file-short rule limit bytes h = grind (arith, nat_tests, bind-ok (rows_of_lines rule (lines bytes)))
 
 -- a file that is too long
-pub file-long : (rule : Rule) (rows : List Row) (limit : ℕ) (bytes more : List ℕ) (byte : ℕ) → length bytes ≡ limit → rows_of_lines rule (finished bytes) ≡ Ok rows →
+pub file-long : (rule : Rule) (limit : ℕ) (bytes more : List ℕ) (byte : ℕ) → length bytes ≡ limit → HasRows (rows_of_lines rule (finished bytes)) →
     rows_of_file rule limit (bytes ++ byte ∷ more) ≡ Err FileTooLong
 unfolding rows_of_file
-file-long rule rows limit bytes more byte full e =
+file-long rule limit bytes more byte full read =
     let front : take limit (bytes ++ byte ∷ more) ≡ bytes = rw (← full) (take-append_seam bytes (byte ∷ more)) in
     let size = length-append bytes (byte ∷ more) in
     grind (arith, nat_tests)

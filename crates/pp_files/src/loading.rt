@@ -41,6 +41,7 @@ fn read_line<S: Sheet>(sheet: &mut S, number: u32, line: &[u8]) -> Result<(), Lo
 }
 
 /// Processes one more byte of the file.
+#[tactic(auto, using(crate::proofs::Loads::bytes_read))]
 fn feed_byte<S: Sheet>(progress: &mut Progress, sheet: &mut S, byte: u8) -> Result<(), LoadFault>
     ensures has_read { (bytes more : List ℕ) → HasRead progress.old S.rule (S.holds sheet.old) bytes →
         MatchResult result

@@ -2,16 +2,8 @@ use Rattle.std.proofs.Common.{◌≡◌, ◌<◌, arith, refl}
 use Rattle.std.proofs.lemmas.Bool.Decides.{nat_tests}
 use Rattle.std.proofs.lemmas.Result.{err_from_is_err_and}
 use Rattle.pp_files.specs.declared.progress.TheConstants.{FILE_LIMIT}
-use Rattle.pp_files.proofs.Loads.{HasRead-byte, HasRead-feed, HasRead-fault, HasRead-long}
+use Rattle.pp_files.proofs.Loads.{HasRead-feed, HasRead-fault}
 use Rattle.pp_files.proofs.loading.feed_byte.Goals as goal
-
-pub returns-then-progress-eq-FILE_LIMIT-clause-has_read : goal.returns-then-progress-eq-FILE_LIMIT-clause-has_read
-returns-then-progress-eq-FILE_LIMIT-clause-has_read g c = λ bytes more has_read.
-    HasRead-long c.args.progress.now g.S.Sheet.rule _ bytes more c.args.byte has_read c.if-progress-eq-FILE_LIMIT.true
-
-pub returns-then-byte-ne-LINE_FEED-clause-has_read : goal.returns-then-byte-ne-LINE_FEED-clause-has_read
-returns-then-byte-ne-LINE_FEED-clause-has_read g c = λ bytes more has_read.
-    HasRead-byte _ _ g.S.Sheet.rule _ bytes c.args.byte (grind (arith, nat_tests)) has_read (c.take_byte.ensures bytes has_read.keeps) refl refl
 
 pub returns-in_err-read_line-clause-has_read : goal.returns-in_err-read_line-clause-has_read
 returns-in_err-read_line-clause-has_read g c = λ bytes more has_read.
