@@ -1,39 +1,33 @@
 -- The progress of a file, and the faults that are reported.
-use Rattle.std.proofs.Common.{◌≡◌, ◌∙◌, ℕ, ◌+◌, ◌<◌, ◌≤◌, eqb, false, List, [], ◌∷◌, ◌++◌, length, take, refl, sym, ap, arith, rules, inl, inr, length-append, append_assoc, Option, Result, Ok, Err, MatchResult, ◌⊎◌, append-nil}
+use Rattle.std.proofs.Common.{◌≡◌, ◌∙◌, ℕ, ◌+◌, ◌<◌, ◌≤◌, List, [], ◌∷◌, ◌++◌, length, take, refl, arith, inl, inr, Option, Result, Ok, Err, MatchResult, append-nil}
 use Rattle.std.proofs.lemmas.Bool.Decides.{nat_tests}
 use Rattle.std.proofs.lemmas.Grind.{common_steps}
 use Rattle.std.specs.Io.KnownBytes.{Consumes, IsAtEnd}
 use Rattle.pp_files.specs.declared.fault.LoadFault.{LoadFault}
-use Rattle.pp_files.specs.declared.fault.LoadFault.TheVariants.{NoMemory, FileTooLong}
 use Rattle.pp_files.specs.declared.progress.Progress.{Progress}
 use Rattle.pp_files.specs.declared.progress.TheConstants.{KEPT}
-use Rattle.pp_lines.specs.Lines.{finished, unfinished, IsPrefixOf}
+use Rattle.pp_lines.specs.Lines.{lines, finished, unfinished}
 use Rattle.pp_lines.proofs.LineCuts.{finished-feed, finished-byte}
 use Rattle.pp_lines.proofs.Limits.{lines-whole, lines-last}
 use Rattle.pp_files.specs.Rows.{Row}
 use Rattle.pp_files.specs.Files.{Rule, with_line, with_lines, rows_of_lines, file_limit, lines_of_file, rows_of_file}
-use Rattle.pp_files.specs.Fault.{RunsOut, BreaksOff, IsCauseOf}
+use Rattle.pp_files.specs.Fault.{BreaksOff, IsCauseOf}
 use Rattle.pp_lines.specs.Device.{all_bytes}
 use Rattle.pp_lines.proofs.Reading.{all-read, unread}
 use Rattle.pp_files.specs.Loading.{HasRead, Reads, FailsAt, FailsIn}
-use Rattle.pp_files.proofs.MoreLines.{row_of_front, line-kept, lines-one, lines-short, file-fault, file-short, file-long, lines_of_file-feed}
+use Rattle.pp_files.proofs.MoreLines.{row-front, lines-next, lines-short, file-fault, file-short, file-long, lines_of_file-feed}
 
 -- ---- a fault at a line
 
--- a fault at the kept prefix of a line is a fault at the line
-pub FailsAt-kept : (rule : Rule) (k : ℕ) (rows : List Row) (front line : List ℕ) (fault : LoadFault) → front ≡ take KEPT line →
-    FailsAt rule k rows front fault → FailsAt rule k rows line fault
-FailsAt-kept rule k rows front line fault e fails = grind (arith, row_of_front k front line e)
-
--- a fault at a line of a file is a fault of the file
-FailsIn-line : (rule : Rule) (limit : ℕ) (bytes : List ℕ) (rows : List Row) (done : List (List ℕ)) (line : List ℕ) (later : List (List ℕ)) (fault : LoadFault) →
-    lines_of_file limit bytes ≡ (done ++ line ∷ []) ++ later → rows_of_lines rule done ≡ Ok rows → FailsAt rule (length done + 1) rows line fault →
-    (rows_of_file rule limit bytes ≡ Err fault) ⊎ ((fault ≡ NoMemory) × RunsOut rule limit bytes)
-FailsIn-line rule limit bytes rows done line later fault split read (inl fails) =
-    inl (file-fault rule limit bytes (done ++ line ∷ []) later fault split (lines-one rule rows done line read ∙ fails))
-FailsIn-line rule limit bytes rows done line later fault split read (inr rejected) =
-    let one = lines-one rule rows done line read in
-    inr (rejected.0, (done, line, later, grind (arith, common_steps), grind arith, rejected.2))
+-- a fault at the kept prefix of a line of a file is a fault of the file
+FailsIn-line : (rule : Rule) (bytes : List ℕ) (rows : List Row) (done : List (List ℕ)) (line front : List ℕ) (later : List (List ℕ)) (fault : LoadFault) (k : ℕ) → front ≡ take KEPT line → k ≡ length done + 1 →
+    lines_of_file file_limit bytes ≡ (done ++ line ∷ []) ++ later → rows_of_lines rule done ≡ Ok rows → FailsAt rule k rows front fault → FailsIn rule bytes fault
+FailsIn-line rule bytes rows done line front later fault k kept count split read (inl fails) =
+    let all : rows_of_lines rule (done ++ line ∷ []) ≡ Err fault = grind (arith, lines-next rule done line, row-front k line) in
+    inl (file-fault rule file_limit bytes (done ++ line ∷ []) later fault split all)
+FailsIn-line rule bytes rows done line front later fault k kept count split read (inr rejected) =
+    let next = lines-next rule done line in
+    inr (rejected.0, (done, line, later, grind (arith, common_steps), grind (arith, row-front k line), grind (arith, row-front k line)))
 
 -- ---- the progress of a file
 
@@ -45,50 +39,14 @@ pub HasRead-new : (progress : Progress) (rule : Rule) (Holds : List Row → Type
 unfolding with_lines
 HasRead-new progress rule Holds front no_bytes no_lines held = grind (arith, common_steps)
 
--- a line feed
-pub HasRead-feed : (old new : Progress) (rule : Rule) (Holds Holds' : List Row → Type 0) (bytes : List ℕ) → HasRead old rule Holds bytes →
-    IsPrefixOf KEPT new.cutter (bytes ++ 10 ∷ []) → new.bytes ≡ old.bytes + 1 → new.lines ≡ old.lines + 1 →
-    ((rows : List Row) → Holds rows → Reads Holds' (with_line rule (old.lines + 1) rows old.cutter)) →
-    HasRead new rule Holds' (bytes ++ 10 ∷ [])
-HasRead-feed old new rule Holds Holds' bytes has_read front more_bytes more_lines line =
-    let read = has_read.reads in
-    let next = line read.0 read.2 in
-    record {
-      keeps = front;
-      counts_bytes = grind (arith, common_steps);
-      counts_lines = grind (arith, common_steps, finished-feed bytes);
-      reads = (
-        next.0,
-        rw (finished-feed bytes, lines-one rule read.0 (finished bytes) (unfinished bytes) read.1, ← line-kept rule (length (finished bytes) + 1) read.0 old.cutter (unfinished bytes) has_read.keeps, ← has_read.counts_lines) next.1,
-        next.2,
-      );
-    }
-
 -- a fault at a line that ends with a line feed
 pub HasRead-fault : (old : Progress) (rule : Rule) (Holds : List Row → Type 0) (fault : LoadFault) (bytes more : List ℕ) → HasRead old rule Holds bytes → old.bytes < file_limit →
     ((rows : List Row) → Holds rows → FailsAt rule (old.lines + 1) rows old.cutter fault) → FailsIn rule (bytes ++ 10 ∷ more) fault
 HasRead-fault old rule Holds fault bytes more has_read room line =
     let read = has_read.reads in
-    let room : length bytes < file_limit = rw (← has_read.counts_bytes) room in
-    let further = lines_of_file-feed file_limit bytes more room in
-    let fails : FailsAt rule (length (finished bytes) + 1) read.0 old.cutter fault = rw has_read.counts_lines at (line read.0 read.2) in
-    FailsIn-line rule file_limit (bytes ++ 10 ∷ more) read.0 (finished bytes) (unfinished bytes) further.0 fault further.1 read.1
-    (FailsAt-kept rule (length (finished bytes) + 1) read.0 old.cutter (unfinished bytes) fault has_read.keeps fails)
-
--- what a byte that is no line feed needs, and a byte above the limit
-pub ruleset bytes_read = (common_steps, nat_tests, finished-byte, file-long)
-
--- ---- the end of a file
-
--- the last line ends with a line feed
-pub file-whole : (progress : Progress) (rule : Rule) (Holds : List Row → Type 0) (bytes : List ℕ) → HasRead progress rule Holds bytes → length progress.cutter ≡ 0 →
-    Reads Holds (rows_of_file rule file_limit bytes)
-file-whole progress rule Holds bytes has_read empty =
-    grind (
-      arith,
-      file-short rule file_limit bytes (HasRead-within progress rule Holds bytes has_read),
-      lines-whole KEPT progress.cutter bytes (omega arith) has_read.keeps empty,
-    )
+    let further = lines_of_file-feed file_limit bytes more (omega (arith, has_read.counts_bytes)) in
+    FailsIn-line rule (bytes ++ 10 ∷ more) read.0 (finished bytes) (unfinished bytes) old.cutter further.0 fault (old.lines + 1)
+    has_read.keeps (omega (arith, has_read.counts_lines)) further.1 read.1 (line read.0 read.2)
 
 -- the last line does not end with a line feed
 pub file-last : {T : Type 0} (progress : Progress) (rule : Rule) (Holds Holds' : List Row → Type 0) (result : Result T LoadFault) (bytes : List ℕ) → HasRead progress rule Holds bytes → 0 < length progress.cutter →
@@ -96,21 +54,23 @@ pub file-last : {T : Type 0} (progress : Progress) (rule : Rule) (Holds Holds' :
     MatchResult result (λ _. Reads Holds' (rows_of_file rule file_limit bytes)) (λ fault. FailsIn rule bytes fault)
 file-last progress rule Holds Holds' (Ok value) bytes has_read begun line =
     let read = has_read.reads in
-    let kept = line-kept rule (length (finished bytes) + 1) read.0 progress.cutter (unfinished bytes) has_read.keeps in
-    grind (
-      arith,
-      file-short rule file_limit bytes (HasRead-within progress rule Holds bytes has_read),
-      lines-last KEPT progress.cutter bytes has_read.keeps begun,
-      lines-one rule read.0 (finished bytes) (unfinished bytes) read.1,
-      line read.0 read.2,
-    )
+    let within = HasRead-within progress rule Holds bytes has_read in
+    let all = lines-last KEPT progress.cutter bytes has_read.keeps begun in
+    let next = lines-next rule (finished bytes) (unfinished bytes) in
+    grind (arith, file-short rule file_limit bytes within, row-front (progress.lines + 1) (unfinished bytes), line read.0 read.2)
 file-last progress rule Holds Holds' (Err fault) bytes has_read begun line =
     let read = has_read.reads in
+    let within = HasRead-within progress rule Holds bytes has_read in
     let all = lines-last KEPT progress.cutter bytes has_read.keeps begun in
-    let fails : FailsAt rule (length (finished bytes) + 1) read.0 progress.cutter fault = rw has_read.counts_lines at (line read.0 read.2) in
-    FailsIn-line rule file_limit bytes read.0 (finished bytes) (unfinished bytes) [] fault
-    (lines-short file_limit bytes (HasRead-within progress rule Holds bytes has_read) ∙ all ∙ sym (append-nil (finished bytes ++ unfinished bytes ∷ []))) read.1
-    (FailsAt-kept rule (length (finished bytes) + 1) read.0 progress.cutter (unfinished bytes) fault has_read.keeps fails)
+    FailsIn-line rule bytes read.0 (finished bytes) (unfinished bytes) progress.cutter [] fault (progress.lines + 1)
+    has_read.keeps (omega (arith, has_read.counts_lines)) (rw (append-nil (finished bytes ++ unfinished bytes ∷ [])) (lines-short file_limit bytes within ∙ all)) read.1 (line read.0 read.2)
+
+-- the lines of a file whose last line ends with a line feed
+pub lines-none : (bytes : List ℕ) → length (take KEPT (unfinished bytes)) ≡ 0 → lines bytes ≡ finished bytes
+lines-none bytes none = lines-whole KEPT (take KEPT (unfinished bytes)) bytes (omega arith) refl none
+
+-- what the bytes of a file need, and its end
+pub ruleset bytes_read = (common_steps, nat_tests, finished-byte, file-long, file-short, finished-feed, lines-next, lines-none, row-front)
 
 -- ---- the bytes that were read
 

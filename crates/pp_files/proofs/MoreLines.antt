@@ -1,5 +1,5 @@
 -- The rows of a file with more lines.
-use Rattle.std.proofs.Common.{◌≡◌, ◌∙◌, ℕ, ◌+◌, ◌-◌, ◌<◌, ◌≤◌, Bool, true, false, cond, List, [], ◌∷◌, ◌++◌, length, take, refl, sym, ap, arith, length-append, append_assoc, Result, Ok, Err, nat_le}
+use Rattle.std.proofs.Common.{◌≡◌, ℕ, ◌+◌, ◌-◌, ◌<◌, ◌≤◌, cond, List, [], ◌∷◌, ◌++◌, length, take, refl, sym, ap, arith, length-append, append_assoc, Result, Ok, Err, nat_le}
 use Rattle.std.proofs.lemmas.Bool.Decides.{nat_tests}
 use Rattle.std.proofs.lemmas.Grind.{common_steps}
 use Rattle.std.proofs.Math.Seq.{take-append_seam, take-append-add}
@@ -11,7 +11,7 @@ use Rattle.pp_lines.proofs.LineCuts.{lines_split, finished-more, finished-feed}
 use Rattle.pp_lines.proofs.LongLines.{read-kept}
 use Rattle.pp_files.specs.Rows.{Row, row_of_text, row_of_line}
 use Rattle.pp_files.specs.Loading.{HasRows}
-use Rattle.pp_files.specs.Files.{Rule, ◌>>=◌, with_line, with_lines, with_row, rows_of_lines, lines_of_file, rows_of_file}
+use Rattle.pp_files.specs.Files.{Rule, ◌>>=◌, with_line, with_lines, rows_of_lines, lines_of_file, rows_of_file}
 
 -- ---- one line
 
@@ -23,12 +23,8 @@ row-kept : (k most : ℕ) (line : List ℕ) → 1024 < most → row_of_line k (t
 unfolding row_of_line
 row-kept k most line long = read-kept (row_of_text k) (Err (LineTooLong k)) 1023 most line (text-long k) long
 
-pub row_of_front : (k : ℕ) (front line : List ℕ) → front ≡ take KEPT line → row_of_line k front ≡ row_of_line k line
-row_of_front k front line e = rw e (row-kept k KEPT line (omega arith))
-
--- the kept prefix of a line reads as the line does
-pub line-kept : (rule : Rule) (k : ℕ) (rows : List Row) (front line : List ℕ) → front ≡ take KEPT line → with_line rule k rows front ≡ with_line rule k rows line
-line-kept rule k rows front line e = ap (λ read. read >>= with_row rule k rows) (row_of_front k front line e)
+pub row-front : (k : ℕ) (line : List ℕ) → row_of_line k (take KEPT line) ≡ row_of_line k line
+row-front k line = row-kept k KEPT line (omega arith)
 
 -- ---- rows of more lines
 
@@ -48,12 +44,10 @@ lines-both rule k rows (line ∷ done) more =
     grind (arith, later)
 
 -- one more line
-pub lines-one : (rule : Rule) (rows : List Row) (done : List (List ℕ)) (line : List ℕ) → rows_of_lines rule done ≡ Ok rows →
-    rows_of_lines rule (done ++ line ∷ []) ≡ with_line rule (length done + 1) rows line
+pub lines-next : (rule : Rule) (done : List (List ℕ)) (line : List ℕ) →
+    rows_of_lines rule (done ++ line ∷ []) ≡ (rows_of_lines rule done >>= λ rows. with_line rule (length done + 1) rows line)
 unfolding with_lines
-lines-one rule rows done line e =
-    let same : 0 + length done + 1 ≡ length done + 1 = omega arith in
-    rw (lines-both rule 0 [] done (line ∷ []), e, bind-ok (with_line rule (0 + length done + 1) rows line), same)
+lines-next rule done line = grind (arith, lines-both rule 0 [] done (line ∷ []))
 
 -- further lines do not change the first fault
 lines-fault : (rule : Rule) (done more : List (List ℕ)) (fault : LoadFault) → rows_of_lines rule done ≡ Err fault → rows_of_lines rule (done ++ more) ≡ Err fault

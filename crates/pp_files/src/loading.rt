@@ -80,6 +80,7 @@ fn feed<S: Sheet>(progress: &mut Progress, sheet: &mut S, piece: &[u8]) -> Resul
 }
 
 /// Reads the last line, if no line feed ended it.
+#[tactic(auto, using(crate::proofs::Loads::bytes_read))]
 fn finish<S: Sheet>(progress: &Progress, sheet: &mut S) -> Result<(), LoadFault>
     ensures read { (bytes : List ℕ) → HasRead progress.now S.rule (S.holds sheet.old) bytes →
         MatchResult result
