@@ -1,4 +1,3 @@
-pub mod Decks
 pub mod Loads
 pub mod MoreLines
 pub mod MoreRows

@@ -1,43 +1,33 @@
 -- The progress of a file, and the faults that are reported.
-use Rattle.std.proofs.Common.{◌≡◌, ◌∙◌, ℕ, ◌+◌, ◌<◌, ◌≤◌, eqb, false, List, [], ◌∷◌, ◌++◌, length, take, refl, sym, ap, arith, rules, inl, inr, length-append, append_assoc, Option, Result, Ok, Err, MatchResult, ◌⊎◌, append-nil}
+use Rattle.std.proofs.Common.{◌≡◌, ◌∙◌, ℕ, ◌+◌, ◌<◌, ◌≤◌, List, [], ◌∷◌, ◌++◌, length, take, refl, arith, inl, inr, Option, Result, Ok, Err, MatchResult, append-nil}
+use Rattle.std.proofs.lemmas.Bool.Decides.{nat_tests}
+use Rattle.std.proofs.lemmas.Grind.{common_steps}
 use Rattle.std.specs.Io.KnownBytes.{Consumes, IsAtEnd}
 use Rattle.pp_files.specs.declared.fault.LoadFault.{LoadFault}
-use Rattle.pp_files.specs.declared.fault.LoadFault.TheVariants.{NoMemory, FileTooLong}
 use Rattle.pp_files.specs.declared.progress.Progress.{Progress}
 use Rattle.pp_files.specs.declared.progress.TheConstants.{KEPT}
-use Rattle.pp_lines.specs.Lines.{finished, unfinished, IsPrefixOf}
+use Rattle.pp_lines.specs.Lines.{lines, finished, unfinished}
 use Rattle.pp_lines.proofs.LineCuts.{finished-feed, finished-byte}
 use Rattle.pp_lines.proofs.Limits.{lines-whole, lines-last}
 use Rattle.pp_files.specs.Rows.{Row}
 use Rattle.pp_files.specs.Files.{Rule, with_line, with_lines, rows_of_lines, file_limit, lines_of_file, rows_of_file}
-use Rattle.pp_files.specs.Fault.{RunsOut, BreaksOff, IsCauseOf}
+use Rattle.pp_files.specs.Fault.{BreaksOff, IsCauseOf}
 use Rattle.pp_lines.specs.Device.{all_bytes}
 use Rattle.pp_lines.proofs.Reading.{all-read, unread}
 use Rattle.pp_files.specs.Loading.{HasRead, Reads, FailsAt, FailsIn}
-use Rattle.pp_files.proofs.MoreLines.{row_of_front, line-kept, lines-one, lines-short, file-fault, file-short, file-long, lines_of_file-feed}
+use Rattle.pp_files.proofs.MoreLines.{row-front, lines-next, lines-short, file-fault, file-short, file-long, lines_of_file-feed}
 
 -- ---- a fault at a line
 
--- a fault at the kept prefix of a line is a fault at the line
-pub FailsAt-kept : (rule : Rule) (k : ℕ) (rows : List Row) (front line : List ℕ) (fault : LoadFault) → front ≡ take KEPT line →
-    FailsAt rule k rows front fault → FailsAt rule k rows line fault
-FailsAt-kept rule k rows front line fault e (inl fails) = inl (sym (line-kept rule k rows front line e) ∙ fails)
-FailsAt-kept rule k rows front line fault e (inr rejected) = inr (
-  rejected.0,
-  (rejected.1.0, sym (line-kept rule k rows front line e) ∙ rejected.1.1),
-  (rejected.2.0, sym (row_of_front k front line e) ∙ rejected.2.1),
-)
-
--- a fault at a line of a file is a fault of the file
-FailsIn-line : (rule : Rule) (limit : ℕ) (bytes : List ℕ) (rows : List Row) (done : List (List ℕ)) (line : List ℕ) (later : List (List ℕ)) (fault : LoadFault) →
-    lines_of_file limit bytes ≡ (done ++ line ∷ []) ++ later → rows_of_lines rule done ≡ Ok rows → FailsAt rule (length done + 1) rows line fault →
-    (rows_of_file rule limit bytes ≡ Err fault) ⊎ ((fault ≡ NoMemory) × RunsOut rule limit bytes)
-FailsIn-line rule limit bytes rows done line later fault split read (inl fails) =
-    inl (file-fault rule limit bytes (done ++ line ∷ []) later fault split (lines-one rule rows done line read ∙ fails))
-FailsIn-line rule limit bytes rows done line later fault split read (inr rejected) = inr (
-  rejected.0,
-  (done, line, later, split ∙ append_assoc done (line ∷ []) later, (rejected.1.0, lines-one rule rows done line read ∙ rejected.1.1), rejected.2),
-)
+-- a fault at the kept prefix of a line of a file is a fault of the file
+FailsIn-line : (rule : Rule) (bytes : List ℕ) (rows : List Row) (done : List (List ℕ)) (line front : List ℕ) (later : List (List ℕ)) (fault : LoadFault) (k : ℕ) → front ≡ take KEPT line → k ≡ length done + 1 →
+    lines_of_file file_limit bytes ≡ (done ++ line ∷ []) ++ later → rows_of_lines rule done ≡ Ok rows → FailsAt rule k rows front fault → FailsIn rule bytes fault
+FailsIn-line rule bytes rows done line front later fault k kept count split read (inl fails) =
+    let all : rows_of_lines rule (done ++ line ∷ []) ≡ Err fault = grind (arith, lines-next rule done line, row-front k line) in
+    inl (file-fault rule file_limit bytes (done ++ line ∷ []) later fault split all)
+FailsIn-line rule bytes rows done line front later fault k kept count split read (inr rejected) =
+    let next = lines-next rule done line in
+    inr (rejected.0, (done, line, later, grind (arith, common_steps), grind (arith, row-front k line), grind (arith, row-front k line)))
 
 -- ---- the progress of a file
 
@@ -47,66 +37,16 @@ HasRead-within progress rule Holds bytes has_read = rw (← has_read.counts_byte
 -- before the first byte
 pub HasRead-new : (progress : Progress) (rule : Rule) (Holds : List Row → Type 0) → progress.cutter ≡ [] → progress.bytes ≡ 0 → progress.lines ≡ 0 → Holds [] → HasRead progress rule Holds []
 unfolding with_lines
-HasRead-new progress rule Holds front no_bytes no_lines held = record {
-  keeps = rw front (search rules);
-  counts_bytes = no_bytes;
-  counts_lines = no_lines;
-  reads = ([], refl, held);
-}
-
--- a byte that is not a line feed
-pub HasRead-byte : (old new : Progress) (rule : Rule) (Holds : List Row → Type 0) (bytes : List ℕ) (byte : ℕ) → eqb byte 10 ≡ false → HasRead old rule Holds bytes →
-    IsPrefixOf KEPT new.cutter (bytes ++ byte ∷ []) → new.bytes ≡ old.bytes + 1 → new.lines ≡ old.lines → HasRead new rule Holds (bytes ++ byte ∷ [])
-HasRead-byte old new rule Holds bytes byte h has_read front more_bytes same_lines = record {
-  keeps = front;
-  counts_bytes = more_bytes ∙ rw (length-append bytes (byte ∷ [])) (ap (λ n. n + 1) has_read.counts_bytes);
-  counts_lines = rw (finished-byte bytes byte h) (same_lines ∙ has_read.counts_lines);
-  reads = rw (finished-byte bytes byte h) has_read.reads;
-}
-
--- a line feed
-pub HasRead-feed : (old new : Progress) (rule : Rule) (Holds Holds' : List Row → Type 0) (bytes : List ℕ) → HasRead old rule Holds bytes →
-    IsPrefixOf KEPT new.cutter (bytes ++ 10 ∷ []) → new.bytes ≡ old.bytes + 1 → new.lines ≡ old.lines + 1 →
-    ((rows : List Row) → Holds rows → Reads Holds' (with_line rule (old.lines + 1) rows old.cutter)) →
-    HasRead new rule Holds' (bytes ++ 10 ∷ [])
-HasRead-feed old new rule Holds Holds' bytes has_read front more_bytes more_lines line =
-    let read = has_read.reads in
-    let next = line read.0 read.2 in
-    record {
-      keeps = front;
-      counts_bytes = more_bytes ∙ rw (length-append bytes (10 ∷ [])) (ap (λ n. n + 1) has_read.counts_bytes);
-      counts_lines = rw (finished-feed bytes, length-append (finished bytes) (unfinished bytes ∷ [])) (more_lines ∙ ap (λ n. n + 1) has_read.counts_lines);
-      reads = (
-        next.0,
-        rw (finished-feed bytes, lines-one rule read.0 (finished bytes) (unfinished bytes) read.1, ← line-kept rule (length (finished bytes) + 1) read.0 old.cutter (unfinished bytes) has_read.keeps, ← has_read.counts_lines) next.1,
-        next.2,
-      );
-    }
+HasRead-new progress rule Holds front no_bytes no_lines held = grind (arith, common_steps)
 
 -- a fault at a line that ends with a line feed
 pub HasRead-fault : (old : Progress) (rule : Rule) (Holds : List Row → Type 0) (fault : LoadFault) (bytes more : List ℕ) → HasRead old rule Holds bytes → old.bytes < file_limit →
     ((rows : List Row) → Holds rows → FailsAt rule (old.lines + 1) rows old.cutter fault) → FailsIn rule (bytes ++ 10 ∷ more) fault
 HasRead-fault old rule Holds fault bytes more has_read room line =
     let read = has_read.reads in
-    let room : length bytes < file_limit = rw (← has_read.counts_bytes) room in
-    let further = lines_of_file-feed file_limit bytes more room in
-    let fails : FailsAt rule (length (finished bytes) + 1) read.0 old.cutter fault = rw has_read.counts_lines at (line read.0 read.2) in
-    FailsIn-line rule file_limit (bytes ++ 10 ∷ more) read.0 (finished bytes) (unfinished bytes) further.0 fault further.1 read.1
-    (FailsAt-kept rule (length (finished bytes) + 1) read.0 old.cutter (unfinished bytes) fault has_read.keeps fails)
-
--- a byte above the limit
-pub HasRead-long : (old : Progress) (rule : Rule) (Holds : List Row → Type 0) (bytes more : List ℕ) (byte : ℕ) → HasRead old rule Holds bytes → old.bytes ≡ file_limit → FailsIn rule (bytes ++ byte ∷ more) FileTooLong
-HasRead-long old rule Holds bytes more byte has_read full =
-    inl (file-long rule has_read.reads.0 file_limit bytes more byte (sym has_read.counts_bytes ∙ full) has_read.reads.1)
-
--- ---- the end of a file
-
--- the last line ends with a line feed
-pub file-whole : (progress : Progress) (rule : Rule) (Holds : List Row → Type 0) (bytes : List ℕ) → HasRead progress rule Holds bytes → length progress.cutter ≡ 0 →
-    Reads Holds (rows_of_file rule file_limit bytes)
-file-whole progress rule Holds bytes has_read empty =
-    let read = has_read.reads in
-    (read.0, rw (file-short rule file_limit bytes (HasRead-within progress rule Holds bytes has_read), lines-whole KEPT progress.cutter bytes (omega arith) has_read.keeps empty) read.1, read.2)
+    let further = lines_of_file-feed file_limit bytes more (omega (arith, has_read.counts_bytes)) in
+    FailsIn-line rule (bytes ++ 10 ∷ more) read.0 (finished bytes) (unfinished bytes) old.cutter further.0 fault (old.lines + 1)
+    has_read.keeps (omega (arith, has_read.counts_lines)) further.1 read.1 (line read.0 read.2)
 
 -- the last line does not end with a line feed
 pub file-last : {T : Type 0} (progress : Progress) (rule : Rule) (Holds Holds' : List Row → Type 0) (result : Result T LoadFault) (bytes : List ℕ) → HasRead progress rule Holds bytes → 0 < length progress.cutter →
@@ -114,39 +54,32 @@ pub file-last : {T : Type 0} (progress : Progress) (rule : Rule) (Holds Holds' :
     MatchResult result (λ _. Reads Holds' (rows_of_file rule file_limit bytes)) (λ fault. FailsIn rule bytes fault)
 file-last progress rule Holds Holds' (Ok value) bytes has_read begun line =
     let read = has_read.reads in
-    let next = line read.0 read.2 in
-    let all = lines-last KEPT progress.cutter bytes has_read.keeps begun in (
-      next.0,
-      rw (
-        file-short rule file_limit bytes (HasRead-within progress rule Holds bytes has_read),
-        all,
-        lines-one rule read.0 (finished bytes) (unfinished bytes) read.1,
-        ← line-kept rule (length (finished bytes) + 1) read.0 progress.cutter (unfinished bytes) has_read.keeps,
-        ← has_read.counts_lines,
-      ) next.1,
-      next.2,
-    )
+    let within = HasRead-within progress rule Holds bytes has_read in
+    let all = lines-last KEPT progress.cutter bytes has_read.keeps begun in
+    let next = lines-next rule (finished bytes) (unfinished bytes) in
+    grind (arith, file-short rule file_limit bytes within, row-front (progress.lines + 1) (unfinished bytes), line read.0 read.2)
 file-last progress rule Holds Holds' (Err fault) bytes has_read begun line =
     let read = has_read.reads in
+    let within = HasRead-within progress rule Holds bytes has_read in
     let all = lines-last KEPT progress.cutter bytes has_read.keeps begun in
-    let fails : FailsAt rule (length (finished bytes) + 1) read.0 progress.cutter fault = rw has_read.counts_lines at (line read.0 read.2) in
-    FailsIn-line rule file_limit bytes read.0 (finished bytes) (unfinished bytes) [] fault
-    (lines-short file_limit bytes (HasRead-within progress rule Holds bytes has_read) ∙ all ∙ sym (append-nil (finished bytes ++ unfinished bytes ∷ []))) read.1
-    (FailsAt-kept rule (length (finished bytes) + 1) read.0 progress.cutter (unfinished bytes) fault has_read.keeps fails)
+    FailsIn-line rule bytes read.0 (finished bytes) (unfinished bytes) progress.cutter [] fault (progress.lines + 1)
+    has_read.keeps (omega (arith, has_read.counts_lines)) (rw (append-nil (finished bytes ++ unfinished bytes ∷ [])) (lines-short file_limit bytes within ∙ all)) read.1 (line read.0 read.2)
+
+-- the lines of a file whose last line ends with a line feed
+pub lines-none : (bytes : List ℕ) → length (take KEPT (unfinished bytes)) ≡ 0 → lines bytes ≡ finished bytes
+lines-none bytes none = lines-whole KEPT (take KEPT (unfinished bytes)) bytes (omega arith) refl none
+
+-- what the bytes of a file need, and its end
+pub ruleset bytes_read = (common_steps, nat_tests, finished-byte, file-long, file-short, finished-feed, lines-next, lines-none, row-front)
 
 -- ---- the bytes that were read
-
--- a fault of the file, or memory that ran out, is the cause
-caused : (rule : Rule) (taken bytes : List ℕ) (fault : LoadFault) → FailsIn rule bytes fault → IsCauseOf rule (rows_of_file rule file_limit) taken bytes fault
-caused rule taken bytes fault (inl fails) = inl fails
-caused rule taken bytes fault (inr rejected) = inr (inl rejected)
 
 -- a fault that occurs for all later bytes is the cause
 pub fails-in : (rule : Rule) (first second : Option (List ℕ)) (taken : List ℕ) (fault : LoadFault) → Consumes first second taken →
     ((later : List ℕ) → FailsIn rule (taken ++ later) fault) → IsCauseOf rule (rows_of_file rule file_limit) taken (all_bytes first taken) fault
 fails-in rule first second taken fault p fails =
     let rest = unread first second taken p in
-    rw rest.1 (caused rule taken (taken ++ rest.0) fault (fails rest.0))
+    rw rest.1 (grind (arith, fails rest.0))
 
 -- the source failed
 pub breaks-off : (progress : Progress) (rule : Rule) (Holds : List Row → Type 0) (taken : List ℕ) → HasRead progress rule Holds taken → BreaksOff rule file_limit taken
@@ -156,5 +89,4 @@ breaks-off progress rule Holds taken has_read = (HasRead-within progress rule Ho
 pub ends : {T : Type 0} (result : Result T LoadFault) (P : T → Type 0) (rule : Rule) (first second : Option (List ℕ)) (taken : List ℕ) → Consumes first second taken → IsAtEnd second →
     MatchResult result P (λ fault. FailsIn rule taken fault) →
     MatchResult result P (λ fault. IsCauseOf rule (rows_of_file rule file_limit) taken (all_bytes first taken) fault)
-ends (Ok value) P rule first second taken p end known = known
-ends (Err fault) P rule first second taken p end known = rw (all-read first second taken p end) (caused rule taken taken fault known)
+ends result P rule first second taken p end known = grind (arith, all-read first second taken p end)

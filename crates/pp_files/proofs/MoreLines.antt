@@ -1,5 +1,5 @@
 -- The rows of a file with more lines.
-use Rattle.std.proofs.Common.{◌≡◌, ◌∙◌, ℕ, ◌+◌, ◌-◌, ◌<◌, ◌≤◌, Bool, true, false, cond, List, [], ◌∷◌, ◌++◌, length, take, refl, sym, ap, arith, length-append, append_assoc, Result, Ok, Err, nat_le}
+use Rattle.std.proofs.Common.{◌≡◌, ℕ, ◌+◌, ◌-◌, ◌<◌, ◌≤◌, cond, List, [], ◌∷◌, ◌++◌, length, take, refl, sym, ap, arith, length-append, append_assoc, Result, Ok, Err, nat_le}
 use Rattle.std.proofs.lemmas.Bool.Decides.{nat_tests}
 use Rattle.std.proofs.lemmas.Grind.{common_steps}
 use Rattle.std.proofs.Math.Seq.{take-append_seam, take-append-add}
@@ -10,7 +10,8 @@ use Rattle.pp_lines.specs.Lines.{lines, finished, unfinished, last_line}
 use Rattle.pp_lines.proofs.LineCuts.{lines_split, finished-more, finished-feed}
 use Rattle.pp_lines.proofs.LongLines.{read-kept}
 use Rattle.pp_files.specs.Rows.{Row, row_of_text, row_of_line}
-use Rattle.pp_files.specs.Files.{Rule, ◌>>=◌, with_line, with_lines, with_row, rows_of_lines, lines_of_file, rows_of_file}
+use Rattle.pp_files.specs.Loading.{HasRows}
+use Rattle.pp_files.specs.Files.{Rule, ◌>>=◌, with_line, with_lines, rows_of_lines, lines_of_file, rows_of_file}
 
 -- ---- one line
 
@@ -22,12 +23,8 @@ row-kept : (k most : ℕ) (line : List ℕ) → 1024 < most → row_of_line k (t
 unfolding row_of_line
 row-kept k most line long = read-kept (row_of_text k) (Err (LineTooLong k)) 1023 most line (text-long k) long
 
-pub row_of_front : (k : ℕ) (front line : List ℕ) → front ≡ take KEPT line → row_of_line k front ≡ row_of_line k line
-row_of_front k front line e = rw e (row-kept k KEPT line (omega arith))
-
--- the kept prefix of a line reads as the line does
-pub line-kept : (rule : Rule) (k : ℕ) (rows : List Row) (front line : List ℕ) → front ≡ take KEPT line → with_line rule k rows front ≡ with_line rule k rows line
-line-kept rule k rows front line e = ap (λ read. read >>= with_row rule k rows) (row_of_front k front line e)
+pub row-front : (k : ℕ) (line : List ℕ) → row_of_line k (take KEPT line) ≡ row_of_line k line
+row-front k line = row-kept k KEPT line (omega arith)
 
 -- ---- rows of more lines
 
@@ -42,20 +39,15 @@ unfolding with_lines
 lines-both rule k rows [] more =
     let same : k ≡ k + 0 = omega arith in
     ap (λ n. with_lines rule n rows more) same
-lines-both rule k rows (line ∷ done) more = by_first (λ read. lines-both rule (k + 1) read done more) (with_line rule (k + 1) rows line)
-  where
-    by_first : ((read : List Row) → with_lines rule (k + 1) read (done ++ more) ≡ (with_lines rule (k + 1) read done >>= λ last. with_lines rule (k + 1 + length done) last more)) → (first : Result (List Row) LoadFault) →
-        (first >>= λ read. with_lines rule (k + 1) read (done ++ more)) ≡ ((first >>= λ read. with_lines rule (k + 1) read done) >>= λ read. with_lines rule (k + length (line ∷ done)) read more)
-    by_first later (Ok read) = let same : k + length (line ∷ done) ≡ k + 1 + length done = omega arith in rw same (later read)
-    by_first later (Err e) = refl
+lines-both rule k rows (line ∷ done) more =
+    let later = λ (read : List Row). lines-both rule (k + 1) read done more in
+    grind (arith, later)
 
 -- one more line
-pub lines-one : (rule : Rule) (rows : List Row) (done : List (List ℕ)) (line : List ℕ) → rows_of_lines rule done ≡ Ok rows →
-    rows_of_lines rule (done ++ line ∷ []) ≡ with_line rule (length done + 1) rows line
+pub lines-next : (rule : Rule) (done : List (List ℕ)) (line : List ℕ) →
+    rows_of_lines rule (done ++ line ∷ []) ≡ (rows_of_lines rule done >>= λ rows. with_line rule (length done + 1) rows line)
 unfolding with_lines
-lines-one rule rows done line e =
-    let same : 0 + length done + 1 ≡ length done + 1 = omega arith in
-    rw (lines-both rule 0 [] done (line ∷ []), e, bind-ok (with_line rule (0 + length done + 1) rows line), same)
+lines-next rule done line = grind (arith, lines-both rule 0 [] done (line ∷ []))
 
 -- further lines do not change the first fault
 lines-fault : (rule : Rule) (done more : List (List ℕ)) (fault : LoadFault) → rows_of_lines rule done ≡ Err fault → rows_of_lines rule (done ++ more) ≡ Err fault
@@ -63,16 +55,11 @@ lines-fault rule done more fault e = rw (lines-both rule 0 [] done more, e)
 
 -- ---- a file
 
-file-lines : (rule : Rule) (limit : ℕ) (bytes : List ℕ) (read : Result (List Row) LoadFault) → rows_of_lines rule (lines_of_file limit bytes) ≡ read →
-    rows_of_file rule limit bytes ≡ (read >>= λ rows. cond (nat_le (length bytes) limit) (Ok rows) (Err FileTooLong))
-unfolding rows_of_file
-file-lines rule limit bytes read e = rw e
-
 -- the first fault of the lines is the fault of the file
 pub file-fault : (rule : Rule) (limit : ℕ) (bytes : List ℕ) (done more : List (List ℕ)) (fault : LoadFault) → lines_of_file limit bytes ≡ done ++ more →
     rows_of_lines rule done ≡ Err fault → rows_of_file rule limit bytes ≡ Err fault
-file-fault rule limit bytes done more fault split e =
-    file-lines rule limit bytes (Err fault) (ap (rows_of_lines rule) split ∙ lines-fault rule done more fault e)
+unfolding rows_of_file
+file-fault rule limit bytes done more fault split e = rw (split, lines-fault rule done more fault e)
 
 pub lines-short : (limit : ℕ) (bytes : List ℕ) → length bytes ≤ limit → lines_of_file limit bytes ≡ lines bytes
 lines-short limit bytes h = grind (arith, nat_tests)
@@ -82,17 +69,17 @@ lines-long limit bytes h = grind (arith, nat_tests)
 
 -- a file within the limit
 pub file-short : (rule : Rule) (limit : ℕ) (bytes : List ℕ) → length bytes ≤ limit → rows_of_file rule limit bytes ≡ rows_of_lines rule (lines bytes)
-file-short rule limit bytes h =
-    file-lines rule limit bytes _ (ap (rows_of_lines rule) (lines-short limit bytes h)) ∙ grind (arith, nat_tests, bind-ok (rows_of_lines rule (lines bytes)))
+unfolding rows_of_file
+file-short rule limit bytes h = grind (arith, nat_tests, bind-ok (rows_of_lines rule (lines bytes)))
 
 -- a file that is too long
-pub file-long : (rule : Rule) (rows : List Row) (limit : ℕ) (bytes more : List ℕ) (byte : ℕ) → length bytes ≡ limit → rows_of_lines rule (finished bytes) ≡ Ok rows →
+pub file-long : (rule : Rule) (limit : ℕ) (bytes more : List ℕ) (byte : ℕ) → length bytes ≡ limit → HasRows (rows_of_lines rule (finished bytes)) →
     rows_of_file rule limit (bytes ++ byte ∷ more) ≡ Err FileTooLong
-file-long rule rows limit bytes more byte full e =
+unfolding rows_of_file
+file-long rule limit bytes more byte full read =
     let front : take limit (bytes ++ byte ∷ more) ≡ bytes = rw (← full) (take-append_seam bytes (byte ∷ more)) in
     let size = length-append bytes (byte ∷ more) in
-    file-lines rule limit (bytes ++ byte ∷ more) (Ok rows)
-    (ap (rows_of_lines rule) (lines-long limit (bytes ++ byte ∷ more) (omega (arith, size)) ∙ ap finished front) ∙ e) ∙ grind (arith, nat_tests)
+    grind (arith, nat_tests)
 
 append-next : (bytes more : List ℕ) (byte : ℕ) → bytes ++ byte ∷ more ≡ (bytes ++ byte ∷ []) ++ more
 append-next bytes more byte = sym (append_assoc bytes (byte ∷ []) more)
@@ -108,13 +95,9 @@ finished-feed_more bytes more = rw finished-feed at (finished-more (bytes ++ 10 
 -- the lines of a file begin with these lines, if the last one ends with a line feed within the limit
 pub lines_of_file-feed : (limit : ℕ) (bytes more : List ℕ) → length bytes < limit →
     (extra : List (List ℕ)) × (lines_of_file limit (bytes ++ 10 ∷ more) ≡ (finished bytes ++ unfinished bytes ∷ []) ++ extra)
-lines_of_file-feed limit bytes more h = by_test (nat_le (length (bytes ++ 10 ∷ more)) limit) refl
-  where
-    by_test : (short : Bool) → nat_le (length (bytes ++ 10 ∷ more)) limit ≡ short →
-        (extra : List (List ℕ)) × (lines_of_file limit (bytes ++ 10 ∷ more) ≡ (finished bytes ++ unfinished bytes ∷ []) ++ extra)
-    by_test true e =
-        let further = finished-feed_more bytes more in
-        (further.0 ++ last_line (unfinished ((bytes ++ 10 ∷ []) ++ more)), rw (e, lines_split (bytes ++ 10 ∷ more), append-next bytes more 10, further.1) (simp append_assoc))
-    by_test false e =
-        let further = finished-feed_more bytes (take (limit - (length bytes + 1)) more) in
-        (further.0, rw e (ap finished (take-past limit bytes more 10 h) ∙ further.1))
+lines_of_file-feed limit bytes more h =
+    let all = bytes ++ 10 ∷ more in
+    let whole = finished-feed_more bytes more in
+    let front = finished-feed_more bytes (take (limit - (length bytes + 1)) more) in
+    let extra = cond (nat_le (length all) limit) (whole.0 ++ last_line (unfinished all)) front.0 in
+    (extra, grind (arith, common_steps, lines_split all, append-next bytes more 10, take-past limit bytes more 10 h))

@@ -1,27 +1,28 @@
 -- One more row of a deck or a panel.
-use Rattle.std.proofs.Common.{◌≡◌, ◌∙◌, ℕ, ◌≤◌, List, [], ◌∷◌, ◌++◌, length, map, sym, ap, arith, append_assoc, Ok}
+use Rattle.std.proofs.Common.{◌≡◌, ◌-◌, ◌<◌, List, [], ◌∷◌, ◌++◌, ap, arith, length, drop, map, sym, replicate, All}
+use Rattle.std.proofs.lemmas.Grind.{common_steps}
 use Rattle.std.specs.List.{concat}
-use Rattle.std.proofs.lemmas.Bool.Decides.{nat_tests}
-use Rattle.std.proofs.lemmas.List.{append-nil, map-append}
+use Rattle.std.proofs.lemmas.List.{append-nil, drop-replicate, map-append}
+use Rattle.std.proofs.lemmas.List.Elements.{All-append, All-replicate}
+use Rattle.std.proofs.lemmas.List.Folds.{concat-append}
 use Rattle.pp_files.specs.Rows.{Row}
-use Rattle.pp_files.specs.Files.{card_rule, card_of_row, panel_rule}
+use Rattle.pp_files.specs.Files.{card_of_row}
 
-concat-row : (rows : List Row) (row : Row) → concat (rows ++ row ∷ []) ≡ concat rows ++ row
-concat-row [] row = append-nil row
-concat-row (first ∷ rows) row = ap (λ rest. first ++ rest) (concat-row rows row) ∙ sym (append_assoc first (concat rows) row)
+-- a row in the first columns of a card of zeros
+pub card-front : (row : Row) → row ++ drop (length row) (replicate 80 0) ≡ card_of_row row
+card-front row = ap (λ rest. row ++ rest) (drop-replicate (length row) 80 0)
 
--- a panel with the words of one more row
-pub panel-more : (k : ℕ) (rows : List Row) (row words new : Row) → words ≡ concat rows → length (words ++ row) ≤ 12 → new ≡ words ++ row →
-    (more : List Row) × (panel_rule k rows row ≡ Ok more) × (new ≡ concat more)
-panel-more k rows row words new held fits e =
-    (rows ++ row ∷ [], grind (arith, nat_tests, rw held at fits), e ∙ ap (λ front. front ++ row) held ∙ sym (concat-row rows row))
-
--- a deck with one more card is allowed
-pub card-fits : (k : ℕ) (rows : List Row) (row : Row) → length row ≤ 80 → card_rule k rows row ≡ Ok (rows ++ row ∷ [])
-card-fits k rows row fits = grind (arith, nat_tests)
+-- a card of small numbers
+pub card-within : (row : Row) → All (λ value. value < 4096) row → All (λ value. value < 4096) (card_of_row row)
+card-within row small = All-append (λ value. value < 4096) row (replicate (80 - length row) 0) small (All-replicate (λ value. value < 4096) (80 - length row) 0 (omega arith))
 
 -- a deck with one more card
-pub deck-more : (k : ℕ) (rows : List Row) (row : Row) (cards new : List Row) (card : Row) → cards ≡ map card_of_row rows → length row ≤ 80 → card ≡ card_of_row row → new ≡ cards ++ card ∷ [] →
-    (more : List Row) × (card_rule k rows row ≡ Ok more) × (new ≡ map card_of_row more)
-deck-more k rows row cards new card held fits is_card e =
-    (rows ++ row ∷ [], card-fits k rows row fits, e ∙ rw (held, is_card) (sym (map-append card_of_row rows (row ∷ []))))
+pub deck-more : (rows : List Row) (row : Row) → map card_of_row rows ++ card_of_row row ∷ [] ≡ map card_of_row (rows ++ row ∷ [])
+deck-more rows row = sym (map-append card_of_row rows (row ∷ []))
+
+-- a panel with the words of one more row
+pub panel-more : (rows : List Row) (row : Row) → concat rows ++ row ≡ concat (rows ++ row ∷ [])
+panel-more rows row = rw (concat-append rows (row ∷ [])) (simp append-nil)
+
+-- what one more row needs
+pub ruleset rows = (common_steps, card-front, card-within, deck-more, panel-more)

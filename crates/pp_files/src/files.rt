@@ -20,6 +20,7 @@ use std::alloc::Global;
 ///
 /// # Errors
 /// The file's first fault, in the order of `LoadFault`. `NoMemory` is reported only at a card.
+#[tactic(auto, unfolding(crate::specs::Files::deck_of_file))]
 pub fn load_deck<R: Source>(alloc: Global, source: &mut R) -> Result<Vec<[u16; COLUMNS]>, LoadFault>
     // For every source: the bytes read are the file, or after a fault the part of it that was read.
     ensures file { (taken : List ℕ) × Consumes (R.rest source.old) (R.rest source.new) taken
@@ -46,6 +47,7 @@ pub fn load_deck<R: Source>(alloc: Global, source: &mut R) -> Result<Vec<[u16; C
 /// # Errors
 /// The file's first fault, in the order of `LoadFault`, and `PanelCount` if it ends with fewer than
 /// twelve words. It is never `NoMemory` or `TooManyWords`.
+#[tactic(auto, unfolding(crate::specs::Files::panel_of_file))]
 pub fn load_panel<R: Source>(source: &mut R) -> Result<[u16; PANEL_WORDS], LoadFault>
     // For every source: the bytes read are the file, or after a fault the part of it that was read.
     ensures file { (taken : List ℕ) × Consumes (R.rest source.old) (R.rest source.new) taken

@@ -41,6 +41,7 @@ fn read_line<S: Sheet>(sheet: &mut S, number: u32, line: &[u8]) -> Result<(), Lo
 }
 
 /// Processes one more byte of the file.
+#[tactic(auto, using(crate::proofs::Loads::bytes_read))]
 fn feed_byte<S: Sheet>(progress: &mut Progress, sheet: &mut S, byte: u8) -> Result<(), LoadFault>
     ensures has_read { (bytes more : List ℕ) → HasRead progress.old S.rule (S.holds sheet.old) bytes →
         MatchResult result
@@ -79,6 +80,7 @@ fn feed<S: Sheet>(progress: &mut Progress, sheet: &mut S, piece: &[u8]) -> Resul
 }
 
 /// Reads the last line, if no line feed ended it.
+#[tactic(auto, using(crate::proofs::Loads::bytes_read))]
 fn finish<S: Sheet>(progress: &Progress, sheet: &mut S) -> Result<(), LoadFault>
     ensures read { (bytes : List ℕ) → HasRead progress.now S.rule (S.holds sheet.old) bytes →
         MatchResult result

@@ -1,17 +1,9 @@
-use Rattle.std.proofs.Common.{◌≡◌, ◌<◌, arith, refl}
+use Rattle.std.proofs.Common.{◌≡◌, ◌<◌, arith}
 use Rattle.std.proofs.lemmas.Bool.Decides.{nat_tests}
 use Rattle.std.proofs.lemmas.Result.{err_from_is_err_and}
 use Rattle.pp_files.specs.declared.progress.TheConstants.{FILE_LIMIT}
-use Rattle.pp_files.proofs.Loads.{HasRead-byte, HasRead-feed, HasRead-fault, HasRead-long}
+use Rattle.pp_files.proofs.Loads.{HasRead-fault}
 use Rattle.pp_files.proofs.loading.feed_byte.Goals as goal
-
-pub returns-then-progress-eq-FILE_LIMIT-clause-has_read : goal.returns-then-progress-eq-FILE_LIMIT-clause-has_read
-returns-then-progress-eq-FILE_LIMIT-clause-has_read g c = λ bytes more has_read.
-    HasRead-long c.args.progress.now g.S.Sheet.rule _ bytes more c.args.byte has_read c.if-progress-eq-FILE_LIMIT.true
-
-pub returns-then-byte-ne-LINE_FEED-clause-has_read : goal.returns-then-byte-ne-LINE_FEED-clause-has_read
-returns-then-byte-ne-LINE_FEED-clause-has_read g c = λ bytes more has_read.
-    HasRead-byte _ _ g.S.Sheet.rule _ bytes c.args.byte (grind (arith, nat_tests)) has_read (c.take_byte.ensures bytes has_read.keeps) refl refl
 
 pub returns-in_err-read_line-clause-has_read : goal.returns-in_err-read_line-clause-has_read
 returns-in_err-read_line-clause-has_read g c = λ bytes more has_read.
@@ -20,9 +12,3 @@ returns-in_err-read_line-clause-has_read g c = λ bytes more has_read.
     let room : c.args.progress.now.bytes < FILE_LIMIT = grind (arith, nat_tests, c.args.progress.now.bytes_within) in
     rw (p.1, p.2, feed) (HasRead-fault c.args.progress.now g.S.Sheet.rule (g.S.Sheet.holds c.args.sheet.now) _ bytes more has_read room
     (λ rows held. rw c.line.ensures at (c.in_err-read_line.ensures.row rows held)))
-
-pub returns-clause-has_read : goal.returns-clause-has_read
-returns-clause-has_read g c = λ bytes more has_read.
-    let feed : c.args.byte ≡ 10 = grind (arith, nat_tests) in
-    rw feed (HasRead-feed c.args.progress.now _ g.S.Sheet.rule (g.S.Sheet.holds c.args.sheet.now) (g.S.Sheet.holds c.read_line.new.sheet) bytes has_read (c.end_line.ensures.front bytes) refl refl
-    (λ rows held. rw c.line.ensures at (c.in_ok-read_line.ensures.row rows held)))

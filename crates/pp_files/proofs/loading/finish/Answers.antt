@@ -1,12 +1,7 @@
 use Rattle.std.proofs.Common.{length, arith, ap}
 use Rattle.std.proofs.lemmas.Bool.Decides.{nat_tests}
-use Rattle.pp_files.proofs.Loads.{file-whole, file-last}
+use Rattle.pp_files.proofs.Loads.{file-last}
 use Rattle.pp_files.proofs.loading.finish.Goals as goal
-
-pub returns-then-is_empty-clause-read : goal.returns-then-is_empty-clause-read
-returns-then-is_empty-clause-read g c = λ bytes has_read.
-    let same = ap length c.line-line.ensures in
-    file-whole c.args.progress.now g.S.Sheet.rule _ bytes has_read (grind (arith, nat_tests))
 
 pub returns-clause-read : goal.returns-clause-read
 returns-clause-read g c = λ bytes has_read.

@@ -1,49 +1,16 @@
-use Rattle.std.proofs.lemmas.Result.{err_from_is_err_and}
-use Rattle.std.proofs.Common.{inl, refl, sym, None, Some, append-nil}
-use Rattle.std.specs.String.{string_bytes}
-use Rattle.pp_files.specs.Files.{panel_rule, panel_of_file}
+use Rattle.std.proofs.Common.{arith, Some}
+use Rattle.std.proofs.lemmas.Grind.{common_steps}
 use Rattle.pp_lines.specs.Device.{all_bytes}
-use Rattle.pp_trouble.specs.declared.trouble.FileKind.TheVariants.{Panel}
-use Rattle.pp_host.specs.Loading.{panel_at}
-use Rattle.pp_host.proofs.Found.{content-read, given-all, load-broken, loaded, log-closed, unopened}
 use Rattle.pp_host.proofs.loading.panel.Goals as goal
-
-pub returns-in_err-file-clause-panel : goal.returns-in_err-file-clause-panel
-returns-in_err-file-clause-panel g c =
-    let p = err_from_is_err_and c.from_residual.result c.from_residual.ensures.1 in
-    let path = string_bytes c.in-Some.path in
-    let found = unopened Panel _ (g.H.Host.known_files c.args.host.now path) (panel_at (Some path)) refl (rw c.as_str.ensures.value at c.in_err-file.ensures.content) in
-    rw (p.1, p.2) (rw c.in-Some.is (None, None, rw c.as_str.ensures.value at c.in_err-file.ensures.log, found.0, inl found.1))
-
-pub returns-in_default-clause-panel : goal.returns-in_default-clause-panel
-returns-in_default-clause-panel g c = rw c.in_default.is (None, None, sym (append-nil (g.H.Host.log c.args.host.now)), tt, refl)
 
 pub returns-in-Ok-clause-panel : goal.returns-in-Ok-clause-panel
 returns-in-Ok-clause-panel g c =
-    let path = string_bytes c.in-Some.path in
-    let rest = g.H.File.Source.rest c.in_ok-file.file in
-    let left = g.H.File.Source.rest c.load_panel-read.new.source in
     let file = c.in-Ok.ensures.file in
-    let given = given-all (g.H.File.Source.given c.in_ok-file.file) (g.H.File.Source.given c.load_panel-read.new.source) file.0 c.in_ok-file.ensures.unread.0 file.2 in
-    rw c.in-Some.is (
-      Some file.0,
-      Some (all_bytes rest file.0),
-      log-closed (g.H.Host.log c.args.host.now) (g.H.Host.log c.open.new.host) (g.H.Host.log c.close.new.self) Panel path file.0 (rw c.as_str.ensures.value at c.in_ok-file.ensures.log) (rw given at c.close.ensures.log),
-      content-read (g.H.Host.known_files c.args.host.now path) rest left file.0 (rw c.as_str.ensures.value at c.in_ok-file.ensures.content) file.1,
-      loaded Panel Some panel_of_file rest left file.0 c.in-Ok.panel file.1 c.in-Ok.ensures.all file.3,
-    )
+    let all = all_bytes (g.H.File.Source.rest c.in_ok-file.file) file.0 in
+    (Some file.0, Some all, grind (arith, common_steps), grind (arith, common_steps), grind (arith, common_steps))
 
 pub returns-in-Err-clause-panel : goal.returns-in-Err-clause-panel
 returns-in-Err-clause-panel g c =
-    let path = string_bytes c.in-Some.path in
-    let rest = g.H.File.Source.rest c.in_ok-file.file in
-    let left = g.H.File.Source.rest c.load_panel-read.new.source in
     let file = c.in-Err.ensures.file in
-    let given = given-all (g.H.File.Source.given c.in_ok-file.file) (g.H.File.Source.given c.load_panel-read.new.source) file.0 c.in_ok-file.ensures.unread.0 file.2 in
-    rw (c.in-Some.is, c.load.ensures) (
-      Some file.0,
-      Some (all_bytes rest file.0),
-      log-closed (g.H.Host.log c.args.host.now) (g.H.Host.log c.open.new.host) (g.H.Host.log c.close.new.self) Panel path file.0 (rw c.as_str.ensures.value at c.in_ok-file.ensures.log) (rw given at c.close.ensures.log),
-      content-read (g.H.Host.known_files c.args.host.now path) rest left file.0 (rw c.as_str.ensures.value at c.in_ok-file.ensures.content) file.1,
-      load-broken Panel Some panel_rule panel_of_file file.0 (all_bytes rest file.0) c.in-Err.fault c.in-Err.ensures.no_memory file.3,
-    )
+    let all = all_bytes (g.H.File.Source.rest c.in_ok-file.file) file.0 in
+    (Some file.0, Some all, grind (arith, common_steps), grind (arith, common_steps), grind (arith, common_steps))
