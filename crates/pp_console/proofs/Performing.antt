@@ -2,19 +2,17 @@
 use Rattle.std.proofs.Common.{◌≡◌, ℕ, ◌<◌, ◌≤◌, length, List, [], ◌∷◌, refl, arith, Bool, true, false, ap, sym, ◌∙◌, Some, None, Result, IfOk, not, map}
 use Rattle.std.proofs.lemmas.Bool.Decides.{nat_tests}
 use Rattle.std.proofs.lemmas.Result.{IfOk-weaker}
-use Rattle.pp_history.specs.SessionValue.{IsAt, after_back, after_forward}
+use Rattle.pp_console.proofs.Prelude.{IsAt, rules, Writes, Ghosts, State, Value, Performs}
+use Rattle.pp_history.specs.SessionValue.{after_back, after_forward}
 use Rattle.pp_history.specs.Change.{change}
 use Rattle.pp_machine.specs.Machine.{Machine}
 use Rattle.pp_machine.specs.declared.place.Place.{Place}
-use Rattle.pp_rig.specs.Rules.{rules}
 use Rattle.pp_actions.specs.Watches.{watched_place, watches_of}
 use Rattle.pp_console.specs.Dumps.{central_text}
 use Rattle.pp_console.specs.Moves.{back_name, forward_name}
 use Rattle.pp_console.specs.Refusals.{range_text, no_change_text, nothing_watched_text}
 use Rattle.pp_lines.specs.Device.{Counts}
-use Rattle.pp_lines.specs.Output.{Writes}
-use Rattle.pp_lines.specs.declared.device.Sink.{Ghosts}
-use Rattle.pp_console.specs.Commands.{State, Value, Answer, Performs, present, answered, rejected, moved, back_answer, forward_answer, central_answer, change_answer}
+use Rattle.pp_console.specs.Commands.{Answer, present, answered, rejected, moved, back_answer, forward_answer, central_answer, change_answer}
 
 module _ {W E : Type 0} (sink : Ghosts W) (old new : State) (before after : W) (result : Result Bool E) (answer_of : Value → Answer) (written : List ℕ) (writes : Writes (sink.text before) (sink.text after) result written) (counts : Counts (sink.failure_count before) (sink.failure_count after) result) where
   -- the answer to a command that was performed

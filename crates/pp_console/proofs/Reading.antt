@@ -1,16 +1,23 @@
--- The progress of a script after more bytes.
+-- The progress of a script: at its start, and after more bytes.
 use Rattle.std.proofs.Common.{◌≡◌, ◌∙◌, ℕ, ◌+◌, ◌-◌, ◌<◌, List, [], ◌∷◌, ◌++◌, length, ap, arith, length-append}
-use Rattle.pp_lines.specs.Output.{Written}
-use Rattle.pp_lines.specs.Lines.{finished, unfinished, finished_within, IsWithin, IsPrefixOf}
+use Rattle.std.proofs.lemmas.Grind.{common_steps}
+use Rattle.pp_console.proofs.Prelude.{IsAt, rules, Written, finished, unfinished, finished_within, IsWithin, IsPrefixOf, Progress, KEPT, LINE_LIMIT, BYTE_LIMIT, State, Value, run, Origin, Performed, origin_of, HasRead}
+use Rattle.pp_lines.proofs.Writing.{Appends-nothing}
 use Rattle.pp_lines.proofs.LineCuts.{finished-feed}
 use Rattle.pp_lines.proofs.OpenTexts.{finished-text}
-use Rattle.pp_lines.proofs.Limits.{last_line-one, kept-begun, lines-count, finished_within-whole}
-use Rattle.pp_console.specs.declared.progress.Progress.{Progress}
-use Rattle.pp_console.specs.declared.progress.TheConstants.{KEPT, LINE_LIMIT, BYTE_LIMIT}
-use Rattle.pp_console.specs.Commands.{State}
-use Rattle.pp_console.specs.Script.{run}
-use Rattle.pp_console.specs.Serving.{Origin, Performed}
-use Rattle.pp_console.specs.ServingSteps.{HasRead}
+use Rattle.pp_lines.proofs.Limits.{last_line-one, kept-begun, lines-count, finished_within-whole, finished_within-all}
+
+-- before the first byte
+pub HasRead-new : (progress : Progress) (session : State) (text : Written) (start : Value) → IsAt rules session start →
+    progress.line ≡ [] → progress.bytes ≡ 0 → progress.lines ≡ 0 → progress.refused ≡ 0 → HasRead progress session text (origin_of start text) []
+unfolding run
+HasRead-new progress session text start at empty no_bytes no_lines no_refused = record {
+  keeps = rw empty (grind (arith, common_steps));
+  counts_bytes = no_bytes;
+  counts_lines = no_lines;
+  counts_refused = no_refused;
+  performed = record { leaves = at; writes = Appends-nothing text };
+}
 
 -- a line feed within the limits
 fed-within : (line_limit byte_limit : ℕ) (bytes : List ℕ) → length bytes < byte_limit → length (finished bytes) < line_limit →
@@ -25,6 +32,12 @@ HasRead-within progress session text origin bytes has_read = record {
   lines_within = rw (lines-count bytes) (grind (arith, kept-begun KEPT (unfinished bytes) (omega arith), ap length has_read.keeps, last_line-one (unfinished bytes), progress.line_within, progress.lines_within, has_read.counts_lines));
   bytes_within = rw (← has_read.counts_bytes) progress.bytes_within;
 }
+
+-- all finished lines are within the limits
+pub Performed-within : (progress : Progress) (session : State) (text : Written) (origin : Origin) (bytes : List ℕ) →
+    HasRead progress session text origin bytes → Performed session text origin (finished_within LINE_LIMIT BYTE_LIMIT bytes)
+Performed-within progress session text origin bytes has_read =
+    rw (finished_within-all LINE_LIMIT BYTE_LIMIT bytes (HasRead-within progress session text origin bytes has_read)) has_read.performed
 
 -- bytes and a line feed finish the line within the limits
 pub HasRead-finishes : (progress : Progress) (session : State) (written : Written) (origin : Origin) (bytes text : List ℕ) → finished text ≡ [] →

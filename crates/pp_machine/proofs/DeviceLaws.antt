@@ -3,14 +3,8 @@ use Rattle.std.specs.Cmp.Derive.{both_true}
 use Rattle.std.proofs.Common.{eq-eqb, ℕ, ◌≡◌, ◌≢◌, ◌<◌, ◌∙◌, Bool, true, false, if◌then◌else◌, ◌⊎◌, inl, inr, ap, refl, sym, List, get_or, length, set}
 use Rattle.std.specs.List.{AllPairs}
 use Rattle.std.proofs.lemmas.List.{get_or-set_same, set-set, set-get_or}
-use Rattle.pp_machine.specs.Attached.{IsAttached, of_device, with_channels}
-use Rattle.pp_machine.specs.Prelude.{Machine, over, old_values, number, put, Has, HasAll, same_place, ChannelNumbers, state_number, with_channel}
-use Rattle.pp_machine.specs.Device.{DeviceModel, IsWritten, DevicePlace, DeviceView, AtOwn, AtState, AtWord, device_place, device_view, number_at, device_old_values, over_device, place_at, put_at, replace, view_of, view_on, with_view}
-use Rattle.pp_machine.specs.WriteLaws.{AllPlaces-renamed, Commute, IsStore, old_values-renamed, over-renamed, places-old_values, undone-by-old-values}
-use Rattle.pp_machine.specs.Writes.{AllPlaces, Writes, places, renamed}
+use Rattle.pp_machine.proofs.Prelude.{IsAttached, of_device, with_channels, Machine, over, old_values, number, put, Has, HasAll, same_place, ChannelNumbers, state_number, with_channel, DeviceModel, IsWritten, DevicePlace, DeviceView, AtOwn, AtState, AtWord, device_place, device_view, number_at, device_old_values, over_device, place_at, put_at, replace, view_of, view_on, with_view, AllPlaces-renamed, Commute, IsStore, old_values-renamed, over-renamed, places-old_values, undone-by-old-values, AllPlaces, Writes, places, renamed, Place, ChannelMode, ChannelWord, Slot}
 use Rattle.pp_machine.specs.declared.channel.Channel.{Channel}
-use Rattle.pp_machine.specs.declared.place.Place.{Place}
-use Rattle.pp_machine.specs.declared.place.Place.TheVariants.{ChannelMode, ChannelWord, Slot}
 use Rattle.pp_machine.proofs.Once.{each-once, once}
 
 -- ---- single writes, and how the old values undo a step

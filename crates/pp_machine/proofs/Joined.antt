@@ -3,13 +3,7 @@ use Rattle.std.proofs.Common.{ℕ, ◌≡◌, ◌∙◌, [], ◌∷◌, ◌++◌
 use Rattle.pp_machine.proofs.DeviceLaws.{lifted-parts}
 use Rattle.pp_machine.proofs.DevicesLaws.{device-performed}
 use Rattle.pp_machine.proofs.Parts.{both-performed, led_back}
-use Rattle.pp_machine.specs.Attached.{with_channels}
-use Rattle.pp_machine.specs.ChannelNumbers.{inactive}
-use Rattle.pp_machine.specs.Device.{DeviceModel, IsWritten, device_old_values, device_pairs, device_place, device_step_writes, replace, view_of, view_on}
-use Rattle.pp_machine.specs.Devices.{AreJoined, AreStepped, DevicesModel, FitsOn, attached, on}
-use Rattle.pp_machine.specs.Parts.{AreIdle, ArePerformed}
-use Rattle.pp_machine.specs.Prelude.{Machine, over, put, renamed, over-append, ChannelNumbers}
-use Rattle.pp_machine.specs.declared.devices.OnRecords.{OnRecords}
+use Rattle.pp_machine.proofs.Prelude.{with_channels, inactive, DeviceModel, IsWritten, device_old_values, device_pairs, device_place, device_step_writes, replace, view_of, view_on, AreJoined, AreStepped, DevicesModel, FitsOn, attached, on, AreIdle, ArePerformed, Machine, over, put, renamed, over-append, ChannelNumbers, OnRecords}
 
 module _ {Numbers Own Record Others Records : Type 0} (d : DeviceModel Numbers Own Record) (o : DevicesModel Others Records) (joined : AreJoined d o) (m : Machine) (c : ℕ) where
   -- the machine with these devices and channels

@@ -1,7 +1,6 @@
 use Rattle.std.proofs.Common.{◌++◌, [], refl, arith, append-nil}
 use Rattle.std.proofs.lemmas.Bool.Decides.{nat_tests}
-use Rattle.pp_lines.specs.declared.fault.IoFault.TheVariants.{LineLimit}
-use Rattle.pp_console.specs.ServingSteps.{Interrupts}
+use Rattle.pp_console.proofs.Prelude.{LineLimit, Interrupts}
 use Rattle.pp_console.proofs.Reading.{HasRead-text}
 use Rattle.pp_console.proofs.Pieces.{Interrupts-lines, Interrupts-bytes}
 use Rattle.pp_console.proofs.serving.feed_text.Goals as goal
