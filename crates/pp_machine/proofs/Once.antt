@@ -20,6 +20,14 @@ module _ {P : Type 0} (same : P → P → Bool) where
   once [] = true
   once (pair ∷ rest) = is_none (lookup_by same rest pair.0) && once rest
 
+  -- no place occurs twice
+  pub record IsOnce (ws : Writes P) : Type 0 where
+    pub holds : once ws ≡ true
+
+  pub either : (b : Bool) (x y : Writes P) → IsOnce x → IsOnce y → IsOnce (if b then x else y)
+  either true x y h k = h
+  either false x y h k = k
+
   module _ (self : (x : P) → same x x ≡ true) where
     apart : (x : P) (ws : Writes P) → is_none (lookup_by same ws x) ≡ true → All (λ y. x ≢ y) (places ws)
     apart x [] h = All-nil (λ y. x ≢ y)
