@@ -8,7 +8,6 @@ use Rattle.pp_history.specs.Change.{change}
 use Rattle.pp_machine.specs.Machine.{Machine}
 use Rattle.pp_machine.specs.declared.place.Place.{Place}
 use Rattle.pp_actions.specs.Watches.{watched_place, watches_of}
-use Rattle.pp_console.specs.Dumps.{central_text}
 use Rattle.pp_console.specs.Moves.{back_name, forward_name}
 use Rattle.pp_console.specs.Refusals.{range_text, no_change_text, nothing_watched_text}
 use Rattle.pp_lines.specs.Device.{Counts}
@@ -73,14 +72,6 @@ pub change-none : (v : Value) (places : List Place) → places ≡ map watched_p
 unfolding change_answer
 change-none v [] same some found = absurd (omega arith)
 change-none v (place ∷ places) same some found = rw (← same, found) refl
-
--- the machine has the last of the words
-pub central-within : (first last : ℕ) (v : Value) (sized shown : Machine) → sized ≡ present v → shown ≡ present v → last < sized.setup.central_words →
-    central_answer first last v ≡ answered v (central_text shown first last)
-unfolding central_answer
-central-within first last v sized shown same also within =
-    let less = rw same at within in
-    rw also (grind (arith, nat_tests))
 
 -- the machine does not have the last of the words
 pub central-beyond : (first last : ℕ) (v : Value) (sized : Machine) → sized ≡ present v → sized.setup.central_words ≤ last → central_answer first last v ≡ rejected v range_text

@@ -1,7 +1,7 @@
 -- The progress of a script: at its start, and after more bytes.
-use Rattle.std.proofs.Common.{◌≡◌, ◌∙◌, ℕ, ◌+◌, ◌-◌, ◌<◌, List, [], ◌∷◌, ◌++◌, length, ap, arith, length-append}
+use Rattle.std.proofs.Common.{◌≡◌, ◌∙◌, ℕ, ◌+◌, ◌-◌, ◌<◌, List, [], ◌∷◌, ◌++◌, length, ap, arith, append_assoc, length-append}
 use Rattle.std.proofs.lemmas.Grind.{common_steps}
-use Rattle.pp_console.proofs.Prelude.{IsAt, rules, Written, finished, unfinished, finished_within, IsWithin, IsPrefixOf, Progress, KEPT, LINE_LIMIT, BYTE_LIMIT, State, Value, run, Origin, Performed, origin_of, HasRead}
+use Rattle.pp_console.proofs.Prelude.{IsAt, rules, Written, finished, unfinished, finished_within, IsWithin, Progress, KEPT, LINE_LIMIT, BYTE_LIMIT, State, Value, run, Origin, Performed, origin_of, HasRead}
 use Rattle.pp_lines.proofs.Writing.{Appends-nothing}
 use Rattle.pp_lines.proofs.LineCuts.{finished-feed}
 use Rattle.pp_lines.proofs.OpenTexts.{finished-text}
@@ -47,32 +47,8 @@ HasRead-finishes progress session written origin bytes text none has_read bytes_
     let same = finished-text bytes text none in
     rw same at (fed-within LINE_LIMIT BYTE_LIMIT (bytes ++ text) (simp length-append (omega (arith, has_read.counts_bytes, bytes_within))) (rw same (rw (← has_read.counts_lines) lines_within)))
 
--- bytes without a line feed
-pub HasRead-text : (old new : Progress) (session : State) (written : Written) (origin : Origin) (bytes text : List ℕ) → finished text ≡ [] →
-    HasRead old session written origin bytes →
-    IsPrefixOf KEPT new.line (bytes ++ text) → new.bytes ≡ old.bytes + length text → new.lines ≡ old.lines → new.refused ≡ old.refused →
-    HasRead new session written origin (bytes ++ text)
-HasRead-text old new session written origin bytes text h has_read kept more_bytes same_lines same_refused = record {
-  keeps = kept;
-  counts_bytes = more_bytes ∙ rw (length-append bytes text) (ap (λ n. n + length text) has_read.counts_bytes);
-  counts_lines = rw (finished-text bytes text h) (same_lines ∙ has_read.counts_lines);
-  counts_refused = rw (finished-text bytes text h) (same_refused ∙ has_read.counts_refused);
-  performed = rw (finished-text bytes text h) has_read.performed;
-}
+-- what reading bytes of a line needs
+pub ruleset texts_read = (append_assoc, length-append, finished-text)
 
--- bytes without a line feed, and then a line feed
-pub HasRead-line : (old new : Progress) (session session' : State) (written written' : Written) (origin : Origin) (bytes text : List ℕ) → finished text ≡ [] →
-    HasRead old session written origin bytes →
-    IsPrefixOf KEPT new.line ((bytes ++ text) ++ 10 ∷ []) → new.bytes ≡ old.bytes + (length text + 1) → new.lines ≡ old.lines + 1 →
-    new.refused ≡ (run origin.start (finished bytes ++ unfinished (bytes ++ text) ∷ [])).refused →
-    Performed session' written' origin (finished bytes ++ unfinished (bytes ++ text) ∷ []) →
-    HasRead new session' written' origin ((bytes ++ text) ++ 10 ∷ [])
-HasRead-line old new session session' written written' origin bytes text none has_read kept more_bytes more_lines refused performed =
-    let all : finished ((bytes ++ text) ++ 10 ∷ []) ≡ finished bytes ++ unfinished (bytes ++ text) ∷ [] = rw (finished-feed (bytes ++ text), finished-text bytes text none) in
-    record {
-      keeps = kept;
-      counts_bytes = simp length-append (omega (arith, more_bytes, has_read.counts_bytes));
-      counts_lines = rw (all, length-append (finished bytes) (unfinished (bytes ++ text) ∷ [])) (more_lines ∙ ap (λ n. n + 1) has_read.counts_lines);
-      counts_refused = rw all refused;
-      performed = rw all performed;
-    }
+-- what reading a line with its line feed needs
+pub ruleset lines_read = (length-append, finished-text, finished-feed)

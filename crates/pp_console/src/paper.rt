@@ -44,6 +44,7 @@ fn characters(symbols: &[u8]) -> ArrayVec<u8, PIECE>
 }
 
 /// Writes the characters of the symbols, a piece at a time.
+#[tactic(auto, using(crate::proofs::PaperCuts::characters_cuts))]
 fn put_characters<W: Sink>(symbols: &[u8], out: &mut W) -> Result<(), Failed>
     ensures text { Writes (W.text out.old) (W.text out.new) result (map character symbols.now) }
     ensures counts { Counts (W.failure_count out.old) (W.failure_count out.new) result }
@@ -58,6 +59,7 @@ fn put_characters<W: Sink>(symbols: &[u8], out: &mut W) -> Result<(), Failed>
 }
 
 /// Writes a line of the paper after a mark.
+#[tactic(auto, using(crate::proofs::Shown::pieces))]
 fn put_line<W: Sink>(mark: &[u8], symbols: &[u8], out: &mut W) -> Result<(), Failed>
     ensures text { Writes (W.text out.old) (W.text out.new) result
         (marked mark.now (map character symbols.now)) }
@@ -102,6 +104,7 @@ fn put_rest<W: Sink>(symbols: &[u8], out: &mut W) -> Result<(), Failed>
 }
 
 /// Writes the paper: each line after a bar, and the symbols after the last line end after a slash.
+#[tactic(auto, using(crate::proofs::Shown::pieces))]
 fn put_paper<W: Sink>(symbols: &[u8], out: &mut W) -> Result<(), Failed>
     ensures text { Writes (W.text out.old) (W.text out.new) result (paper_text symbols.now) }
     ensures counts { Counts (W.failure_count out.old) (W.failure_count out.new) result }

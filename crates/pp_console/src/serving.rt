@@ -44,6 +44,7 @@ fn answer_kept_line<W: Sink>(
 }
 
 /// Performs the unfinished line, which ends with this text, and begins the next.
+#[tactic(auto, using(crate::proofs::Following::lines_followed))]
 fn end_line<W: Sink>(
     progress: &mut Progress,
     text: &[u8],
@@ -76,6 +77,7 @@ fn end_line<W: Sink>(
 }
 
 /// Processes bytes of a line.
+#[tactic(auto, using(crate::proofs::Reading::texts_read))]
 fn feed_text(progress: &mut Progress, text: &[u8]) -> Result<(), IoFault>
     requires { finished text.now ≡ [] }
     ensures has_read { (session : State) (written : Written) (origin : Origin) (bytes : List ℕ) →
@@ -99,6 +101,7 @@ fn feed_text(progress: &mut Progress, text: &[u8]) -> Result<(), IoFault>
 }
 
 /// Processes bytes of a line, and the line feed after them.
+#[tactic(auto, using(crate::proofs::Reading::lines_read))]
 fn feed_line<W: Sink>(
     progress: &mut Progress,
     text: &[u8],
