@@ -104,7 +104,6 @@ fn put_rest<W: Sink>(symbols: &[u8], out: &mut W) -> Result<(), Failed>
 }
 
 /// Writes the paper: each line after a bar, and the symbols after the last line end after a slash.
-#[tactic(auto, using(crate::proofs::Shown::pieces))]
 fn put_paper<W: Sink>(symbols: &[u8], out: &mut W) -> Result<(), Failed>
     ensures text { Writes (W.text out.old) (W.text out.new) result (paper_text symbols.now) }
     ensures counts { Counts (W.failure_count out.old) (W.failure_count out.new) result }
