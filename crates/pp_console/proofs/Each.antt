@@ -1,5 +1,5 @@
 -- Lines for the numbers of a range, one after another.
-use Rattle.std.proofs.Common.{add-one, ◌≡◌, ◌∙◌, ℕ, zero, suc, ◌+◌, ◌-◌, ◌<◌, List, [], ◌++◌, refl, sym, ap, arith, append_assoc, length-append, add-zero, append-nil, codes}
+use Rattle.std.proofs.Common.{add-one, ◌≡◌, ◌∙◌, ℕ, zero, suc, ◌+◌, ◌-◌, ◌<◌, ◌≤◌, List, [], ◌++◌, refl, sym, ap, arith, append_assoc, add-zero, append-nil, codes}
 use Rattle.std.proofs.lemmas.Grind.{common_steps}
 use Rattle.pp_machine.specs.Prelude.{Machine, number}
 use Rattle.pp_machine.specs.declared.place.Place.TheVariants.{Cell}
@@ -33,8 +33,10 @@ pub each-first : (line : ℕ → List ℕ) (first end : ℕ) → first < end →
 each-first line first end more =
     let left : end - first ≡ suc (end - (first + 1)) = omega arith in rw left refl
 
--- what writing line after line needs
-pub ruleset each_lines = (append_assoc, length-append, each-first)
+-- no line after the last
+pub each-none : (line : ℕ → List ℕ) (first end : ℕ) → end ≤ first → each line first (end - first) ≡ []
+each-none line first end none =
+    let left : end - first ≡ 0 = omega arith in rw left refl
 
 -- what appending cells needs
 pub ruleset cells = (common_steps, cell_next)

@@ -1,5 +1,5 @@
 -- The lines of the paper, one after another.
-use Rattle.std.proofs.Common.{◌≡◌, ◌∙◌, ℕ, ◌-◌, List, [], ◌∷◌, ◌++◌, length, take, drop, refl, sym, ap, append_assoc, length-append, None, Some, ◌==◌, map, position, codes}
+use Rattle.std.proofs.Common.{◌≡◌, ◌∙◌, ℕ, ◌-◌, List, [], ◌∷◌, ◌++◌, length, take, drop, refl, sym, ap, append_assoc, None, Some, ◌==◌, map, position, codes}
 use Rattle.std.specs.List.{position_or_len, flat_map}
 use Rattle.std.proofs.lemmas.List.{drop-map, length-map, map-append, take-append-drop, take-map}
 use Rattle.pp_lines.proofs.OpenTexts.{open-first, feed-cut, feed-none, feed-open, unfinished-text}
@@ -53,9 +53,8 @@ paper-uncut symbols e =
 -- what a cut at the first line end needs
 pub ruleset paper_cuts = (paper-cut, paper-uncut)
 
--- The characters of a piece, and those after it. The first part says nothing: it shows `grind` the call to match.
-pub characters_cut : (n : ℕ) (symbols : List ℕ) → (take n symbols ≡ take n symbols) × (map character symbols ≡ map character (take n symbols) ++ map character (drop n symbols))
-characters_cut n symbols = (refl, ap (map character) (sym (take-append-drop n symbols)) ∙ map-append character (take n symbols) (drop n symbols))
-
--- what writing a paper piece by piece needs
-pub ruleset characters_cuts = (append_assoc, length-append, characters_cut)
+-- the characters of a piece, and those after it
+pub characters-piece : (symbols : List ℕ) (n : ℕ) (piece later text : List ℕ) → piece ≡ take n symbols → later ≡ drop n symbols → text ≡ map character piece →
+    map character symbols ≡ text ++ map character later
+characters-piece symbols n piece later text front back e =
+    rw (e, front, back) (ap (map character) (sym (take-append-drop n symbols)) ∙ map-append character (take n symbols) (drop n symbols))

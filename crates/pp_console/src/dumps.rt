@@ -58,7 +58,7 @@ fn row_count(first: u16, last: u16) -> u16
 ///
 /// # Errors
 /// `Failed` if a call of the sink fails.
-#[tactic(auto, unfolding(crate::specs::Dumps::cells_text), using(crate::proofs::Each::each_lines))]
+#[tactic(auto, unfolding(crate::specs::Dumps::cells_text))]
 pub fn put_cells<W: Sink>(
     machine: &Rig,
     pp: u8,
@@ -184,7 +184,7 @@ fn word_line(machine: &Rig, a: u32) -> ArrayVec<u8, 30>
 ///
 /// # Errors
 /// `Failed` if a call of the sink fails.
-#[tactic(auto, unfolding(crate::specs::Dumps::central_text), using(crate::proofs::Each::each_lines))]
+#[tactic(auto, unfolding(crate::specs::Dumps::central_text))]
 pub fn put_central<W: Sink>(machine: &Rig, first: u32, last: u32, out: &mut W) -> Result<(), Failed>
     requires in_order { first ≤ last }
     requires within { last < machine.now.setup.central_words }

@@ -44,7 +44,6 @@ fn characters(symbols: &[u8]) -> ArrayVec<u8, PIECE>
 }
 
 /// Writes the characters of the symbols, a piece at a time.
-#[tactic(auto, using(crate::proofs::PaperCuts::characters_cuts))]
 fn put_characters<W: Sink>(symbols: &[u8], out: &mut W) -> Result<(), Failed>
     ensures text { Writes (W.text out.old) (W.text out.new) result (map character symbols.now) }
     ensures counts { Counts (W.failure_count out.old) (W.failure_count out.new) result }
@@ -59,7 +58,6 @@ fn put_characters<W: Sink>(symbols: &[u8], out: &mut W) -> Result<(), Failed>
 }
 
 /// Writes a line of the paper after a mark.
-#[tactic(auto, using(crate::proofs::Shown::pieces))]
 fn put_line<W: Sink>(mark: &[u8], symbols: &[u8], out: &mut W) -> Result<(), Failed>
     ensures text { Writes (W.text out.old) (W.text out.new) result
         (marked mark.now (map character symbols.now)) }

@@ -44,7 +44,6 @@ fn answer_kept_line<W: Sink>(
 }
 
 /// Performs the unfinished line, which ends with this text, and begins the next.
-#[tactic(auto, using(crate::proofs::Following::lines_followed))]
 fn end_line<W: Sink>(
     progress: &mut Progress,
     text: &[u8],
