@@ -2,7 +2,7 @@
 pub use Rattle.std.proofs.lemmas.Result.{err_from_is_err_and}
 pub use Rattle.pp_history.specs.SessionValue.{IsAt}
 pub use Rattle.pp_rig.specs.Rules.{rules}
-pub use Rattle.pp_lines.specs.Lines.{lines, finished, unfinished, finished_within, last_line, IsWithin, IsPrefixOf}
+pub use Rattle.pp_lines.specs.Lines.{lines, finished, unfinished, finished_within, IsWithin, IsPrefixOf}
 pub use Rattle.pp_lines.specs.Output.{Appends, Writes, Written}
 pub use Rattle.pp_lines.proofs.Writing.{Appends-again, Remains, Remains-fails, Remains-next, Remains-none, front_after, front_longer}
 pub use Rattle.pp_lines.specs.declared.device.Sink.{Ghosts}
