@@ -1,6 +1,10 @@
 -- Lines for the numbers of a range, one after another.
-use Rattle.std.proofs.Common.{add-one, ◌≡◌, ◌∙◌, ℕ, zero, suc, ◌+◌, ◌-◌, ◌<◌, ◌≤◌, List, [], ◌++◌, refl, sym, ap, arith, append_assoc, add-zero, append-nil}
-use Rattle.pp_console.specs.Dumps.{each}
+use Rattle.std.proofs.Common.{add-one, ◌≡◌, ◌∙◌, ℕ, zero, suc, ◌+◌, ◌-◌, ◌<◌, ◌≤◌, List, [], ◌++◌, refl, sym, ap, arith, append_assoc, add-zero, append-nil, codes}
+use Rattle.std.proofs.lemmas.Grind.{common_steps}
+use Rattle.pp_machine.specs.Prelude.{Machine, number}
+use Rattle.pp_machine.specs.declared.place.Place.TheVariants.{Cell}
+use Rattle.pp_console.specs.Dumps.{each, cell_text}
+use Rattle.pp_console.specs.Text.{field}
 
 -- a range that is longer by one
 each-more : (line : ℕ → List ℕ) (first count : ℕ) → each line first (suc count) ≡ each line first count ++ line (first + count)
@@ -12,6 +16,11 @@ each-more line first (suc count) =
 -- one more line, after others
 pub each_next : (line : ℕ → List ℕ) (first count : ℕ) → each line first (count + 1) ≡ each line first count ++ line (first + count)
 each_next line first count = rw (add-one, each-more line first count)
+
+-- one more cell
+pub cell_next : (s : Machine) (n first count : ℕ) → each (cell_text s n) first (count + 1) ≡ each (cell_text s n) first count ++ field (codes " ") 4 (number s (Cell n (first + count)))
+unfolding cell_text
+cell_next s n first count = each_next (cell_text s n) first count
 
 -- one more line, in a range that starts at zero
 pub each_push : (line : ℕ → List ℕ) (count : ℕ) → each line 0 (count + 1) ≡ each line 0 count ++ line count
@@ -28,3 +37,6 @@ each-first line first end more =
 pub each-none : (line : ℕ → List ℕ) (first end : ℕ) → end ≤ first → each line first (end - first) ≡ []
 each-none line first end none =
     let left : end - first ≡ 0 = omega arith in rw left refl
+
+-- what appending cells needs
+pub ruleset cells = (common_steps, cell_next)

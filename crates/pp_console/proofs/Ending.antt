@@ -1,18 +1,9 @@
 -- The result of a script, at its end or at a fault.
 use Rattle.std.proofs.Common.{◌≡◌, ◌∙◌, ℕ, ◌+◌, ◌<◌, ◌⊎◌, List, [], ◌∷◌, ◌++◌, length, refl, ap, arith, inl, length-append, append_assoc, Option, Result, Ok, Err, MatchResult}
 use Rattle.std.specs.Io.KnownBytes.{IsAtEnd}
-use Rattle.pp_lines.specs.Output.{Written}
-use Rattle.pp_lines.specs.declared.fault.IoFault.{IoFault}
-use Rattle.pp_lines.specs.declared.fault.IoFault.TheVariants.{ReadFailed, WriteFailed, LineLimit}
-use Rattle.pp_lines.specs.Lines.{lines, finished, unfinished, finished_within, IsWithin}
+use Rattle.pp_console.proofs.Prelude.{Written, IoFault, ReadFailed, WriteFailed, LineLimit, lines, finished, unfinished, finished_within, IsWithin, Progress, KEPT, LINE_LIMIT, BYTE_LIMIT, State, run, Origin, Performed, Serves, Stops, HasRead, Interrupts}
 use Rattle.pp_lines.proofs.Limits.{lines-whole, lines-last, finished_within-kept, finished_within-more, passed}
-use Rattle.pp_console.specs.declared.progress.Progress.{Progress}
 use Rattle.pp_console.specs.declared.progress.Summary.{Summary}
-use Rattle.pp_console.specs.declared.progress.TheConstants.{KEPT, LINE_LIMIT, BYTE_LIMIT}
-use Rattle.pp_console.specs.Commands.{State}
-use Rattle.pp_console.specs.Script.{run}
-use Rattle.pp_console.specs.Serving.{Origin, Performed, Serves, Stops}
-use Rattle.pp_console.specs.ServingSteps.{HasRead, Interrupts}
 use Rattle.pp_console.proofs.Reading.{HasRead-within}
 
 -- a fault among some bytes is a fault among these bytes and more

@@ -1,20 +1,27 @@
 -- One more line of a script.
-use Rattle.std.proofs.Common.{◌≡◌, ℕ, ◌+◌, List, [], ◌∷◌, ◌++◌, take, refl, ap, arith, append_assoc, Bool, Result, Ok, Err, MatchResult, not}
+use Rattle.std.proofs.Common.{◌≡◌, ℕ, ◌+◌, List, [], ◌∷◌, ◌++◌, take, refl, ap, arith, append_assoc, Bool, Result, Ok, Err, MatchResult, not, ◌<◌, length}
 use Rattle.std.proofs.lemmas.List.Sums.{fold-append}
-use Rattle.pp_console.specs.declared.progress.TheConstants.{KEPT}
-use Rattle.pp_lines.specs.declared.device.Sink.{Ghosts}
-use Rattle.pp_console.specs.Commands.{State, Value, Performs}
-use Rattle.pp_console.specs.Script.{answer_line, answer_parsed, begin, follow, refusals, run}
-use Rattle.pp_history.specs.SessionValue.{IsAt}
-use Rattle.pp_rig.specs.Rules.{rules}
-use Rattle.pp_console.specs.Serving.{Origin, Performed, Breaks}
-use Rattle.pp_console.proofs.LongLines.{command-kept}
+use Rattle.pp_console.proofs.Prelude.{KEPT, Ghosts, State, Value, Performs, answer_line, run, IsAt, rules, Origin, Performed, Breaks}
+use Rattle.pp_console.specs.Script.{answer_parsed, begin, follow, refusals}
 use Rattle.pp_lines.proofs.Writing.{Appends-again}
+use Rattle.std.proofs.lemmas.Bool.Decides.{nat_tests}
+use Rattle.pp_lines.proofs.LongLines.{read-kept}
+use Rattle.pp_command.specs.declared.fault.LineFault.TheVariants.{TooLong}
+use Rattle.pp_command.specs.CommandLine.{command, command_of_text}
 
 -- one more line is one more step
 pub run-line : (start : Value) (done : List (List ℕ)) (line : List ℕ) → run start (done ++ line ∷ []) ≡ follow (run start done) line
 unfolding run
 run-line start done line = fold-append follow (begin start) done (line ∷ [])
+
+-- a line that is too long is as good as its kept prefix
+too_long : (text : List ℕ) → 255 < length text → command_of_text text ≡ Err TooLong
+unfolding command_of_text
+too_long text h = grind (arith, nat_tests)
+
+-- a prefix of more than 256 bytes parses as the line does
+pub command-kept : (most : ℕ) (line : List ℕ) → 256 < most → command (take most line) ≡ command line
+command-kept most line long = read-kept command_of_text (Err TooLong) 255 most line too_long long
 
 -- the kept prefix of a line has the same answer as the line
 pub answer_line-kept : (value : Value) (line : List ℕ) → answer_line value (take KEPT line) ≡ answer_line value line

@@ -1,10 +1,9 @@
-pub mod Beginning
 pub mod Each
 pub mod Ending
 pub mod Following
-pub mod LongLines
 pub mod PaperCuts
 pub mod Performing
 pub mod Pieces
+pub mod Prelude
 pub mod Reading
 pub mod Shown

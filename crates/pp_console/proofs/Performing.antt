@@ -2,19 +2,16 @@
 use Rattle.std.proofs.Common.{◌≡◌, ℕ, ◌<◌, ◌≤◌, length, List, [], ◌∷◌, refl, arith, Bool, true, false, ap, sym, ◌∙◌, Some, None, Result, IfOk, not, map}
 use Rattle.std.proofs.lemmas.Bool.Decides.{nat_tests}
 use Rattle.std.proofs.lemmas.Result.{IfOk-weaker}
-use Rattle.pp_history.specs.SessionValue.{IsAt, after_back, after_forward}
+use Rattle.pp_console.proofs.Prelude.{IsAt, rules, Writes, Ghosts, State, Value, Performs}
+use Rattle.pp_history.specs.SessionValue.{after_back, after_forward}
 use Rattle.pp_history.specs.Change.{change}
 use Rattle.pp_machine.specs.Machine.{Machine}
 use Rattle.pp_machine.specs.declared.place.Place.{Place}
-use Rattle.pp_rig.specs.Rules.{rules}
 use Rattle.pp_actions.specs.Watches.{watched_place, watches_of}
-use Rattle.pp_console.specs.Dumps.{central_text}
 use Rattle.pp_console.specs.Moves.{back_name, forward_name}
 use Rattle.pp_console.specs.Refusals.{range_text, no_change_text, nothing_watched_text}
 use Rattle.pp_lines.specs.Device.{Counts}
-use Rattle.pp_lines.specs.Output.{Writes}
-use Rattle.pp_lines.specs.declared.device.Sink.{Ghosts}
-use Rattle.pp_console.specs.Commands.{State, Value, Answer, Performs, present, answered, rejected, moved, back_answer, forward_answer, central_answer, change_answer}
+use Rattle.pp_console.specs.Commands.{Answer, present, answered, rejected, moved, back_answer, forward_answer, central_answer, change_answer}
 
 module _ {W E : Type 0} (sink : Ghosts W) (old new : State) (before after : W) (result : Result Bool E) (answer_of : Value → Answer) (written : List ℕ) (writes : Writes (sink.text before) (sink.text after) result written) (counts : Counts (sink.failure_count before) (sink.failure_count after) result) where
   -- the answer to a command that was performed
@@ -75,14 +72,6 @@ pub change-none : (v : Value) (places : List Place) → places ≡ map watched_p
 unfolding change_answer
 change-none v [] same some found = absurd (omega arith)
 change-none v (place ∷ places) same some found = rw (← same, found) refl
-
--- the machine has the last of the words
-pub central-within : (first last : ℕ) (v : Value) (sized shown : Machine) → sized ≡ present v → shown ≡ present v → last < sized.setup.central_words →
-    central_answer first last v ≡ answered v (central_text shown first last)
-unfolding central_answer
-central-within first last v sized shown same also within =
-    let less = rw same at within in
-    rw also (grind (arith, nat_tests))
 
 -- the machine does not have the last of the words
 pub central-beyond : (first last : ℕ) (v : Value) (sized : Machine) → sized ≡ present v → sized.setup.central_words ≤ last → central_answer first last v ≡ rejected v range_text

@@ -1,16 +1,8 @@
 -- Bytes that are read in pieces, up to the limits.
 use Rattle.std.proofs.Common.{◌≡◌, ◌∙◌, ℕ, ◌+◌, ◌-◌, ◌<◌, ◌≤◌, List, [], ◌∷◌, ◌++◌, length, take, drop, refl, sym, ap, arith, inl, inr, append_assoc, length-append, length-take, length-drop, take-append-drop}
-use Rattle.pp_lines.specs.Output.{Written}
-use Rattle.pp_lines.specs.declared.fault.IoFault.{IoFault}
-use Rattle.pp_lines.specs.declared.fault.IoFault.TheVariants.{LineLimit}
-use Rattle.pp_lines.specs.Lines.{finished, unfinished, IsWithin, IsPrefixOf}
+use Rattle.pp_console.proofs.Prelude.{Written, IoFault, LineLimit, finished, unfinished, IsWithin, IsPrefixOf, Progress, LINE_LIMIT, BYTE_LIMIT, State, Origin, HasRead, Interrupts}
 use Rattle.pp_lines.proofs.Limits.{last_line-one, lines-count}
 use Rattle.pp_lines.proofs.OpenTexts.{open-take, finished-text, unfinished-text}
-use Rattle.pp_console.specs.declared.progress.Progress.{Progress}
-use Rattle.pp_console.specs.declared.progress.TheConstants.{LINE_LIMIT, BYTE_LIMIT}
-use Rattle.pp_console.specs.Commands.{State}
-use Rattle.pp_console.specs.Serving.{Origin}
-use Rattle.pp_console.specs.ServingSteps.{HasRead, Interrupts}
 use Rattle.pp_console.proofs.Reading.{HasRead-within}
 use Rattle.pp_console.proofs.Ending.{Interrupts-more}
 

@@ -1,16 +1,23 @@
--- The progress of a script after more bytes.
-use Rattle.std.proofs.Common.{◌≡◌, ◌∙◌, ℕ, ◌+◌, ◌-◌, ◌<◌, List, [], ◌∷◌, ◌++◌, length, ap, arith, length-append}
-use Rattle.pp_lines.specs.Output.{Written}
-use Rattle.pp_lines.specs.Lines.{finished, unfinished, finished_within, IsWithin, IsPrefixOf}
+-- The progress of a script: at its start, and after more bytes.
+use Rattle.std.proofs.Common.{◌≡◌, ◌∙◌, ℕ, ◌+◌, ◌-◌, ◌<◌, List, [], ◌∷◌, ◌++◌, length, ap, arith, append_assoc, length-append}
+use Rattle.std.proofs.lemmas.Grind.{common_steps}
+use Rattle.pp_console.proofs.Prelude.{IsAt, rules, Written, finished, unfinished, finished_within, IsWithin, Progress, KEPT, LINE_LIMIT, BYTE_LIMIT, State, Value, run, Origin, Performed, origin_of, HasRead}
+use Rattle.pp_lines.proofs.Writing.{Appends-nothing}
 use Rattle.pp_lines.proofs.LineCuts.{finished-feed}
 use Rattle.pp_lines.proofs.OpenTexts.{finished-text}
-use Rattle.pp_lines.proofs.Limits.{last_line-one, kept-begun, lines-count, finished_within-whole}
-use Rattle.pp_console.specs.declared.progress.Progress.{Progress}
-use Rattle.pp_console.specs.declared.progress.TheConstants.{KEPT, LINE_LIMIT, BYTE_LIMIT}
-use Rattle.pp_console.specs.Commands.{State}
-use Rattle.pp_console.specs.Script.{run}
-use Rattle.pp_console.specs.Serving.{Origin, Performed}
-use Rattle.pp_console.specs.ServingSteps.{HasRead}
+use Rattle.pp_lines.proofs.Limits.{last_line-one, kept-begun, lines-count, finished_within-whole, finished_within-all}
+
+-- before the first byte
+pub HasRead-new : (progress : Progress) (session : State) (text : Written) (start : Value) → IsAt rules session start →
+    progress.line ≡ [] → progress.bytes ≡ 0 → progress.lines ≡ 0 → progress.refused ≡ 0 → HasRead progress session text (origin_of start text) []
+unfolding run
+HasRead-new progress session text start at empty no_bytes no_lines no_refused = record {
+  keeps = rw empty (grind (arith, common_steps));
+  counts_bytes = no_bytes;
+  counts_lines = no_lines;
+  counts_refused = no_refused;
+  performed = record { leaves = at; writes = Appends-nothing text };
+}
 
 -- a line feed within the limits
 fed-within : (line_limit byte_limit : ℕ) (bytes : List ℕ) → length bytes < byte_limit → length (finished bytes) < line_limit →
@@ -26,6 +33,12 @@ HasRead-within progress session text origin bytes has_read = record {
   bytes_within = rw (← has_read.counts_bytes) progress.bytes_within;
 }
 
+-- all finished lines are within the limits
+pub Performed-within : (progress : Progress) (session : State) (text : Written) (origin : Origin) (bytes : List ℕ) →
+    HasRead progress session text origin bytes → Performed session text origin (finished_within LINE_LIMIT BYTE_LIMIT bytes)
+Performed-within progress session text origin bytes has_read =
+    rw (finished_within-all LINE_LIMIT BYTE_LIMIT bytes (HasRead-within progress session text origin bytes has_read)) has_read.performed
+
 -- bytes and a line feed finish the line within the limits
 pub HasRead-finishes : (progress : Progress) (session : State) (written : Written) (origin : Origin) (bytes text : List ℕ) → finished text ≡ [] →
     HasRead progress session written origin bytes → length text < BYTE_LIMIT - progress.bytes → progress.lines < LINE_LIMIT →
@@ -34,32 +47,8 @@ HasRead-finishes progress session written origin bytes text none has_read bytes_
     let same = finished-text bytes text none in
     rw same at (fed-within LINE_LIMIT BYTE_LIMIT (bytes ++ text) (simp length-append (omega (arith, has_read.counts_bytes, bytes_within))) (rw same (rw (← has_read.counts_lines) lines_within)))
 
--- bytes without a line feed
-pub HasRead-text : (old new : Progress) (session : State) (written : Written) (origin : Origin) (bytes text : List ℕ) → finished text ≡ [] →
-    HasRead old session written origin bytes →
-    IsPrefixOf KEPT new.line (bytes ++ text) → new.bytes ≡ old.bytes + length text → new.lines ≡ old.lines → new.refused ≡ old.refused →
-    HasRead new session written origin (bytes ++ text)
-HasRead-text old new session written origin bytes text h has_read kept more_bytes same_lines same_refused = record {
-  keeps = kept;
-  counts_bytes = more_bytes ∙ rw (length-append bytes text) (ap (λ n. n + length text) has_read.counts_bytes);
-  counts_lines = rw (finished-text bytes text h) (same_lines ∙ has_read.counts_lines);
-  counts_refused = rw (finished-text bytes text h) (same_refused ∙ has_read.counts_refused);
-  performed = rw (finished-text bytes text h) has_read.performed;
-}
+-- what reading bytes of a line needs
+pub ruleset texts_read = (append_assoc, length-append, finished-text)
 
--- bytes without a line feed, and then a line feed
-pub HasRead-line : (old new : Progress) (session session' : State) (written written' : Written) (origin : Origin) (bytes text : List ℕ) → finished text ≡ [] →
-    HasRead old session written origin bytes →
-    IsPrefixOf KEPT new.line ((bytes ++ text) ++ 10 ∷ []) → new.bytes ≡ old.bytes + (length text + 1) → new.lines ≡ old.lines + 1 →
-    new.refused ≡ (run origin.start (finished bytes ++ unfinished (bytes ++ text) ∷ [])).refused →
-    Performed session' written' origin (finished bytes ++ unfinished (bytes ++ text) ∷ []) →
-    HasRead new session' written' origin ((bytes ++ text) ++ 10 ∷ [])
-HasRead-line old new session session' written written' origin bytes text none has_read kept more_bytes more_lines refused performed =
-    let all : finished ((bytes ++ text) ++ 10 ∷ []) ≡ finished bytes ++ unfinished (bytes ++ text) ∷ [] = rw (finished-feed (bytes ++ text), finished-text bytes text none) in
-    record {
-      keeps = kept;
-      counts_bytes = simp length-append (omega (arith, more_bytes, has_read.counts_bytes));
-      counts_lines = rw (all, length-append (finished bytes) (unfinished (bytes ++ text) ∷ [])) (more_lines ∙ ap (λ n. n + 1) has_read.counts_lines);
-      counts_refused = rw all refused;
-      performed = rw all performed;
-    }
+-- what reading a line with its line feed needs
+pub ruleset lines_read = (length-append, finished-text, finished-feed)

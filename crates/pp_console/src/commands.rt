@@ -138,6 +138,7 @@ fn dump_cells<W: Sink>(
 }
 
 /// Writes central words, if the machine has them.
+#[tactic(auto, unfolding(crate::specs::Commands::central_answer, crate::specs::Refusals::range_text))]
 #[inline(never)]
 fn dump_central<W: Sink>(
     session: &mut Session<Rig>,

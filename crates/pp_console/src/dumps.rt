@@ -13,6 +13,7 @@ use pp_machine::Place;
 use pp_rig::Rig;
 
 /// Appends `count` cells, from an address on.
+#[tactic(auto, using(crate::proofs::Each::cells))]
 fn push_cells(line: &mut ArrayVec<u8, 45>, machine: &Rig, pp: u8, from: u16, count: u16)
     requires pp { pp < 10 }
     requires within { from + count ≤ 4096 }
@@ -57,6 +58,7 @@ fn row_count(first: u16, last: u16) -> u16
 ///
 /// # Errors
 /// `Failed` if a call of the sink fails.
+#[tactic(auto, unfolding(crate::specs::Dumps::cells_text))]
 pub fn put_cells<W: Sink>(
     machine: &Rig,
     pp: u8,
@@ -182,6 +184,7 @@ fn word_line(machine: &Rig, a: u32) -> ArrayVec<u8, 30>
 ///
 /// # Errors
 /// `Failed` if a call of the sink fails.
+#[tactic(auto, unfolding(crate::specs::Dumps::central_text))]
 pub fn put_central<W: Sink>(machine: &Rig, first: u32, last: u32, out: &mut W) -> Result<(), Failed>
     requires in_order { first ≤ last }
     requires within { last < machine.now.setup.central_words }

@@ -76,6 +76,7 @@ fn end_line<W: Sink>(
 }
 
 /// Processes bytes of a line.
+#[tactic(auto, using(crate::proofs::Reading::texts_read))]
 fn feed_text(progress: &mut Progress, text: &[u8]) -> Result<(), IoFault>
     requires { finished text.now ≡ [] }
     ensures has_read { (session : State) (written : Written) (origin : Origin) (bytes : List ℕ) →
@@ -99,6 +100,7 @@ fn feed_text(progress: &mut Progress, text: &[u8]) -> Result<(), IoFault>
 }
 
 /// Processes bytes of a line, and the line feed after them.
+#[tactic(auto, using(crate::proofs::Reading::lines_read))]
 fn feed_line<W: Sink>(
     progress: &mut Progress,
     text: &[u8],

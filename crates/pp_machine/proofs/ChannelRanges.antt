@@ -1,5 +1,7 @@
 -- The numbers of the channels are in range, because those of each channel are.
-use Rattle.std.proofs.Common.{ℕ, ◌≤◌, List, get_or, lit≤}
+use Rattle.std.proofs.Common.{ℕ, ◌≡◌, ◌≤◌, set, List, get_or, lit≤}
+use Rattle.std.proofs.lemmas.Grind.{common_steps, elements}
+use Rattle.std.proofs.lemmas.List.{map-set, set-get_or}
 use Rattle.std.proofs.lemmas.List.Elements.{All-map}
 use Rattle.pp_machine.specs.ChannelNumbers.{IsChannels, state_number, channel_numbers}
 use Rattle.pp_machine.specs.declared.channel.Channel.{Channel}
@@ -18,3 +20,9 @@ channels_in_range channels clock clock_in = record {
   registers_in = All-map (λ n. n ≤ 0o7777) (λ (c : Channel). c.word) channels (λ k d h. (get_or channels k d).word_in);
   clock_in = clock_in;
 }
+
+pub set_own : (xs : List ℕ) (i v : ℕ) → v ≡ get_or xs i 0 → set xs i v ≡ xs
+set_own xs i v e = rw e (set-get_or xs i 0)
+
+-- what replacing a channel needs
+pub ruleset channel_lists = (common_steps, elements, map-set, set_own)

@@ -1,16 +1,9 @@
 -- What holds of every device, from the laws of its own numbers.
 use Rattle.std.specs.Cmp.Derive.{both_true}
-use Rattle.std.proofs.Common.{eq-eqb, ℕ, ◌≡◌, ◌≢◌, ◌<◌, ◌∙◌, Bool, true, false, if◌then◌else◌, ◌⊎◌, inl, inr, ap, refl, sym, List, get_or, length, set}
+use Rattle.std.proofs.Common.{eq-eqb, ℕ, ◌≡◌, ◌≢◌, ◌∙◌, Bool, true, false, if◌then◌else◌, ◌⊎◌, inl, inr, ap, refl, sym, List, get_or, set}
 use Rattle.std.specs.List.{AllPairs}
-use Rattle.std.proofs.lemmas.List.{get_or-set_same, set-set, set-get_or}
-use Rattle.pp_machine.specs.Attached.{IsAttached, of_device, with_channels}
-use Rattle.pp_machine.specs.Prelude.{Machine, over, old_values, number, put, Has, HasAll, same_place, ChannelNumbers, state_number, with_channel}
-use Rattle.pp_machine.specs.Device.{DeviceModel, IsWritten, DevicePlace, DeviceView, AtOwn, AtState, AtWord, device_place, device_view, number_at, device_old_values, over_device, place_at, put_at, replace, view_of, view_on, with_view}
-use Rattle.pp_machine.specs.WriteLaws.{AllPlaces-renamed, Commute, IsStore, old_values-renamed, over-renamed, places-old_values, undone-by-old-values}
-use Rattle.pp_machine.specs.Writes.{AllPlaces, Writes, places, renamed}
-use Rattle.pp_machine.specs.declared.channel.Channel.{Channel}
-use Rattle.pp_machine.specs.declared.place.Place.{Place}
-use Rattle.pp_machine.specs.declared.place.Place.TheVariants.{ChannelMode, ChannelWord, Slot}
+use Rattle.std.proofs.lemmas.List.{set-set, set-get_or}
+use Rattle.pp_machine.proofs.Prelude.{IsAttached, of_device, with_channels, Machine, over, old_values, number, put, Has, HasAll, same_place, ChannelNumbers, with_channel, DeviceModel, IsWritten, DevicePlace, DeviceView, AtOwn, AtState, AtWord, device_place, number_at, device_old_values, over_device, place_at, put_at, replace, view_of, with_view, AllPlaces-renamed, Commute, IsStore, old_values-renamed, over-renamed, places-old_values, undone-by-old-values, AllPlaces, Writes, places, renamed, Place, ChannelMode, ChannelWord, Slot}
 use Rattle.pp_machine.proofs.Once.{each-once, once}
 
 -- ---- single writes, and how the old values undo a step
@@ -45,26 +38,6 @@ module _ {Numbers Own Record : Type 0} (d : DeviceModel Numbers Own Record) (sto
 -- a record of the old values of a write list has the places of that list
 pub old_places : {Numbers Own Record : Type 0} (d : DeviceModel Numbers Own Record) (s : DeviceView Numbers) (w r : Writes (DevicePlace Own)) → r ≡ device_old_values d s w → places r ≡ places w
 old_places d s w r named = ap (λ pairs. places pairs) named ∙ places-old_values (number_at d.number) s w
-
--- ---- a device and the channel that it is handed
-
-module _ {Numbers : Type 0} (c : ℕ) (channels : ChannelNumbers) (n : Numbers) (channel : Channel) where
-  pub view-handed : state_number channel.state ≡ get_or channels.states c 0 → channel.word ≡ get_or channels.registers c 0 → device_view n channel ≡ view_on c n channels
-  view-handed state word = rw (state, word) refl
-
-  pub view-put_back : c < length channels.states → c < length channels.registers → view_on c n (with_channel channels c (state_number channel.state) channel.word) ≡ device_view n channel
-  view-put_back in_modes in_words = simp get_or-set_same
-
--- a device and its channel after a write list, and the channel put back
-pub written : {Numbers Own Record : Type 0} (d : DeviceModel Numbers Own Record) (w : DeviceView Numbers → Writes (DevicePlace Own)) (c : ℕ) (n later : Numbers) (channels after : ChannelNumbers) (old channel : Channel) →
-    device_view n old ≡ view_on c n channels → device_view later channel ≡ over_device d (device_view n old) (w (device_view n old)) → after ≡ with_channel channels c (state_number channel.state) channel.word →
-    IsWritten d (w (view_on c n channels)) c n channels later after
-written d w c n later channels after old channel seen step back =
-    let e : device_view later channel ≡ over_device d (view_on c n channels) (w (view_on c n channels)) = step ∙ ap (λ v. over_device d v (w v)) seen in
-    record {
-      device = ap (λ (v : DeviceView _). v.device) e;
-      channels = back ∙ ap (λ (v : DeviceView _). with_channel channels c v.state v.word) e;
-    }
 
 -- ---- write lists that write no place twice, and only places that the machine has
 

@@ -3,15 +3,7 @@ use Rattle.std.proofs.Common.{ℕ, false, ◌+◌, ◌≡◌, ◌≤◌, ◌∙�
 use Rattle.std.proofs.lemmas.List.{length-append}
 use Rattle.pp_machine.proofs.DeviceLaws.{lifted-old_values, lifted-parts, not_at, watches-kept}
 use Rattle.pp_machine.proofs.Parts.{one-performed}
-use Rattle.pp_machine.specs.Attached.{IsAttached, IsDevice, of_device, with_channels}
-use Rattle.pp_machine.specs.Device.{DeviceModel, IsWritten, device_old_values, device_pairs, device_place, device_step_writes, replace, view_of}
-use Rattle.pp_machine.specs.Devices.{AreDevices, AreOnChannels, DevicesModel, FitsOn, no_devices, on}
-use Rattle.pp_machine.specs.NumberLaws.{setup-over}
-use Rattle.pp_machine.specs.Parts.{ArePerformed}
-use Rattle.pp_machine.specs.Prelude.{Machine, over, old_values, put, Writes, first_of_two, renamed, Has, HasAll, lookup, same_place, ChannelNumbers}
-use Rattle.pp_machine.specs.WriteLaws.{AllPlaces-append, length-renamed, lookup-append}
-use Rattle.pp_machine.specs.declared.devices.OnRecords.{OnRecords}
-use Rattle.pp_machine.specs.declared.place.Place.{Place}
+use Rattle.pp_machine.proofs.Prelude.{IsAttached, IsDevice, of_device, with_channels, DeviceModel, IsWritten, device_old_values, device_pairs, device_place, device_step_writes, replace, view_of, AreDevices, AreOnChannels, DevicesModel, FitsOn, no_devices, on, setup-over, ArePerformed, Machine, over, old_values, put, Writes, first_of_two, renamed, Has, HasAll, lookup, same_place, ChannelNumbers, AllPlaces-append, length-renamed, lookup-append, OnRecords, Place}
 
 -- a list of other places does not have a place
 not_among : {P : Type 0} (name : P → Place) (ws : Writes P) (p : Place) → ((x : P) → same_place (name x) p ≡ false) → lookup (renamed name ws) p ≡ None

@@ -1,15 +1,9 @@
 -- The step of a device before other devices, and its undoing.
-use Rattle.std.proofs.Common.{ℕ, ◌≡◌, ◌∙◌, [], ◌∷◌, ◌++◌, ap, sym, subst, get_or}
+use Rattle.std.proofs.Common.{ℕ, ◌≡◌, ◌∙◌, [], ◌∷◌, ◌++◌, ap, sym, subst}
 use Rattle.pp_machine.proofs.DeviceLaws.{lifted-parts}
 use Rattle.pp_machine.proofs.DevicesLaws.{device-performed}
 use Rattle.pp_machine.proofs.Parts.{both-performed, led_back}
-use Rattle.pp_machine.specs.Attached.{with_channels}
-use Rattle.pp_machine.specs.ChannelNumbers.{inactive}
-use Rattle.pp_machine.specs.Device.{DeviceModel, IsWritten, device_old_values, device_pairs, device_place, device_step_writes, replace, view_of, view_on}
-use Rattle.pp_machine.specs.Devices.{AreJoined, AreStepped, DevicesModel, FitsOn, attached, on}
-use Rattle.pp_machine.specs.Parts.{AreIdle, ArePerformed}
-use Rattle.pp_machine.specs.Prelude.{Machine, over, put, renamed, over-append, ChannelNumbers}
-use Rattle.pp_machine.specs.declared.devices.OnRecords.{OnRecords}
+use Rattle.pp_machine.proofs.Prelude.{with_channels, DeviceModel, IsWritten, device_old_values, device_pairs, device_step_writes, replace, view_of, view_on, AreJoined, AreStepped, DevicesModel, FitsOn, attached, on, ArePerformed, Machine, over, put, over-append, ChannelNumbers, OnRecords}
 
 module _ {Numbers Own Record Others Records : Type 0} (d : DeviceModel Numbers Own Record) (o : DevicesModel Others Records) (joined : AreJoined d o) (m : Machine) (c : ℕ) where
   -- the machine with these devices and channels
@@ -82,10 +76,6 @@ module _ {Numbers Own Record Others Records : Type 0} (d : DeviceModel Numbers O
   -- ---- a step undone
 
   module _ (n : Numbers) (x before : Others) (channels handed : ChannelNumbers) (back : OnRecords Record Records) where
-    -- the records of the other devices, in the machine with the device
-    pub others_fit : FitsOn d o back (whole n x channels) → (s : Machine) × o.Fits back.others (attached o s x channels)
-    others_fit fits = (d.attach m c n, subst (o.Fits back.others) (sym (others_last n x channels)) fits.others)
-
     others_undone : ((s : Machine) → attached o s before handed ≡ over (attached o s x channels) (o.pairs back.others)) → over (whole n x channels) (o.pairs back.others) ≡ whole n before handed
     others_undone undone =
         sym (sym (others_last n before handed) ∙ (undone (d.attach m c n) ∙ ap (λ s. over s (o.pairs back.others)) (others_last n x channels)))
@@ -108,12 +98,3 @@ module _ {Numbers Own Record Others Records : Type 0} (d : DeviceModel Numbers O
         ∙ (ap (λ k. over (whole n before handed) (device_pairs d k back.own)) at
         ∙ (sym (lifted-parts d joined.device.attached (whole n before handed) c old first (d.pairs back.own) (of_whole (λ k z. IsWritten d (d.pairs back.own) c k z old first) n before handed own))
         ∙ replaced n old before handed first))))
-
-  -- ---- no step
-
-  pub idle : (n : Numbers) (x : Others) (channels : ChannelNumbers) → get_or channels.states c 0 ≡ inactive → ((s : Machine) → AreIdle o.parts (attached o s x channels)) → AreIdle (device_step_writes d ∷ o.parts) (whole n x channels)
-  idle n x channels state others = (
-    ap (λ at. renamed (device_place d at) (d.writes (view_of d at (whole n x channels)))) (on_channel n x channels)
-        ∙ ap (renamed (device_place d c)) (of_whole (λ k z. d.writes (view_on c k z) ≡ []) n x channels (joined.device.idle (view_on c n channels) state)),
-    subst (AreIdle o.parts) (others_last n x channels) (others (d.attach m c n)),
-  )

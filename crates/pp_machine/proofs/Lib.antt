@@ -6,6 +6,7 @@ pub mod Joined
 pub mod MachineStore
 pub mod Once
 pub mod Parts
+pub mod Prelude
 pub mod PrinterLaws
 pub mod ReaderLaws
 pub mod Same

@@ -3,10 +3,7 @@ use Rattle.std.proofs.Common.{ap, zero, suc, ℕ, ◌≡◌, ◌==◌, true, fal
 use Rattle.std.proofs.lemmas.Bool.{and_parts, eqb-true, eqb-false, false≢true}
 use Rattle.std.proofs.lemmas.Bool.Decides.{nat_tests}
 use Rattle.std.proofs.lemmas.List.{set-set, set_comm, set-get_or}
-use Rattle.pp_machine.specs.Prelude.{Machine, ProcessorNumbers, over, old_values, number, put, processor, no_processor, Writes, same_place}
-use Rattle.pp_machine.specs.WriteLaws.{Commute, eqb-false_sym, store-by, undone-by-old-values}
-use Rattle.pp_machine.specs.declared.place.Place.{Place}
-use Rattle.pp_machine.specs.declared.place.Place.TheVariants.{Cell, RegA, RegP, RegQ, Phase, Slot}
+use Rattle.pp_machine.proofs.Prelude.{Machine, ProcessorNumbers, over, old_values, number, put, processor, no_processor, Writes, same_place, Place, Cell, RegA, RegP, RegQ, Phase, Slot, Commute, eqb-false_sym, store-by, undone-by-old-values}
 
 -- ---- one of several processors changed
 

@@ -1,9 +1,7 @@
 -- What holds of the parts of any action.
 use Rattle.std.proofs.Common.{ℕ, ◌≡◌, ◌∙◌, List, [], ◌∷◌, ◌++◌, IsPermutation, ap, refl, sym, append_assoc, append-nil}
 use Rattle.std.proofs.lemmas.List.Sorted.{IsPermutation-append_comm, IsPermutation-append_right, IsPermutation-refl, IsPermutation-trans}
-use Rattle.pp_machine.specs.Prelude.{Machine, over, old_values, number, put, Writes, places, Has, HasAll, over-append, AllPlaces-append, places-append, places-old_values}
-use Rattle.pp_machine.specs.declared.place.Place.{Place}
-use Rattle.pp_machine.specs.Parts.{AreIdle, ArePerformed, EachPart, Part, after_parts, parts_old_values, parts_writes}
+use Rattle.pp_machine.proofs.Prelude.{Machine, over, old_values, number, put, Writes, places, Has, HasAll, over-append, AllPlaces-append, places-append, places-old_values, Place, AreIdle, ArePerformed, EachPart, Part, after_parts, parts_old_values, parts_writes}
 use Rattle.pp_machine.proofs.MachineStore.{taken_back}
 
 -- their write list leads to the machine after them

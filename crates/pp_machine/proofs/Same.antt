@@ -3,9 +3,7 @@ use Rattle.std.proofs.Common.{◌≡◌, ◌∙◌, ℕ, ◌<◌, List, length, 
 use Rattle.std.proofs.lemmas.List.{ext_get_or}
 use Rattle.pp_machine.proofs.AllDevices.{same-devices}
 use Rattle.pp_machine.specs.AllDevices.{machine_with}
-use Rattle.pp_machine.specs.Prelude.{Machine, number, processor, no_processor, Has, IsShaped}
-use Rattle.pp_machine.specs.declared.place.Place.{Place}
-use Rattle.pp_machine.specs.declared.place.Place.TheVariants.{Cell, RegA, RegP, RegQ, Phase, ChannelMode, ChannelWord, Clock, Central, FrameWord, Slot, WatchEntry}
+use Rattle.pp_machine.proofs.Prelude.{Machine, number, processor, no_processor, Has, IsShaped, Place, Cell, RegA, RegP, RegQ, Phase, ChannelMode, ChannelWord, Clock, Central, FrameWord, Slot, WatchEntry}
 
 module _ (size : ℕ) (m m' : Machine) (shaped : IsShaped size m) (shaped' : IsShaped size m') (each : (p : Place) → Has size p → number m p ≡ number m' p) where
   same-list : (n : ℕ) (list : Machine → List ℕ) → length (list m) ≡ n → length (list m') ≡ n → ((i : ℕ) → i < n → get_or (list m) i 0 ≡ get_or (list m') i 0) → list m ≡ list m'

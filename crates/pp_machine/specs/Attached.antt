@@ -1,11 +1,7 @@
 -- What holds of a device in a machine.
 use Rattle.std.specs.Prelude.{ℕ, Bool, true, false, [], ◌≡◌, ◌<◌, ◌≤◌, length}
-use Rattle.pp_machine.specs.ChannelNumbers.{ChannelNumbers, inactive}
+use Rattle.pp_machine.specs.Prelude.{ChannelNumbers, inactive, Machine, number, put, HasAll, renamed, Place, Cell, RegA, RegP, RegQ, Phase, Clock, Central, FrameWord, Slot, WatchEntry}
 use Rattle.pp_machine.specs.Device.{DeviceModel, DeviceView, device_pairs, device_place}
-use Rattle.pp_machine.specs.Machine.{Machine, number, put, HasAll}
-use Rattle.pp_machine.specs.Writes.{renamed}
-use Rattle.pp_machine.specs.declared.place.Place.{Place}
-use Rattle.pp_machine.specs.declared.place.Place.TheVariants.{Cell, RegA, RegP, RegQ, Phase, Clock, Central, FrameWord, Slot, WatchEntry}
 
 -- whether a device may have the place: it is a device's own, or its channel's
 abbrev pub of_device : Place → Bool

@@ -1,11 +1,7 @@
 -- A device as the machine sees it: numbers of its own, and the state and register of its channel.
 use Rattle.std.specs.Prelude.{ℕ, ◌≡◌, get_or}
-use Rattle.pp_machine.specs.ChannelNumbers.{ChannelNumbers, state_number, with_channel}
-use Rattle.pp_machine.specs.Machine.{Machine, Setup}
-use Rattle.pp_machine.specs.Writes.{Writes, over_by, old_values_by, renamed}
+use Rattle.pp_machine.specs.Prelude.{ChannelNumbers, state_number, with_channel, Machine, Setup, Writes, over_by, old_values_by, renamed, Place, ChannelMode, ChannelWord}
 use Rattle.pp_machine.specs.declared.channel.Channel.{Channel}
-use Rattle.pp_machine.specs.declared.place.Place.{Place}
-use Rattle.pp_machine.specs.declared.place.Place.TheVariants.{ChannelMode, ChannelWord}
 
 -- what a step of a device reads and writes
 pub record DeviceView (Numbers : Type 0) : Type 0 where

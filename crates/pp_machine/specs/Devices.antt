@@ -2,14 +2,11 @@
 use Rattle.std.specs.Prelude.{ℕ, ◌≡◌, ◌≢◌, ◌+◌, ◌≤◌, ◌<◌, false, List, [], ◌∷◌, ◌++◌, length, None}
 use Rattle.std.specs.List.{AllByRecursion}
 use Rattle.pp_machine.specs.Attached.{IsDevice, of_device, with_channels}
-use Rattle.pp_machine.specs.ChannelNumbers.{ChannelNumbers}
+use Rattle.pp_machine.specs.Prelude.{ChannelNumbers, Machine, Setup, over, lookup, HasAll, Writes, Place}
 use Rattle.pp_machine.specs.Device.{DeviceModel, device_pairs, device_step_writes, view_of}
-use Rattle.pp_machine.specs.Machine.{Machine, Setup, over, lookup, HasAll}
 use Rattle.pp_machine.specs.Parts.{ArePerformed, EachPart, Part}
-use Rattle.pp_machine.specs.Writes.{Writes}
 use Rattle.pp_machine.specs.declared.devices.OnRecords.{OnRecords}
 use Rattle.pp_machine.specs.declared.devices.NoDevices.{NoDevices}
-use Rattle.pp_machine.specs.declared.place.Place.{Place}
 
 -- a device on its channel, and the devices after it
 pub record OnNumbers (Device Others : Type 0) : Type 0 where

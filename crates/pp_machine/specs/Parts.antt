@@ -1,8 +1,6 @@
 -- An action in parts, performed one after another.
 use Rattle.std.specs.Prelude.{◌≡◌, List, [], ◌∷◌, ◌++◌}
-use Rattle.pp_machine.specs.Machine.{Machine, over, old_values}
-use Rattle.pp_machine.specs.Writes.{Writes}
-use Rattle.pp_machine.specs.declared.place.Place.{Place}
+use Rattle.pp_machine.specs.Prelude.{Machine, over, old_values, Writes, Place}
 
 -- a part of an action: what it writes, in the machine that the parts before it left
 abbrev pub Part : Type 0

@@ -1,7 +1,6 @@
 use Rattle.std.proofs.Common.{◌∷◌, [], ◌++◌, map}
-use Rattle.std.proofs.lemmas.Result.{err_from_is_err_and}
-use Rattle.pp_lines.proofs.Writing.{Appends-again, front_longer, front_after}
 use Rattle.pp_console.specs.DisplayCode.{character}
+use Rattle.pp_console.proofs.Prelude.{Appends-again, err_from_is_err_and, front_longer, front_after}
 use Rattle.pp_console.proofs.Shown.{Writes-after}
 use Rattle.pp_console.proofs.paper.put_line.Goals as goal
 
@@ -12,10 +11,9 @@ returns-in_err-put_all-clause-text g c =
 
 pub returns-in_err-put_characters-clause-text : goal.returns-in_err-put_characters-clause-text
 returns-in_err-put_characters-clause-text g c =
-    let p = err_from_is_err_and c.from_residual-in_err-put_characters.result c.from_residual-in_err-put_characters.ensures.1 in
     let line = map character c.args.symbols.now in
-    rw p.1 (front_longer _ _ (c.args.mark.now ++ line) (10 ∷ [])
-    (front_after _ (g.W.Sink.text c.put_all.new.out) _ c.args.mark.now line c.in_ok-put_all.ensures.text c.in_err-put_characters.ensures.text))
+    let front = front_after _ (g.W.Sink.text c.put_all.new.out) _ c.args.mark.now line c.in_ok-put_all.ensures.text c.in_err-put_characters.ensures.text in
+    rw (err_from_is_err_and c.from_residual-in_err-put_characters.result c.from_residual-in_err-put_characters.ensures.1).1 (front_longer _ _ (c.args.mark.now ++ line) (10 ∷ []) front)
 
 pub returns-clause-text : goal.returns-clause-text
 returns-clause-text g c =

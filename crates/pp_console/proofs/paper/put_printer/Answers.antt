@@ -1,16 +1,14 @@
-use Rattle.std.proofs.lemmas.Result.{err_from_is_err_and}
-use Rattle.pp_lines.proofs.Writing.{front_longer}
 use Rattle.pp_console.specs.Dumps.{printer_text, printer_line}
 use Rattle.pp_console.specs.Paper.{paper, paper_text}
+use Rattle.pp_console.proofs.Prelude.{err_from_is_err_and, front_longer}
 use Rattle.pp_console.proofs.Shown.{Writes-after}
 use Rattle.pp_console.proofs.paper.put_printer.Goals as goal
 
 pub returns-in_err-put_all-clause-text : goal.returns-in_err-put_all-clause-text
 unfolding printer_text
 returns-in_err-put_all-clause-text g c =
-    let p = err_from_is_err_and c.from_residual.result c.from_residual.ensures.1 in
     let front = rw (c.as_slice.ensures.value, c.printer_line.ensures) at c.in_err-put_all.ensures.text in
-    rw p.1 (front_longer _ _ (printer_line c.args.machine.now) (paper_text (paper c.args.machine.now)) front)
+    rw (err_from_is_err_and c.from_residual.result c.from_residual.ensures.1).1 (front_longer _ _ (printer_line c.args.machine.now) (paper_text (paper c.args.machine.now)) front)
 
 pub returns-clause-text : goal.returns-clause-text
 unfolding printer_text

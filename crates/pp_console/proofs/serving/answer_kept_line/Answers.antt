@@ -1,8 +1,6 @@
 use Rattle.std.proofs.Common.{◌∙◌, ◌++◌, ap, arith}
 use Rattle.std.proofs.lemmas.Bool.Decides.{nat_tests}
-use Rattle.pp_lines.specs.Lines.{unfinished}
-use Rattle.pp_console.specs.declared.progress.TheConstants.{KEPT}
-use Rattle.pp_console.specs.Script.{answer_line}
+use Rattle.pp_console.proofs.Prelude.{unfinished, KEPT, answer_line}
 use Rattle.pp_console.proofs.Following.{answer_line-kept}
 use Rattle.pp_console.proofs.Performing.{Performs-same}
 use Rattle.pp_console.proofs.Pieces.{whole-line}

@@ -1,7 +1,7 @@
 use Rattle.std.proofs.Common.{◌∷◌, ◌++◌, [], arith}
 use Rattle.std.proofs.lemmas.Bool.Decides.{nat_tests}
 use Rattle.pp_lines.specs.Lines.{finished, unfinished}
-use Rattle.pp_console.proofs.Reading.{HasRead-finishes, HasRead-line}
+use Rattle.pp_console.proofs.Reading.{HasRead-finishes}
 use Rattle.pp_console.proofs.Pieces.{Interrupts-lines, Interrupts-bytes}
 use Rattle.pp_console.proofs.serving.feed_line.Goals as goal
 use Rattle.pp_console.proofs.serving.feed_line.Goals.{then-progress-eq-LINE_LIMIT-via-then-progress-eq-LINE_LIMIT, then-progress-eq-LINE_LIMIT-via-else-progress-eq-LINE_LIMIT+then-text-room}
@@ -12,12 +12,6 @@ returns-then-progress-eq-LINE_LIMIT-clause-has_read g c = λ origin bytes has_re
       | then-progress-eq-LINE_LIMIT-via-then-progress-eq-LINE_LIMIT w ↦ Interrupts-lines _ _ _ origin bytes c.args.text.now (10 ∷ []) has_read (omega arith) w.if-progress-eq-LINE_LIMIT.true
       | then-progress-eq-LINE_LIMIT-via-else-progress-eq-LINE_LIMIT+then-text-room w ↦ Interrupts-bytes _ _ _ origin bytes c.args.text.now (10 ∷ []) c.requires has_read (omega (arith, w.if-text-room.true)) (omega (arith, w.if-text-room.true)) (grind (arith, nat_tests))
     ]
-
-pub returns-in-Ok-clause-has_read : goal.returns-in-Ok-clause-has_read
-returns-in-Ok-clause-has_read g c = λ origin bytes has_read.
-    HasRead-line _ _ _ _ _ _ origin bytes c.args.text.now c.requires has_read (c.in-Ok.ensures.line (bytes ++ c.args.text.now)) c.in-Ok.ensures.bytes c.in-Ok.ensures.lines
-    (c.in-Ok.ensures.refused origin bytes has_read.keeps has_read.performed has_read.counts_refused)
-    (c.in-Ok.ensures.performed origin bytes has_read.keeps has_read.performed)
 
 pub returns-in-Err-clause-has_read : goal.returns-in-Err-clause-has_read
 returns-in-Err-clause-has_read g c = λ origin bytes has_read. (

@@ -1,8 +1,6 @@
-use Rattle.std.proofs.Common.{◌++◌, [], refl, arith, append-nil}
+use Rattle.std.proofs.Common.{◌++◌, [], arith, append-nil}
 use Rattle.std.proofs.lemmas.Bool.Decides.{nat_tests}
-use Rattle.pp_lines.specs.declared.fault.IoFault.TheVariants.{LineLimit}
-use Rattle.pp_console.specs.ServingSteps.{Interrupts}
-use Rattle.pp_console.proofs.Reading.{HasRead-text}
+use Rattle.pp_console.proofs.Prelude.{LineLimit, Interrupts}
 use Rattle.pp_console.proofs.Pieces.{Interrupts-lines, Interrupts-bytes}
 use Rattle.pp_console.proofs.serving.feed_text.Goals as goal
 use Rattle.pp_console.proofs.serving.feed_text.Goals.{then-progress-eq-LINE_LIMIT-via-then-progress-eq-LINE_LIMIT, then-progress-eq-LINE_LIMIT-via-else-progress-eq-LINE_LIMIT+then-text-room}
@@ -15,7 +13,3 @@ returns-then-progress-eq-LINE_LIMIT-clause-has_read c = λ session written origi
       | then-progress-eq-LINE_LIMIT-via-else-progress-eq-LINE_LIMIT+then-text-room w ↦ Interrupts-bytes _ session written origin bytes text [] c.requires has_read (omega (arith, w.if-text-room.true)) (omega (arith, w.if-text-room.true)) (grind (arith, nat_tests))
     ] in
     rw (append-nil (bytes ++ text)) at stopped
-
-pub returns-clause-has_read : goal.returns-clause-has_read
-returns-clause-has_read c = λ session written origin bytes has_read.
-    HasRead-text _ _ _ _ origin bytes c.args.text.now c.requires has_read (c.take_text.ensures bytes has_read.keeps) refl refl refl

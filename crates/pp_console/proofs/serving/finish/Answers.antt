@@ -1,8 +1,7 @@
 use Rattle.std.proofs.Common.{◌∙◌, [], arith, inr, append-nil}
 use Rattle.std.proofs.lemmas.Bool.Decides.{nat_tests}
-use Rattle.pp_lines.specs.Lines.{finished, unfinished}
+use Rattle.pp_console.proofs.Prelude.{finished, unfinished, KEPT}
 use Rattle.pp_lines.proofs.Limits.{lines-last}
-use Rattle.pp_console.specs.declared.progress.TheConstants.{KEPT}
 use Rattle.pp_console.proofs.Ending.{Serves-whole, Serves-last}
 use Rattle.pp_console.proofs.Reading.{HasRead-within}
 use Rattle.pp_console.proofs.serving.finish.Goals as goal

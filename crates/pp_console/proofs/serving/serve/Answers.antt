@@ -3,7 +3,7 @@ use Rattle.std.proofs.lemmas.Result.{err_from_is_err_and}
 use Rattle.std.specs.Io.KnownBytes.{Consumes, IsAtEnd}
 use Rattle.pp_console.specs.Serving.{origin_of, Serves, Stops}
 use Rattle.pp_lines.proofs.Reading.{Consumes-nothing, Consumes-again, Consumes-keeps}
-use Rattle.pp_console.proofs.Beginning.{HasRead-new, Performed-within}
+use Rattle.pp_console.proofs.Reading.{HasRead-new, Performed-within}
 use Rattle.pp_console.proofs.Ending.{Stops-interrupted, at-end}
 use Rattle.pp_console.proofs.serving.serve.Goals as goal
 

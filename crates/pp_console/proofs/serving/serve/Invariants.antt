@@ -1,11 +1,6 @@
 use Rattle.std.proofs.Common.{◌-◌, ◌++◌, ◌≡◌, ℕ, List}
 use Rattle.std.specs.Io.KnownBytes.{Consumes}
-use Rattle.pp_console.specs.declared.progress.TheConstants.{BYTE_LIMIT}
-use Rattle.pp_console.specs.Commands.{Value}
-use Rattle.pp_history.specs.SessionValue.{IsAt}
-use Rattle.pp_rig.specs.Rules.{rules}
-use Rattle.pp_console.specs.Serving.{origin_of}
-use Rattle.pp_console.specs.ServingSteps.{HasRead}
+use Rattle.pp_console.proofs.Prelude.{BYTE_LIMIT, Value, IsAt, rules, origin_of, HasRead}
 use Rattle.pp_console.proofs.serving.serve.Given as goal
 
 abbrev pub invariant-pieces : goal.invariant-pieces

@@ -1,18 +1,10 @@
-use Rattle.pp_machine.proofs.Joined.{channel_fits, device_fits, others_fit, undone}
+use Rattle.pp_machine.proofs.Joined.{channel_fits, device_fits, undone}
 use Rattle.pp_machine.proofs.devices.OnDevices.undo.Goals as goal
 
-pub undo-requires : goal.undo-requires
-undo-requires g c =
+pub undo_device-requires-clause-fits : goal.undo_device-requires-clause-fits
+undo_device-requires-clause-fits g c =
     let fits = rw (← c.self.view_is) at c.requires.fits in
-    record { fits = others_fit g.D.Device.model g.R.Devices.model c.self.invariant.1 fits.0 c.self.inside.channel c.self.inside.device c.self.inside.others c.self.inside.others c.args.channels.now c.args.channels.now c.args.back.now fits.1 }
-
-pub undo_device-requires : goal.undo_device-requires
-undo_device-requires g c =
-    let fits = rw (← c.self.view_is) at c.requires.fits in
-    record {
-      c = c.self.invariant.0;
-      fits = device_fits g.D.Device.model g.R.Devices.model c.self.invariant.1 fits.0 c.self.inside.channel c.self.inside.device c.self.inside.others c.undo.new.self c.args.channels.now c.undo.new.channels c.args.back.now fits.1 c.undo.ensures.undoes;
-    }
+    device_fits g.D.Device.model g.R.Devices.model c.self.invariant.1 fits.0 c.self.inside.channel c.self.inside.device c.self.inside.others c.undo.new.self c.args.channels.now c.undo.new.channels c.args.back.now fits.1 c.undo.ensures.undoes
 
 pub returns : goal.returns
 returns g c =
