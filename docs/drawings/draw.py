@@ -525,9 +525,11 @@ def read_speed():
 
 
 def costs_of(table, program):
-    """Returns the nanoseconds of each part of a turn: of the kernel, of its record, of FORWARD, of STEP."""
+    """Returns the nanoseconds of each part of a turn: of the kernel, of its record, of FORWARD, of STEP. A part of C of which the
+    simulator takes less is as long as in the simulator."""
     kernel = 1000 / float(table["C kernel"][program])
     ends = [kernel] + [kernel / float(table[row][program]) for row in ("C kernel with records", "FORWARD", "STEP")]
+    ends = [min(ends[at:]) for at in range(len(ends))]
     return [later - earlier for earlier, later in zip([0] + ends, ends)]
 
 
