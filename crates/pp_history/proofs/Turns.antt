@@ -100,12 +100,16 @@ pub record IsRun {M A R P H : Type 0} (rules : Ghosts M A R P H) (old : Contents
   pub moves : Moves rules old (parts rules machine end slots tails undone n m) after
 
 -- a run of no step yet, in slots that are read from another end
-pub no_step : {M A R P H : Type 0} (rules : Ghosts M A R P H) (after : SessionValue M A → SessionValue M A) (machine : M) (now : LogValue A R) {end n m : ℕ} {slots : List (Option H)} {tails : Tails A R} {undone : Buffer A}
-    → ((v : SessionValue M A) → after v ≡ v) → now ≡ log_value rules.unpacked (turned end slots) tails.ring undone n m → IsEnd end slots × IsLog rules.unpacked (turned end slots) tails.ring undone n m
-    → (last kept ahead : ℕ) → last ≤ length slots → turned end slots ≡ turned last slots → kept ≡ length now.records → ahead ≡ length now.ahead
+pub no_step : {M A R P H : Type 0} (rules : Ghosts M A R P H) (after : SessionValue M A → SessionValue M A) (machine : M)
+    (now : LogValue A R) {end n m : ℕ} {slots : List (Option H)} {tails : Tails A R} {undone : Buffer A}
+    → ((v : SessionValue M A) → after v ≡ v) → now ≡ log_value rules.unpacked (turned end slots) tails.ring undone n m
+    → IsEnd end slots × IsLog rules.unpacked (turned end slots) tails.ring undone n m
+    → (last kept ahead : ℕ) → last ≤ length slots → turned end slots ≡ turned last slots
+    → kept ≡ length now.records → ahead ≡ length now.ahead
     → IsRun rules (contents machine now) after machine last slots tails undone kept ahead
 no_step rules after machine now none value log last kept ahead within same is_kept is_ahead =
-    rw (is_kept, is_ahead, value, log.1.kept, log.1.ahead) (record { log = (within, rw same at log.1); moves = λ v at. rw (none, ← same) at })
+    rw (is_kept, is_ahead, value, log.1.kept, log.1.ahead)
+    (record { log = (within, rw same at log.1); moves = λ v at. rw (none, ← same) at })
 
 module _ {M A R P H : Type 0} (rules : Ghosts M A R P H) (n m i : ℕ) {old : Contents M A R} {machine : M} {end at : ℕ} {slots : List (Option H)} {head : Option H} {tails : Tails A R} {undone : Buffer A} where
   -- the head is that of the newest kept action
@@ -154,7 +158,8 @@ module _ {M A R P H : Type 0} (rules : Ghosts M A R P H) (n m i : ℕ) {old : Co
         })
 
 -- a session that has moved is a session
-pub has_moved : {M A R P H : Type 0} {rules : Ghosts M A R P H} {machine machine' : M} {log log' : LogValue A R} (after : SessionValue M A → SessionValue M A) → ((v : SessionValue M A) → (after v).capacity ≡ v.capacity)
+pub has_moved : {M A R P H : Type 0} {rules : Ghosts M A R P H} {machine machine' : M} {log log' : LogValue A R}
+    (after : SessionValue M A → SessionValue M A) → ((v : SessionValue M A) → (after v).capacity ≡ v.capacity)
     → IsSession rules machine log → Moves rules (contents machine log) (contents machine' log') after → IsSession rules machine' log'
 has_moved {log = log} {log' = log'} after keeps old moves =
     let at = moves old.value old.is_at in

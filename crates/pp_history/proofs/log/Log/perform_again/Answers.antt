@@ -8,11 +8,13 @@ perform_span-left-requires-clause-session g c = has_moved _ (λ v. refl) c.requi
 
 pub loop-left-preserved : goal.loop-left-preserved
 loop-left-preserved g c =
-    let did : c.args.n - (c.loop-left.left - c.perform_span-left.result) ≡ c.args.n - c.loop-left.left + c.perform_span-left.result = omega (arith, c.loop-left.invariant.at_most, c.perform_span-left.ensures.some) in
+    let did : c.args.n - (c.loop-left.left - c.perform_span-left.result) ≡ c.args.n - c.loop-left.left + c.perform_span-left.result =
+    omega (arith, c.loop-left.invariant.at_most, c.perform_span-left.ensures.some) in
     record {
       at_most = omega (arith, c.loop-left.invariant.at_most);
       some = omega (arith, c.loop-left.invariant.some, c.perform_span-left.ensures.ahead);
-      moves = λ v at. rw (did, ← after_forward-more v (c.args.n - c.loop-left.left) c.perform_span-left.result) (c.perform_span-left.ensures.moves _ (c.loop-left.invariant.moves v at));
+      moves = λ v at. rw (did, ← after_forward-more v (c.args.n - c.loop-left.left) c.perform_span-left.result)
+          (c.perform_span-left.ensures.moves _ (c.loop-left.invariant.moves v at));
     }
 
 pub returns : goal.returns

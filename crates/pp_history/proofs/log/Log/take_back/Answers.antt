@@ -8,11 +8,13 @@ undo_span-left-requires-clause-session g c = has_moved _ (λ v. refl) c.requires
 
 pub loop-left-preserved : goal.loop-left-preserved
 loop-left-preserved g c =
-    let did : c.args.n - (c.loop-left.left - c.undo_span-left.result) ≡ c.args.n - c.loop-left.left + c.undo_span-left.result = omega (arith, c.loop-left.invariant.at_most, c.undo_span-left.ensures.some) in
+    let did : c.args.n - (c.loop-left.left - c.undo_span-left.result) ≡ c.args.n - c.loop-left.left + c.undo_span-left.result =
+    omega (arith, c.loop-left.invariant.at_most, c.undo_span-left.ensures.some) in
     record {
       at_most = omega (arith, c.loop-left.invariant.at_most);
       some = omega (arith, c.loop-left.invariant.some, c.undo_span-left.ensures.kept);
-      moves = λ v at. rw (did, ← after_back-more v (c.args.n - c.loop-left.left) c.undo_span-left.result) (c.undo_span-left.ensures.moves _ (c.loop-left.invariant.moves v at));
+      moves = λ v at. rw (did, ← after_back-more v (c.args.n - c.loop-left.left) c.undo_span-left.result)
+          (c.undo_span-left.ensures.moves _ (c.loop-left.invariant.moves v at));
     }
 
 pub returns : goal.returns

@@ -7,7 +7,8 @@ abbrev pub invariant-loop-left : goal.invariant-loop-left
 invariant-loop-left g l = record {
   at_most : l.left ≤ l.n;
   some : l.left ≤ length l.self.records;
-  moves : Moves g.T.Reversible (contents l.fn.machine l.fn.self) (contents l.machine l.self) (λ v. after_back v (l.n - l.left));
+  moves : Moves g.T.Reversible (contents l.fn.machine l.fn.self) (contents l.machine l.self)
+      (λ v. after_back v (l.n - l.left));
 }
 
 abbrev pub decreases-loop-left : goal.decreases-loop-left

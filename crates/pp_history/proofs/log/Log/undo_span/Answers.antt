@@ -9,21 +9,31 @@ loop-step-init g c =
     let slots = c.self.inside.slots.items in
     let last = rw (c.len.ensures, c.self.inside.slots.ok.0) at c.last_end-end.ensures in
     let same : c.last_end-end.result - 0 ≡ c.last_end-end.result = omega arith in
-    rw (c.as_slice-slots.ensures.value, same) (no_step g.T.Reversible _ c.args.machine.now c.args.self.now after_back-none (sym c.self.view_is) c.self.invariant
+    rw (c.as_slice-slots.ensures.value, same)
+    (no_step g.T.Reversible _ c.args.machine.now c.args.self.now after_back-none (sym c.self.view_is) c.self.invariant
     _ _ _ last.1 (turned-last slots c.self.inside.end c.last_end-end.result last) (omega arith) (omega arith))
 
 pub undo-requires-clause-fits : goal.undo-requires-clause-fits
 undo-requires-clause-fits g c =
-    let some : 0 < length c.args.self.now.records - c.loop-step.step = omega (arith, c.loop-step-test.true, c.requires.some, c.at_most-count.ensures) in
-    let newest = side_by_side (length c.as_slice-slots.result.now) c.last_end-end.result c.loop-step.step (omega (arith, c.loop-step-test.true, c.at_most-count.ensures)) (omega (arith, c.last_end-end.ensures, c.len.ensures, c.as_slice-slots.ensures.len)) in
-    fits_newest g.T.Reversible _ _ _ c.loop-step.invariant c.index-slots-end.is newest some c.requires.session.value c.requires.session.is_at
+    let some : 0 < length c.args.self.now.records - c.loop-step.step =
+    omega (arith, c.loop-step-test.true, c.requires.some, c.at_most-count.ensures) in
+    let newest = side_by_side (length c.as_slice-slots.result.now) c.last_end-end.result c.loop-step.step
+    (omega (arith, c.loop-step-test.true, c.at_most-count.ensures))
+    (omega (arith, c.last_end-end.ensures, c.len.ensures, c.as_slice-slots.ensures.len)) in
+    fits_newest g.T.Reversible _ _ _ c.loop-step.invariant c.index-slots-end.is newest some
+    c.requires.session.value c.requires.session.is_at
 
 pub loop-step-preserved : goal.loop-step-preserved
 loop-step-preserved g c =
-    let some : 0 < length c.args.self.now.records - c.loop-step.step = omega (arith, c.loop-step-test.true, c.requires.some, c.at_most-count.ensures) in
-    let newest = side_by_side (length c.as_slice-slots.result.now) c.last_end-end.result c.loop-step.step (omega (arith, c.loop-step-test.true, c.at_most-count.ensures)) (omega (arith, c.last_end-end.ensures, c.len.ensures, c.as_slice-slots.ensures.len)) in
-    let before : c.last_end-end.result - (c.loop-step.step + 1) ≡ c.last_end-end.result - 1 - c.loop-step.step = omega arith in
-    rw before (run_back g.T.Reversible _ _ _ c.loop-step.invariant c.index-slots-end.is newest some c.undo.ensures.undone c.undo.ensures.tails)
+    let some : 0 < length c.args.self.now.records - c.loop-step.step =
+    omega (arith, c.loop-step-test.true, c.requires.some, c.at_most-count.ensures) in
+    let newest = side_by_side (length c.as_slice-slots.result.now) c.last_end-end.result c.loop-step.step
+    (omega (arith, c.loop-step-test.true, c.at_most-count.ensures))
+    (omega (arith, c.last_end-end.ensures, c.len.ensures, c.as_slice-slots.ensures.len)) in
+    let before : c.last_end-end.result - (c.loop-step.step + 1) ≡ c.last_end-end.result - 1 - c.loop-step.step =
+    omega arith in
+    rw before (run_back g.T.Reversible _ _ _ c.loop-step.invariant c.index-slots-end.is newest some
+    c.undo.ensures.undone c.undo.ensures.tails)
 
 pub returns-clause-moves : goal.returns-clause-moves
 returns-clause-moves g c = λ v at.
