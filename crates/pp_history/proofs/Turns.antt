@@ -7,14 +7,14 @@ use Rattle.pp_history.specs.Contents.{Contents}
 use Rattle.pp_history.specs.Joining.{IsActed, IsLog, IsNext, first_of, left_by, ahead_in, log_value}
 use Rattle.pp_history.specs.LogValue.{LogValue, log_of}
 use Rattle.pp_history.specs.Parts.{IsSession, contents}
-use Rattle.pp_history.specs.SessionValue.{SessionValue, AdmitsInTurn, IsAt, Moves, after_back, after_forward}
+use Rattle.pp_history.specs.SessionValue.{SessionValue, AdmitsInTurn, IsAt, Moves, after_act, after_back, after_forward}
 use Rattle.pp_history.specs.Slots.{IsEnd, IsKeptSlot, IsNextSlot, turned}
 use Rattle.pp_history.specs.Tails.{IsKept, in_tail}
 use Rattle.pp_history.specs.declared.reversible.Reversible.{Ghosts}
 use Rattle.pp_history.specs.declared.tails.Tails.{Tails}
 use Rattle.pp_history.proofs.Joins.{ItemAt, NextAt, drop-at, item-at, next-at, put_log, put_value, back_log, back_value, again_log, again_value}
 use Rattle.pp_history.proofs.Slots.{others, length_turned, turned-next, first-out, last-in, last-out, kept-out}
-use Rattle.pp_history.proofs.Steps.{newest-step, back_at, forward_at, after_back-more, after_forward-more}
+use Rattle.pp_history.proofs.Steps.{newest-step, act_at, back_at, forward_at, after_back-more, after_forward-more}
 
 pub item_of : {X : Type 0} (slots : List X) (at : ℕ) (x : X) → at < length slots → x ≡ get_or slots at x → slice_get slots at ≡ Some x
 item_of slots at x within is = slice_get_read slots (length slots) at x refl within is
@@ -156,6 +156,20 @@ module _ {M A R P H : Type 0} (rules : Ghosts M A R P H) (n m i : ℕ) {old : Co
           log = again_in_log rules.unpacked slots tails run.log is next some head' tails' undone' did.1.0 behind did.1.3;
           moves = λ v at_v. rw (← after_forward-more v i 1) (forward_at rules machine machine' _ _ (ahead.action, did.1.0, ahead_first, did.0, did.1.1, did.1.2, same) _ (run.moves v at_v));
         })
+
+-- one more action is performed and kept, and none is ahead
+pub run_act : {M A R P H : Type 0} (rules : Ghosts M A R P H) {old : Contents M A R} {after : SessionValue M A → SessionValue M A} {machine machine' : M}
+    {end at n m n' : ℕ} {slots : List (Option H)} {head : Option H} {tails tails' : Tails A R} {undone : Buffer A}
+    → IsRun rules old after machine end slots tails undone n m → head ≡ get_or slots at head → IsNextSlot end (length slots) at
+    → (action : A) → rules.admitted machine action → (head' : Option H) → IsActed rules machine machine' action head' tails tails'
+    → n' ≡ min (n + 1) (length slots)
+    → IsRun rules old (λ v. after_act (after v) action) machine' (at + 1) (set slots at head') tails' undone n' 0
+run_act rules {machine = machine} {machine' = machine'} {slots = slots} {tails = tails} {tails' = tails'} run is next action admitted head' acted more =
+    let value = put_in_value rules.unpacked slots tails run.log is next head' tails' action acted.1.0 acted.1.3 more in
+    record {
+      log = put_in_log rules.unpacked slots tails run.log is next head' tails' action acted.1.0 acted.1.3 more;
+      moves = λ v at_v. act_at rules machine machine' _ _ action admitted (action, acted.1.0, refl, acted.0, acted.1.1, acted.1.2, value) run.log.1.some_room _ (run.moves v at_v);
+    }
 
 -- a session that has moved is a session
 pub has_moved : {M A R P H : Type 0} {rules : Ghosts M A R P H} {machine machine' : M} {log log' : LogValue A R}

@@ -7,6 +7,7 @@ ghost use Rattle.pp_history.specs.Joining.{IsActed, IsNext, first_of, left_by};
 ghost use Rattle.pp_history.specs.LogValue.{IsPerformed, LogValue, log_of};
 ghost use Rattle.pp_history.specs.Marks.{AreCovered, IsUnmarked};
 ghost use Rattle.pp_history.specs.Parts.{IsSession, contents};
+ghost use Rattle.pp_history.specs.Repeating.{AreUnmarked, after_acts, repeated};
 ghost use Rattle.pp_history.specs.SessionValue.{Moves, after_back, after_forward};
 ghost use Rattle.pp_history.specs.Slots.{IsKeptSlot, IsLastEnd, IsNextSlot};
 ghost use Rattle.pp_history.specs.Search.{IsSearched, first_changing, differs_from};
@@ -16,6 +17,7 @@ ghost use Rattle.std.specs.Option.{IsSome, option_map};
 
 use crate::looks::Looks;
 use crate::marks::Marks;
+use crate::repeatable::Repeatable;
 use crate::reversible::{Reversible, UndoRecord};
 use crate::tails::{Tails, push};
 use circular_buffer::HeapCircularBuffer;
@@ -95,27 +97,17 @@ impl<T: Reversible> Log<T> {
     }
 
     /// Performs an action and keeps it. The actions ahead are discarded, and if the log is full, the oldest action too.
-    /// Returns `false` only if the undo record has none of the places that the given marks cover.
     #[inline(always)]
-    pub(crate) fn perform(
-        &mut self,
-        machine: &mut T,
-        action: T::Action,
-        marks: Option<&Marks>,
-    ) -> bool
+    pub(crate) fn perform(&mut self, machine: &mut T, action: T::Action)
         requires { T.admitted machine.old action }
-        ensures performed { IsPerformed T.Reversible machine.old machine.new
+        ensures { IsPerformed T.Reversible machine.old machine.new
             (log_of (take (self.old.capacity - 1) self.old.records) (action ∷ []) self.old.capacity) self.new }
-        ensures unmarked { result ≡ false → IfSome marks.entry (λ marks. IfSome (slice_get self.new.records 0) (λ newest.
-            IsUnmarked T.mark_of T.old_value marks.now newest.1)) }
     {
         let at = next_slot(self.end, self.slots.len());
         self.end = at + 1;
-        self.kept = one_more(self.kept, self.slots.len());
+        self.kept = at_most(self.kept + 1, self.slots.len());
         self.ahead = 0;
-        let head = &mut self.slots[at];
-        machine.perform(action, head, &mut self.tails);
-        may_have::<T>(head, &self.tails, marks)
+        machine.perform(action, &mut self.slots[at], &mut self.tails);
     }
 
     /// Undoes the newest n actions.
@@ -235,6 +227,39 @@ impl<T: Reversible> Log<T> {
     }
 }
 
+impl<T: Repeatable> Log<T> {
+    /// Performs the repeatable action 1 to n times, in slots that are side by side, and returns how often: until an undo
+    /// record may have one of the places that the marks cover.
+    #[inline(never)]
+    pub(crate) fn repeat(&mut self, machine: &mut T, n: usize, marks: &Marks) -> usize
+        requires some { 1 ≤ n }
+        requires session { IsSession T.Reversible machine.old self.old }
+        ensures some { (1 ≤ result) × (result ≤ n) }
+        ensures machine { machine.new ≡ repeated T.Reversible result T.repeated machine.old }
+        ensures moves { Moves T.Reversible (contents machine.old self.old) (contents machine.new self.new) (after_acts result T.repeated) }
+        ensures unmarked { AreUnmarked T.Reversible marks.now T.repeated (result - 1) machine.old }
+    {
+        let capacity = self.slots.len();
+        let from = next_slot(self.end, capacity);
+        let mut most = at_most(n, capacity - from);
+        let slots = self.slots.as_mut_slice();
+        let tails = &mut self.tails;
+        let mut count = 0;
+        while count < most {
+            let head = &mut slots[from + count];
+            machine.perform(T::repeated(), head, tails);
+            count += 1;
+            if may_have::<T>(head, tails, marks) {
+                most = count;
+            }
+        }
+        self.end = from + count;
+        self.kept = at_most(self.kept + count, capacity);
+        self.ahead = 0;
+        count
+    }
+}
+
 /// Returns the undo record of a head, or else that of the tail behind `tail` others.
 #[inline(always)]
 fn undo_record<'a, T: Reversible>(
@@ -253,20 +278,17 @@ fn undo_record<'a, T: Reversible>(
     }
 }
 
-/// Returns `false` only if no marks are given, or if the undo record of a head, or else of the newest tail, has none of the
-/// places that they cover.
+/// Returns `false` only if the undo record of a head, or else of the newest tail, has none of the places that the marks
+/// cover.
 #[inline(always)]
 fn may_have<T: Reversible>(
     head: &Option<T::Head>,
     tails: &Tails<T::Action, T::Record>,
-    marks: Option<&Marks>,
+    marks: &Marks,
 ) -> bool
-    ensures { result ≡ false → IfSome marks.entry (λ marks. IfSome (first_of T.unpacked in_tail head.now tails.now.ring.items) (λ newest.
-        IsUnmarked T.mark_of T.old_value marks.now newest.1)) }
+    ensures { result ≡ false → IfSome (first_of T.unpacked in_tail head.now tails.now.ring.items) (λ newest.
+        IsUnmarked T.mark_of T.old_value marks.now newest.1) }
 {
-    let Some(marks) = marks else {
-        return false;
-    };
     if !marks.has_places {
         return false;
     }
@@ -367,15 +389,6 @@ fn blank_slots<T: Reversible>(
     Ok(slots)
 }
 
-/// Returns the number of kept actions after one more, when the log may be full.
-#[inline(always)]
-fn one_more(kept: usize, capacity: usize) -> usize
-    requires { kept ≤ capacity }
-    ensures { result ≡ min (kept + 1) capacity }
-{
-    if kept < capacity { kept + 1 } else { kept }
-}
-
 /// Returns the index of the slot after that of the newest kept action.
 #[inline(always)]
 fn next_slot(end: usize, capacity: usize) -> usize
@@ -389,7 +402,8 @@ fn next_slot(end: usize, capacity: usize) -> usize
 /// Returns n, or the limit if that is less.
 #[inline(always)]
 fn at_most(n: usize, limit: usize) -> usize
-    ensures { (result ≤ n) × (result ≤ limit) × (1 ≤ n → 1 ≤ limit → 1 ≤ result) }
+    ensures value { result ≡ min n limit }
+    ensures within { (result ≤ n) × (result ≤ limit) × (1 ≤ n → 1 ≤ limit → 1 ≤ result) }
 {
     if n < limit { n } else { limit }
 }

@@ -10,7 +10,7 @@ use Rattle.pp_rig.specs.declared.stopping.Hit.{Hit}
 use Rattle.pp_rig.specs.declared.stopping.Stopped.{Stopped}
 
 -- a turn added first, or added last
-turned-first : (turns : ℕ) (machine : Machine) → turned turns (turn machine) ≡ turned (suc turns) machine
+pub turned-first : (turns : ℕ) (machine : Machine) → turned turns (turn machine) ≡ turned (suc turns) machine
 turned-first zero machine = refl
 turned-first (suc turns) machine = ap turn (turned-first turns machine)
 

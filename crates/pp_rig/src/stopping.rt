@@ -1,5 +1,5 @@
 //! Runs of turns that stop at the first change of a watched number.
-ghost use Rattle.std.specs.Prelude.{◌≡◌, map, true};
+ghost use Rattle.std.specs.Prelude.{◌≡◌, ◌≤◌, map, true};
 ghost use Rattle.pp_history.specs.Marks.{AreCovered};
 ghost use Rattle.pp_history.specs.SessionValue.{SessionValue, IsAt, Moves, after_act, replay};
 ghost use Rattle.pp_history.specs.UndoRecord.{whole_record};
@@ -8,8 +8,7 @@ ghost use Rattle.pp_rig.specs.Action.{FitsRecord, before};
 ghost use Rattle.pp_rig.specs.Marks.{mark_of};
 ghost use Rattle.pp_rig.specs.Rules.{rules};
 ghost use Rattle.pp_rig.specs.Short.{unpacked};
-ghost use Rattle.pp_rig.specs.Stopping.{first_change, hit_of, stopped, after_turns};
-ghost use Rattle.pp_rig.specs.Turn.{turn};
+ghost use Rattle.pp_rig.specs.Stopping.{after_turns, first_change, stopped, turned};
 ghost use Rattle.pp_actions.specs.Watches.{watched_place, watches_of};
 
 use crate::rig::Rig;
@@ -70,21 +69,22 @@ fn newest_change(session: &Session<Rig>) -> Option<Hit>
     first_changed(session.machine(), &back)
 }
 
-/// Performs a turn, and returns the first watched place, in watch order, whose number it changed. After most turns the
-/// marks say that there is none.
-#[inline(always)]
+/// Performs turns, 1 to n, and returns what a run of at most so many turns returns: the last turn is the first that may
+/// have changed the number of a watched place, or the session had no more room without a gap.
 #[tactic(auto, unfolding(pp_actions::specs::Admitting::first_fault), using(crate::proofs::Runs::runs))]
-fn turn_watched(session: &mut Session<Rig>, marks: &Marks) -> Option<Hit>
-    requires { AreCovered mark_of marks.now (map watched_place (watches_of session.old.machine)) }
-    ensures machine { session.new.machine ≡ turn session.old.machine }
-    ensures at { Moves rules session.old session.new (λ v. after_act v Action.Turn) }
-    ensures hit { result ≡ hit_of session.old.machine }
+fn run_part(session: &mut Session<Rig>, n: u32, marks: &Marks) -> Stopped
+    requires some { 1 ≤ n }
+    requires covered { AreCovered mark_of marks.now (map watched_place (watches_of session.old.machine)) }
+    ensures some { (1 ≤ result.turns) × (result.turns ≤ n) }
+    ensures stops { result ≡ stopped result.turns session.old.machine }
+    ensures machine { session.new.machine ≡ turned result.turns session.old.machine }
+    ensures at { Moves rules session.old session.new (after_turns result.turns) }
 {
     session.has_session_value();
-    if session.act_marked(Action::Turn, marks) {
-        newest_change(session)
-    } else {
-        None
+    let turns = session.repeat(n, marks);
+    Stopped {
+        turns,
+        hit: newest_change(session),
     }
 }
 
@@ -101,16 +101,13 @@ pub fn run(session: &mut Session<Rig>, n: u32) -> Stopped
         IsAt rules session.new (after_turns result.turns v) }
 {
     let marks = Marks::of::<Rig>(session.machine().watched_places().as_slice());
-    for turns in 0..n {
-        if let Some(hit) = turn_watched(session, &marks) {
-            return Stopped {
-                turns: turns + 1,
-                hit: Some(hit),
-            };
+    let mut turns = 0;
+    while turns < n {
+        let Stopped { turns: more, hit } = run_part(session, n - turns, &marks);
+        turns += more;
+        if hit.is_some() {
+            return Stopped { turns, hit };
         }
     }
-    Stopped {
-        turns: n,
-        hit: None,
-    }
+    Stopped { turns, hit: None }
 }

@@ -1,7 +1,5 @@
-use Rattle.std.proofs.Common.{◌≡◌, ◌-◌}
-use Rattle.pp_history.specs.SessionValue.{SessionValue, IsAt}
-use Rattle.pp_machine.specs.Machine.{Machine}
-use Rattle.pp_actions.specs.declared.action.Action.{Action}
+use Rattle.std.proofs.Common.{◌≡◌, ◌-◌, ◌≤◌}
+use Rattle.pp_history.specs.SessionValue.{Moves}
 use Rattle.pp_rig.specs.Rules.{rules}
 use Rattle.pp_rig.specs.Stopping.{after_turns, stopped}
 use Rattle.pp_actions.specs.Watches.{watches_of}
@@ -10,7 +8,11 @@ use Rattle.pp_rig.proofs.stopping.run.Given as goal
 
 abbrev pub invariant-loop-turns : goal.invariant-loop-turns
 invariant-loop-turns l = record {
-  at : (v : SessionValue Machine Action) → IsAt rules l.fn.session v → IsAt rules l.session (after_turns l.turns v);
+  at_most : l.turns ≤ l.n;
+  at : Moves rules l.fn.session l.session (after_turns l.turns);
   stopped : stopped l.n l.fn.session.machine ≡ turns_before l.turns (stopped (l.n - l.turns) l.session.machine);
   watches : watches_of l.session.machine ≡ watches_of l.fn.session.machine;
 }
+
+abbrev pub decreases-loop-turns : goal.decreases-loop-turns
+decreases-loop-turns l = l.n - l.turns

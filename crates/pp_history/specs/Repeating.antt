@@ -1,0 +1,26 @@
+-- An action that is performed again and again.
+use Rattle.std.specs.Prelude.{◌≡◌, ℕ, zero, suc, ◌+◌, ◌<◌, replicate}
+use Rattle.pp_history.specs.declared.marks.Marks.{Marks}
+use Rattle.pp_history.specs.declared.reversible.Reversible.{Ghosts}
+use Rattle.pp_history.specs.Marks.{IsUnmarked}
+use Rattle.pp_history.specs.SessionValue.{SessionValue, after_act, replay}
+
+-- after the action was performed this many times
+unfoldable pub after_acts : {M A : Type 0} → ℕ → A → SessionValue M A → SessionValue M A
+after_acts zero action v = v
+after_acts (suc count) action v = after_act (after_acts count action v) action
+
+module _ {M A R P S : Type 0} (rules : Ghosts M A R P S) where
+  -- the machine after the action was performed this many times
+  abbrev pub repeated : ℕ → A → M → M
+  repeated count action machine = replay rules machine (replicate count action)
+
+  -- an action led from one machine to the other, and its undo record has none of the places that the marks cover
+  abbrev pub IsUnmarkedAct : Marks → M → M → Type 0
+  IsUnmarkedAct marks old new =
+      (back : R) × rules.fits back new × (rules.after_undo back new ≡ old) × IsUnmarked rules.mark_of rules.old_value marks back
+
+  -- the first so many times, no undo record had one of the places that the marks cover
+  abbrev pub AreUnmarked : Marks → A → ℕ → M → Type 0
+  AreUnmarked marks action count machine =
+      (k : ℕ) → k < count → IsUnmarkedAct marks (repeated k action machine) (repeated (k + 1) action machine)
