@@ -65,8 +65,13 @@ module _ {M A R P H : Type 0} (rules : Ghosts M A R P H) where
   discarded : (heads : List (Option H)) (n m : ℕ) (tails : Tails A R) (undone undone' : Buffer A) → IsLog rules.unpacked heads tails.ring undone n m →
       undone'.capacity ≡ length heads → IsLog rules.unpacked heads tails.ring undone' n 0
   discarded heads n m tails undone undone' log room = record {
-    some_room = log.some_room; bounded = log.bounded; room_for_tails = log.room_for_tails; room_for_undone = room;
-    full = omega (arith, log.full); ahead = refl; kept = log.kept;
+    some_room = log.some_room;
+    bounded = log.bounded;
+    room_for_tails = log.room_for_tails;
+    room_for_undone = room;
+    full = omega (arith, log.full);
+    ahead = refl;
+    kept = log.kept;
   }
 
   -- a machine and the parts of its log after the action was performed this many times, in slots from one on; no action is
@@ -87,12 +92,21 @@ module _ {M A R P H : Type 0} (rules : Ghosts M A R P H) where
       let all = length_turned end slots log.0 in
       let here : at + 0 ≡ at = omega arith in
       let kept : min (length now.records + 0) now.capacity ≡ n = rw value (omega (arith, log.1.kept, log.1.full, all)) in
-      record { same = refl; all = rw value (sym all); parts = λ undone' room. rw (here, kept, value) (record {
-        log = (omega (arith, next.0), rw turn at (discarded (turned end slots) n m tails undone undone' log.1 (rw value at room)));
-        moves = λ v at_v. rw (← turn) (record {
-          leads_back = at_v.leads_back; kept = at_v.kept; ahead = refl; admits_ahead = tt; capacity = at_v.capacity; room = omega (arith, at_v.room);
+      record {
+        same = refl;
+        all = rw value (sym all);
+        parts = λ undone' room. rw (here, kept, value) (record {
+          log = (omega (arith, next.0), rw turn at (discarded (turned end slots) n m tails undone undone' log.1 (rw value at room)));
+          moves = λ v at_v. rw (← turn) (record {
+            leads_back = at_v.leads_back;
+            kept = at_v.kept;
+            ahead = refl;
+            admits_ahead = tt;
+            capacity = at_v.capacity;
+            room = omega (arith, at_v.room);
+          });
         });
-      }) }
+      }
 
   -- once more
   pub repeat_more : {start machine machine' : M} {log : LogValue A R} (action : A) (from count most : ℕ) {slots : List (Option H)} {head : Option H} {tails tails' : Tails A R}

@@ -108,6 +108,18 @@ impl Reversible for Gauge {
     }
 }
 
+impl Repeatable for Gauge {
+    ghost use Rattle.std.specs.Prelude.{tt};
+
+    ghost repeated = { 7 };
+
+    ghost is_admitted = { λ gauge. tt };
+
+    fn repeated() -> u64 {
+        7
+    }
+}
+
 /// A call, and what it returns.
 enum Call {
     Act(u64),
@@ -233,4 +245,41 @@ const SEARCHED: [Row; 13] = [
 #[test]
 fn searches_short_and_long_records(rt: HostRuntime) -> Result<(), Fail> {
     follow_anew(&rt, rt.alloc(), 5, &SEARCHED)
+}
+
+/// Repeats the action n times, in as many calls as that takes.
+fn repeat(session: &mut Session<Gauge>, n: u32, marks: &Marks) -> u32 {
+    let mut left = n;
+    let mut calls = 0;
+    while left > 0 {
+        left -= session.repeat(left, marks);
+        calls += 1;
+    }
+    calls
+}
+
+#[test]
+fn repeats_an_action(rt: HostRuntime) -> Result<(), Fail> {
+    let mut session = session_of(rt.alloc(), Gauge { number: 300 }, 3)?;
+    follow(
+        &rt,
+        &mut session,
+        &[
+            (Act(5), 5, 1, 0),
+            (Act(6), 6, 2, 0),
+            (Back(1, Ok(())), 5, 1, 1),
+        ],
+    );
+    repeat(&mut session, 2, &Marks::of::<Gauge>(&[]));
+    follow(
+        &rt,
+        &mut session,
+        &[(Back(2, Ok(())), 5, 1, 2), (Forward(2, Ok(())), 7, 3, 0)],
+    );
+    repeat(&mut session, 5, &Marks::of::<Gauge>(&[]));
+    follow(&rt, &mut session, &[(Back(3, Ok(())), 7, 0, 3)]);
+    assert!(rt; repeat(&mut session, 4, &Marks::of::<Gauge>(&[()])) == 4);
+    follow(&rt, &mut session, &[(Find(None), 7, 3, 0)]);
+    drop(session);
+    Ok(())
 }

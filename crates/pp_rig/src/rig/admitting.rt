@@ -30,16 +30,6 @@ fn is_small(word: Option<u16>) -> bool
     }
 }
 
-/// Returns whether a state may be set. `Function` may not: it comes only from a processor.
-fn may_be_set(state: ChannelState) -> bool
-    ensures { result ≡ nat_lt (state_number state) function }
-{
-    match state {
-        ChannelState::Function => false,
-        _ => true,
-    }
-}
-
 impl Rig {
     /// Returns whether each number of the action is in its range.
     fn has_range(&self, action: &Action) -> bool
@@ -53,8 +43,9 @@ impl Rig {
             Action::SetA { pp, v } => *pp < 10 && *v <= 0o777777,
             Action::SetP { pp, v } | Action::SetQ { pp, v } => *pp < 10 && *v <= 0o7777,
             Action::SetWord { a, v } => *a < self.central_size.words() && *v < WORD_END,
+            // Function comes only from a processor.
             Action::SetChannel { c, state, word } => {
-                *c < 12 && may_be_set(*state) && is_small(*word)
+                *c < 12 && *state != ChannelState::Function && is_small(*word)
             }
             Action::Watch(watched) | Action::Unwatch(watched) => {
                 watched.is_watchable(self.central_size.words())
@@ -62,53 +53,22 @@ impl Rig {
         }
     }
 
-    fn check_watch(&self, watched: Watched) -> Result<(), ActionFault>
-        ensures { MatchResult result (λ _. state_fault self.now (Action.Watch watched) ≡ None) (λ fault. state_fault self.now (Action.Watch watched) ≡ Some fault) }
-    {
-        if self.watches.is_full() {
-            return Err(ActionFault::WatchesFull);
-        }
-        if self.watches.is_watched(watched) {
-            return Err(ActionFault::AlreadyWatched);
-        }
-        Ok(())
-    }
-
-    fn check_unwatch(&self, watched: Watched) -> Result<(), ActionFault>
-        ensures { MatchResult result (λ _. state_fault self.now (Action.Unwatch watched) ≡ None) (λ fault. state_fault self.now (Action.Unwatch watched) ≡ Some fault) }
-    {
-        if self.watches.is_watched(watched) {
-            Ok(())
-        } else {
-            Err(ActionFault::NotWatched)
-        }
-    }
-
-    fn check_panel(&self) -> Result<(), ActionFault>
-        ensures { MatchResult result (λ _. state_fault self.now Action.Deadstart ≡ None) (λ fault. state_fault self.now Action.Deadstart ≡ Some fault) }
-    {
-        match self.panel {
-            None => Err(ActionFault::NoPanel),
-            Some(_) => Ok(()),
-        }
-    }
-
     /// Checks an action whose numbers are in their ranges. Fails with the first cause for which it is not admitted.
     fn check_state(&self, action: &Action) -> Result<(), ActionFault>
         ensures { MatchResult result (λ _. state_fault self.now action.now ≡ None) (λ fault. state_fault self.now action.now ≡ Some fault) }
     {
-        match action {
-            Action::Watch(watched) => self.check_watch(*watched),
-            Action::Unwatch(watched) => self.check_unwatch(*watched),
-            Action::Deadstart => self.check_panel(),
-            Action::Turn
-            | Action::SetCells { .. }
-            | Action::SetA { .. }
-            | Action::SetP { .. }
-            | Action::SetQ { .. }
-            | Action::SetWord { .. }
-            | Action::SetChannel { .. } => Ok(()),
-        }
+        let fault = match action {
+            Action::Watch(_) if self.watches.is_full() => ActionFault::WatchesFull,
+            Action::Watch(watched) if self.watches.is_watched(*watched) => {
+                ActionFault::AlreadyWatched
+            }
+            Action::Unwatch(watched) if !self.watches.is_watched(*watched) => {
+                ActionFault::NotWatched
+            }
+            Action::Deadstart if self.panel.is_none() => ActionFault::NoPanel,
+            _ => return Ok(()),
+        };
+        Err(fault)
     }
 
     /// Checks whether the machine admits the action. The ranges and their order are this project's choice.

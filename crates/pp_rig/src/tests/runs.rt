@@ -125,6 +125,39 @@ fn no_turns_are_no_run(rt: HostRuntime) -> Result<(), Fail> {
     follow_anew(&rt, rt.alloc(), &NO_TURNS)
 }
 
+/// The same program, with a watched cell, in a session that keeps four actions.
+const STOPS_IN_A_SHORT_HISTORY: [Step; 10] = [
+    Step::Cells(0, 0o100, &[0o1405, 0o2400, 0o3450]),
+    Step::SetP(0, 0o100),
+    Step::Watch(CELL_50),
+    Step::Stops(
+        0o1000,
+        0o25,
+        Hit {
+            place: CELL_50,
+            was: 0,
+            now: 5,
+        },
+    ),
+    Step::Kept(4),
+    Step::Back(4, None),
+    Step::Is(SLOT, 7),
+    Step::Is(Place::Cell { pp: 0, a: 0o50 }, 0),
+    Step::Runs(3),
+    Step::Ahead(0),
+];
+
+#[test]
+fn a_run_may_be_longer_than_the_history(rt: HostRuntime) -> Result<(), Fail> {
+    let rig = make_rig(rt.alloc())?;
+    let Ok(mut session) = Session::new(rt.alloc(), rig, 4) else {
+        return Err("no memory".into());
+    };
+    follow(&rt, &mut session, &STOPS_IN_A_SHORT_HISTORY);
+    drop(session);
+    Ok(())
+}
+
 const WAITS: [Step; 7] = [
     Step::SetChannel(3, ChannelState::Empty, None),
     Step::Cells(0, 0o100, &[0o7403]),
