@@ -7,7 +7,7 @@ use Rattle.pp_history.specs.Joining.{IsActed, IsLog, first_of, log_value}
 use Rattle.pp_history.specs.LogValue.{LogValue}
 use Rattle.pp_history.specs.Marks.{IsUnmarked}
 use Rattle.pp_history.specs.Parts.{contents}
-use Rattle.pp_history.specs.Repeating.{AreUnmarked, after_acts, repeated}
+use Rattle.pp_history.specs.Repeating.{AreUnmarked, after_acts, machine_after}
 use Rattle.pp_history.specs.SessionValue.{IsAt, SessionValue, after_act, replay}
 use Rattle.pp_history.specs.Slots.{IsEnd, IsNextSlot, turned}
 use Rattle.pp_history.specs.Tails.{in_tail}
@@ -41,17 +41,17 @@ acts_discard (suc (suc count)) action v some = ap (λ v. after_act v action) (ac
 module _ {M A R P H : Type 0} (rules : Ghosts M A R P H) where
   -- the replay after the action was performed this many times
   pub acts_replayed : (count : ℕ) (action : A) (v : SessionValue M A) →
-      replay rules (after_acts count action v).start (after_acts count action v).standing ≡ repeated rules count action (replay rules v.start v.standing)
+      replay rules (after_acts count action v).start (after_acts count action v).standing ≡ machine_after rules count action (replay rules v.start v.standing)
   unfolding after_acts
   acts_replayed zero action v = refl
   acts_replayed (suc count) action v = ap (λ machine. rules.after_act machine action) (acts_replayed count action v)
 
-  pub repeated_more : (count : ℕ) (action : A) (machine : M) → repeated rules (count + 1) action machine ≡ rules.after_act (repeated rules count action machine) action
-  repeated_more count action machine = rw add-one refl
+  pub machine_after_more : (count : ℕ) (action : A) (machine : M) → machine_after rules (count + 1) action machine ≡ rules.after_act (machine_after rules count action machine) action
+  machine_after_more count action machine = rw add-one refl
 
   -- once more, without a covered place
   pub unmarked_more : (marks : Marks) (action : A) (count : ℕ) (start machine machine' : M) (head' : Option H) (tails tails' : Tails A R)
-      → machine ≡ repeated rules count action start → machine' ≡ repeated rules (count + 1) action start → IsActed rules machine machine' action head' tails tails'
+      → machine ≡ machine_after rules count action start → machine' ≡ machine_after rules (count + 1) action start → IsActed rules machine machine' action head' tails tails'
       → 1 ≤ tails.ring.capacity → IfSome (first_of rules.unpacked in_tail head' tails'.ring.items) (λ newest. IsUnmarked rules.mark_of rules.old_value marks newest.1)
       → AreUnmarked rules marks action count start → AreUnmarked rules marks action (count + 1) start
   unmarked_more marks action count start machine machine' head' tails tails' old new acted room unmarked before k less = elim (cases_lt k count) [
@@ -77,7 +77,7 @@ module _ {M A R P H : Type 0} (rules : Ghosts M A R P H) where
   -- a machine and the parts of its log after the action was performed this many times, in slots from one on; no action is
   -- ahead
   pub record IsRepetition (start : M) (log : LogValue A R) (action : A) (from count : ℕ) (machine : M) (slots : List (Option H)) (tails : Tails A R) : Type 0 where
-    pub same : machine ≡ repeated rules count action start
+    pub same : machine ≡ machine_after rules count action start
     pub all : length slots ≡ log.capacity
     pub parts : (undone : Buffer A) → undone.capacity ≡ log.capacity →
         IsRun rules (contents start log) (λ v. after_acts count action (without_ahead v)) machine (from + count) slots tails undone (min (length log.records + count) log.capacity) 0
@@ -118,7 +118,7 @@ module _ {M A R P H : Type 0} (rules : Ghosts M A R P H) where
       let next : IsNextSlot (from + count) (length slots) (from + count) = (omega (arith, less, within, before.all), inl refl) in
       let more : min (length log.records + (count + 1)) log.capacity ≡ min (min (length log.records + count) log.capacity + 1) (length slots) = omega (arith, before.all) in
       record {
-        same = rw (repeated_more count action start, ← before.same) acted.0;
+        same = rw (machine_after_more count action start, ← before.same) acted.0;
         all = omega (arith, before.all, length-set slots (from + count) head');
         parts = λ undone room.
             let run = run_act rules (before.parts undone room) is next action admitted head' acted more in

@@ -12,8 +12,8 @@ after_acts (suc count) action v = after_act (after_acts count action v) action
 
 module _ {M A R P S : Type 0} (rules : Ghosts M A R P S) where
   -- the machine after the action was performed this many times
-  abbrev pub repeated : ℕ → A → M → M
-  repeated count action machine = replay rules machine (replicate count action)
+  abbrev pub machine_after : ℕ → A → M → M
+  machine_after count action machine = replay rules machine (replicate count action)
 
   -- an action led from one machine to the other, and its undo record has none of the places that the marks cover
   abbrev pub IsUnmarkedAct : Marks → M → M → Type 0
@@ -23,4 +23,4 @@ module _ {M A R P S : Type 0} (rules : Ghosts M A R P S) where
   -- the first so many times, no undo record had one of the places that the marks cover
   abbrev pub AreUnmarked : Marks → A → ℕ → M → Type 0
   AreUnmarked marks action count machine =
-      (k : ℕ) → k < count → IsUnmarkedAct marks (repeated k action machine) (repeated (k + 1) action machine)
+      (k : ℕ) → k < count → IsUnmarkedAct marks (machine_after k action machine) (machine_after (k + 1) action machine)

@@ -7,7 +7,7 @@ ghost use Rattle.pp_history.specs.Joining.{IsActed, IsNext, first_of, left_by};
 ghost use Rattle.pp_history.specs.LogValue.{IsPerformed, LogValue, log_of};
 ghost use Rattle.pp_history.specs.Marks.{AreCovered, IsUnmarked};
 ghost use Rattle.pp_history.specs.Parts.{IsSession, contents};
-ghost use Rattle.pp_history.specs.Repeating.{AreUnmarked, after_acts, repeated};
+ghost use Rattle.pp_history.specs.Repeating.{AreUnmarked, after_acts, machine_after};
 ghost use Rattle.pp_history.specs.SessionValue.{Moves, after_back, after_forward};
 ghost use Rattle.pp_history.specs.Slots.{IsKeptSlot, IsLastEnd, IsNextSlot};
 ghost use Rattle.pp_history.specs.Search.{IsSearched, first_changing, differs_from};
@@ -228,14 +228,14 @@ impl<T: Reversible> Log<T> {
 }
 
 impl<T: Repeatable> Log<T> {
-    /// Performs the repeatable action 1 to n times, in slots that are side by side, and returns how often: until an undo
-    /// record may have one of the places that the marks cover.
+    /// Performs the repeatable action 1 to n times, in slots that are side by side, and returns how often. The last time
+    /// is at the latest the first whose undo record may have one of the places that the marks cover.
     #[inline(never)]
     pub(crate) fn repeat(&mut self, machine: &mut T, n: usize, marks: &Marks) -> usize
         requires some { 1 ≤ n }
         requires session { IsSession T.Reversible machine.old self.old }
         ensures some { (1 ≤ result) × (result ≤ n) }
-        ensures machine { machine.new ≡ repeated T.Reversible result T.repeated machine.old }
+        ensures machine { machine.new ≡ machine_after T.Reversible result T.repeated machine.old }
         ensures moves { Moves T.Reversible (contents machine.old self.old) (contents machine.new self.new) (after_acts result T.repeated) }
         ensures unmarked { AreUnmarked T.Reversible marks.now T.repeated (result - 1) machine.old }
     {

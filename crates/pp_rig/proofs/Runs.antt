@@ -18,7 +18,7 @@ use Rattle.pp_rig.specs.Rules.{rules}
 use Rattle.pp_rig.specs.Stopping.{after_turns, first_change, hit_of, hit_or, one_turn_more, stopped, turned}
 use Rattle.pp_rig.specs.Turn.{turn}
 use Rattle.pp_actions.specs.Watches.{watches_of, watched_place}
-use Rattle.pp_history.proofs.Repeats.{acts_replayed, repeated_more}
+use Rattle.pp_history.proofs.Repeats.{acts_replayed, machine_after_more}
 use Rattle.pp_rig.proofs.Shortest.{turned-first}
 use Rattle.pp_rig.proofs.Turns.{turn-watches}
 use Rattle.pp_actions.specs.declared.action.Action.{Action}
@@ -178,7 +178,7 @@ pub last_hit : (turns : ℕ) (old new : Machine) (v : SessionValue Machine Actio
     hit ≡ first_change (replay rules (after_acts turns Turn v).start (after_acts turns Turn v).standing) new (watches_of new) → hit ≡ hit_of (turned turns old)
 last_hit turns old new v hit replayed last found =
     let s = turned turns old in
-    let now : new ≡ turn s = last ∙ repeated_more rules turns Turn old in
+    let now : new ≡ turn s = last ∙ machine_after_more rules turns Turn old in
     let same : watches_of (turn s) ≡ watches_of s = ap (λ watches. watches_of (record s { watches = watches })) (turn-watches s) in
     rw (now, acts_replayed rules turns Turn v, ← replayed, same) at found
 

@@ -109,8 +109,6 @@ impl Reversible for Gauge {
 }
 
 impl Repeatable for Gauge {
-    ghost use Rattle.std.specs.Prelude.{tt};
-
     ghost repeated = { 7 };
 
     ghost is_admitted = { λ gauge. tt };
