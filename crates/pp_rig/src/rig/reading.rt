@@ -36,7 +36,7 @@ impl Rig {
         ensures in_range { IsInRange place.now result }
     {
         match *place {
-            Place::Cell { pp, a } => u64::from(self.processors[pp as usize].cell(a)),
+            Place::Cell { pp, a } => u64::from(self.processors[pp as usize].memory.get(a)),
             Place::RegA { pp } => u64::from(self.processors[pp as usize].pp.a),
             Place::RegP { pp } => u64::from(self.processors[pp as usize].pp.p),
             Place::RegQ { pp } => u64::from(self.processors[pp as usize].pp.q),

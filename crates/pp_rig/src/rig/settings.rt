@@ -11,20 +11,13 @@ use arrayvec::ArrayVec;
 use pp_machine::{Channel, ChannelState, Place, Write};
 
 impl Rig {
-    /// Theorem: the machine has the sizes of its setup. A field is read only because that opens the invariant.
-    fn keeps_sizes(&self)
-        ensures { IsShaped self.now.setup.central_words self.now }
-    {
-        let _slot = self.slot;
-    }
-
     /// Sets the number at a place that an action may set.
     fn set(&mut self, place: Place, value: u64)
         requires { IsSetting self.old.setup.central_words place value }
         ensures { self.new ≡ put self.old place value }
     {
         match place {
-            Place::Cell { pp, a } => self.processors[pp as usize].set_cell(a, value as u16),
+            Place::Cell { pp, a } => self.processors[pp as usize].memory.set(a, value as u16),
             Place::RegA { pp } => self.processors[pp as usize].pp.a = value as u32,
             Place::RegP { pp } => self.processors[pp as usize].pp.p = value as u16,
             Place::RegQ { pp } => self.processors[pp as usize].pp.q = value as u16,
@@ -99,7 +92,8 @@ impl Rig {
     {
         let old_values = self.old_values(list);
         self.put_all(list);
-        self.keeps_sizes();
+        // Reading a field opens the invariant: the machine has the sizes of its setup.
+        let _slot = self.slot;
         old_values
     }
 

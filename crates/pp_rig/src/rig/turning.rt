@@ -2,7 +2,7 @@
 ghost use Rattle.std.specs.Prelude.{◌≡◌, ◌<◌, ◌≤◌, IsTrue, false, None};
 ghost use Rattle.pp_history.specs.Tails.{IsKept};
 ghost use Rattle.pp_machine.specs.AllDevices.{all_model};
-ghost use Rattle.pp_machine.specs.Parts.{AreIdle, ArePerformed};
+ghost use Rattle.pp_machine.specs.Parts.{ArePerformed};
 ghost use Rattle.pp_machine.specs.Prelude.{over, renamed};
 ghost use Rattle.pp_rig.specs.IsMachine.{IsMachine};
 ghost use Rattle.pp_rig.specs.Lift.{pp_of};
@@ -27,20 +27,12 @@ impl Rig {
         back.devices = self.devices.step(&mut self.channels);
     }
 
-    /// Returns whether the channel of a device is active. If none is, the devices do nothing.
-    #[inline(always)]
-    fn are_devices_called(&self) -> bool
-        ensures { result ≡ false → AreIdle device_parts self.now }
-    {
-        self.devices.are_called(&self.channels)
-    }
-
-    /// Steps the devices, if the channel of one is active.
+    /// Steps the devices, if the channel of one is active. If none is, they do nothing.
     #[inline(always)]
     fn step_devices(&mut self, back: &mut TurnRest)
         ensures { AreDevicesStepped self.old self.new back.new }
     {
-        if self.are_devices_called() {
+        if self.devices.are_called(&self.channels) {
             self.step_called_devices(back);
         } else {
             back.are_devices_called = false;
