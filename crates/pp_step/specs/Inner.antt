@@ -18,8 +18,10 @@ abbrev pub Records : StepRecord → Writes PpPlace → Type 0
 Records back old_values = (pairs back ≡ old_values) × ((size : ℕ) → Fits size back)
 
 -- a step that writes a list, and its undo record, which has the old values and fits
-abbrev pub Performs : PpView → PpView → StepRecord → Writes PpPlace → Type 0
-Performs old new back writes = (new ≡ over old writes) × (pairs back ≡ old_values old writes) × Fits (length new.central) back
+pub record Performs (old new : PpView) (back : StepRecord) (writes : Writes PpPlace) : Type 0 where
+  pub step : new ≡ over old writes
+  pub old_values : pairs back ≡ old_values old writes
+  pub fits : Fits (length new.central) back
 
 -- these are the fields of an instruction word
 abbrev pub AreFields : Op → ℕ → Type 0
