@@ -44,13 +44,8 @@ address_in Constant d m cells at_most low small = low
 
 -- ---- channels of a step
 
-first_part : (x y : Bool) → (x && y) ≡ true → x ≡ true
-first_part x y h = grind arith
-
 data_channel : (state : ChannelState) (c : ℕ) (states : List ℕ) → is_in state c states ≡ true → c < 12
-data_channel state c states h =
-    let below = first_part (nat_lt c 12) _ h in
-    grind (arith, nat_tests, below)
+data_channel state c states h = grind (arith, nat_tests, h)
 
 active_channel : (c : ℕ) (states : List ℕ) → is_clock c ≡ false → is_active c states ≡ true → c < 12
 active_channel c states other h = grind (arith, nat_tests, other, h)

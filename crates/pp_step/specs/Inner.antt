@@ -1,11 +1,31 @@
 -- For the contracts of inner functions only: no definition of a step, and no contract of a public call, needs these.
-use Rattle.std.specs.Prelude.{ℕ, Bool, nat_lt, ◌-◌, ◌%◌, List, [], ◌∷◌, ◌+◌, ◌≡◌, slice_index, slice_set}
+use Rattle.std.specs.Prelude.{ℕ, Bool, nat_lt, ◌-◌, ◌/◌, ◌%◌, ◌≤◌, List, [], ◌∷◌, ◌+◌, ◌≡◌, length, slice_index, slice_set}
+use Rattle.pp_machine.specs.Writes.{Writes}
 use Rattle.pp_machine.specs.declared.pp.Pp.{Pp}
+use Rattle.pp_step.specs.InstructionTable.{code_of, number_of}
+use Rattle.pp_step.specs.Pairs.{pairs, Fits}
+use Rattle.pp_step.specs.View.{PpView, PpPlace, over, old_values}
 use Rattle.pp_step.specs.Words.{cell_after, central_after}
+use Rattle.pp_step.specs.declared.code.Op.{Op}
+use Rattle.pp_step.specs.declared.record.StepRecord.{StepRecord}
 
 -- a processor has these numbers
 abbrev pub HasRegisters : Pp → ℕ → ℕ → ℕ → ℕ → Type 0
 HasRegisters pp p a q phase = (pp.p ≡ p) × (pp.a ≡ a) × (pp.q ≡ q) × (pp.phase ≡ phase)
+
+-- a record that has these old values, and fits a machine of any size
+abbrev pub Records : StepRecord → Writes PpPlace → Type 0
+Records back old_values = (pairs back ≡ old_values) × ((size : ℕ) → Fits size back)
+
+-- a step that writes a list, and its undo record, which has the old values and fits
+pub record Performs (old new : PpView) (back : StepRecord) (writes : Writes PpPlace) : Type 0 where
+  pub step : new ≡ over old writes
+  pub old_values : pairs back ≡ old_values old writes
+  pub fits : Fits (length new.central) back
+
+-- these are the fields of an instruction word
+abbrev pub AreFields : Op → ℕ → Type 0
+AreFields op word = (op.code ≡ code_of (word / 0o100)) × (number_of op.code ≡ word / 0o100) × (op.d ≡ word % 0o100) × (op.d ≤ 0o77)
 
 -- the cells with five numbers written from an address on
 abbrev pub five_over : ℕ → List ℕ → List ℕ → List ℕ

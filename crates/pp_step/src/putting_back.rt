@@ -2,27 +2,22 @@
 
 ghost use Rattle.std.specs.Prelude.{◌≡◌, ◌<◌, ℕ, List, length, slice_set};
 ghost use Rattle.pp_machine.specs.ChannelNumbers.{state_number};
-ghost use Rattle.pp_step.specs.Pairs.{pairs, target_pairs, Fits, FitsTarget};
+ghost use Rattle.pp_step.specs.Pairs.{target_pairs, FitsTarget};
+ghost use Rattle.pp_step.specs.Step.{pp_pairs, FitsPp};
 ghost use Rattle.pp_step.specs.View.{pp_view, over};
 
 use crate::cells::put_five_cells;
-use crate::record::{StepRecord, Target};
+use crate::channel_states::holding;
+use crate::record::{PpRecord, StepRecord, Target};
 use pp_arith::split60;
-use pp_machine::{Central, Channel, ChannelState, Channels, Memory12, Pp};
+use pp_machine::{Central, ChannelState, Channels, Memory12, Pp};
 
 /// Writes a channel's state, but no record.
 fn put_state(c: u8, state: ChannelState, channels: &mut Channels)
     requires { c < 12 }
     ensures { channels.new ≡ record channels.old { states = slice_set channels.old.states c (state_number state) } }
 {
-    let old = channels.get(c);
-    channels.set(
-        c,
-        Channel {
-            state,
-            word: old.word,
-        },
-    );
+    channels.set(c, holding(state, channels.get(c).word));
 }
 
 /// Puts the numbers of a record's target at their places.
@@ -47,13 +42,7 @@ fn put_target(
         ),
         Target::Word => central.set(back.address.get(), back.word.get()),
         Target::State => put_state(back.channel, back.state, channels),
-        Target::Channel => channels.set(
-            back.channel,
-            Channel {
-                state: back.state,
-                word: back.value,
-            },
-        ),
+        Target::Channel => channels.set(back.channel, holding(back.state, back.value)),
         Target::CellAndState => {
             put_state(back.channel, back.state, channels);
             memory.set(back.address.get() as u16, back.value);
@@ -61,18 +50,19 @@ fn put_target(
     }
 }
 
-/// Puts the numbers of a record at their places.
+/// Undoes a step that was no exchange by its undo record, which must fit the machine, as it does right after that step.
 #[inline(always)]
-pub fn put_back(
+#[tactic(auto, unfolding(crate::specs::Step::pp_pairs, crate::specs::Step::FitsPp))]
+pub fn undo_short(
     back: &StepRecord,
     pp: &mut Pp,
     memory: &mut Memory12,
     channels: &mut Channels,
     central: &mut Central,
 )
-    requires { Fits (length central.old) back.now }
+    requires { FitsPp (length central.old) (PpRecord.Step back.now) }
     ensures { (frame : List ℕ) → pp_view pp.new memory.new channels.new central.new frame
-        ≡ over (pp_view pp.old memory.old channels.old central.old frame) (pairs back.now) }
+        ≡ over (pp_view pp.old memory.old channels.old central.old frame) (pp_pairs (PpRecord.Step back.now)) }
 {
     put_target(back, memory, channels, central);
     if back.target.writes_p() {

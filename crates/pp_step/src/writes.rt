@@ -9,6 +9,7 @@ ghost use Rattle.pp_step.specs.Words as words;
 ghost use Rattle.pp_arith.specs.Words60 as words60;
 
 use crate::cells::{joined_cells, put_five_cells};
+use crate::channel_states::holding;
 use crate::record::{StepRecord, Target};
 use pp_arith::split60;
 use pp_machine::{Central, Channel, ChannelState, Channels, Memory12, Unaligned32, Unaligned64};
@@ -94,11 +95,5 @@ pub fn set_state(c: u8, state: ChannelState, channels: &mut Channels, back: &mut
     let old = channels.get(c);
     back.channel = c;
     back.state = old.state;
-    channels.set(
-        c,
-        Channel {
-            state,
-            word: old.word,
-        },
-    );
+    channels.set(c, holding(state, old.word));
 }

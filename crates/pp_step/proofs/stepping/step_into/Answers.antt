@@ -12,5 +12,4 @@ returns-then-is_exchange c =
     let new = pp_view e.pp c.args.memory.now c.args.channels.now e.central e.frame in
     let writes : new ≡ over old (pp_writes old) = search rules in
     let kept : pp_pairs e.back ≡ old_values old (pp_writes old) = search rules in
-    let back : over new (pp_pairs e.back) ≡ old = leads_back old new (pp_writes old) (pp_pairs e.back) writes kept in
-    search rules
+    search (rules, leads_back)
