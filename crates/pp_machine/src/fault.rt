@@ -1,7 +1,7 @@
 ghost use Rattle.std.specs.Prelude.{◌≡◌};
 ghost use Rattle.pp_machine.specs.declared.fault.MakeFault.TheVariants.{NoMemory};
 
-use std::alloc::AllocError;
+use std::alloc::{AllocError, AllocFailed};
 
 /// Why a part of the machine could not be made. A constructor that fails drops its arguments.
 #[derive(Clone, Copy, PartialEq, Eq, Debug, Drop)]
@@ -16,6 +16,14 @@ impl From<AllocError> for MakeFault {
     ghost from_gives = { λ _ fault. fault ≡ NoMemory };
 
     fn from(_refused: AllocError) -> MakeFault {
+        MakeFault::NoMemory
+    }
+}
+
+impl<T: Drop> From<AllocFailed<T>> for MakeFault {
+    ghost from_gives = { λ _ fault. fault ≡ NoMemory };
+
+    fn from(_refused: AllocFailed<T>) -> MakeFault {
         MakeFault::NoMemory
     }
 }
