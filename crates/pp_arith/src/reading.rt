@@ -13,17 +13,10 @@ pub enum OctalFault {
     TooLarge,
 }
 
-/// Returns whether the byte is `0` to `7`.
-fn is_octal_digit(byte: u8) -> bool
-    ensures { result ≡ is_octal_digit byte }
-{
-    byte >= b'0' && byte <= b'7'
-}
-
 fn are_octal_digits(word: &[u8]) -> bool
     ensures { result ≡ list_all is_octal_digit word.now }
 {
-    word.iter().all(|byte| is_octal_digit(*byte))
+    word.iter().all(|byte| *byte >= b'0' && *byte <= b'7')
 }
 
 /// Returns whether the word is one or more octal digits, `0` to `7`, and nothing else (this project's

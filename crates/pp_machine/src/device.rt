@@ -10,16 +10,13 @@ use crate::place::Place;
 /// A device on a data channel. It sees its own numbers, and the state and the register of its channel.
 pub trait Device: Drop {
     /// The undo record of one step.
-    type Record: Copy;
+    type Record: Copy + Default;
 
     /// The names of the device's own numbers.
     ghost Own: { Type 0 };
 
     /// What a step writes, what an undo record has, and where a machine has the device.
     ghost model: { DeviceModel Self Own Self.Record };
-
-    /// Returns a record to overwrite.
-    fn blank() -> Self::Record;
 
     /// Makes one step of the device with its channel, and returns the undo record. The record holds the old number of
     /// each place that was written, and of no other place.

@@ -19,13 +19,10 @@ use std::marker::Model;
 /// The devices of a machine.
 pub trait Devices: Drop {
     /// The undo records of one step of each device.
-    type Records: Copy;
+    type Records: Copy + Default;
 
     /// What the steps write, what the undo records have, and where a machine has the devices.
     ghost model: { DevicesModel Self Self.Records };
-
-    /// Returns records to overwrite.
-    fn blank() -> Self::Records;
 
     /// Returns whether the channel of a device is active. If none is, the devices do nothing.
     fn are_called(&self, channels: &Channels) -> bool
@@ -47,7 +44,7 @@ pub trait Devices: Drop {
 }
 
 /// No device. It ends the list of devices.
-#[derive(Clone, Copy, Drop)]
+#[derive(Clone, Copy, Default, Drop)]
 pub struct NoDevices;
 
 /// A device on its channel, and the devices after it.
@@ -59,7 +56,7 @@ pub struct On<D: Device, R: Devices> {
 }
 
 /// The undo record of a device with the channel that it was on, and those of the devices after it.
-#[derive(Clone, Copy, Drop)]
+#[derive(Clone, Copy, Default, Drop)]
 pub struct OnRecords<D, R> {
     pub channel: u8,
     pub own: D,
@@ -123,11 +120,6 @@ impl Devices for NoDevices {
     ghost model = { no_devices };
 
     #[inline(always)]
-    fn blank() -> NoDevices {
-        NoDevices
-    }
-
-    #[inline(always)]
     fn are_called(&self, _channels: &Channels) -> bool {
         false
     }
@@ -150,15 +142,6 @@ impl<D: Device, R: Devices> Devices for On<D, R> {
     type Records = OnRecords<D::Record, R::Records>;
 
     ghost model = { on D.model R.model };
-
-    #[inline(always)]
-    fn blank() -> OnRecords<D::Record, R::Records> {
-        OnRecords {
-            channel: 0,
-            own: D::blank(),
-            others: R::blank(),
-        }
-    }
 
     #[inline(always)]
     fn are_called(&self, channels: &Channels) -> bool {

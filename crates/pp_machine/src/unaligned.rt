@@ -30,10 +30,8 @@ impl Unaligned16 {
     pub fn new(n: u16) -> Unaligned16
         ensures { result ≡ n }
     {
-        Unaligned16 {
-            low: (n & 0xff) as u8,
-            high: (n >> 8) as u8,
-        }
+        let (low, high) = ((n & 0xff) as u8, (n >> 8) as u8);
+        Unaligned16 { low, high }
     }
 
     /// Returns the number.
@@ -70,10 +68,8 @@ impl Unaligned32 {
     pub fn new(n: u32) -> Unaligned32
         ensures { result ≡ n }
     {
-        Unaligned32 {
-            low: (n & 0xffff) as u16,
-            high: (n >> 16) as u16,
-        }
+        let (low, high) = ((n & 0xffff) as u16, (n >> 16) as u16);
+        Unaligned32 { low, high }
     }
 
     /// Returns the number.
@@ -110,10 +106,9 @@ impl Unaligned64 {
     pub fn new(n: u64) -> Unaligned64
         ensures { result ≡ n }
     {
-        Unaligned64 {
-            low: Unaligned32::new((n & 0xffff_ffff) as u32),
-            high: Unaligned32::new((n >> 32) as u32),
-        }
+        let low = Unaligned32::new((n & 0xffff_ffff) as u32);
+        let high = Unaligned32::new((n >> 32) as u32);
+        Unaligned64 { low, high }
     }
 
     /// Returns the number.

@@ -30,11 +30,8 @@ pub fn all_devices(
     requires prints { printer_channel < 12 }
     ensures { result ≡ record { channel = reader_channel; device = reader; others = record { channel = printer_channel; device = printer; others = record {} } } }
 {
-    On::new(
-        reader_channel,
-        reader,
-        On::new(printer_channel, printer, NoDevices),
-    )
+    let others = On::new(printer_channel, printer, NoDevices);
+    On::new(reader_channel, reader, others)
 }
 
 /// Theorem: the numbers of each device are in range. The function does nothing.

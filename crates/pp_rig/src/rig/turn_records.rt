@@ -18,7 +18,7 @@ impl TurnRest {
             slot: 0,
             are_devices_called: false,
             clock: 0,
-            devices: AllDevices::blank(),
+            devices: AllRecords::default(),
         }
     }
 
