@@ -1,9 +1,11 @@
 -- Rows of the whole machine: a number of turns leads from some numbers to others.
-use Rattle.std.specs.Prelude.{ℕ, zero, suc, ◌≡◌, List, Option, replicate}
+use Rattle.std.specs.Prelude.{ℕ, zero, suc, ◌≡◌, List, [], ◌∷◌, Option, Some, None, replicate}
 use Rattle.pp_machine.specs.Prelude.{Machine, over, old_values, Writes, words_of}
 use Rattle.pp_machine.specs.declared.place.Place.{Place}
+use Rattle.pp_rig.specs.Action.{next}
 use Rattle.pp_rig.specs.Starting.{blank_processor}
 use Rattle.pp_rig.specs.Turn.{turn}
+use Rattle.pp_actions.specs.declared.action.Action.TheVariants.{Deadstart}
 use Rattle.pp_actions.specs.declared.setup.Setup.{Setup}
 
 -- the starting machine with 100000 central words, this deck in the reader on channel 12, the printer on channel 13,
@@ -36,6 +38,14 @@ after (suc turns) m = after turns (turn m)
 -- the machine has these numbers
 abbrev pub Shows : Machine → Writes Place → Type 0
 Shows m numbers = old_values m numbers ≡ numbers
+
+-- the starting machine without cards and without a panel
+abbrev pub at_rest : Machine
+at_rest = blank [] None
+
+-- the machine with these numbers after a dead start by a panel that begins with 1405 3420 0300
+abbrev pub dead_started : Writes Place → Machine
+dead_started before = next (over (blank [] (Some (0o1405 ∷ 0o3420 ∷ 0o300 ∷ replicate 9 0))) before) Deadstart
 
 -- This many turns lead from the machine with the first numbers to a machine with the second.
 abbrev pub Leads : Machine → Writes Place → ℕ → Writes Place → Type 0
