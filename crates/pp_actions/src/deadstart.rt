@@ -110,6 +110,5 @@ fn with_numbers(pairs: &[Write], numbers: &[u32]) -> ArrayVec<Write, 76>
 pub fn renumbered(numbers: &[u32]) -> ArrayVec<Write, 76>
     ensures { write_list result.items ≡ with_new_numbers deadstart_places numbers.now }
 {
-    let list = deadstart_settings(&[0; 12]);
-    with_numbers(list.as_slice(), numbers)
+    with_numbers(&deadstart_settings(&[0; 12]), numbers)
 }
