@@ -134,9 +134,8 @@ fn options_of(alloc: Global, matches: &ArgMatches) -> Result<Options, ArgFault>
 /// N is 1 to 10,000, K is 32, 64 or 128, and C is 0 to 13 octal.
 ///
 /// # Errors
-/// `NoMemory` if memory runs out. `Help` or `BadArguments` if the words are not those of this command
-/// line, as `clap` reads it. Otherwise `BadArguments` if N or K is out of range, and otherwise
-/// `BadChannel` if a channel is.
+/// `NoMemory` if memory runs out. `Help` or `BadArguments` if the words are not those of this command line, as `clap`
+/// reads it. Otherwise `BadArguments` if N or K is out of range, and otherwise `BadChannel` if a channel is.
 pub fn read_arguments(alloc: Global, words: Vec<String>) -> Result<Options, ArgFault>
     ensures asked { IfOk result (AreAskedBy (map string_bytes words.items)) }
     ensures ranges { IfOk result AreInRange }
