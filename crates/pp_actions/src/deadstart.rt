@@ -25,24 +25,16 @@ fn registers(pp: u8, a: u64, p: u64, q: u64, phase: u64) -> [Write; 4]
     ]
 }
 
-/// Appends the settings that make a processor wait for input on the channel of its number.
-fn push_waiting(list: &mut ArrayVec<Write, 76>, pp: u8)
-    requires { array_vec_len list.old + 5 ≤ 76 }
-    ensures items { write_list list.new.items ≡ write_list list.old.items ++ waiting pp }
-    ensures len { array_vec_len list.new ≡ array_vec_len list.old + 5 }
-{
-    list.push(Write::new(Place::Cell { pp, a: 0 }, 0));
-    append(list, &registers(pp, 0o10000, 0, 0, 0o7100 + u64::from(pp)));
-}
-
-/// Appends these settings for all processors except the first.
+/// Appends the settings that make all processors except the first wait for input on the channel of their number.
 fn push_all_waiting(list: &mut ArrayVec<Write, 76>)
     requires { array_vec_len list.old + 45 ≤ 76 }
     ensures items { write_list list.new.items ≡ write_list list.old.items ++ all_waiting 1 9 }
     ensures len { array_vec_len list.new ≡ array_vec_len list.old + 45 }
 {
     for n in 0..9u8 {
-        push_waiting(list, n + 1);
+        let pp = n + 1;
+        list.push(Write::new(Place::Cell { pp, a: 0 }, 0));
+        append(list, &registers(pp, 0o10000, 0, 0, 0o7100 + u64::from(pp)));
     }
 }
 
@@ -110,6 +102,5 @@ fn with_numbers(pairs: &[Write], numbers: &[u32]) -> ArrayVec<Write, 76>
 pub fn renumbered(numbers: &[u32]) -> ArrayVec<Write, 76>
     ensures { write_list result.items ≡ with_new_numbers deadstart_places numbers.now }
 {
-    let list = deadstart_settings(&[0; 12]);
-    with_numbers(list.as_slice(), numbers)
+    with_numbers(&deadstart_settings(&[0; 12]), numbers)
 }

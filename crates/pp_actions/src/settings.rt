@@ -49,19 +49,13 @@ pub fn settings_of(action: &Action) -> ArrayVec<Write, 8>
         ]),
         Action::SetQ { pp, v } => list_of(&[Write::new(Place::RegQ { pp: *pp }, u64::from(*v))]),
         Action::SetWord { a, v } => list_of(&[Write::new(Place::Central { a: *a }, *v)]),
-        Action::SetChannel {
-            c,
-            state,
-            word: None,
-        } => list_of(&[Write::new(Place::ChannelMode { c: *c }, *state as u64)]),
-        Action::SetChannel {
-            c,
-            state,
-            word: Some(word),
-        } => list_of(&[
-            Write::new(Place::ChannelMode { c: *c }, *state as u64),
-            Write::new(Place::ChannelWord { c: *c }, u64::from(*word)),
-        ]),
+        Action::SetChannel { c, state, word } => {
+            let mut list = list_of(&[Write::new(Place::ChannelMode { c: *c }, *state as u64)]);
+            if let Some(word) = word {
+                list.push(Write::new(Place::ChannelWord { c: *c }, u64::from(*word)));
+            }
+            list
+        }
         Action::Turn | Action::Watch(_) | Action::Unwatch(_) | Action::Deadstart => ArrayVec::new(),
     }
 }

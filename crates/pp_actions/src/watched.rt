@@ -166,11 +166,7 @@ impl WatchList {
     pub fn entry(&self, i: u8) -> u64
         ensures { result ≡ slice_index self.now i }
     {
-        if usize::from(i) < self.places.len() {
-            self.places[i as usize].code()
-        } else {
-            0
-        }
+        self.places.get(i as usize).map_or(0, |place| place.code())
     }
 
     /// Adds a place after the others.

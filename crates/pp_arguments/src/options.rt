@@ -1,7 +1,7 @@
 //! The options of the program: what the words of the command line ask for, or why they are rejected.
 ghost use Rattle.pp_arguments.specs.CommandLine.{Text, faults_of};
-ghost use Rattle.pp_arguments.specs.Inner.{AreGiven, AreNumbersInRange, AreNumbersOf};
-ghost use Rattle.pp_arguments.specs.Options.{AreAskedBy, AreInRange, IsCauseOf, IsMemoryOrChannel, are_admitted, asked_or, central_read, channel_read, history_read, size_of};
+ghost use Rattle.pp_arguments.specs.Inner.{AreGiven};
+ghost use Rattle.pp_arguments.specs.Options.{AreAskedBy, AreInRange, IsCauseOf, IsMemoryOrChannel, are_admitted, asked_or, central_read, channel_read, history_read};
 ghost use Rattle.std.specs.Prelude.{◌≡◌, ◌≤◌, [], List, map, option_map, IfErr, IfOk, IfSome, IsTrue, OnOk};
 ghost use Rattle.std.specs.String.{string_bytes};
 
@@ -46,15 +46,6 @@ pub enum ArgFault {
     BadChannel,
 }
 
-/// The numbers among the options.
-#[derive(Clone, Copy)]
-struct Numbers {
-    history: u32,
-    central: CentralSize,
-    reader: u8,
-    printer: u8,
-}
-
 /// The largest number of actions in an undo history.
 const MOST_KEPT: u32 = 10_000;
 
@@ -73,21 +64,7 @@ fn history(word: Option<&str>) -> Option<u32>
     let Some(word) = word else {
         return Some(MOST_KEPT);
     };
-    match read_decimal(word, MOST_KEPT) {
-        Some(count) if count >= 1 => Some(count),
-        _ => None,
-    }
-}
-
-fn size(thousands: u32) -> Option<CentralSize>
-    ensures { result ≡ size_of thousands }
-{
-    match thousands {
-        32 => Some(CentralSize::K32),
-        64 => Some(CentralSize::K64),
-        128 => Some(CentralSize::K128),
-        _ => None,
-    }
+    read_decimal(word, MOST_KEPT).filter(|count| *count >= 1)
 }
 
 fn central(word: Option<&str>) -> Option<CentralSize>
@@ -96,7 +73,12 @@ fn central(word: Option<&str>) -> Option<CentralSize>
     let Some(word) = word else {
         return Some(CentralSize::K128);
     };
-    size(read_decimal(word, 128)?)
+    match read_decimal(word, 128)? {
+        32 => Some(CentralSize::K32),
+        64 => Some(CentralSize::K64),
+        128 => Some(CentralSize::K128),
+        _ => None,
+    }
 }
 
 fn channel(word: Option<&str>, usual: u8) -> Option<u8>
@@ -107,10 +89,8 @@ fn channel(word: Option<&str>, usual: u8) -> Option<u8>
     let Some(word) = word else {
         return Some(usual);
     };
-    match read_octal(word.as_bytes(), LAST_CHANNEL) {
-        Ok(number) => Some(number as u8),
-        Err(_) => None,
-    }
+    let number = read_octal(word.as_bytes(), LAST_CHANNEL).ok()?;
+    Some(number as u8)
 }
 
 fn file(alloc: Global, word: Option<&str>) -> Result<Option<String>, ArgFault>
@@ -120,40 +100,7 @@ fn file(alloc: Global, word: Option<&str>) -> Result<Option<String>, ArgFault>
     let Some(word) = word else {
         return Ok(None);
     };
-    match word.to_string(alloc) {
-        Ok(name) => Ok(Some(name)),
-        Err(_) => Err(ArgFault::NoMemory),
-    }
-}
-
-/// Returns the numbers that the words with these matches ask for.
-///
-/// # Errors
-/// `BadArguments` and `BadChannel`.
-fn read_numbers(matches: &ArgMatches) -> Result<Numbers, ArgFault>
-    ensures asked { (words : List Text) → AreGiven words matches.now → IfOk result (AreNumbersOf words) }
-    ensures ranges { IfOk result AreNumbersInRange }
-    ensures cause { (words : List Text) → AreGiven words matches.now → faults_of words ≡ [] → IfErr result (IsCauseOf words) }
-    ensures admitted { (words : List Text) → AreGiven words matches.now → IsTrue (are_admitted words) → IfErr result IsMemoryOrChannel }
-{
-    let Some(history) = history(matches.get_str("history")) else {
-        return Err(ArgFault::BadArguments);
-    };
-    let Some(central) = central(matches.get_str("central")) else {
-        return Err(ArgFault::BadArguments);
-    };
-    let Some(reader) = channel(matches.get_str("reader"), READER_CHANNEL) else {
-        return Err(ArgFault::BadChannel);
-    };
-    let Some(printer) = channel(matches.get_str("printer"), PRINTER_CHANNEL) else {
-        return Err(ArgFault::BadChannel);
-    };
-    Ok(Numbers {
-        history,
-        central,
-        reader,
-        printer,
-    })
+    Ok(Some(word.to_string(alloc).map_err(|_| ArgFault::NoMemory)?))
 }
 
 /// Returns the options that the words with these matches ask for.
@@ -166,27 +113,19 @@ fn options_of(alloc: Global, matches: &ArgMatches) -> Result<Options, ArgFault>
     ensures cause { (words : List Text) → AreGiven words matches.now → faults_of words ≡ [] → IfErr result (IsCauseOf words) }
     ensures admitted { (words : List Text) → AreGiven words matches.now → IsTrue (are_admitted words) → IfErr result IsMemoryOrChannel }
 {
-    let numbers = read_numbers(matches)?;
+    let history = history(matches.get_str("history")).ok_or(ArgFault::BadArguments)?;
+    let central = central(matches.get_str("central")).ok_or(ArgFault::BadArguments)?;
+    let reader = channel(matches.get_str("reader"), READER_CHANNEL).ok_or(ArgFault::BadChannel)?;
+    let printer = channel(matches.get_str("printer"), PRINTER_CHANNEL).ok_or(ArgFault::BadChannel)?;
     Ok(Options {
-        history: numbers.history,
-        central: numbers.central,
+        history,
+        central,
         deck: file(alloc, matches.get_str("deck"))?,
-        reader: numbers.reader,
-        printer: numbers.printer,
+        reader,
+        printer,
         panel: file(alloc, matches.get_str("panel"))?,
         script: file(alloc, matches.get_str("script"))?,
     })
-}
-
-fn read_options(alloc: Global, words: &[String]) -> Result<Options, ArgFault>
-    ensures asked { IfOk result (AreAskedBy (map string_bytes words.now)) }
-    ensures ranges { IfOk result AreInRange }
-    ensures line { OnOk result (faults_of (map string_bytes words.now) ≡ []) }
-    ensures cause { IfErr result (IsCauseOf (map string_bytes words.now)) }
-    ensures admitted { IsTrue (are_admitted (map string_bytes words.now)) → IfErr result IsMemoryOrChannel }
-{
-    let matches = read_words(alloc, words)?;
-    options_of(alloc, &matches)
 }
 
 /// Returns the options that the words ask for. The first word is the program's name:
@@ -195,9 +134,8 @@ fn read_options(alloc: Global, words: &[String]) -> Result<Options, ArgFault>
 /// N is 1 to 10,000, K is 32, 64 or 128, and C is 0 to 13 octal.
 ///
 /// # Errors
-/// `NoMemory` if memory runs out. `Help` or `BadArguments` if the words are not those of this command
-/// line, as `clap` reads it. Otherwise `BadArguments` if N or K is out of range, and otherwise
-/// `BadChannel` if a channel is.
+/// `NoMemory` if memory runs out. `Help` or `BadArguments` if the words are not those of this command line, as `clap`
+/// reads it. Otherwise `BadArguments` if N or K is out of range, and otherwise `BadChannel` if a channel is.
 pub fn read_arguments(alloc: Global, words: Vec<String>) -> Result<Options, ArgFault>
     ensures asked { IfOk result (AreAskedBy (map string_bytes words.items)) }
     ensures ranges { IfOk result AreInRange }
@@ -205,5 +143,6 @@ pub fn read_arguments(alloc: Global, words: Vec<String>) -> Result<Options, ArgF
     ensures cause { IfErr result (IsCauseOf (map string_bytes words.items)) }
     ensures admitted { IsTrue (are_admitted (map string_bytes words.items)) → IfErr result IsMemoryOrChannel }
 {
-    read_options(alloc, words.as_slice())
+    let matches = read_words(alloc, words.as_slice())?;
+    options_of(alloc, &matches)
 }

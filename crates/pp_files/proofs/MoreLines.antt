@@ -64,9 +64,6 @@ file-fault rule limit bytes done more fault split e = rw (split, lines-fault rul
 pub lines-short : (limit : ℕ) (bytes : List ℕ) → length bytes ≤ limit → lines_of_file limit bytes ≡ lines bytes
 lines-short limit bytes h = grind (arith, nat_tests)
 
-lines-long : (limit : ℕ) (bytes : List ℕ) → limit < length bytes → lines_of_file limit bytes ≡ finished (take limit bytes)
-lines-long limit bytes h = grind (arith, nat_tests)
-
 -- a file within the limit
 pub file-short : (rule : Rule) (limit : ℕ) (bytes : List ℕ) → length bytes ≤ limit → rows_of_file rule limit bytes ≡ rows_of_lines rule (lines bytes)
 unfolding rows_of_file

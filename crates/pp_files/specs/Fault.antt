@@ -1,5 +1,5 @@
 -- Why a file was not loaded.
-use Rattle.std.specs.Prelude.{◌≡◌, ℕ, ◌+◌, ◌≤◌, ◌⊎◌, List, [], ◌∷◌, ◌++◌, length, Some, Result, Ok, Err}
+use Rattle.std.specs.Prelude.{◌≡◌, ℕ, ◌+◌, ◌≤◌, ◌⊎◌, List, [], ◌∷◌, ◌++◌, length, Some, Result, Ok, Err, MatchResult}
 use Rattle.pp_lines.specs.Device.{one_more}
 use Rattle.pp_lines.specs.Lines.{finished}
 use Rattle.pp_files.specs.declared.fault.LoadFault.{LoadFault}
@@ -36,3 +36,7 @@ IsCauseOf rule file taken bytes fault =
 abbrev pub reads_after : LoadFault → ℕ → ℕ
 reads_after ReadFailed count = one_more count
 reads_after fault count = count
+
+-- a failed read raises the source's count of failures by one, and nothing else does
+abbrev pub CountsReads : {A : Type 0} → ℕ → ℕ → Result A LoadFault → Type 0
+CountsReads old new result = MatchResult result (λ _. new ≡ old) (λ fault. new ≡ reads_after fault old)

@@ -2,8 +2,8 @@
 ghost use Rattle.std.specs.Io.KnownBytes.{Consumes, IsAtEnd};
 ghost use Rattle.std.specs.Prelude.{◌≡◌, ◌≢◌, ◌<◌, ◌++◌, ℕ, List, All, Ok, IfOk, IfErr, OnOk, MatchResult};
 ghost use Rattle.pp_lines.specs.Device.{all_bytes};
-ghost use Rattle.pp_files.specs.Files.{card_rule, panel_rule, whole_panel, deck_of_file, panel_of_file};
-ghost use Rattle.pp_files.specs.Fault.{IsCauseOf, reads_after};
+ghost use Rattle.pp_files.specs.Files.{card_rule, panel_rule, deck_of_file, panel_of_file};
+ghost use Rattle.pp_files.specs.Fault.{CountsReads, IsCauseOf};
 
 use crate::fault::LoadFault;
 use crate::loading::read_sheet;
@@ -30,9 +30,7 @@ pub fn load_deck<R: Source>(alloc: Global, source: &mut R) -> Result<Vec<[u16; C
         (λ fault. IsCauseOf card_rule deck_of_file taken (all_bytes (R.rest source.old) taken) fault) }
     ensures within { IfOk result (λ deck. All (All (λ value. value < 0o10000)) deck.items) }
     ensures all { OnOk result (IsAtEnd (R.rest source.new)) }
-    ensures reads { MatchResult result
-        (λ _. R.failure_count source.new ≡ R.failure_count source.old)
-        (λ fault. R.failure_count source.new ≡ reads_after fault (R.failure_count source.old)) }
+    ensures reads { CountsReads (R.failure_count source.old) (R.failure_count source.new) result }
 {
     let mut deck = Deck {
         cards: Vec::new(alloc),
@@ -58,26 +56,11 @@ pub fn load_panel<R: Source>(source: &mut R) -> Result<[u16; PANEL_WORDS], LoadF
     ensures within { IfOk result (λ panel. All (λ value. value < 0o10000) panel) }
     ensures no_memory { IfErr result (λ fault. fault ≢ LoadFault.NoMemory) }
     ensures all { OnOk result (IsAtEnd (R.rest source.new)) }
-    ensures reads { MatchResult result
-        (λ _. R.failure_count source.new ≡ R.failure_count source.old)
-        (λ fault. R.failure_count source.new ≡ reads_after fault (R.failure_count source.old)) }
+    ensures reads { CountsReads (R.failure_count source.old) (R.failure_count source.new) result }
 {
     let mut panel = Panel {
         words: ArrayVec::new(),
     };
     read_sheet(source, &mut panel)?;
-    whole(&panel)
-}
-
-/// Returns the words of a panel that has all twelve.
-fn whole(panel: &Panel) -> Result<[u16; PANEL_WORDS], LoadFault>
-    ensures whole { result ≡ whole_panel panel.now.words.items }
-    ensures within { IfOk result (λ words. All (λ value. value < 0o10000) words) }
-{
-    if panel.words.len() != PANEL_WORDS {
-        return Err(LoadFault::PanelCount);
-    }
-    let mut words = [0; PANEL_WORDS];
-    words.copy_from_slice(panel.words.as_slice());
-    Ok(words)
+    panel.words.into_inner().map_err(|_| LoadFault::PanelCount)
 }

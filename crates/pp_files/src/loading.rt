@@ -4,7 +4,7 @@ ghost use Rattle.std.specs.Prelude.{◌≡◌, ◌+◌, ◌∷◌, ◌++◌, [],
 ghost use Rattle.pp_lines.specs.Device.{all_bytes};
 ghost use Rattle.pp_files.specs.Rows.{Row};
 ghost use Rattle.pp_files.specs.Files.{with_line, file_limit, rows_of_file};
-ghost use Rattle.pp_files.specs.Fault.{IsCauseOf, reads_after};
+ghost use Rattle.pp_files.specs.Fault.{CountsReads, IsCauseOf};
 ghost use Rattle.pp_files.specs.Loading.{HasRead, Reads, FailsAt, FailsIn, IsLineFault, IsSheetFault};
 
 use crate::fault::LoadFault;
@@ -107,9 +107,7 @@ pub fn read_sheet<R: Source, S: Sheet>(source: &mut R, sheet: &mut S) -> Result<
         (λ _. Reads (S.holds sheet.new) (rows_of_file S.rule file_limit taken))
         (λ fault. IsCauseOf S.rule (rows_of_file S.rule file_limit) taken (all_bytes (R.rest source.old) taken) fault) }
     ensures all { OnOk result (IsAtEnd (R.rest source.new)) }
-    ensures reads { MatchResult result
-        (λ _. R.failure_count source.new ≡ R.failure_count source.old)
-        (λ fault. R.failure_count source.new ≡ reads_after fault (R.failure_count source.old)) }
+    ensures reads { CountsReads (R.failure_count source.old) (R.failure_count source.new) result }
     ensures faults { IfErr result (IsSheetFault S.needs_memory) }
 {
     let mut progress = Progress::new();

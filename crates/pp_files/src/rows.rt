@@ -12,20 +12,13 @@ use pp_lines::next_word;
 /// The largest number in a file.
 const MOST: u64 = 0o7777;
 
-/// Returns whether the word is octal and at most the largest number.
-fn is_number(word: &[u8]) -> bool
-    ensures { result ≡ is_number word.now }
-{
-    read_octal(word, MOST).is_ok()
-}
-
 /// Returns whether all words of the text are octal and at most the largest number.
 pub fn are_numbers(text: &[u8]) -> bool
     ensures { result ≡ list_all is_number (words text.now) }
 {
     let mut rest = text;
     'words: while let Some((word, others)) = next_word(rest) {
-        if !is_number(word) {
+        if read_octal(word, MOST).is_err() {
             return false;
         }
         rest = others;

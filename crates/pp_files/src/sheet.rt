@@ -57,22 +57,9 @@ impl Sheet for Deck {
     ghost needs_memory = { true };
 
     fn add(&mut self, line: u32, text: &[u8]) -> Result<(), LoadFault> {
-        let Some(row) = numbers::<COLUMNS>(text) else {
-            return Err(LoadFault::TooManyWords(line));
-        };
-        match self.cards.push(card(&row)) {
-            Ok(()) => Ok(()),
-            Err(_) => Err(LoadFault::NoMemory),
-        }
+        let row = numbers::<COLUMNS>(text).ok_or(LoadFault::TooManyWords(line))?;
+        self.cards.push(card(&row)).map_err(|_| LoadFault::NoMemory)
     }
-}
-
-/// Copies a row to the first columns of a card.
-fn write_front(card: &mut [u16], row: &[u16])
-    requires { length row.now ≤ length card.old }
-    ensures { card.new ≡ row.now ++ drop (length row.now) card.old }
-{
-    card[..row.len()].copy_from_slice(row);
 }
 
 /// Returns the card of a row, with zeros for the columns that have no number.
@@ -82,7 +69,7 @@ fn card(row: &ArrayVec<u16, COLUMNS>) -> [u16; COLUMNS]
         → All (λ value. value < 0o10000) result }
 {
     let mut card = [0; COLUMNS];
-    write_front(&mut card, row.as_slice());
+    card[..row.len()].copy_from_slice(row);
     card
 }
 

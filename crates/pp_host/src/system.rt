@@ -6,7 +6,7 @@ ghost use Rattle.std.specs.Prelude.{◌≡◌, [], IfSome, MatchOption, None, Op
 use crate::file_event::FileEvent;
 use crate::file_log::FileLog;
 use crate::host::{Host, WordsFault};
-use pp_lines::Source;
+use pp_lines::{Log, Source};
 use pp_trouble::FileKind;
 use std::mem;
 
@@ -71,18 +71,21 @@ impl<F: FileSystem> Host for System<F> {
     }
 
     fn open(&mut self, kind: FileKind, path: &str) -> Option<F::File> {
-        let Some(file) = self.files.open(path) else {
-            self.log = FileLog::with(&self.log, &FileEvent::missing(kind, path));
-            return None;
+        let mut path_log = Log::new();
+        path_log.note(path.as_bytes());
+        let file = self.files.open(path);
+        let event = match file {
+            Some(_) => FileEvent::Opened(kind, path_log),
+            None => FileEvent::Missing(kind, path_log),
         };
-        self.log = FileLog::with(&self.log, &FileEvent::opened(kind, path));
-        Some(file)
+        self.log = FileLog::with(&self.log, &event);
+        file
     }
 
     fn close(&mut self, file: F::File) {
         if file.failures() != 0 {
             self.failures = self.failures.saturating_add(1);
         }
-        self.log = FileLog::with(&self.log, &FileEvent::closed(&file));
+        self.log = FileLog::with(&self.log, &FileEvent::Closed(file.log().copied()));
     }
 }

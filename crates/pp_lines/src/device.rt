@@ -12,8 +12,7 @@ pub struct Failed;
 
 /// A source of bytes. It chooses how many bytes each call reads.
 ///
-/// Each `Failed` raises the count of failures by one, up to `u64::MAX`. Nothing else changes that
-/// count.
+/// Each `Failed` raises the count of failures by one, up to `u64::MAX`. Nothing else changes that count.
 pub trait Source {
     // The remaining bytes, if they are known. An opaque source has none.
     ghost rest: { Self → Option (List ℕ) };
@@ -46,8 +45,7 @@ pub trait Source {
 
 /// A sink of bytes. It chooses how many bytes each call takes.
 ///
-/// Each `Failed` raises the count of failures by one, up to `u64::MAX`. Nothing else changes that
-/// count.
+/// Each `Failed` raises the count of failures by one, up to `u64::MAX`. Nothing else changes that count.
 pub trait Sink {
     // The bytes that its calls took so far, which every sink has, and what its device holds, if that is known.
     ghost text: { Self → Written };

@@ -36,8 +36,7 @@ fn word_len(text: &[u8]) -> usize
     first_blank(text).unwrap_or(text.len())
 }
 
-/// Returns the first word of a text and the text after it, or `None` if the text has only blanks and
-/// tabs.
+/// Returns the first word of a text and the text after it, or `None` if the text has only blanks and tabs.
 #[tactic(auto, using(crate::proofs::WordCuts::cuts))]
 pub fn next_word(text: &[u8]) -> Option<(&[u8], &[u8])>
     ensures cut { MatchOption result (words text.now ≡ [])
@@ -48,15 +47,11 @@ pub fn next_word(text: &[u8]) -> Option<(&[u8], &[u8])>
     Some(word.split_at(word_len(word)))
 }
 
-/// Returns whether a line with this text is ignored: it has no words, or its first word begins with a
-/// star.
+/// Returns whether a line with this text is ignored: it has no words, or its first word begins with a star.
 pub fn is_ignored(text: &[u8]) -> bool
     ensures { result ≡ is_ignored (words text.now) }
 {
-    match next_word(text) {
-        None => true,
-        Some((first, _)) => first.first() == Some(&b'*'),
-    }
+    next_word(text).is_none_or(|(first, _)| first.first() == Some(&b'*'))
 }
 
 /// Returns whether all words of the text are octal.

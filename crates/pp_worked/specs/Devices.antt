@@ -1,5 +1,5 @@
 -- Rows of the devices: one step leads from some numbers to others.
-use Rattle.std.specs.Prelude.{ℕ, List, ◌≡◌, ◌++◌, ◌-◌, length, replicate}
+use Rattle.std.specs.Prelude.{ℕ, List, [], ◌∷◌, ◌≡◌, ◌++◌, ◌-◌, length, replicate}
 use Rattle.pp_machine.specs.Device.{DeviceModel, DevicePlace, DeviceView, device_old_values, over_device}
 use Rattle.pp_machine.specs.Printer.{PrinterPlace, PrinterView, printer_model}
 use Rattle.pp_machine.specs.Reader.{ReaderPlace, ReaderView, reader_model}
@@ -14,6 +14,10 @@ Leads d blank before later =
 -- a card of 80 (decimal) columns that begins with these numbers
 abbrev pub card : List ℕ → List ℕ
 card columns = columns ++ replicate (80 - length columns) 0
+
+-- a deck of one card, with 1, 2 and 3 in its first columns
+abbrev pub one_card : List (List ℕ)
+one_card = card (1 ∷ 2 ∷ 3 ∷ []) ∷ []
 
 -- an idle reader before the first card of the deck, on an inactive channel
 abbrev pub blank_reader : List (List ℕ) → ReaderView

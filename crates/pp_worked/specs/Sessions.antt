@@ -1,5 +1,5 @@
 -- Rows of a session of the starting machine.
-use Rattle.std.specs.Prelude.{ℕ, List, [], ◌∷◌, None, Option, fold}
+use Rattle.std.specs.Prelude.{ℕ, List, [], ◌∷◌, Option, fold}
 use Rattle.pp_history.specs.Change.{change}
 use Rattle.pp_history.specs.SessionValue.{SessionValue, after_act, fresh, replay}
 use Rattle.pp_machine.specs.Machine.{Machine}
@@ -10,11 +10,11 @@ use Rattle.pp_actions.specs.declared.action.Action.TheVariants.{SetCells, SetP, 
 use Rattle.pp_rig.specs.declared.stopping.Hit.{Hit}
 use Rattle.pp_actions.specs.declared.watched.Watched.{Watched}
 use Rattle.pp_actions.specs.declared.watched.Watched.TheVariants.{Cell}
-use Rattle.pp_worked.specs.Machines.{blank}
+use Rattle.pp_worked.specs.Machines.{at_rest}
 
 -- the session after these actions, the first one first, with room for this many records
 abbrev pub session : ℕ → List Action → SessionValue Machine Action
-session room actions = fold after_act (fresh (blank [] None) room) actions
+session room actions = fold after_act (fresh at_rest room) actions
 
 -- the machine of a session
 abbrev pub machine : SessionValue Machine Action → Machine

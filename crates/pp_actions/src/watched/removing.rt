@@ -10,15 +10,6 @@ use super::{WatchList, Watched, position_among};
 use crate::lists::{append, list_of};
 use arrayvec::ArrayVec;
 
-/// Returns the places from i on.
-fn places_from(places: &[Watched], i: u8) -> ArrayVec<Watched, 8>
-    requires at_most { length places.now ≤ 8 }
-    requires within { i ≤ length places.now }
-    ensures { result.items ≡ drop i places.now }
-{
-    list_of(&places[i as usize..])
-}
-
 #[tactic(auto, using(crate::proofs::Unwatching::removals))]
 impl WatchList {
     /// Returns the entry of the place, or `None` if it is not watched.
@@ -26,10 +17,7 @@ impl WatchList {
         ensures value { result ≡ position (λ code. code == watch_code watched) self.now }
         ensures below { IfSome result (λ i. i < first_zero self.now) }
     {
-        match position_among(self.places.as_slice(), watched) {
-            Some(i) => Some(i as u8),
-            None => None,
-        }
+        position_among(self.places.as_slice(), watched).map(|i| i as u8)
     }
 
     /// Removes the place at entry i, and returns it with the places behind it. Those places move up.
@@ -44,7 +32,7 @@ impl WatchList {
         ensures at_most { i + length result.items ≤ 8 }
         ensures has_code { All (λ watched. watched_at (watch_code watched) ≡ watched) result.items }
     {
-        let old = places_from(self.places.as_slice(), i);
+        let old = list_of(&self.places[i as usize..]);
         self.places.remove(i as usize);
         old
     }
