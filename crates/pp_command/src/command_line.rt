@@ -71,11 +71,7 @@ fn is_printable(byte: u8) -> bool
 fn are_printable(text: &[u8]) -> bool
     ensures { result ≡ list_all spec.is_printable text.now }
 {
-    let mut all = true;
-    for byte in text {
-        all &= is_printable(*byte);
-    }
-    all
+    text.iter().all(|byte| is_printable(*byte))
 }
 
 /// Parses a line without its line feed. One carriage return at the end is dropped. Returns `None` for

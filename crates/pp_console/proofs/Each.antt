@@ -48,7 +48,5 @@ pub frame_next : (s : Machine) (count : ℕ) → each (frame_line s) 0 (count + 
 unfolding frame_line
 frame_next s count = simp (each_push (frame_line s) count, append_assoc) refl
 
--- what appending cells, channels or frame words needs
-pub ruleset cells = (common_steps, cell_next)
-pub ruleset channels = (common_steps, channel_next)
-pub ruleset frames = (common_steps, frame_next)
+-- what appending cells, channels or words of the exchange package needs
+pub ruleset each_one = (common_steps, cell_next, channel_next, frame_next)

@@ -13,7 +13,7 @@ use pp_machine::Place;
 use pp_rig::Rig;
 
 /// Returns a row: an address, and the cells from there to `last`, at most eight.
-#[tactic(auto, unfolding(crate::specs::Dumps::cell_row), using(crate::proofs::Each::cells))]
+#[tactic(auto, unfolding(crate::specs::Dumps::cell_row), using(crate::proofs::Each::each_one))]
 fn row_line(machine: &Rig, pp: u8, last: u16, from: u16) -> ArrayVec<u8, 45>
     requires pp { pp < 10 }
     requires from { from ≤ last }
@@ -100,7 +100,7 @@ fn state_text(state: u64) -> &'static [u8]
 ///
 /// # Errors
 /// `Failed` if a call of the sink fails.
-#[tactic(auto, unfolding(crate::specs::Dumps::channels_text), using(crate::proofs::Each::channels))]
+#[tactic(auto, unfolding(crate::specs::Dumps::channels_text), using(crate::proofs::Each::each_one))]
 #[inline(never)]
 pub fn put_channels<W: Sink>(machine: &Rig, out: &mut W) -> Result<(), Failed>
     ensures text { Writes (W.text out.old) (W.text out.new) result (channels_text machine.now) }
@@ -125,7 +125,7 @@ pub fn put_channels<W: Sink>(machine: &Rig, out: &mut W) -> Result<(), Failed>
 ///
 /// # Errors
 /// `Failed` if a call of the sink fails.
-#[tactic(auto, unfolding(crate::specs::Dumps::frame_text), using(crate::proofs::Each::frames))]
+#[tactic(auto, unfolding(crate::specs::Dumps::frame_text), using(crate::proofs::Each::each_one))]
 #[inline(never)]
 pub fn put_frame<W: Sink>(machine: &Rig, out: &mut W) -> Result<(), Failed>
     ensures text { Writes (W.text out.old) (W.text out.new) result (frame_text machine.now) }
