@@ -186,24 +186,31 @@ fn mode_text(active: &'static [u8], mode: u64) -> &'static [u8]
     }
 }
 
-/// Writes the line of the card reader.
-///
-/// # Errors
-/// `Failed` if a call of the sink fails.
+/// Returns the line of the card reader.
 #[tactic(auto, unfolding(crate::specs::Dumps::reader_text))]
-#[inline(never)]
-pub fn put_reader<W: Sink>(machine: &Rig, out: &mut W) -> Result<(), Failed>
-    ensures text { Writes (W.text out.old) (W.text out.new) result (reader_text machine.now) }
-    ensures counts { Counts (W.failure_count out.old) (W.failure_count out.new) result }
+fn reader_line(machine: &Rig) -> ArrayVec<u8, 64>
+    ensures { result.items ≡ reader_text machine.now }
 {
-    let mut line: ArrayVec<u8, 64> = ArrayVec::new();
+    let mut line = ArrayVec::new();
     push_field(&mut line, b"CR H ", 2, u64::from(machine.reader_channel()));
     push_field(&mut line, b" CARD ", 4, machine.value(&Place::Card));
     push_field(&mut line, b" OF ", 4, u64::from(machine.cards()));
     push_field(&mut line, b" COLUMN ", 3, machine.value(&Place::CardColumn));
     let mode = mode_text(b" MODE READING\n", machine.value(&Place::ReaderMode));
     push_text(&mut line, mode);
-    put_all(out, line.as_slice())
+    line
+}
+
+/// Writes the line of the card reader.
+///
+/// # Errors
+/// `Failed` if a call of the sink fails.
+#[inline(never)]
+pub fn put_reader<W: Sink>(machine: &Rig, out: &mut W) -> Result<(), Failed>
+    ensures text { Writes (W.text out.old) (W.text out.new) result (reader_text machine.now) }
+    ensures counts { Counts (W.failure_count out.old) (W.failure_count out.new) result }
+{
+    put_all(out, reader_line(machine).as_slice())
 }
 
 /// Returns the line of the line printer.
