@@ -19,30 +19,18 @@ use pp_lines::{next_word, without_return};
 /// The largest number of bytes in a line, without a carriage return at its end.
 const LONGEST: usize = 255;
 
-/// Returns whether the only word of the text is W.
-fn is_change(text: &[u8]) -> bool
-    ensures { result ≡ spec.is_change (words text.now) }
-{
-    let Some((word, rest)) = next_word(text) else {
-        return false;
-    };
-    if next_word(rest).is_some() {
-        return false;
-    }
-    is_word(word, b"W")
-}
-
 /// Parses `BACK W` or `BACK [count]`.
 #[tactic(auto, unfolding(crate::specs::CommandLine::back))]
 fn back(text: &[u8]) -> Result<Request, LineFault>
     ensures value { result ≡ spec.back (words text.now) }
     ensures in_range { IfOk result IsInRange }
 {
-    if is_change(text) {
-        return Ok(Request::BackToChange);
+    match next_word(text) {
+        Some((word, rest)) if is_word(word, b"W") && next_word(rest).is_none() => {
+            Ok(Request::BackToChange)
+        }
+        _ => Ok(Request::Back(count(text)?)),
     }
-    let actions = count(text)?;
-    Ok(Request::Back(actions))
 }
 
 /// Parses the command that a first word names, with the words after it.
@@ -83,11 +71,7 @@ fn is_printable(byte: u8) -> bool
 fn are_printable(text: &[u8]) -> bool
     ensures { result ≡ list_all spec.is_printable text.now }
 {
-    let mut all = true;
-    for byte in text {
-        all &= is_printable(*byte);
-    }
-    all
+    text.iter().all(|byte| is_printable(*byte))
 }
 
 /// Parses a line without its line feed. One carriage return at the end is dropped. Returns `None` for

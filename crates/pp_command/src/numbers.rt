@@ -1,5 +1,5 @@
 //! The numbers of a command line.
-ghost use Rattle.std.specs.Prelude.{◌≡◌, ◌≤◌, if◌then◌else◌, IfOk};
+ghost use Rattle.std.specs.Prelude.{◌≡◌, ◌≤◌, IfOk};
 ghost use Rattle.pp_lines.specs.Words.{words};
 ghost use Rattle.pp_command.specs.Numbers as spec;
 
@@ -37,17 +37,6 @@ pub fn one(text: &[u8], most: u64) -> Result<u64, LineFault>
     number(word, most)
 }
 
-/// Returns the fault of words that are not numbers in range. `octal` is whether every word is octal.
-fn fault_of(octal: bool) -> LineFault
-    ensures { result ≡ (if octal then LineFault.OutOfRange else LineFault.NotANumber) }
-{
-    if octal {
-        LineFault::OutOfRange
-    } else {
-        LineFault::NotANumber
-    }
-}
-
 /// Reads the numbers in two words, 0 to `first` and 0 to `second`.
 ///
 /// # Errors
@@ -57,10 +46,10 @@ pub fn pair(x: &[u8], y: &[u8], first: u64, second: u64) -> Result<(u64, u64), L
     ensures value { result ≡ spec.pair first second x.now y.now }
     ensures within { IfOk result (λ values. (values.0 ≤ first) × (values.1 ≤ second)) }
 {
-    let (Ok(a), Ok(b)) = (number(x, first), number(y, second)) else {
-        return Err(fault_of(is_octal(x) && is_octal(y)));
-    };
-    Ok((a, b))
+    if !is_octal(x) || !is_octal(y) {
+        return Err(LineFault::NotANumber);
+    }
+    Ok((number(x, first)?, number(y, second)?))
 }
 
 /// Reads two numbers, 0 to `first` and 0 to `second`.
@@ -104,10 +93,10 @@ pub fn three(text: &[u8], first: u64, second: u64, third: u64) -> Result<(u64, u
     let (y, rest) = first_word(rest)?;
     let (z, rest) = first_word(rest)?;
     no_words(rest)?;
-    let (Ok(a), Ok(b), Ok(c)) = (number(x, first), number(y, second), number(z, third)) else {
-        return Err(fault_of(is_octal(x) && is_octal(y) && is_octal(z)));
-    };
-    Ok((a, b, c))
+    if !is_octal(x) || !is_octal(y) || !is_octal(z) {
+        return Err(LineFault::NotANumber);
+    }
+    Ok((number(x, first)?, number(y, second)?, number(z, third)?))
 }
 
 /// Reads a count of 1 to 1000000 (octal). Returns 1 if the text has no words.

@@ -84,14 +84,16 @@ fn state(word: &[u8]) -> Result<ChannelState, LineFault>
     }
 }
 
-/// Parses a channel with its state, and with its register if that is given.
-#[tactic(auto, unfolding(crate::specs::CommandLine::channel_in))]
-fn channel_in(state: ChannelState, c: &[u8], text: &[u8]) -> Result<Request, LineFault>
-    requires { state_number state < 3 }
-    ensures value { result ≡ spec.channel_in state c.now (words text.now) }
+/// Parses `SET H c s [v]`.
+#[tactic(auto, unfolding(crate::specs::CommandLine::set_channel, crate::specs::CommandLine::channel_in))]
+fn set_channel(text: &[u8]) -> Result<Request, LineFault>
+    ensures value { result ≡ spec.set_channel (words text.now) }
     ensures in_range { IfOk result IsInRange }
 {
-    let Some((v, rest)) = next_word(text) else {
+    let (c, rest) = first_word(text)?;
+    let (s, rest) = first_word(rest)?;
+    let state = state(s)?;
+    let Some((v, rest)) = next_word(rest) else {
         return Ok(Request::Act(Action::SetChannel {
             c: number(c, 0o13)? as u8,
             state,
@@ -105,18 +107,6 @@ fn channel_in(state: ChannelState, c: &[u8], text: &[u8]) -> Result<Request, Lin
         state,
         word: Some(word as u16),
     }))
-}
-
-/// Parses `SET H c s [v]`.
-#[tactic(auto, unfolding(crate::specs::CommandLine::set_channel))]
-fn set_channel(text: &[u8]) -> Result<Request, LineFault>
-    ensures value { result ≡ spec.set_channel (words text.now) }
-    ensures in_range { IfOk result IsInRange }
-{
-    let (c, rest) = first_word(text)?;
-    let (s, rest) = first_word(rest)?;
-    let state = state(s)?;
-    channel_in(state, c, rest)
 }
 
 /// Parses the words after SET.

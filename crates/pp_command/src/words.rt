@@ -21,10 +21,7 @@ pub fn first_word(text: &[u8]) -> Result<(&[u8], &[u8]), LineFault>
     ensures { MatchResult result (λ cut. words text.now ≡ cut.0.now ∷ words cut.1.now)
         (λ fault. (words text.now ≡ []) × (fault ≡ LineFault.WordCount)) }
 {
-    match next_word(text) {
-        Some(cut) => Ok(cut),
-        None => Err(LineFault::WordCount),
-    }
+    next_word(text).ok_or(LineFault::WordCount)
 }
 
 /// Checks that the text has no words.

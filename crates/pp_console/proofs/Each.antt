@@ -1,9 +1,9 @@
 -- Lines for the numbers of a range, one after another.
-use Rattle.std.proofs.Common.{add-one, ◌≡◌, ◌∙◌, ℕ, zero, suc, ◌+◌, ◌-◌, ◌<◌, ◌≤◌, List, [], ◌++◌, refl, sym, ap, arith, append_assoc, add-zero, append-nil, codes}
+use Rattle.std.proofs.Common.{add-one, ◌≡◌, ◌∙◌, ℕ, zero, suc, ◌+◌, ◌-◌, ◌<◌, ◌≤◌, List, [], ◌∷◌, ◌++◌, refl, sym, ap, arith, append_assoc, add-zero, append-nil, codes}
 use Rattle.std.proofs.lemmas.Grind.{common_steps}
 use Rattle.pp_machine.specs.Prelude.{Machine, number}
-use Rattle.pp_machine.specs.declared.place.Place.TheVariants.{Cell}
-use Rattle.pp_console.specs.Dumps.{each, cell_text}
+use Rattle.pp_machine.specs.declared.place.Place.TheVariants.{Cell, ChannelMode, ChannelWord, FrameWord}
+use Rattle.pp_console.specs.Dumps.{each, cell_text, channel_line, frame_line, state_text}
 use Rattle.pp_console.specs.Text.{field}
 
 -- a range that is longer by one
@@ -23,7 +23,7 @@ unfolding cell_text
 cell_next s n first count = each_next (cell_text s n) first count
 
 -- one more line, in a range that starts at zero
-pub each_push : (line : ℕ → List ℕ) (count : ℕ) → each line 0 (count + 1) ≡ each line 0 count ++ line count
+each_push : (line : ℕ → List ℕ) (count : ℕ) → each line 0 (count + 1) ≡ each line 0 count ++ line count
 each_push line count =
     let at : 0 + count ≡ count = omega arith in
     each_next line 0 count ∙ ap (λ n. each line 0 count ++ line n) at
@@ -38,5 +38,15 @@ pub each-none : (line : ℕ → List ℕ) (first end : ℕ) → end ≤ first �
 each-none line first end none =
     let left : end - first ≡ 0 = omega arith in rw left refl
 
--- what appending cells needs
-pub ruleset cells = (common_steps, cell_next)
+-- one more channel
+pub channel_next : (s : Machine) (count : ℕ) → each (channel_line s) 0 (count + 1) ≡ each (channel_line s) 0 count ++ field (codes "H ") 2 count ++ state_text (number s (ChannelMode count)) ++ field [] 4 (number s (ChannelWord count)) ++ 10 ∷ []
+unfolding channel_line
+channel_next s count = simp (each_push (channel_line s) count, append_assoc) refl
+
+-- one more word of the exchange package
+pub frame_next : (s : Machine) (count : ℕ) → each (frame_line s) 0 (count + 1) ≡ each (frame_line s) 0 count ++ field (codes "XP ") 2 count ++ field (codes " ") 20 (number s (FrameWord count)) ++ 10 ∷ []
+unfolding frame_line
+frame_next s count = simp (each_push (frame_line s) count, append_assoc) refl
+
+-- what appending cells, channels or words of the exchange package needs
+pub ruleset each_one = (common_steps, cell_next, channel_next, frame_next)

@@ -1,25 +1,22 @@
 //! Performs one command, or one line, and writes the answer.
-ghost use Rattle.std.specs.Prelude.{◌≡◌, ◌≤◌, ◌<◌, IfErr, IfOk, IsTrue, false, length};
+ghost use Rattle.std.specs.Prelude.{◌≡◌, ◌≤◌, ◌<◌, ◌+◌, ◌++◌, IfErr, IfOk, IsTrue, false, length};
+ghost use Rattle.arrayvec.specs.ArrayVec.{array_vec_len};
 ghost use Rattle.pp_lines.specs.Device.{Counts};
 ghost use Rattle.pp_lines.specs.Output.{Writes};
-ghost use Rattle.pp_console.specs.Dumps.{cells_text, channels_text, frame_text, printer_text, processor_text, reader_text};
 ghost use Rattle.pp_console.specs.Moves.{moved_text};
-ghost use Rattle.pp_console.specs.Commands.{Performs, act_answer, step_answer, back_answer, forward_answer, change_answer, central_answer, shown, answer};
+ghost use Rattle.pp_console.specs.Commands.{Performs, act_answer, step_answer, back_answer, forward_answer, change_answer, central_answer, answer};
 ghost use Rattle.pp_console.specs.Script.{answer_line};
-ghost use Rattle.pp_console.specs.Watches.{watches_text};
-ghost use Rattle.pp_actions.specs.Watches.{watches_of};
 
-use crate::dumps::{
-    channel_lines, frame_lines, processor_line, put_cells, put_central, reader_line,
-};
-use crate::moves::{push_moved, push_stopped};
+use crate::dumps::{put_cells, put_central, put_channels, put_frame, put_processor, put_reader};
 use crate::paper::put_printer;
 use crate::refusals::{action_fault_text, fault_text};
-use crate::watches::watch_lines;
+use crate::text::push_field;
+use crate::watches::{push_hit, put_watches};
 use arrayvec::ArrayVec;
+use pp_arith::octal;
 use pp_command::{Command, Request, parse};
 use pp_history::Session;
-use pp_lines::{Failed, IoFault, Sink, put_all};
+use pp_lines::{Failed, IoFault, Sink, push_text, put_all};
 use pp_rig::{Action, Rig, run};
 
 /// Writes the answer to a command that was performed.
@@ -56,14 +53,29 @@ fn act<W: Sink>(session: &mut Session<Rig>, action: Action, out: &mut W) -> Resu
     }
 }
 
+/// Appends the number of actions done, and the processor whose turn is next.
+#[tactic(auto, unfolding(crate::specs::Moves::moved_text))]
+fn push_moved<const N: usize>(line: &mut ArrayVec<u8, N>, name: &[u8], actions: u32, slot: u8)
+    requires name { length name.now ≤ 8 }
+    requires room { array_vec_len line.old + 40 ≤ N }
+    ensures items { line.new.items ≡ line.old.items ++ moved_text name.now actions slot }
+    ensures len { array_vec_len line.new ≤ array_vec_len line.old + 40 }
+{
+    push_text(line, name);
+    push_text(line, octal(u64::from(actions), 1).as_slice());
+    push_field(line, b" SLOT ", 2, u64::from(slot));
+    line.push(b'\n');
+}
+
 /// Makes turns, up to the first change of a watched number.
-#[tactic(auto, unfolding(crate::specs::Commands::step_answer))]
+#[tactic(auto, unfolding(crate::specs::Commands::step_answer, crate::specs::Moves::stopped_text, crate::specs::Moves::turns_name))]
 fn step<W: Sink>(session: &mut Session<Rig>, most: u32, out: &mut W) -> Result<bool, Failed>
     ensures { Performs ⟦<W as Sink>⟧ session.old session.new out.old out.new result (step_answer most) }
 {
     let done = run(session, most);
     let mut lines = ArrayVec::new();
-    push_stopped(&mut lines, done, session.machine().slot());
+    push_moved(&mut lines, b"TURNS ", done.turns, session.machine().slot());
+    push_hit(&mut lines, done.hit);
     write_answer(out, lines.as_slice())
 }
 
@@ -117,26 +129,6 @@ fn back_to_change<W: Sink>(session: &mut Session<Rig>, out: &mut W) -> Result<bo
     }
 }
 
-// A function clears the space of its locals when it is entered. The locals of a dump are large, so each
-// dump is a function of its own, and none is inlined.
-
-/// Writes cells of a processor.
-#[inline(never)]
-fn dump_cells<W: Sink>(
-    session: &mut Session<Rig>,
-    pp: u8,
-    first: u16,
-    last: u16,
-    out: &mut W,
-) -> Result<bool, Failed>
-    requires pp { pp < 10 }
-    requires last { last < 4096 }
-    ensures { Performs ⟦<W as Sink>⟧ session.old session.new out.old out.new result (shown (λ m. cells_text m pp first last)) }
-{
-    put_cells(session.machine(), pp, first, last, out)?;
-    Ok(true)
-}
-
 /// Writes central words, if the machine has them.
 #[tactic(auto, unfolding(crate::specs::Commands::central_answer, crate::specs::Refusals::range_text))]
 #[inline(never)]
@@ -157,56 +149,6 @@ fn dump_central<W: Sink>(
     Ok(true)
 }
 
-/// Writes the registers of a processor.
-#[inline(never)]
-fn dump_processor<W: Sink>(session: &mut Session<Rig>, pp: u8, out: &mut W) -> Result<bool, Failed>
-    requires { pp < 10 }
-    ensures { Performs ⟦<W as Sink>⟧ session.old session.new out.old out.new result (shown (λ m. processor_text m pp)) }
-{
-    write_answer(out, processor_line(session.machine(), pp).as_slice())
-}
-
-/// Writes the channels and the clock.
-#[inline(never)]
-fn dump_channels<W: Sink>(session: &mut Session<Rig>, out: &mut W) -> Result<bool, Failed>
-    ensures { Performs ⟦<W as Sink>⟧ session.old session.new out.old out.new result (shown channels_text) }
-{
-    write_answer(out, channel_lines(session.machine()).as_slice())
-}
-
-/// Writes the exchange package.
-#[inline(never)]
-fn dump_frame<W: Sink>(session: &mut Session<Rig>, out: &mut W) -> Result<bool, Failed>
-    ensures { Performs ⟦<W as Sink>⟧ session.old session.new out.old out.new result (shown frame_text) }
-{
-    write_answer(out, frame_lines(session.machine()).as_slice())
-}
-
-/// Writes the state of the card reader.
-#[inline(never)]
-fn dump_reader<W: Sink>(session: &mut Session<Rig>, out: &mut W) -> Result<bool, Failed>
-    ensures { Performs ⟦<W as Sink>⟧ session.old session.new out.old out.new result (shown reader_text) }
-{
-    write_answer(out, reader_line(session.machine()).as_slice())
-}
-
-/// Writes the watched places.
-#[inline(never)]
-fn dump_watches<W: Sink>(session: &mut Session<Rig>, out: &mut W) -> Result<bool, Failed>
-    ensures { Performs ⟦<W as Sink>⟧ session.old session.new out.old out.new result (shown (λ m. watches_text (watches_of m))) }
-{
-    write_answer(out, watch_lines(session.machine().watches()).as_slice())
-}
-
-/// Writes the state of the line printer, and its paper.
-#[inline(never)]
-fn dump_printer<W: Sink>(session: &mut Session<Rig>, out: &mut W) -> Result<bool, Failed>
-    ensures { Performs ⟦<W as Sink>⟧ session.old session.new out.old out.new result (shown printer_text) }
-{
-    put_printer(session.machine(), out)?;
-    Ok(true)
-}
-
 /// Performs a request completely, and then writes its answer. Returns `false` if it was rejected.
 fn answer_request<W: Sink>(
     session: &mut Session<Rig>,
@@ -221,14 +163,16 @@ fn answer_request<W: Sink>(
         Request::Back(actions) => back(session, *actions, out),
         Request::BackToChange => back_to_change(session, out),
         Request::Forward(actions) => forward(session, *actions, out),
-        Request::DumpCells { pp, first, last } => dump_cells(session, *pp, *first, *last, out),
-        Request::DumpProcessor(pp) => dump_processor(session, *pp, out),
-        Request::DumpChannels => dump_channels(session, out),
+        Request::DumpCells { pp, first, last } => {
+            put_cells(session.machine(), *pp, *first, *last, out).and(Ok(true))
+        }
+        Request::DumpProcessor(pp) => put_processor(session.machine(), *pp, out).and(Ok(true)),
+        Request::DumpChannels => put_channels(session.machine(), out).and(Ok(true)),
         Request::DumpCentral { first, last } => dump_central(session, *first, *last, out),
-        Request::DumpFrame => dump_frame(session, out),
-        Request::DumpReader => dump_reader(session, out),
-        Request::DumpPrinter => dump_printer(session, out),
-        Request::DumpWatches => dump_watches(session, out),
+        Request::DumpFrame => put_frame(session.machine(), out).and(Ok(true)),
+        Request::DumpReader => put_reader(session.machine(), out).and(Ok(true)),
+        Request::DumpPrinter => put_printer(session.machine(), out).and(Ok(true)),
+        Request::DumpWatches => put_watches(session.machine().watches(), out).and(Ok(true)),
     }
 }
 
@@ -247,10 +191,7 @@ pub fn perform<W: Sink>(
     ensures performs { Performs ⟦<W as Sink>⟧ session.old session.new out.old out.new result (answer command.now) }
     ensures fault { IfErr result (λ fault. fault ≡ IoFault.WriteFailed) }
 {
-    match answer_request(session, command, out) {
-        Ok(performed) => Ok(performed),
-        Err(Failed) => Err(IoFault::WriteFailed),
-    }
+    answer_request(session, command, out).or(Err(IoFault::WriteFailed))
 }
 
 /// Performs a line, and then writes its answer. Returns `false` if the line was rejected: it changed

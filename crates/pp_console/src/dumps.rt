@@ -12,27 +12,8 @@ use pp_lines::{Failed, Sink, push_text, put_all};
 use pp_machine::Place;
 use pp_rig::Rig;
 
-/// Appends `count` cells, from an address on.
-#[tactic(auto, using(crate::proofs::Each::cells))]
-fn push_cells(line: &mut ArrayVec<u8, 45>, machine: &Rig, pp: u8, from: u16, count: u16)
-    requires pp { pp < 10 }
-    requires within { from + count ≤ 4096 }
-    requires room { array_vec_len line.old + 5 * count ≤ 45 }
-    ensures items { line.new.items ≡ line.old.items ++ each (cell_text machine.now pp) from count }
-    ensures len { array_vec_len line.new ≡ array_vec_len line.old + 5 * count }
-{
-    for i in 0..count {
-        push_field(
-            line,
-            b" ",
-            4,
-            machine.value(&Place::Cell { pp, a: from + i }),
-        );
-    }
-}
-
 /// Returns a row: an address, and the cells from there to `last`, at most eight.
-#[tactic(auto, unfolding(crate::specs::Dumps::cell_row))]
+#[tactic(auto, unfolding(crate::specs::Dumps::cell_row), using(crate::proofs::Each::each_one))]
 fn row_line(machine: &Rig, pp: u8, last: u16, from: u16) -> ArrayVec<u8, 45>
     requires pp { pp < 10 }
     requires from { from ≤ last }
@@ -41,24 +22,24 @@ fn row_line(machine: &Rig, pp: u8, last: u16, from: u16) -> ArrayVec<u8, 45>
 {
     let mut line = ArrayVec::new();
     push_field(&mut line, b"", 4, u64::from(from));
-    push_cells(&mut line, machine, pp, from, (last + 1 - from).min(8));
+    let count = (last + 1 - from).min(8);
+    for i in 0..count {
+        let a = from + i;
+        push_field(&mut line, b" ", 4, machine.value(&Place::Cell { pp, a }));
+    }
     line.push(b'\n');
     line
 }
 
-/// Returns the number of rows of eight for the cells from `first` to `last`.
-fn row_count(first: u16, last: u16) -> u16
-    requires { last < 4096 }
-    ensures { result ≡ (last + 8 - first) / 8 }
-{
-    (last + 8).saturating_sub(first) / 8
-}
+// A function clears the space of its locals when it is entered. The locals of a dump are large, so each
+// dump is a function of its own, and none is inlined.
 
 /// Writes the cells from `first` to `last`, eight in a row.
 ///
 /// # Errors
 /// `Failed` if a call of the sink fails.
 #[tactic(auto, unfolding(crate::specs::Dumps::cells_text))]
+#[inline(never)]
 pub fn put_cells<W: Sink>(
     machine: &Rig,
     pp: u8,
@@ -71,33 +52,34 @@ pub fn put_cells<W: Sink>(
     ensures text { Writes (W.text out.old) (W.text out.new) result (cells_text machine.now pp first last) }
     ensures counts { Counts (W.failure_count out.old) (W.failure_count out.new) result }
 {
-    let count = row_count(first, last);
+    let count = (last + 8).saturating_sub(first) / 8;
     for row in 0..count {
         put_all(out, row_line(machine, pp, last, first + 8 * row).as_slice())?;
     }
     Ok(())
 }
 
-/// Returns the line of a processor: its registers and phase, and the slot.
+/// Writes the line of a processor: its registers and phase, and the slot.
+///
+/// # Errors
+/// `Failed` if a call of the sink fails.
 #[tactic(auto, unfolding(crate::specs::Dumps::processor_text))]
-pub fn processor_line(machine: &Rig, pp: u8) -> ArrayVec<u8, 48>
+#[inline(never)]
+pub fn put_processor<W: Sink>(machine: &Rig, pp: u8, out: &mut W) -> Result<(), Failed>
     requires { pp < 10 }
-    ensures { result.items ≡ processor_text machine.now pp }
+    ensures text { Writes (W.text out.old) (W.text out.new) result (processor_text machine.now pp) }
+    ensures counts { Counts (W.failure_count out.old) (W.failure_count out.new) result }
 {
-    let mut line = ArrayVec::new();
+    let phase = machine.value(&Place::Phase { pp });
+    let mut line: ArrayVec<u8, 48> = ArrayVec::new();
     push_field(&mut line, b"PP ", 2, u64::from(pp));
     push_field(&mut line, b" P ", 4, machine.value(&Place::RegP { pp }));
     push_field(&mut line, b" A ", 6, machine.value(&Place::RegA { pp }));
     push_field(&mut line, b" Q ", 4, machine.value(&Place::RegQ { pp }));
-    push_field(
-        &mut line,
-        b" PHASE ",
-        4,
-        machine.value(&Place::Phase { pp }),
-    );
+    push_field(&mut line, b" PHASE ", 4, phase);
     push_field(&mut line, b" SLOT ", 2, machine.value(&Place::Slot));
     line.push(b'\n');
-    line
+    put_all(out, line.as_slice())
 }
 
 /// Returns the letter of a channel's state.
@@ -114,57 +96,48 @@ fn state_text(state: u64) -> &'static [u8]
     }
 }
 
-/// Appends the line of a channel.
-#[tactic(auto, unfolding(crate::specs::Dumps::channel_line))]
-fn push_channel(lines: &mut ArrayVec<u8, 160>, machine: &Rig, c: u8)
-    requires channel { c < 12 }
-    requires room { array_vec_len lines.old ≤ 148 }
-    ensures items { lines.new.items ≡ lines.old.items ++ channel_line machine.now c }
-    ensures len { array_vec_len lines.new ≡ array_vec_len lines.old + 12 }
+/// Writes the lines of the twelve channels and the clock.
+///
+/// # Errors
+/// `Failed` if a call of the sink fails.
+#[tactic(auto, unfolding(crate::specs::Dumps::channels_text), using(crate::proofs::Each::each_one))]
+#[inline(never)]
+pub fn put_channels<W: Sink>(machine: &Rig, out: &mut W) -> Result<(), Failed>
+    ensures text { Writes (W.text out.old) (W.text out.new) result (channels_text machine.now) }
+    ensures counts { Counts (W.failure_count out.old) (W.failure_count out.new) result }
 {
-    push_field(lines, b"H ", 2, u64::from(c));
-    push_text(lines, state_text(machine.value(&Place::ChannelMode { c })));
-    push_field(lines, b"", 4, machine.value(&Place::ChannelWord { c }));
-    lines.push(b'\n');
-}
-
-/// Returns the lines of the twelve channels and the clock.
-#[tactic(auto, unfolding(crate::specs::Dumps::channels_text), using(crate::proofs::Each::each_push))]
-pub fn channel_lines(machine: &Rig) -> ArrayVec<u8, 160>
-    ensures { result.items ≡ channels_text machine.now }
-{
-    let mut lines = ArrayVec::new();
+    let mut lines: ArrayVec<u8, 160> = ArrayVec::new();
     for c in 0..12 {
-        push_channel(&mut lines, machine, c);
+        push_field(&mut lines, b"H ", 2, u64::from(c));
+        push_text(
+            &mut lines,
+            state_text(machine.value(&Place::ChannelMode { c })),
+        );
+        push_field(&mut lines, b"", 4, machine.value(&Place::ChannelWord { c }));
+        lines.push(b'\n');
     }
     push_field(&mut lines, b"H 14 F ", 4, machine.value(&Place::Clock));
     lines.push(b'\n');
-    lines
+    put_all(out, lines.as_slice())
 }
 
-/// Appends the line of a word of the exchange package.
-#[tactic(auto, unfolding(crate::specs::Dumps::frame_line))]
-fn push_frame_word(lines: &mut ArrayVec<u8, 432>, machine: &Rig, i: u8)
-    requires index { i < 16 }
-    requires room { array_vec_len lines.old ≤ 405 }
-    ensures items { lines.new.items ≡ lines.old.items ++ frame_line machine.now i }
-    ensures len { array_vec_len lines.new ≡ array_vec_len lines.old + 27 }
+/// Writes the lines of the sixteen words of the exchange package.
+///
+/// # Errors
+/// `Failed` if a call of the sink fails.
+#[tactic(auto, unfolding(crate::specs::Dumps::frame_text), using(crate::proofs::Each::each_one))]
+#[inline(never)]
+pub fn put_frame<W: Sink>(machine: &Rig, out: &mut W) -> Result<(), Failed>
+    ensures text { Writes (W.text out.old) (W.text out.new) result (frame_text machine.now) }
+    ensures counts { Counts (W.failure_count out.old) (W.failure_count out.new) result }
 {
-    push_field(lines, b"XP ", 2, u64::from(i));
-    push_field(lines, b" ", 20, machine.value(&Place::FrameWord { i }));
-    lines.push(b'\n');
-}
-
-/// Returns the lines of the sixteen words of the exchange package.
-#[tactic(auto, unfolding(crate::specs::Dumps::frame_text), using(crate::proofs::Each::each_push))]
-pub fn frame_lines(machine: &Rig) -> ArrayVec<u8, 432>
-    ensures { result.items ≡ frame_text machine.now }
-{
-    let mut lines = ArrayVec::new();
+    let mut lines: ArrayVec<u8, 432> = ArrayVec::new();
     for i in 0..16 {
-        push_frame_word(&mut lines, machine, i);
+        push_field(&mut lines, b"XP ", 2, u64::from(i));
+        push_field(&mut lines, b" ", 20, machine.value(&Place::FrameWord { i }));
+        lines.push(b'\n');
     }
-    lines
+    put_all(out, lines.as_slice())
 }
 
 /// Returns the line of a central word.
@@ -215,7 +188,7 @@ fn mode_text(active: &'static [u8], mode: u64) -> &'static [u8]
 
 /// Returns the line of the card reader.
 #[tactic(auto, unfolding(crate::specs::Dumps::reader_text))]
-pub fn reader_line(machine: &Rig) -> ArrayVec<u8, 64>
+fn reader_line(machine: &Rig) -> ArrayVec<u8, 64>
     ensures { result.items ≡ reader_text machine.now }
 {
     let mut line = ArrayVec::new();
@@ -223,11 +196,21 @@ pub fn reader_line(machine: &Rig) -> ArrayVec<u8, 64>
     push_field(&mut line, b" CARD ", 4, machine.value(&Place::Card));
     push_field(&mut line, b" OF ", 4, u64::from(machine.cards()));
     push_field(&mut line, b" COLUMN ", 3, machine.value(&Place::CardColumn));
-    push_text(
-        &mut line,
-        mode_text(b" MODE READING\n", machine.value(&Place::ReaderMode)),
-    );
+    let mode = mode_text(b" MODE READING\n", machine.value(&Place::ReaderMode));
+    push_text(&mut line, mode);
     line
+}
+
+/// Writes the line of the card reader.
+///
+/// # Errors
+/// `Failed` if a call of the sink fails.
+#[inline(never)]
+pub fn put_reader<W: Sink>(machine: &Rig, out: &mut W) -> Result<(), Failed>
+    ensures text { Writes (W.text out.old) (W.text out.new) result (reader_text machine.now) }
+    ensures counts { Counts (W.failure_count out.old) (W.failure_count out.new) result }
+{
+    put_all(out, reader_line(machine).as_slice())
 }
 
 /// Returns the line of the line printer.
@@ -235,23 +218,13 @@ pub fn reader_line(machine: &Rig) -> ArrayVec<u8, 64>
 pub fn printer_line(machine: &Rig) -> ArrayVec<u8, 64>
     ensures { result.items ≡ printer_line machine.now }
 {
+    let symbols = machine.value(&Place::PaperLength);
+    let column = machine.value(&Place::PaperColumn);
+    let mode = mode_text(b" MODE PRINTING\n", machine.value(&Place::PrinterMode));
     let mut line = ArrayVec::new();
     push_field(&mut line, b"LP H ", 2, u64::from(machine.printer_channel()));
-    push_field(
-        &mut line,
-        b" SYMBOLS ",
-        6,
-        machine.value(&Place::PaperLength),
-    );
-    push_field(
-        &mut line,
-        b" COLUMN ",
-        3,
-        machine.value(&Place::PaperColumn),
-    );
-    push_text(
-        &mut line,
-        mode_text(b" MODE PRINTING\n", machine.value(&Place::PrinterMode)),
-    );
+    push_field(&mut line, b" SYMBOLS ", 6, symbols);
+    push_field(&mut line, b" COLUMN ", 3, column);
+    push_text(&mut line, mode);
     line
 }

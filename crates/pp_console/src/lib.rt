@@ -3,7 +3,6 @@
 
 mod commands;
 mod dumps;
-mod moves;
 mod paper;
 mod progress;
 mod refusals;

@@ -90,17 +90,6 @@ fn next_line(symbols: &[u8]) -> Option<(&[u8], &[u8])>
     Some((line, &rest[1..]))
 }
 
-/// Writes the symbols after the last line end, if there are any.
-fn put_rest<W: Sink>(symbols: &[u8], out: &mut W) -> Result<(), Failed>
-    ensures text { Writes (W.text out.old) (W.text out.new) result (rest_text symbols.now) }
-    ensures counts { Counts (W.failure_count out.old) (W.failure_count out.new) result }
-{
-    if symbols.is_empty() {
-        return Ok(());
-    }
-    put_line(b"/", symbols, out)
-}
-
 /// Writes the paper: each line after a bar, and the symbols after the last line end after a slash.
 fn put_paper<W: Sink>(symbols: &[u8], out: &mut W) -> Result<(), Failed>
     ensures text { Writes (W.text out.old) (W.text out.new) result (paper_text symbols.now) }
@@ -111,7 +100,10 @@ fn put_paper<W: Sink>(symbols: &[u8], out: &mut W) -> Result<(), Failed>
         put_line(b"|", line, out)?;
         rest = later;
     }
-    put_rest(rest, out)
+    if rest.is_empty() {
+        return Ok(());
+    }
+    put_line(b"/", rest, out)
 }
 
 /// Writes the state of the line printer, and its paper.

@@ -1,11 +1,13 @@
 //! Watched places in lines of text.
 ghost use Rattle.std.specs.Prelude.{◌≡◌, ◌≤◌, ◌+◌, ◌++◌, length};
 ghost use Rattle.arrayvec.specs.ArrayVec.{array_vec_len};
-ghost use Rattle.pp_console.specs.Watches.{place_text, digits_of, watch_text, watches_text, hit_text};
+ghost use Rattle.pp_lines.specs.Device.{Counts};
+ghost use Rattle.pp_lines.specs.Output.{Writes};
+ghost use Rattle.pp_console.specs.Watches.{place_text, digits_of, watches_text, hit_text};
 
 use crate::text::push_field;
 use arrayvec::ArrayVec;
-use pp_lines::push_text;
+use pp_lines::{Failed, Sink, push_text, put_all};
 use pp_rig::{Hit, Watched};
 
 /// Appends a place: its kind and its address.
@@ -41,33 +43,27 @@ fn digits_of(place: Watched) -> u8
     }
 }
 
-/// Appends the line of a watch.
-#[tactic(auto, unfolding(crate::specs::Watches::watch_text))]
-fn push_watch(lines: &mut ArrayVec<u8, 120>, watched: Watched)
-    requires { array_vec_len lines.old ≤ 100 }
-    ensures items { lines.new.items ≡ lines.old.items ++ watch_text watched }
-    ensures room { array_vec_len lines.new ≤ array_vec_len lines.old + 12 }
-{
-    push_text(lines, b"W ");
-    push_place(lines, watched);
-    lines.push(b'\n');
-}
-
-/// Returns the lines of the watches in their order, at most eight, or `W NONE` if there are none.
-#[tactic(auto, unfolding(crate::specs::Watches::watches_text))]
-pub fn watch_lines(watches: &[Watched]) -> ArrayVec<u8, 120>
+/// Writes the lines of the watches in their order, at most eight, or `W NONE` if there are none.
+///
+/// # Errors
+/// `Failed` if a call of the sink fails.
+#[tactic(auto, unfolding(crate::specs::Watches::watches_text, crate::specs::Watches::watch_text))]
+#[inline(never)]
+pub fn put_watches<W: Sink>(watches: &[Watched], out: &mut W) -> Result<(), Failed>
     requires { length watches.now ≤ 8 }
-    ensures { result.items ≡ watches_text watches.now }
+    ensures text { Writes (W.text out.old) (W.text out.new) result (watches_text watches.now) }
+    ensures counts { Counts (W.failure_count out.old) (W.failure_count out.new) result }
 {
-    let mut lines = ArrayVec::new();
     if watches.is_empty() {
-        push_text(&mut lines, b"W NONE\n");
-        return lines;
+        return put_all(out, b"W NONE\n");
     }
+    let mut lines = ArrayVec::new();
     for watched in watches {
-        push_watch(&mut lines, *watched);
+        push_text(&mut lines, b"W ");
+        push_place(&mut lines, *watched);
+        lines.push(b'\n');
     }
-    lines
+    put_all(out, lines.as_slice())
 }
 
 /// Appends the change that ended a run, if there is one.

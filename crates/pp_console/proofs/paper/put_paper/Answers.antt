@@ -1,4 +1,4 @@
-use Rattle.pp_console.proofs.Prelude.{Remains-fails, err_from_is_err_and}
+use Rattle.pp_console.proofs.Prelude.{Remains-fails, Remains-none, err_from_is_err_and}
 use Rattle.pp_console.proofs.Shown.{IsPartWritten-next, Remains-last}
 use Rattle.pp_console.proofs.paper.put_paper.Goals as goal
 
@@ -9,7 +9,3 @@ lines-preserved g c =
 pub returns-in_err-put_line-clause-text : goal.returns-in_err-put_line-clause-text
 returns-in_err-put_line-clause-text g c =
     rw (err_from_is_err_and c.from_residual.result c.from_residual.ensures.1).1 (Remains-fails _ (g.W.Sink.text c.lines.out) _ _ _ _ (rw c.in-Some.ensures.cut at c.lines.invariant.text) c.in_err-put_line.ensures.text)
-
-pub returns-clause-text : goal.returns-clause-text
-returns-clause-text g c =
-    Remains-last c.put_rest.result _ (g.W.Sink.text c.lines.out) _ _ _ (rw c.in_default.ensures.cut at c.lines.invariant.text) c.put_rest.ensures.text
