@@ -110,6 +110,7 @@ fn put_paper<W: Sink>(symbols: &[u8], out: &mut W) -> Result<(), Failed>
 ///
 /// # Errors
 /// `Failed` if a call of the sink fails.
+#[inline(never)]
 #[tactic(auto, unfolding(crate::specs::Dumps::printer_text))]
 pub fn put_printer<W: Sink>(machine: &Rig, out: &mut W) -> Result<(), Failed>
     ensures text { Writes (W.text out.old) (W.text out.new) result (printer_text machine.now) }
