@@ -13,10 +13,12 @@ abbrev pub blank : List (List ℕ) → Option (List ℕ) → Machine
 blank deck panel = record {
   processors = replicate 0o12 blank_processor;
   channels = record { states = replicate 0o14 0; registers = replicate 0o14 0; clock = 0 };
-  central = replicate 0o100000 0; frame = replicate 0o20 0;
+  central = replicate 0o100000 0;
+  frame = replicate 0o20 0;
   reader = record { deck = deck; card = 0; column = 0; mode = 0 };
   printer = record { symbols = replicate 65536 0; length = 0; column = 0; mode = 0 };
-  slot = 0; watches = replicate 8 0;
+  slot = 0;
+  watches = replicate 8 0;
   setup = record { central_words = 0o100000; panel = panel; reader_channel = 0o12; printer_channel = 0o13 };
 }
 

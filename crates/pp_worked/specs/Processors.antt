@@ -7,9 +7,16 @@ use Rattle.pp_step.specs.View.{PpView, PpPlace, P, Cell, over, old_values}
 -- a processor with its 4096 (decimal) cells, inactive channels and a central memory of 2000 words, all 0
 abbrev pub blank : PpView
 blank = record {
-  a = 0; p = 0; q = 0; phase = 0; cells = replicate 0o10000 0;
-  states = replicate 0o14 0; registers = replicate 0o14 0; clock = 0;
-  central = replicate 0o2000 0; frame = replicate 0o20 0;
+  a = 0;
+  p = 0;
+  q = 0;
+  phase = 0;
+  cells = replicate 0o10000 0;
+  states = replicate 0o14 0;
+  registers = replicate 0o14 0;
+  clock = 0;
+  central = replicate 0o2000 0;
+  frame = replicate 0o20 0;
 }
 
 -- the state after this many steps
