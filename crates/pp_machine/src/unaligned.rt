@@ -44,7 +44,7 @@ impl Unaligned16 {
 }
 
 /// A number of 32 bits, with the alignment of one of 16 bits.
-#[derive(Clone, Copy)]
+#[derive(Clone, Copy, Default)]
 pub struct Unaligned32 {
     low: u16,
     high: u16,
@@ -82,7 +82,7 @@ impl Unaligned32 {
 }
 
 /// A number of 64 bits, with the alignment of one of 16 bits.
-#[derive(Clone, Copy)]
+#[derive(Clone, Copy, Default)]
 pub struct Unaligned64 {
     low: Unaligned32,
     high: Unaligned32,

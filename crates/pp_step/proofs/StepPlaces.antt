@@ -1,5 +1,5 @@
 -- A step of a processor writes only places that the machine has.
-use Rattle.std.proofs.Common.{◌≡◌, ℕ, ◌<◌, ◌≤◌, ◌/◌, ◌%◌, ◌&&◌, ◌||◌, ◌==◌, not, slice_index, Bool, true, false, nat_lt, if◌then◌else◌, List, All, length, arith, ⊎_elim}
+use Rattle.std.proofs.Common.{◌≡◌, ℕ, ◌<◌, ◌≤◌, ◌/◌, ◌%◌, ◌||◌, ◌==◌, not, slice_index, Bool, true, false, nat_lt, if◌then◌else◌, List, All, length, arith, ⊎_elim}
 use Rattle.std.proofs.lemmas.Bool.{cases_lt}
 use Rattle.std.proofs.lemmas.Bool.Decides.{nat_tests}
 use Rattle.std.proofs.lemmas.List.{get_or_past}

@@ -1,5 +1,5 @@
 -- For the contracts of inner functions only: no definition of a step, and no contract of a public call, needs these.
-use Rattle.std.specs.Prelude.{ℕ, Bool, nat_lt, ◌-◌, ◌/◌, ◌%◌, ◌≤◌, List, [], ◌∷◌, ◌+◌, ◌≡◌, length, slice_index, slice_set}
+use Rattle.std.specs.Prelude.{ℕ, ◌/◌, ◌%◌, ◌≤◌, List, [], ◌∷◌, ◌+◌, ◌≡◌, length, slice_index, slice_set}
 use Rattle.pp_machine.specs.Writes.{Writes}
 use Rattle.pp_machine.specs.declared.pp.Pp.{Pp}
 use Rattle.pp_step.specs.InstructionTable.{code_of, number_of}
@@ -36,10 +36,6 @@ five_over address parts cells =
     (cell_after address 2) (slice_index parts 2))
     (cell_after address 1) (slice_index parts 1))
     (cell_after address 0) (slice_index parts 0)
-
--- whether a central address is one of the sixteen from a on
-abbrev pub is_near : ℕ → ℕ → Bool
-is_near a at = nat_lt ((at + 0o1000000 - a % 0o1000000) % 0o1000000) 16
 
 -- central memory with the numbers of a list written from i words behind a on
 abbrev pub stored_over : ℕ → ℕ → List ℕ → List ℕ → List ℕ

@@ -117,7 +117,7 @@ fn act_short_and_undo(
     action: &Action,
     before: &[u64],
 ) -> Result<(), Fail> {
-    let mut short = ShortTurn::blank();
+    let mut short = ShortTurn::default();
     assert!(rt; rig.admits(action));
     if is_turn(action) && rig.turn_short(&mut short) {
         let after = numbers_at(alloc, rig, places)?;

@@ -1,6 +1,6 @@
 //! Undoing an action by its record, and the old numbers in the record.
 ghost use Rattle.std.specs.Prelude.{◌≡◌, ◌≤◌, length, map};
-ghost use Rattle.pp_machine.specs.Prelude.{over, lookup, same_place};
+ghost use Rattle.pp_machine.specs.Prelude.{over, lookup};
 ghost use Rattle.pp_rig.specs.Action.{FitsRecord, before, record_pairs};
 ghost use Rattle.pp_actions.specs.WatchCodes.{watch_code};
 ghost use Rattle.pp_actions.specs.Deadstart.{deadstart_places};
@@ -12,16 +12,6 @@ use super::{Rig, RigRecord};
 use pp_actions::{Watched, renumbered};
 use pp_machine::{Place, Write, first_write};
 
-/// Returns whether a place is watch entry n.
-fn is_entry(place: &Place, n: u32) -> bool
-    ensures { result ≡ same_place (Place.WatchEntry n) place.now }
-{
-    match *place {
-        Place::WatchEntry { i } => n == u32::from(i),
-        _ => false,
-    }
-}
-
 /// Returns the code for a place, if it is one of the watch entries from i on, which have the codes of these places.
 #[tactic(auto, using(pp_actions::proofs::WriteLists::lookup_entry))]
 fn entry_was(i: u8, watches: &[Watched], place: &Place) -> Option<u64>
@@ -29,7 +19,7 @@ fn entry_was(i: u8, watches: &[Watched], place: &Place) -> Option<u64>
     ensures { result ≡ lookup (entry_writes i (map watch_code watches.now)) place.now }
 {
     for (k, watched) in watches.iter().enumerate() {
-        if is_entry(place, u32::from(i) + k as u32) {
+        if matches!(*place, Place::WatchEntry { i: n } if usize::from(n) == usize::from(i) + k) {
             return Some(watched.code());
         }
     }
@@ -71,6 +61,7 @@ impl RigRecord {
 
 impl Rig {
     /// Undoes an action.
+    #[tactic(auto, using(pp_actions::proofs::Unwatching::watch_changes))]
     pub(super) fn take_back(&mut self, back: &RigRecord)
         requires { FitsRecord back.now self.old }
         ensures { self.new ≡ before back.now self.old }
@@ -78,8 +69,10 @@ impl Rig {
         match back {
             RigRecord::Turn(turn) => self.undo_turn(turn),
             RigRecord::Settings(old) => self.put_all(old.as_slice()),
-            RigRecord::Watched(i) => self.unwatch_last(*i),
-            RigRecord::Unwatched { i, places } => self.rewatch(*i, places.as_slice()),
+            RigRecord::Watched(i) => {
+                self.watches.remove(*i);
+            }
+            RigRecord::Unwatched { i, places } => self.watches.restore(*i, places.as_slice()),
             RigRecord::Restarted { numbers } => self.undo_restart(numbers.as_slice()),
         }
     }

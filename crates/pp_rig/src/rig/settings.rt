@@ -25,7 +25,11 @@ impl Rig {
             Place::Central { a } => self.central.set(a, value),
             Place::Slot => self.slot = value as u8,
             Place::ChannelMode { c } => self.set_state(c, value),
-            Place::ChannelWord { c } => self.set_word(c, value as u16),
+            Place::ChannelWord { c } => {
+                let state = self.channels.get(c).state;
+                let word = value as u16;
+                self.channels.set(c, Channel { state, word });
+            }
             _ => unreachable!(),
         }
     }
@@ -42,15 +46,6 @@ impl Rig {
             2 => ChannelState::Full,
             _ => ChannelState::Function,
         };
-        self.channels.set(c, Channel { state, word });
-    }
-
-    fn set_word(&mut self, c: u8, word: u16)
-        requires place { c < 12 }
-        requires small { word ≤ 0o7777 }
-        ensures { self.new ≡ put self.old (Place.ChannelWord c) word }
-    {
-        let state = self.channels.get(c).state;
         self.channels.set(c, Channel { state, word });
     }
 

@@ -7,21 +7,10 @@ ghost use Rattle.pp_rig.specs.Turn.{devices_old_values, rest_pairs, turn_pairs};
 
 use super::{RigRecord, ShortTurn, TurnRecord, TurnRest};
 use pp_actions::Action;
-use pp_machine::{AllDevices, AllRecords, CentralSize, Devices, Place};
-use pp_step::{ExchangeRecord, PpRecord, StepRecord};
+use pp_machine::{AllDevices, AllRecords, Devices, Place};
+use pp_step::{ExchangeRecord, PpRecord};
 
 impl TurnRest {
-    /// Returns a record to overwrite.
-    #[inline(always)]
-    fn blank() -> TurnRest {
-        TurnRest {
-            slot: 0,
-            are_devices_called: false,
-            clock: 0,
-            devices: AllRecords::default(),
-        }
-    }
-
     /// Returns the old number of a place, or `None` if no device overwrote it.
     #[inline(always)]
     fn device_was(&self, place: &Place) -> Option<u64>
@@ -69,16 +58,9 @@ fn devices_was(back: &AllRecords, place: &Place) -> Option<u64>
 impl TurnRecord {
     /// Returns a record to overwrite: that of an exchange, so an exchange is written in place.
     pub(super) fn blank() -> TurnRecord {
-        let exchange = ExchangeRecord {
-            p: 0,
-            size: CentralSize::K32,
-            central: 0,
-            registers: [0; 16],
-            words: [0; 16],
-        };
         TurnRecord {
-            pp: PpRecord::Exchange(exchange),
-            rest: TurnRest::blank(),
+            pp: PpRecord::Exchange(ExchangeRecord::default()),
+            rest: TurnRest::default(),
         }
     }
 
@@ -92,15 +74,6 @@ impl TurnRecord {
 }
 
 impl ShortTurn {
-    /// Returns a record to overwrite.
-    #[inline(always)]
-    pub(super) fn blank() -> ShortTurn {
-        ShortTurn {
-            pp: StepRecord::nothing(),
-            rest: TurnRest::blank(),
-        }
-    }
-
     /// Returns the whole undo record that this one represents.
     #[inline(always)]
     pub(super) fn lengthen(&self) -> RigRecord

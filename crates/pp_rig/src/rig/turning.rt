@@ -165,7 +165,7 @@ impl Rig {
         ensures is_exchange { head.new ≡ None → IsExchange (pp_of self.old.slot self.old) }
     {
         if head.is_none() {
-            *head = Some(ShortTurn::blank());
+            *head = Some(ShortTurn::default());
         }
         if let Some(turn) = head {
             if self.turn_short(turn) {

@@ -64,22 +64,4 @@ impl Rig {
         let places = self.watches.remove(i);
         RigRecord::Unwatched { i, places }
     }
-
-    /// Restores the watched places from entry i on, the first of which was removed.
-    #[tactic(auto, using(pp_actions::proofs::Unwatching::watch_changes))]
-    pub(super) fn rewatch(&mut self, i: u8, places: &[Watched])
-        requires { FitsUnwatched i places.now self.old }
-        ensures { self.new ≡ over self.old (entry_writes i (map watch_code places.now)) }
-    {
-        self.watches.restore(i, places);
-    }
-
-    /// Stops watching the last place.
-    #[tactic(auto, using(pp_actions::proofs::Unwatching::watch_changes))]
-    pub(super) fn unwatch_last(&mut self, i: u8)
-        requires { first_zero self.old.watches ≡ i + 1 }
-        ensures { self.new ≡ over self.old ((Place.WatchEntry i, 0) ∷ []) }
-    {
-        self.watches.remove(i);
-    }
 }

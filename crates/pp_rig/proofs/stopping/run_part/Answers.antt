@@ -1,4 +1,4 @@
-use Rattle.std.proofs.Common.{◌≡◌, ◌+◌, ◌-◌, ◌≤◌, ◌∙◌, arith, sym}
+use Rattle.std.proofs.Common.{◌≡◌, ◌+◌, ◌-◌, arith, sym}
 use Rattle.pp_history.proofs.Repeats.{after_acts_more}
 use Rattle.pp_history.specs.Repeating.{after_acts}
 use Rattle.pp_history.specs.SessionLaws.{machine_at}
