@@ -8,7 +8,7 @@ mod all;
 
 use crate::channel::ChannelState;
 use crate::channels::Channels;
-use crate::device::{Device, step_device, undo_device};
+use crate::device::Device;
 use crate::place::Place;
 pub use all::{
     AllDevices, AllRecords, all_devices, device_records_restore, device_writes_are_distinct,
@@ -153,7 +153,9 @@ impl<D: Device, R: Devices> Devices for On<D, R> {
 
     #[inline(always)]
     fn step(&mut self, channels: &mut Channels) -> OnRecords<D::Record, R::Records> {
-        let own = step_device(&mut self.device, channels, self.channel);
+        let mut channel = channels.get(self.channel);
+        let own = self.device.step(&mut channel);
+        channels.set(self.channel, channel);
         let others = self.others.step(channels);
         OnRecords {
             channel: self.channel,
@@ -165,7 +167,9 @@ impl<D: Device, R: Devices> Devices for On<D, R> {
     #[inline(always)]
     fn undo(&mut self, back: &OnRecords<D::Record, R::Records>, channels: &mut Channels) {
         self.others.undo(&back.others, channels);
-        undo_device(&mut self.device, channels, self.channel, back.own);
+        let mut channel = channels.get(self.channel);
+        self.device.undo(back.own, &mut channel);
+        channels.set(self.channel, channel);
     }
 
     #[inline(always)]
