@@ -3,7 +3,7 @@ use Rattle.std.specs.Cmp.Derive.{both_true}
 use Rattle.std.proofs.Common.{eq-eqb, ℕ, ◌≡◌, ◌≢◌, ◌∙◌, Bool, true, false, if◌then◌else◌, ◌⊎◌, inl, inr, ap, refl, sym, List, get_or, set}
 use Rattle.std.specs.List.{AllPairs}
 use Rattle.std.proofs.lemmas.List.{set-set, set-get_or}
-use Rattle.pp_machine.proofs.Prelude.{IsAttached, of_device, with_channels, Machine, over, old_values, number, put, Has, HasAll, same_place, ChannelNumbers, with_channel, DeviceModel, IsWritten, DevicePlace, DeviceView, AtOwn, AtState, AtWord, device_place, number_at, device_old_values, over_device, place_at, put_at, replace, view_of, with_view, AllPlaces-renamed, Commute, IsStore, old_values-renamed, over-renamed, places-old_values, undone-by-old-values, AllPlaces, Writes, places, renamed, Place, ChannelMode, ChannelWord, Slot}
+use Rattle.pp_machine.proofs.Prelude.{IsAttached, of_device, with_channels, Machine, over, old_values, number, put, Has, HasAll, same_place, ChannelNumbers, with_channel, DeviceModel, DevicePlace, DeviceView, AtOwn, AtState, AtWord, device_place, number_at, device_old_values, over_device, place_at, put_at, replace, view_of, with_view, AllPlaces-renamed, Commute, IsStore, old_values-renamed, over-renamed, places-old_values, undone-by-old-values, AllPlaces, Writes, places, renamed, Place, ChannelMode, ChannelWord, Slot}
 use Rattle.pp_machine.proofs.Once.{each-once, once}
 
 -- ---- single writes, and how the old values undo a step
@@ -109,13 +109,6 @@ module _ {Numbers Own Record : Type 0} (d : DeviceModel Numbers Own Record) (law
   -- and its old values are those of the machine
   pub lifted-old_values : (w : Writes (DevicePlace Own)) → renamed (device_place d c) (device_old_values d (view_of d c m) w) ≡ old_values m (renamed (device_place d c) w)
   lifted-old_values = old_values-renamed (number_at d.number) number (device_place d c) (view_of d c m) m named-at
-
-  -- a device and channels that a write list leads to, put into the machine
-  pub lifted-parts : (n : Numbers) (channels : ChannelNumbers) (w : Writes (DevicePlace Own)) → IsWritten d w c (d.get m) m.channels n channels →
-      replace d (with_channels m channels) n ≡ over m (renamed (device_place d c) w)
-  lifted-parts n channels w done =
-      ap (λ x. replace d (with_channels m channels) x) done.device
-      ∙ (ap (λ x. replace d (with_channels m x) (over_device d (view_of d c m) w).device) done.channels ∙ lifted (over_device d (view_of d c m) w) w refl)
 
 -- a device's place and one that no device has
 not_shared : (q p : Place) → of_device q ≡ true → of_device p ≡ false → same_place q p ≡ false

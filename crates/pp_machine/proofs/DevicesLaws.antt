@@ -1,9 +1,9 @@
 -- What holds of the devices of a machine, from the laws of each.
 use Rattle.std.proofs.Common.{ℕ, false, ◌+◌, ◌≡◌, ◌≤◌, ◌∙◌, [], ◌∷◌, ◌++◌, None, length, ap, arith, refl, sym}
 use Rattle.std.proofs.lemmas.List.{length-append}
-use Rattle.pp_machine.proofs.DeviceLaws.{lifted-old_values, lifted-parts, not_at, watches-kept}
+use Rattle.pp_machine.proofs.DeviceLaws.{lifted, lifted-old_values, not_at, watches-kept}
 use Rattle.pp_machine.proofs.Parts.{one-performed}
-use Rattle.pp_machine.proofs.Prelude.{IsAttached, IsDevice, of_device, with_channels, DeviceModel, IsWritten, device_old_values, device_pairs, device_place, device_step_writes, replace, view_of, AreDevices, AreOnChannels, DevicesModel, FitsOn, no_devices, on, setup-over, ArePerformed, Machine, over, old_values, put, Writes, first_of_two, renamed, Has, HasAll, lookup, same_place, ChannelNumbers, AllPlaces-append, length-renamed, lookup-append, OnRecords, Place}
+use Rattle.pp_machine.proofs.Prelude.{IsAttached, IsDevice, of_device, DeviceModel, DeviceView, device_old_values, device_pairs, device_place, device_step_writes, over_device, view_of, with_view, AreDevices, AreOnChannels, DevicesModel, FitsOn, no_devices, on, setup-over, ArePerformed, Machine, over, old_values, put, Writes, first_of_two, renamed, Has, HasAll, lookup, same_place, AllPlaces-append, length-renamed, lookup-append, OnRecords, Place}
 
 -- a list of other places does not have a place
 not_among : {P : Type 0} (name : P → Place) (ws : Writes P) (p : Place) → ((x : P) → same_place (name x) p ≡ false) → lookup (renamed name ws) p ≡ None
@@ -25,13 +25,13 @@ module _ {Numbers Own Record : Type 0} (d : DeviceModel Numbers Own Record) (law
   not_by_one c r p e = not_among (device_place d c) (d.pairs r) p (not_at d laws c p e)
 
   -- a step on the device's own numbers and its channel is a step of the machine
-  pub device-performed : (m : Machine) (c : ℕ) (n : Numbers) (channels : ChannelNumbers) (r : Record) → d.channel m.setup ≡ c →
-      IsWritten d (d.writes (view_of d c m)) c (d.get m) m.channels n channels → d.pairs r ≡ device_old_values d (view_of d c m) (d.writes (view_of d c m)) →
-      ArePerformed (device_step_writes d ∷ []) m (replace d (with_channels m channels) n) (device_pairs d c r)
-  device-performed m c n channels r on_channel step named =
+  pub device-performed : (m : Machine) (c : ℕ) (s : DeviceView Numbers) (r : Record) → d.channel m.setup ≡ c →
+      s ≡ over_device d (view_of d c m) (d.writes (view_of d c m)) → d.pairs r ≡ device_old_values d (view_of d c m) (d.writes (view_of d c m)) →
+      ArePerformed (device_step_writes d ∷ []) m (with_view d m c s) (device_pairs d c r)
+  device-performed m c s r on_channel step named =
       let w = d.writes (view_of d c m) in
       one-performed (device_step_writes d) m _ _
-      (lifted-parts d laws m c n channels w step ∙ ap (λ at. over m (renamed (device_place d at) (d.writes (view_of d at m)))) (sym on_channel))
+      (lifted d laws m c s w step ∙ ap (λ at. over m (renamed (device_place d at) (d.writes (view_of d at m)))) (sym on_channel))
       (ap (renamed (device_place d c)) named ∙ (lifted-old_values d laws m c w ∙ ap (λ at. old_values m (renamed (device_place d at) (d.writes (view_of d at m)))) (sym on_channel)))
 
 -- ---- no device, and one device more

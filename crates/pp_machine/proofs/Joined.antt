@@ -1,9 +1,11 @@
 -- The step of a device before other devices, and its undoing.
-use Rattle.std.proofs.Common.{ℕ, ◌≡◌, ◌∙◌, [], ◌∷◌, ◌++◌, ap, sym, subst}
-use Rattle.pp_machine.proofs.DeviceLaws.{lifted-parts}
+use Rattle.std.proofs.Common.{ℕ, ◌≡◌, ◌<◌, ◌∙◌, [], ◌∷◌, ◌++◌, ap, get_or, length, sym, subst}
+use Rattle.std.proofs.lemmas.List.{get_or-set_same}
+use Rattle.pp_machine.proofs.DeviceLaws.{lifted}
 use Rattle.pp_machine.proofs.DevicesLaws.{device-performed}
 use Rattle.pp_machine.proofs.Parts.{both-performed, led_back}
-use Rattle.pp_machine.proofs.Prelude.{with_channels, DeviceModel, IsWritten, device_old_values, device_pairs, device_step_writes, replace, view_of, view_on, AreJoined, AreStepped, DevicesModel, FitsOn, attached, on, ArePerformed, Machine, over, put, over-append, ChannelNumbers, OnRecords}
+use Rattle.pp_machine.proofs.Prelude.{with_channels, DeviceModel, DeviceView, device_old_values, device_pairs, device_step_writes, device_view, over_device, replace, state_number, view_of, with_channel, with_view, AreJoined, AreStepped, DevicesModel, FitsOn, attached, on, ArePerformed, Machine, over, put, over-append, ChannelNumbers, OnRecords}
+use Rattle.pp_machine.specs.declared.channel.Channel.{Channel}
 
 module _ {Numbers Own Record Others Records : Type 0} (d : DeviceModel Numbers Own Record) (o : DevicesModel Others Records) (joined : AreJoined d o) (m : Machine) (c : ℕ) where
   -- the machine with these devices and channels
@@ -28,10 +30,6 @@ module _ {Numbers Own Record Others Records : Type 0} (d : DeviceModel Numbers O
   its_device : (n : Numbers) (x : Others) (channels : ChannelNumbers) → d.get (whole n x channels) ≡ n
   its_device n x channels = ap d.get (device_last n x channels) ∙ joined.device.attached.got _ c n
 
-  -- what holds of the device and the channels holds of those of the machine
-  of_whole : (P : Numbers → ChannelNumbers → Type 0) (n : Numbers) (x : Others) (channels : ChannelNumbers) → P n channels → P (d.get (whole n x channels)) (whole n x channels).channels
-  of_whole P n x channels h = subst (λ k. P k (whole n x channels).channels) (sym (its_device n x channels)) (subst (P n) (sym (its_channels n x channels)) h)
-
   -- the device and the channels replaced
   replaced : (n later : Numbers) (x : Others) (channels after : ChannelNumbers) → replace d (with_channels (whole n x channels) after) later ≡ whole later x after
   replaced n later x channels after =
@@ -41,41 +39,49 @@ module _ {Numbers Own Record Others Records : Type 0} (d : DeviceModel Numbers O
       ∙ (ap (λ s. d.attach s c later) (changed ∙ device_last n x after)
       ∙ (joined.device.attached.again (o.attach (with_channels m after) x) c c n later ∙ sym (device_last later x after)))
 
+  -- what the device sees, with its channel taken out of the others
+  seen : (n : Numbers) (x : Others) (channels : ChannelNumbers) (taken : Channel) → state_number taken.state ≡ get_or channels.states c 0 → taken.word ≡ get_or channels.registers c 0 → device_view n taken ≡ view_of d c (whole n x channels)
+  seen n x channels taken state word = rw (its_device n x channels, its_channels n x channels) (λ i. record { device = n; state = state i; word = word i })
+
+  -- the device and its channel put back
+  returned : (n later : Numbers) (x : Others) (channels after : ChannelNumbers) (left : Channel) → after ≡ with_channel channels c (state_number left.state) left.word → with_view d (whole n x channels) c (device_view later left) ≡ whole later x after
+  returned n later x channels after left put_back = rw (its_channels n x channels, ← put_back) (replaced n later x channels after)
+
   -- ---- a step
 
-  module _ (n later : Numbers) (x after : Others) (channels handed last : ChannelNumbers) (r : Record) (rs : Records) where
+  module _ (n later : Numbers) (x after : Others) (channels handed last : ChannelNumbers) (taken left : Channel) (r : Record) (rs : Records) where
     -- the device's own step, and its undo record
-    abbrev IsOwnStep : Numbers → ChannelNumbers → Type 0
-    IsOwnStep k z = IsWritten d (d.writes (view_on c k z)) c k z later handed × (d.pairs r ≡ device_old_values d (view_on c k z) (d.writes (view_on c k z)))
+    abbrev IsOwnStep : DeviceView Numbers → Type 0
+    IsOwnStep s = (device_view later left ≡ over_device d s (d.writes s)) × (d.pairs r ≡ device_old_values d s (d.writes s))
 
-    first : IsOwnStep n channels → ArePerformed (device_step_writes d ∷ []) (whole n x channels) (whole later x handed) (device_pairs d c r)
-    first own =
-        let here = of_whole IsOwnStep n x channels own in
-        subst (λ s. ArePerformed (device_step_writes d ∷ []) (whole n x channels) s (device_pairs d c r)) (replaced n later x channels handed)
-        (device-performed d joined.device.attached (whole n x channels) c later handed r (on_channel n x channels) here.0 here.1)
+    first : handed ≡ with_channel channels c (state_number left.state) left.word → IsOwnStep (view_of d c (whole n x channels)) → ArePerformed (device_step_writes d ∷ []) (whole n x channels) (whole later x handed) (device_pairs d c r)
+    first put_back own =
+        subst (λ s. ArePerformed (device_step_writes d ∷ []) (whole n x channels) s (device_pairs d c r)) (returned n later x channels handed left put_back)
+        (device-performed d joined.device.attached (whole n x channels) c (device_view later left) r (on_channel n x channels) own.0 own.1)
 
     rest : ((s : Machine) → AreStepped o (attached o s x handed) (attached o s after last) rs) → AreStepped o (whole later x handed) (whole later after last) rs
     rest others =
         subst (λ s. AreStepped o s (whole later after last) rs) (others_last later x handed)
         (subst (λ s. AreStepped o (attached o (d.attach m c later) x handed) s rs) (others_last later after last) (others (d.attach m c later)))
 
-    pub stepped : IsOwnStep n channels → d.Fits r (view_on c later handed) → ((s : Machine) → AreStepped o (attached o s x handed) (attached o s after last) rs) →
-        AreStepped (on d o) (whole n x channels) (whole later after last) (record { channel = c; own = r; others = rs })
-    stepped own fits others =
+    pub stepped : state_number taken.state ≡ get_or channels.states c 0 → taken.word ≡ get_or channels.registers c 0 → c < length channels.states → c < length channels.registers →
+        handed ≡ with_channel channels c (state_number left.state) left.word → IsOwnStep (device_view n taken) → d.Fits r (device_view later left) →
+        ((s : Machine) → AreStepped o (attached o s x handed) (attached o s after last) rs) → AreStepped (on d o) (whole n x channels) (whole later after last) (record { channel = c; own = r; others = rs })
+    stepped state word states registers put_back own fits others =
         let done = rest others in
         let led = led_back o.parts (whole later x handed) (whole later after last) (o.pairs rs) done.performed in
         record {
-          performed = both-performed (device_step_writes d ∷ []) o.parts (whole n x channels) (whole later x handed) (whole later after last) _ _ (first own) done.performed;
+          performed = both-performed (device_step_writes d ∷ []) o.parts (whole n x channels) (whole later x handed) (whole later after last) _ _ (first put_back (subst IsOwnStep (seen n x channels taken state word) own)) done.performed;
           fits = record {
             channel = sym (on_channel later after last);
             others = done.fits;
-            own = subst (λ s. d.Fits r (view_of d c s)) (sym led) (of_whole (λ k z. d.Fits r (view_on c k z)) later x handed fits);
+            own = subst (λ s. d.Fits r (view_of d c s)) (sym led) (subst (d.Fits r) (seen later x handed left (rw put_back (sym (get_or-set_same channels.states c _ 0 states))) (rw put_back (sym (get_or-set_same channels.registers c _ 0 registers)))) fits);
           };
         }
 
   -- ---- a step undone
 
-  module _ (n : Numbers) (x before : Others) (channels handed : ChannelNumbers) (back : OnRecords Record Records) where
+  module _ (n : Numbers) (x before : Others) (channels handed : ChannelNumbers) (taken : Channel) (back : OnRecords Record Records) where
     others_undone : ((s : Machine) → attached o s before handed ≡ over (attached o s x channels) (o.pairs back.others)) → over (whole n x channels) (o.pairs back.others) ≡ whole n before handed
     others_undone undone =
         sym (sym (others_last n before handed) ∙ (undone (d.attach m c n) ∙ ap (λ s. over s (o.pairs back.others)) (others_last n x channels)))
@@ -83,18 +89,18 @@ module _ {Numbers Own Record Others Records : Type 0} (d : DeviceModel Numbers O
     pub channel_fits : FitsOn d o back (whole n x channels) → back.channel ≡ c
     channel_fits fits = fits.channel ∙ on_channel n x channels
 
-    pub device_fits : FitsOn d o back (whole n x channels) → ((s : Machine) → attached o s before handed ≡ over (attached o s x channels) (o.pairs back.others)) → d.Fits back.own (view_on c n handed)
-    device_fits fits undone =
+    pub device_fits : state_number taken.state ≡ get_or handed.states c 0 → taken.word ≡ get_or handed.registers c 0 → FitsOn d o back (whole n x channels) →
+        ((s : Machine) → attached o s before handed ≡ over (attached o s x channels) (o.pairs back.others)) → d.Fits back.own (device_view n taken)
+    device_fits state word fits undone =
         let there = subst (λ s. d.Fits back.own (view_of d c s)) (others_undone undone) (subst (λ at. d.Fits back.own (view_of d at (over (whole n x channels) (o.pairs back.others)))) (channel_fits fits) fits.own) in
-        subst (d.Fits back.own) (ap (λ k. view_on c k (whole n before handed).channels) (its_device n before handed) ∙ ap (view_on c n) (its_channels n before handed)) there
+        subst (d.Fits back.own) (sym (seen n before handed taken state word)) there
 
-    pub undone : (old : Numbers) (first : ChannelNumbers) → back.channel ≡ c →
-        ((s : Machine) → attached o s before handed ≡ over (attached o s x channels) (o.pairs back.others)) →
-        IsWritten d (d.pairs back.own) c n handed old first →
-        whole old before first ≡ over (whole n x channels) (device_pairs d back.channel back.own ++ o.pairs back.others)
-    undone old first at others own =
+    pub undone : (old : Numbers) (first : ChannelNumbers) (left : Channel) → state_number taken.state ≡ get_or handed.states c 0 → taken.word ≡ get_or handed.registers c 0 →
+        first ≡ with_channel handed c (state_number left.state) left.word → device_view old left ≡ over_device d (device_view n taken) (d.pairs back.own) → back.channel ≡ c →
+        ((s : Machine) → attached o s before handed ≡ over (attached o s x channels) (o.pairs back.others)) → whole old before first ≡ over (whole n x channels) (device_pairs d back.channel back.own ++ o.pairs back.others)
+    undone old first left state word put_back own at others =
         sym (over-append put (whole n x channels) (device_pairs d back.channel back.own) (o.pairs back.others)
         ∙ (ap (λ s. over s (device_pairs d back.channel back.own)) (others_undone others)
         ∙ (ap (λ k. over (whole n before handed) (device_pairs d k back.own)) at
-        ∙ (sym (lifted-parts d joined.device.attached (whole n before handed) c old first (d.pairs back.own) (of_whole (λ k z. IsWritten d (d.pairs back.own) c k z old first) n before handed own))
-        ∙ replaced n old before handed first))))
+        ∙ (sym (lifted d joined.device.attached (whole n before handed) c (device_view old left) (d.pairs back.own) (own ∙ ap (λ s. over_device d s (d.pairs back.own)) (seen n before handed taken state word)))
+        ∙ returned n old before handed first left put_back))))

@@ -88,11 +88,6 @@ module _ {Numbers Own Record : Type 0} (d : DeviceModel Numbers Own Record) wher
   abbrev pub device_pairs : ℕ → Record → Writes Place
   device_pairs c r = renamed (device_place c) (d.pairs r)
 
--- A write list leads from a device on channel c and the channels to a later device and later channels.
-pub record IsWritten {Numbers Own Record : Type 0} (d : DeviceModel Numbers Own Record) (w : Writes (DevicePlace Own)) (c : ℕ) (n : Numbers) (before : ChannelNumbers) (later : Numbers) (after : ChannelNumbers) : Type 0 where
-  pub device : later ≡ (over_device d (view_on c n before) w).device
-  pub channels : after ≡ with_channel before c (over_device d (view_on c n before) w).state (over_device d (view_on c n before) w).word
-
 -- A step by a write list leads from one view to another: the record has the old values, and can be undone.
 pub record IsStep {Numbers Own Record : Type 0} (d : DeviceModel Numbers Own Record) (w : Writes (DevicePlace Own)) (old new : DeviceView Numbers) (r : Record) : Type 0 where
   pub step : new ≡ over_device d old w

@@ -1,10 +1,9 @@
-//! What the machine asks of a device, and one step of any device, and its undoing.
-ghost use Rattle.std.specs.Prelude.{◌≡◌, ◌<◌};
-ghost use Rattle.pp_machine.specs.Device.{DeviceModel, IsWritten, device_place, device_view, device_old_values, over_device, view_on};
+//! What the machine asks of a device.
+ghost use Rattle.std.specs.Prelude.{◌≡◌};
+ghost use Rattle.pp_machine.specs.Device.{DeviceModel, device_place, device_view, device_old_values, over_device};
 ghost use Rattle.pp_machine.specs.Prelude.{renamed, lookup};
 
 use crate::channel::Channel;
-use crate::channels::Channels;
 use crate::place::Place;
 
 /// A device on a data channel. It sees its own numbers, and the state and the register of its channel.
@@ -34,35 +33,4 @@ pub trait Device: Drop {
     /// Returns the old number of a place, or `None` if the record, of a device on channel c, does not have that place.
     fn was(back: &Self::Record, c: u8, place: &Place) -> Option<u64>
         ensures { result ≡ lookup (renamed (device_place model c) (model.pairs back.now)) place.now };
-}
-
-/// Makes one step of a device on channel c, and returns its undo record.
-#[inline(always)]
-pub(crate) fn step_device<D: Device>(device: &mut D, channels: &mut Channels, c: u8) -> D::Record
-    requires { c < 12 }
-    ensures step { IsWritten D.model (D.model.writes (view_on c device.old channels.old)) c device.old channels.old device.new channels.new }
-    ensures old_values { let old = view_on c device.old channels.old in D.model.pairs result ≡ device_old_values D.model old (D.model.writes old) }
-    ensures fits { D.model.Fits result (view_on c device.new channels.new) }
-{
-    let mut channel = channels.get(c);
-    let record = device.step(&mut channel);
-    channels.set(c, channel);
-    record
-}
-
-/// Undoes a step of a device on channel c. The record must fit the device and its channel.
-#[inline(always)]
-pub(crate) fn undo_device<D: Device>(
-    device: &mut D,
-    channels: &mut Channels,
-    c: u8,
-    back: D::Record,
-)
-    requires c { c < 12 }
-    requires fits { D.model.Fits back (view_on c device.old channels.old) }
-    ensures { IsWritten D.model (D.model.pairs back) c device.old channels.old device.new channels.new }
-{
-    let mut channel = channels.get(c);
-    device.undo(back, &mut channel);
-    channels.set(c, channel);
 }

@@ -4,16 +4,12 @@ ghost use Rattle.pp_machine.specs.Devices.{AreJoined, AreStepped, DevicesModel, 
 ghost use Rattle.pp_machine.specs.Parts.{AreIdle};
 ghost use Rattle.pp_machine.specs.Prelude.{Machine, over, lookup};
 
-mod all;
-
 use crate::channel::ChannelState;
 use crate::channels::Channels;
-use crate::device::{Device, step_device, undo_device};
+use crate::device::Device;
 use crate::place::Place;
-pub use all::{
-    AllDevices, AllRecords, all_devices, device_records_restore, device_writes_are_distinct,
-    devices_keep_ranges,
-};
+use crate::printer::{Printer, PrinterRecord};
+use crate::reader::{Reader, ReaderRecord};
 use std::marker::Model;
 
 /// The devices of a machine.
@@ -153,7 +149,9 @@ impl<D: Device, R: Devices> Devices for On<D, R> {
 
     #[inline(always)]
     fn step(&mut self, channels: &mut Channels) -> OnRecords<D::Record, R::Records> {
-        let own = step_device(&mut self.device, channels, self.channel);
+        let mut channel = channels.get(self.channel);
+        let own = self.device.step(&mut channel);
+        channels.set(self.channel, channel);
         let others = self.others.step(channels);
         OnRecords {
             channel: self.channel,
@@ -165,7 +163,9 @@ impl<D: Device, R: Devices> Devices for On<D, R> {
     #[inline(always)]
     fn undo(&mut self, back: &OnRecords<D::Record, R::Records>, channels: &mut Channels) {
         self.others.undo(&back.others, channels);
-        undo_device(&mut self.device, channels, self.channel, back.own);
+        let mut channel = channels.get(self.channel);
+        self.device.undo(back.own, &mut channel);
+        channels.set(self.channel, channel);
     }
 
     #[inline(always)]
@@ -173,4 +173,26 @@ impl<D: Device, R: Devices> Devices for On<D, R> {
     fn was(back: &OnRecords<D::Record, R::Records>, place: &Place) -> Option<u64> {
         D::was(&back.own, back.channel, place).or(R::was(&back.others, place))
     }
+}
+
+/// The devices of every machine, in the order of their steps.
+pub type AllDevices = On<Reader, On<Printer, NoDevices>>;
+
+/// Their undo records.
+pub type AllRecords = OnRecords<ReaderRecord, OnRecords<PrinterRecord, NoDevices>>;
+
+/// Puts the devices on their channels, each 0 to 0o13.
+#[tactic(auto, using(crate::proofs::AllDevices::printer_joined, crate::proofs::AllDevices::reader_joined))]
+pub fn all_devices(
+    reader_channel: u8,
+    reader: Reader,
+    printer_channel: u8,
+    printer: Printer,
+) -> AllDevices
+    requires reads { reader_channel < 12 }
+    requires prints { printer_channel < 12 }
+    ensures { result ≡ record { channel = reader_channel; device = reader; others = record { channel = printer_channel; device = printer; others = record {} } } }
+{
+    let others = On::new(printer_channel, printer, NoDevices);
+    On::new(reader_channel, reader, others)
 }
