@@ -1,7 +1,7 @@
 -- The result of a script, at its end or at a fault.
-use Rattle.std.proofs.Common.{◌≡◌, ◌∙◌, ℕ, ◌+◌, ◌<◌, ◌⊎◌, List, [], ◌∷◌, ◌++◌, length, refl, ap, arith, inl, length-append, append_assoc, Option, Result, Ok, Err, MatchResult}
+use Rattle.std.proofs.Common.{◌≡◌, ◌∙◌, ℕ, ◌<◌, ◌⊎◌, List, [], ◌∷◌, ◌++◌, length, refl, ap, arith, inl, length-append, append_assoc, Option, Result, Ok, Err, MatchResult}
 use Rattle.std.specs.Io.KnownBytes.{IsAtEnd}
-use Rattle.pp_console.proofs.Prelude.{Written, IoFault, ReadFailed, WriteFailed, LineLimit, lines, finished, unfinished, finished_within, IsWithin, Progress, KEPT, LINE_LIMIT, BYTE_LIMIT, State, run, Origin, Performed, Serves, Stops, HasRead, Interrupts}
+use Rattle.pp_console.proofs.Prelude.{Written, IoFault, ReadFailed, WriteFailed, LineLimit, lines, finished, unfinished, finished_within, IsWithin, Progress, KEPT, LINE_LIMIT, BYTE_LIMIT, State, Origin, Performed, Serves, Stops, HasEnded, HasRead, Interrupts}
 use Rattle.pp_lines.proofs.Limits.{lines-whole, lines-last, finished_within-kept, finished_within-more, passed}
 use Rattle.pp_console.specs.declared.progress.Summary.{Summary}
 use Rattle.pp_console.proofs.Reading.{HasRead-within}
@@ -16,33 +16,28 @@ Interrupts-more WriteFailed session text origin bytes more p =
     let further = finished_within-more LINE_LIMIT BYTE_LIMIT bytes more in
     (p.0, p.1, p.2 ++ further.0, rw (further.1, p.3, append_assoc), p.4)
 
+-- the whole script, if its lines have ended
+Serves-ended : (summary : Summary) (session : State) (text : Written) (origin : Origin) (bytes : List ℕ) (done : List (List ℕ)) → lines bytes ≡ done →
+    HasEnded summary session text origin done → IsWithin LINE_LIMIT BYTE_LIMIT bytes → Serves summary session text origin bytes
+Serves-ended summary session text origin bytes done whole ended within = record {
+  performed = rw whole ended.performed;
+  counts_lines = ended.counts_lines ∙ rw whole refl;
+  counts_refused = ended.counts_refused ∙ rw whole refl;
+  within = within;
+}
+
 -- the whole script, if the last line ends with a line feed
-pub Serves-whole : (summary : Summary) (progress : Progress) (session : State) (text : Written) (origin : Origin) (bytes : List ℕ) →
-    HasRead progress session text origin bytes → length progress.line ≡ 0 → summary.lines ≡ progress.lines → summary.refused ≡ progress.refused →
-    Serves summary session text origin bytes
-Serves-whole summary progress session text origin bytes has_read empty same_lines same_refused =
-    let whole = lines-whole KEPT progress.line bytes (omega arith) has_read.keeps empty in
-    record {
-      performed = rw whole has_read.performed;
-      counts_lines = same_lines ∙ has_read.counts_lines ∙ rw whole refl;
-      counts_refused = same_refused ∙ has_read.counts_refused ∙ rw whole refl;
-      within = HasRead-within progress session text origin bytes has_read;
-    }
+pub Serves-whole : (progress : Progress) (session : State) (text : Written) (origin : Origin) (bytes : List ℕ) →
+    HasRead progress session text origin bytes → length progress.line ≡ 0 → Serves progress.summary session text origin bytes
+Serves-whole progress session text origin bytes has_read empty =
+    Serves-ended _ _ _ origin bytes _ (lines-whole KEPT progress.line bytes (omega arith) has_read.keeps empty) has_read.ended (HasRead-within _ _ _ _ bytes has_read)
 
 -- the whole script, if the last line does not end with a line feed
 pub Serves-last : (summary : Summary) (progress : Progress) (session session' : State) (text text' : Written) (origin : Origin) (bytes : List ℕ) →
-    HasRead progress session text origin bytes → 0 < length progress.line → summary.lines ≡ progress.lines + 1 →
-    summary.refused ≡ (run origin.start (finished bytes ++ unfinished bytes ∷ [])).refused →
-    Performed session' text' origin (finished bytes ++ unfinished bytes ∷ []) →
+    HasRead progress session text origin bytes → 0 < length progress.line → HasEnded summary session' text' origin (finished bytes ++ unfinished bytes ∷ []) →
     Serves summary session' text' origin bytes
-Serves-last summary progress session session' text text' origin bytes has_read begun same_lines same_refused performed =
-    let whole = lines-last KEPT progress.line bytes has_read.keeps begun in
-    record {
-      performed = rw whole performed;
-      counts_lines = same_lines ∙ rw (whole, length-append (finished bytes) (unfinished bytes ∷ [])) (ap (λ n. n + 1) has_read.counts_lines);
-      counts_refused = same_refused ∙ rw whole refl;
-      within = HasRead-within progress session text origin bytes has_read;
-    }
+Serves-last summary progress session session' text text' origin bytes has_read begun ended =
+    Serves-ended _ _ _ origin bytes _ (lines-last KEPT progress.line bytes has_read.keeps begun) ended (HasRead-within _ _ _ _ bytes has_read)
 
 -- the result of a script that passes a limit, for any limits
 Stops-limit : (line_limit byte_limit : ℕ) (session : State) (text : Written) (origin : Origin) (bytes kept more : List ℕ) →

@@ -1,7 +1,9 @@
 -- One more line of a script.
-use Rattle.std.proofs.Common.{◌≡◌, ℕ, ◌+◌, List, [], ◌∷◌, ◌++◌, take, refl, ap, arith, append_assoc, Bool, Result, Ok, Err, MatchResult, not, ◌<◌, length}
+use Rattle.std.proofs.Common.{◌≡◌, ℕ, ◌+◌, List, [], ◌∷◌, ◌++◌, take, refl, ap, arith, append_assoc, ◌∙◌, Bool, true, false, Ok, Err, not, ◌<◌, length, length-append}
 use Rattle.std.proofs.lemmas.List.Sums.{fold-append}
-use Rattle.pp_console.proofs.Prelude.{KEPT, Ghosts, State, Value, Performs, answer_line, run, IsAt, rules, Origin, Performed, Breaks}
+use Rattle.std.specs.Int.{from_bool}
+use Rattle.pp_console.proofs.Prelude.{KEPT, Ghosts, State, Value, Performs, answer_line, run, Origin, Breaks, HasEnded}
+use Rattle.pp_console.specs.declared.progress.Summary.{Summary}
 use Rattle.pp_console.specs.Script.{answer_parsed, begin, follow, refusals}
 use Rattle.pp_lines.proofs.Writing.{Appends-again}
 use Rattle.std.proofs.lemmas.Bool.Decides.{nat_tests}
@@ -28,23 +30,29 @@ pub answer_line-kept : (value : Value) (line : List ℕ) → answer_line value (
 unfolding answer_line
 answer_line-kept value line = ap (answer_parsed value) (command-kept KEPT line (omega arith))
 
-module _ {W : Type 0} (sink : Ghosts W) (old new : State) (second third : W) (origin : Origin) (done : List (List ℕ)) (line : List ℕ) (before : Performed old (sink.text second) origin done) where
-  -- the line was performed, and its answer or a proper prefix of it was written
-  pub line-performed : {E : Type 0} (result : Result Bool E) → Performs sink old new second third result (λ v. answer_line v line) →
-      MatchResult result (λ _. Performed new (sink.text third) origin (done ++ line ∷ [])) (λ _. Breaks new (sink.text third) origin done line)
-  line-performed (Ok performed) performs = record {
-    leaves = rw (run-line origin.start done line) (performs.session _ before.leaves);
-    writes = rw (run-line origin.start done line) (Appends-again _ _ _ _ _ before.writes (performs.text _ before.leaves));
-  }
-  line-performed (Err fault) performs = record {
-    leaves = rw (run-line origin.start done line) (performs.session _ before.leaves);
-    writes =
-        let answer = performs.text _ before.leaves in
-        (answer.0, answer.1, Appends-again _ _ _ _ _ before.writes answer.2, rw (run-line origin.start done line, append_assoc, ← answer.3) refl, answer.4);
+-- a `bool` as a number counts a rejected line
+bool-counts : (refused : Bool) → from_bool refused ≡ refusals refused
+bool-counts true = refl
+bool-counts false = refl
+
+module _ {W E : Type 0} (sink : Ghosts W) (old new : State) (second third : W) (origin : Origin) (done : List (List ℕ)) (line : List ℕ) (summary : Summary) (ended : HasEnded summary old (sink.text second) origin done) where
+  -- the line was performed and counted, and its answer was written
+  pub line-ended : (performed : Bool) (next : Summary) → Performs {E = E} sink old new second third (Ok performed) (λ v. answer_line v line) →
+      next.lines ≡ summary.lines + 1 → next.refused ≡ summary.refused + from_bool (not performed) → HasEnded next new (sink.text third) origin (done ++ line ∷ [])
+  line-ended performed next performs one_more same = record {
+    performed = record {
+      leaves = rw (run-line origin.start done line) (performs.session _ ended.performed.leaves);
+      writes = rw (run-line origin.start done line) (Appends-again _ _ _ _ _ ended.performed.writes (performs.text _ ended.performed.leaves));
+    };
+    counts_lines = one_more ∙ rw (length-append done (line ∷ [])) (ap (λ n. n + 1) ended.counts_lines);
+    counts_refused = same ∙ rw (run-line origin.start done line, bool-counts, ended.counts_refused, performs.performed _ ended.performed.leaves) refl;
   }
 
--- a rejected line is counted
-pub line-counted : (old : State) (origin : Origin) (done : List (List ℕ)) (line : List ℕ) (performed : Bool) (counted : ℕ) → IsAt rules old (run origin.start done).value →
-    ((v : Value) → IsAt rules old v → (answer_line v line).refused ≡ not performed) → counted ≡ (run origin.start done).refused →
-    counted + refusals (not performed) ≡ (run origin.start (done ++ line ∷ [])).refused
-line-counted old origin done line performed counted at answered e = rw (run-line origin.start done line, e, answered _ at) refl
+  -- the line was performed, and a proper prefix of its answer was written
+  pub line-breaks : {fault : E} → Performs sink old new second third (Err fault) (λ v. answer_line v line) → Breaks new (sink.text third) origin done line
+  line-breaks performs = record {
+    leaves = rw (run-line origin.start done line) (performs.session _ ended.performed.leaves);
+    writes =
+        let answer = performs.text _ ended.performed.leaves in
+        (answer.0, answer.1, Appends-again _ _ _ _ _ ended.performed.writes answer.2, rw (run-line origin.start done line, append_assoc, ← answer.3) refl, answer.4);
+  }

@@ -2,7 +2,7 @@
 use Rattle.std.proofs.Common.{◌≡◌, ℕ, ◌<◌, ◌≤◌, length, List, [], ◌∷◌, refl, arith, Bool, true, false, ap, sym, ◌∙◌, Some, None, Result, IfOk, not, map}
 use Rattle.std.proofs.lemmas.Bool.Decides.{nat_tests}
 use Rattle.std.proofs.lemmas.Result.{IfOk-weaker}
-use Rattle.pp_console.proofs.Prelude.{IsAt, rules, Writes, Ghosts, State, Value, Performs}
+use Rattle.pp_console.proofs.Prelude.{IsAt, rules, Ghosts, Puts, State, Value, Performs}
 use Rattle.pp_history.specs.SessionValue.{after_back, after_forward}
 use Rattle.pp_history.specs.Change.{change}
 use Rattle.pp_machine.specs.Machine.{Machine}
@@ -10,17 +10,16 @@ use Rattle.pp_machine.specs.declared.place.Place.{Place}
 use Rattle.pp_actions.specs.Watches.{watched_place, watches_of}
 use Rattle.pp_console.specs.Moves.{back_name, forward_name}
 use Rattle.pp_console.specs.Refusals.{range_text, no_change_text, nothing_watched_text}
-use Rattle.pp_lines.specs.Device.{Counts}
 use Rattle.pp_console.specs.Commands.{Answer, present, answered, rejected, moved, back_answer, forward_answer, central_answer, change_answer}
 
-module _ {W E : Type 0} (sink : Ghosts W) (old new : State) (before after : W) (result : Result Bool E) (answer_of : Value → Answer) (written : List ℕ) (writes : Writes (sink.text before) (sink.text after) result written) (counts : Counts (sink.failure_count before) (sink.failure_count after) result) where
+module _ {W E : Type 0} (sink : Ghosts W) (old new : State) (before after : W) (result : Result Bool E) (answer_of : Value → Answer) (written : List ℕ) (puts : Puts sink before after result written) where
   -- the answer to a command that was performed
   pub performs-answered : IfOk result (λ performed. performed ≡ true) → ((v : Value) → IsAt rules old v → (next : Value) × (answer_of v ≡ answered next written) × IsAt rules new next) →
       Performs sink old new before after result answer_of
   performs-answered performed agrees = record {
     session = λ v at. let a = agrees v at in rw a.1 a.2;
-    text = λ v at. let a = agrees v at in rw a.1 writes;
-    counted = counts;
+    text = λ v at. let a = agrees v at in rw a.1 puts.text;
+    counted = puts.counts;
     performed = IfOk-weaker result _ _ (λ x same v at. ap (λ a. a.refused) (agrees v at).1 ∙ sym (ap not same)) performed;
     unchanged = IfOk-weaker result _ _ (λ x yes no. cc) performed;
   }
@@ -30,8 +29,8 @@ module _ {W E : Type 0} (sink : Ghosts W) (old new : State) (before after : W) (
       Performs sink old new before after result answer_of
   performs-rejected performed unchanged agrees = record {
     session = λ v at. rw (agrees v at, unchanged) at;
-    text = λ v at. rw (agrees v at) writes;
-    counted = counts;
+    text = λ v at. rw (agrees v at) puts.text;
+    counted = puts.counts;
     performed = IfOk-weaker result _ _ (λ x same v at. ap (λ a. a.refused) (agrees v at) ∙ sym (ap not same)) performed;
     unchanged = IfOk-weaker result _ _ (λ x same no. unchanged) performed;
   }

@@ -26,9 +26,9 @@ Interrupts-piece fault session text origin bytes taken later piece whole p =
 
 -- no more lines may begin
 pub Interrupts-lines : (progress : Progress) (session : State) (written : Written) (origin : Origin) (bytes text rest : List ℕ) →
-    HasRead progress session written origin bytes → 0 < length text + length rest → progress.lines ≡ LINE_LIMIT → Interrupts LineLimit session written origin ((bytes ++ text) ++ rest)
+    HasRead progress session written origin bytes → 0 < length text + length rest → progress.summary.lines ≡ LINE_LIMIT → Interrupts LineLimit session written origin ((bytes ++ text) ++ rest)
 Interrupts-lines progress session written origin bytes text rest has_read some full =
-    (bytes, text ++ rest, append_assoc bytes text rest, simp length-append some, HasRead-within _ _ _ _ _ has_read, inr (sym has_read.counts_lines ∙ full), has_read.performed)
+    (bytes, text ++ rest, append_assoc bytes text rest, simp length-append some, HasRead-within _ _ _ _ _ has_read, inr (sym has_read.ended.counts_lines ∙ full), has_read.ended.performed)
 
 -- the bytes of a text up to the limit
 over-bytes : (line_limit byte_limit : ℕ) (bytes text rest : List ℕ) → finished text ≡ [] → length bytes ≤ byte_limit →
@@ -54,11 +54,11 @@ over-bytes line_limit byte_limit bytes text rest none within reached over lines 
 
 -- the limit leaves no room for all of these bytes
 pub Interrupts-bytes : (progress : Progress) (session : State) (written : Written) (origin : Origin) (bytes text rest : List ℕ) → finished text ≡ [] →
-    HasRead progress session written origin bytes → BYTE_LIMIT - progress.bytes ≤ length text → BYTE_LIMIT - progress.bytes < length text + length rest → progress.lines < LINE_LIMIT →
+    HasRead progress session written origin bytes → BYTE_LIMIT - progress.bytes ≤ length text → BYTE_LIMIT - progress.bytes < length text + length rest → progress.summary.lines < LINE_LIMIT →
     Interrupts LineLimit session written origin ((bytes ++ text) ++ rest)
 Interrupts-bytes progress session written origin bytes text rest none has_read reached over lines_within =
-    let cut = over-bytes LINE_LIMIT BYTE_LIMIT bytes text rest none (rw (← has_read.counts_bytes) progress.bytes_within) (rw (← has_read.counts_bytes) reached) (rw (← has_read.counts_bytes) over) (rw (← has_read.counts_lines) lines_within) in
-    (cut.0, cut.1, cut.2, cut.3, cut.4, inl cut.5, rw cut.6 has_read.performed)
+    let cut = over-bytes LINE_LIMIT BYTE_LIMIT bytes text rest none (rw (← has_read.counts_bytes) progress.bytes_within) (rw (← has_read.counts_bytes) reached) (rw (← has_read.counts_bytes) over) (rw (← has_read.ended.counts_lines) lines_within) in
+    (cut.0, cut.1, cut.2, cut.3, cut.4, inl cut.5, rw cut.6 has_read.ended.performed)
 
 -- if no byte of a line was kept, the text that ends it is the whole line
 begun-nothing : (most : ℕ) (rest : List ℕ) → 0 < most → length (take most rest) ≡ 0 → rest ≡ []

@@ -3,8 +3,9 @@ pub use Rattle.std.proofs.lemmas.Result.{err_from_is_err_and}
 pub use Rattle.pp_history.specs.SessionValue.{IsAt}
 pub use Rattle.pp_rig.specs.Rules.{rules}
 pub use Rattle.pp_lines.specs.Lines.{lines, finished, unfinished, finished_within, IsWithin, IsPrefixOf}
-pub use Rattle.pp_lines.specs.Output.{Appends, Writes, Written}
-pub use Rattle.pp_lines.proofs.Writing.{Appends-again, Remains, Remains-fails, Remains-next, Remains-none, front_after, front_longer}
+pub use Rattle.pp_lines.specs.Output.{Appends, Written}
+pub use Rattle.pp_lines.specs.Puts.{Puts}
+pub use Rattle.pp_lines.proofs.Writing.{Appends-again, Remains, Remains-fails, Remains-next, Remains-none, front_longer}
 pub use Rattle.pp_lines.specs.declared.device.Sink.{Ghosts}
 pub use Rattle.pp_lines.specs.declared.fault.IoFault.{IoFault}
 pub use Rattle.pp_lines.specs.declared.fault.IoFault.TheVariants.{ReadFailed, WriteFailed, LineLimit}
@@ -13,4 +14,4 @@ pub use Rattle.pp_console.specs.declared.progress.TheConstants.{KEPT, LINE_LIMIT
 pub use Rattle.pp_console.specs.Commands.{State, Value, Performs}
 unfoldable pub use Rattle.pp_console.specs.Script.{run, answer_line}
 pub use Rattle.pp_console.specs.Serving.{Origin, Performed, Breaks, Serves, Stops, origin_of}
-pub use Rattle.pp_console.specs.ServingSteps.{HasRead, Interrupts}
+pub use Rattle.pp_console.specs.ServingSteps.{HasEnded, HasRead, Interrupts}

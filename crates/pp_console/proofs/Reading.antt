@@ -9,14 +9,12 @@ use Rattle.pp_lines.proofs.Limits.{last_line-one, kept-begun, lines-count, finis
 
 -- before the first byte
 pub HasRead-new : (progress : Progress) (session : State) (text : Written) (start : Value) → IsAt rules session start →
-    progress.line ≡ [] → progress.bytes ≡ 0 → progress.lines ≡ 0 → progress.refused ≡ 0 → HasRead progress session text (origin_of start text) []
+    progress.line ≡ [] → progress.bytes ≡ 0 → progress.summary.lines ≡ 0 → progress.summary.refused ≡ 0 → HasRead progress session text (origin_of start text) []
 unfolding run
 HasRead-new progress session text start at empty no_bytes no_lines no_refused = record {
   keeps = rw empty (grind (arith, common_steps));
   counts_bytes = no_bytes;
-  counts_lines = no_lines;
-  counts_refused = no_refused;
-  performed = record { leaves = at; writes = Appends-nothing text };
+  ended = record { performed = record { leaves = at; writes = Appends-nothing text }; counts_lines = no_lines; counts_refused = no_refused };
 }
 
 -- a line feed within the limits
@@ -29,7 +27,7 @@ fed-within line_limit byte_limit bytes bytes_within lines_within =
 -- the bytes read so far are within the limits
 pub HasRead-within : (progress : Progress) (session : State) (text : Written) (origin : Origin) (bytes : List ℕ) → HasRead progress session text origin bytes → IsWithin LINE_LIMIT BYTE_LIMIT bytes
 HasRead-within progress session text origin bytes has_read = record {
-  lines_within = rw (lines-count bytes) (grind (arith, kept-begun KEPT (unfinished bytes) (omega arith), ap length has_read.keeps, last_line-one (unfinished bytes), progress.line_within, progress.lines_within, has_read.counts_lines));
+  lines_within = rw (lines-count bytes) (grind (arith, kept-begun KEPT (unfinished bytes) (omega arith), ap length has_read.keeps, last_line-one (unfinished bytes), progress.line_within, progress.lines_within, has_read.ended.counts_lines));
   bytes_within = rw (← has_read.counts_bytes) progress.bytes_within;
 }
 
@@ -37,15 +35,15 @@ HasRead-within progress session text origin bytes has_read = record {
 pub Performed-within : (progress : Progress) (session : State) (text : Written) (origin : Origin) (bytes : List ℕ) →
     HasRead progress session text origin bytes → Performed session text origin (finished_within LINE_LIMIT BYTE_LIMIT bytes)
 Performed-within progress session text origin bytes has_read =
-    rw (finished_within-all LINE_LIMIT BYTE_LIMIT bytes (HasRead-within progress session text origin bytes has_read)) has_read.performed
+    rw (finished_within-all LINE_LIMIT BYTE_LIMIT bytes (HasRead-within progress session text origin bytes has_read)) has_read.ended.performed
 
 -- bytes and a line feed finish the line within the limits
 pub HasRead-finishes : (progress : Progress) (session : State) (written : Written) (origin : Origin) (bytes text : List ℕ) → finished text ≡ [] →
-    HasRead progress session written origin bytes → length text < BYTE_LIMIT - progress.bytes → progress.lines < LINE_LIMIT →
+    HasRead progress session written origin bytes → length text < BYTE_LIMIT - progress.bytes → progress.summary.lines < LINE_LIMIT →
     finished_within LINE_LIMIT BYTE_LIMIT ((bytes ++ text) ++ 10 ∷ []) ≡ finished bytes ++ unfinished (bytes ++ text) ∷ []
 HasRead-finishes progress session written origin bytes text none has_read bytes_within lines_within =
     let same = finished-text bytes text none in
-    rw same at (fed-within LINE_LIMIT BYTE_LIMIT (bytes ++ text) (simp length-append (omega (arith, has_read.counts_bytes, bytes_within))) (rw same (rw (← has_read.counts_lines) lines_within)))
+    rw same at (fed-within LINE_LIMIT BYTE_LIMIT (bytes ++ text) (simp length-append (omega (arith, has_read.counts_bytes, bytes_within))) (rw same (rw (← has_read.ended.counts_lines) lines_within)))
 
 -- what reading bytes of a line needs
 pub ruleset texts_read = (append_assoc, length-append, finished-text)

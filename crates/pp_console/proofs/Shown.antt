@@ -1,29 +1,47 @@
 -- Texts that are written piece by piece, and texts that end with the text written last.
-use Rattle.std.proofs.Common.{◌≡◌, ◌∙◌, ℕ, List, [], ◌++◌, sym, Result, Ok, Err, append-nil}
-use Rattle.pp_console.proofs.Prelude.{Appends, Writes, Written, Ghosts, Appends-again, Remains, Remains-next, Remains-fails, front_after}
+use Rattle.std.proofs.Common.{◌≡◌, ◌∙◌, ℕ, List, [], ◌++◌, refl, sym, ap, Result, Ok, Err, append-nil}
+use Rattle.pp_console.proofs.Prelude.{Ghosts, Puts, Appends-again, Remains, Remains-next, Remains-fails, Remains-none, front_longer}
 use Rattle.pp_lines.proofs.Writing.{Appends-same}
+use Rattle.pp_lines.specs.Device.{one_more}
 
 -- a prefix of the whole text was written, this is left, and no write failed
 pub record IsPartWritten {W : Type 0} (sink : Ghosts W) (old now : W) (whole left : List ℕ) : Type 0 where
   pub text : Remains (sink.text old) (sink.text now) whole left
   pub counted : sink.failure_count now ≡ sink.failure_count old
 
--- one more piece was written
-pub IsPartWritten-next : {W : Type 0} (sink : Ghosts W) (first second third : W) (whole piece left : List ℕ) → IsPartWritten sink first second whole (piece ++ left) →
-    Appends (sink.text second) (sink.text third) piece → sink.failure_count third ≡ sink.failure_count second → IsPartWritten sink first third whole left
-IsPartWritten-next sink first second third whole piece left p q counted =
-    record { text = Remains-next _ (sink.text second) _ whole piece left p.text q; counted = counted ∙ p.counted }
+module _ {W T E : Type 0} (sink : Ghosts W) (first second third : W) where
+  -- one more piece was written
+  pub IsPartWritten-next : {value : T} (whole piece left : List ℕ) → IsPartWritten sink first second whole (piece ++ left) →
+      Puts {E = E} sink second third (Ok value) piece → IsPartWritten sink first third whole left
+  IsPartWritten-next whole piece left p q =
+      record { text = Remains-next _ (sink.text second) _ whole piece left p.text q.text; counted = q.counts ∙ p.counted }
 
--- a text, and then another one or a prefix of it
-pub Writes-after : {T E : Type 0} (result : Result T E) (first second third : Written) (text more : List ℕ) →
-    Appends first second text → Writes second third result more → Writes first third result (text ++ more)
-Writes-after (Ok value) first second third text more p q = Appends-again first second third text more p q
-Writes-after (Err fault) first second third text more p q = front_after first second third text more p q
+  -- the sink failed within a piece
+  pub IsPartWritten-fails : {U F : Type 0} {fault : E} {other : F} (whole piece left : List ℕ) → IsPartWritten sink first second whole (piece ++ left) →
+      Puts {T = T} sink second third (Err fault) piece → Puts {T = U} sink first third (Err other) whole
+  IsPartWritten-fails whole piece left p q =
+      record { text = Remains-fails _ (sink.text second) _ whole piece left p.text q.text; counts = q.counts ∙ ap one_more p.counted }
 
--- the rest is written, or a prefix of it
-pub Remains-last : {T E : Type 0} (result : Result T E) (first second third : Written) (whole left : List ℕ) →
-    Remains first second whole left → Writes second third result left → Writes first third result whole
-Remains-last (Ok value) first second third whole left p q =
-    Appends-same first third (p.0 ++ left) whole (sym p.2) (Appends-again first second third p.0 left p.1 q)
-Remains-last (Err fault) first second third whole left p q =
-    Remains-fails first second third whole left [] (p.0, p.1, rw append-nil p.2) q
+  -- the rest is written, or a prefix of it
+  pub IsPartWritten-last : (result : Result T E) (whole left : List ℕ) → IsPartWritten sink first second whole left → Puts sink second third result left → Puts sink first third result whole
+  IsPartWritten-last (Ok value) whole left p q = record {
+    text = Appends-same _ _ (p.text.0 ++ left) whole (sym p.text.2) (Appends-again _ (sink.text second) _ p.text.0 left p.text.1 q.text);
+    counts = q.counts ∙ p.counted;
+  }
+  IsPartWritten-last (Err fault) whole left p q =
+      IsPartWritten-fails whole left [] (record { text = (p.text.0, p.text.1, rw append-nil p.text.2); counted = p.counted }) q
+
+  -- a text, and then another one or a prefix of it
+  pub Puts-after : {U F : Type 0} {value : U} (result : Result T E) (text more : List ℕ) → Puts {E = F} sink first second (Ok value) text →
+      Puts sink second third result more → Puts sink first third result (text ++ more)
+  Puts-after result text more p q = IsPartWritten-last result (text ++ more) more (record { text = (text, p.text, refl); counted = p.counts }) q
+
+module _ {W T E : Type 0} (sink : Ghosts W) (first second : W) where
+  -- nothing is left after the last piece
+  pub IsPartWritten-all : {value : T} (whole : List ℕ) → IsPartWritten sink first second whole [] → Puts {E = E} sink first second (Ok value) whole
+  IsPartWritten-all whole p = record { text = Remains-none _ _ whole p.text; counts = p.counted }
+
+  -- the sink failed, and more text would have followed
+  pub Puts-longer : {U F : Type 0} {fault : E} {other : F} (text more whole : List ℕ) → whole ≡ text ++ more →
+      Puts {T = T} sink first second (Err fault) text → Puts {T = U} sink first second (Err other) whole
+  Puts-longer text more whole e p = rw e (record { text = front_longer _ _ text more p.text; counts = p.counts })

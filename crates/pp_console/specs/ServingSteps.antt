@@ -1,6 +1,7 @@
 -- Definitions for the inner contracts of serving: a script as far as it was read, and a fault that interrupts it there.
 use Rattle.std.specs.Prelude.{◌≡◌, ℕ, ◌<◌, ◌⊎◌, List, ◌∷◌, ◌++◌, length}
 use Rattle.pp_console.specs.declared.progress.Progress.{Progress}
+use Rattle.pp_console.specs.declared.progress.Summary.{Summary}
 use Rattle.pp_console.specs.declared.progress.TheConstants.{LINE_LIMIT, BYTE_LIMIT, KEPT}
 use Rattle.pp_lines.specs.declared.fault.IoFault.{IoFault}
 use Rattle.pp_lines.specs.declared.fault.IoFault.TheVariants.{ReadFailed, WriteFailed, LineLimit}
@@ -10,13 +11,17 @@ use Rattle.pp_console.specs.Commands.{State}
 use Rattle.pp_console.specs.Script.{run}
 use Rattle.pp_console.specs.Serving.{Origin, Performed, Breaks}
 
+-- these lines have ended: they were performed, and counted
+pub record HasEnded (summary : Summary) (session : State) (text : Written) (origin : Origin) (done : List (List ℕ)) : Type 0 where
+  pub performed : Performed session text origin done
+  pub counts_lines : summary.lines ≡ length done
+  pub counts_refused : summary.refused ≡ (run origin.start done).refused
+
 -- the script was read as far as these bytes
 pub record HasRead (progress : Progress) (session : State) (text : Written) (origin : Origin) (bytes : List ℕ) : Type 0 where
   pub keeps : IsPrefixOf KEPT progress.line bytes
   pub counts_bytes : progress.bytes ≡ length bytes
-  pub counts_lines : progress.lines ≡ length (finished bytes)
-  pub counts_refused : progress.refused ≡ (run origin.start (finished bytes)).refused
-  pub performed : Performed session text origin (finished bytes)
+  pub ended : HasEnded progress.summary session text origin (finished bytes)
 
 -- the result of a fault among these bytes, before the end of input
 abbrev pub Interrupts : IoFault → State → Written → Origin → List ℕ → Type 0

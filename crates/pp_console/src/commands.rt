@@ -1,9 +1,8 @@
 //! Performs one command, or one line, and writes the answer.
-ghost use Rattle.std.specs.Prelude.{◌≡◌, ◌≤◌, ◌<◌, ◌+◌, ◌++◌, IfErr, IfOk, IsTrue, false, length};
-ghost use Rattle.arrayvec.specs.ArrayVec.{array_vec_len};
-ghost use Rattle.pp_lines.specs.Device.{Counts};
-ghost use Rattle.pp_lines.specs.Output.{Writes};
+ghost use Rattle.std.specs.Prelude.{◌≡◌, ◌≤◌, ◌<◌, ◌++◌, IfErr, IfOk, IsTrue, false, length};
+ghost use Rattle.pp_lines.specs.Puts.{Puts};
 ghost use Rattle.pp_console.specs.Moves.{moved_text};
+ghost use Rattle.pp_console.specs.Watches.{hit_text};
 ghost use Rattle.pp_console.specs.Commands.{Performs, act_answer, step_answer, back_answer, forward_answer, change_answer, central_answer, answer};
 ghost use Rattle.pp_console.specs.Script.{answer_line};
 
@@ -17,26 +16,14 @@ use pp_arith::octal;
 use pp_command::{Command, Request, parse};
 use pp_history::Session;
 use pp_lines::{Failed, IoFault, Sink, push_text, put_all};
-use pp_rig::{Action, Rig, run};
-
-/// Writes the answer to a command that was performed.
-fn write_answer<W: Sink>(out: &mut W, text: &[u8]) -> Result<bool, Failed>
-    ensures text { Writes (W.text out.old) (W.text out.new) result text.now }
-    ensures performed { IfOk result IsTrue }
-    ensures counts { Counts (W.failure_count out.old) (W.failure_count out.new) result }
-{
-    put_all(out, text)?;
-    Ok(true)
-}
+use pp_rig::{Action, Hit, Rig, run};
 
 /// Writes the answer to a command that was rejected.
 fn reject<W: Sink>(out: &mut W, text: &[u8]) -> Result<bool, Failed>
-    ensures text { Writes (W.text out.old) (W.text out.new) result text.now }
+    ensures written { Puts ⟦<W as Sink>⟧ out.old out.new result text.now }
     ensures performed { IfOk result (λ performed. performed ≡ false) }
-    ensures counts { Counts (W.failure_count out.old) (W.failure_count out.new) result }
 {
-    put_all(out, text)?;
-    Ok(false)
+    put_all(out, text).and(Ok(false))
 }
 
 /// Performs an action, if the machine admits it.
@@ -47,24 +34,33 @@ fn act<W: Sink>(session: &mut Session<Rig>, action: Action, out: &mut W) -> Resu
     match session.machine().check(&action) {
         Ok(()) => {
             session.act(action);
-            write_answer(out, b"OK\n")
+            put_all(out, b"OK\n").and(Ok(true))
         }
         Err(fault) => reject(out, action_fault_text(fault)),
     }
 }
 
-/// Appends the number of actions done, and the processor whose turn is next.
+/// Writes the number of actions done and the processor whose turn is next, and the change that ended
+/// them, if there is one.
 #[tactic(auto, unfolding(crate::specs::Moves::moved_text))]
-fn push_moved<const N: usize>(line: &mut ArrayVec<u8, N>, name: &[u8], actions: u32, slot: u8)
-    requires name { length name.now ≤ 8 }
-    requires room { array_vec_len line.old + 40 ≤ N }
-    ensures items { line.new.items ≡ line.old.items ++ moved_text name.now actions slot }
-    ensures len { array_vec_len line.new ≤ array_vec_len line.old + 40 }
+fn write_moved<W: Sink>(
+    out: &mut W,
+    name: &[u8],
+    actions: u32,
+    slot: u8,
+    hit: Option<Hit>,
+) -> Result<bool, Failed>
+    requires { length name.now ≤ 8 }
+    ensures written { Puts ⟦<W as Sink>⟧ out.old out.new result (moved_text name.now actions slot ++ hit_text hit) }
+    ensures performed { IfOk result IsTrue }
 {
-    push_text(line, name);
-    push_text(line, octal(u64::from(actions), 1).as_slice());
-    push_field(line, b" SLOT ", 2, u64::from(slot));
-    line.push(b'\n');
+    let mut lines = ArrayVec::new();
+    push_text(&mut lines, name);
+    push_text(&mut lines, octal(u64::from(actions), 1).as_slice());
+    push_field(&mut lines, b" SLOT ", 2, u64::from(slot));
+    lines.push(b'\n');
+    push_hit(&mut lines, hit);
+    put_all(out, lines.as_slice()).and(Ok(true))
 }
 
 /// Makes turns, up to the first change of a watched number.
@@ -73,22 +69,8 @@ fn step<W: Sink>(session: &mut Session<Rig>, most: u32, out: &mut W) -> Result<b
     ensures { Performs ⟦<W as Sink>⟧ session.old session.new out.old out.new result (step_answer most) }
 {
     let done = run(session, most);
-    let mut lines = ArrayVec::new();
-    push_moved(&mut lines, b"TURNS ", done.turns, session.machine().slot());
-    push_hit(&mut lines, done.hit);
-    write_answer(out, lines.as_slice())
-}
-
-/// Writes the number of actions done, and the processor whose turn is next.
-fn write_moved<W: Sink>(out: &mut W, name: &[u8], actions: u32, slot: u8) -> Result<bool, Failed>
-    requires { length name.now ≤ 8 }
-    ensures text { Writes (W.text out.old) (W.text out.new) result (moved_text name.now actions slot) }
-    ensures performed { IfOk result IsTrue }
-    ensures counts { Counts (W.failure_count out.old) (W.failure_count out.new) result }
-{
-    let mut line: ArrayVec<u8, 40> = ArrayVec::new();
-    push_moved(&mut line, name, actions, slot);
-    write_answer(out, line.as_slice())
+    let slot = session.machine().slot();
+    write_moved(out, b"TURNS ", done.turns, slot, done.hit)
 }
 
 /// Undoes actions, if the undo history has as many.
@@ -97,7 +79,7 @@ fn back<W: Sink>(session: &mut Session<Rig>, actions: u32, out: &mut W) -> Resul
     ensures { Performs ⟦<W as Sink>⟧ session.old session.new out.old out.new result (back_answer actions) }
 {
     match session.back(actions) {
-        Ok(()) => write_moved(out, b"BACK ", actions, session.machine().slot()),
+        Ok(()) => write_moved(out, b"BACK ", actions, session.machine().slot(), None),
         Err(_) => reject(out, b"ERR 07 TOO FEW KEPT\n"),
     }
 }
@@ -108,7 +90,7 @@ fn forward<W: Sink>(session: &mut Session<Rig>, actions: u32, out: &mut W) -> Re
     ensures { Performs ⟦<W as Sink>⟧ session.old session.new out.old out.new result (forward_answer actions) }
 {
     match session.forward(actions) {
-        Ok(()) => write_moved(out, b"FORWARD ", actions, session.machine().slot()),
+        Ok(()) => write_moved(out, b"FORWARD ", actions, session.machine().slot(), None),
         Err(_) => reject(out, b"ERR 16 TOO FEW AHEAD\n"),
     }
 }
@@ -124,7 +106,7 @@ fn back_to_change<W: Sink>(session: &mut Session<Rig>, out: &mut W) -> Result<bo
         return reject(out, b"ERR 15 NOTHING WATCHED\n");
     }
     match session.back_to_change(places.as_slice()) {
-        Ok(actions) => write_moved(out, b"BACK ", actions, session.machine().slot()),
+        Ok(actions) => write_moved(out, b"BACK ", actions, session.machine().slot(), None),
         Err(_) => reject(out, b"ERR 10 NO CHANGE KEPT\n"),
     }
 }
@@ -145,8 +127,7 @@ fn dump_central<W: Sink>(
     if last >= session.machine().central_size().words() {
         return reject(out, b"ERR 04 RANGE\n");
     }
-    put_central(session.machine(), first, last, out)?;
-    Ok(true)
+    put_central(session.machine(), first, last, out).and(Ok(true))
 }
 
 /// Performs a request completely, and then writes its answer. Returns `false` if it was rejected.

@@ -1,8 +1,7 @@
 //! What the dumps show: registers, channels, devices, central words and cells.
 ghost use Rattle.std.specs.Prelude.{◌≡◌, ◌<◌, ◌≤◌, ◌+◌, ◌++◌, ◌*◌, ◌-◌, ◌/◌, length, min};
 ghost use Rattle.arrayvec.specs.ArrayVec.{array_vec_len};
-ghost use Rattle.pp_lines.specs.Device.{Counts};
-ghost use Rattle.pp_lines.specs.Output.{Writes};
+ghost use Rattle.pp_lines.specs.Puts.{Puts};
 ghost use Rattle.pp_console.specs.Dumps.{each, cell_text, cell_row, cells_text, central_line, central_text, processor_text, state_text, channel_line, channels_text, frame_line, frame_text, mode_text, reader_text, printer_line};
 
 use crate::text::push_field;
@@ -49,8 +48,7 @@ pub fn put_cells<W: Sink>(
 ) -> Result<(), Failed>
     requires pp { pp < 10 }
     requires last { last < 4096 }
-    ensures text { Writes (W.text out.old) (W.text out.new) result (cells_text machine.now pp first last) }
-    ensures counts { Counts (W.failure_count out.old) (W.failure_count out.new) result }
+    ensures { Puts ⟦<W as Sink>⟧ out.old out.new result (cells_text machine.now pp first last) }
 {
     let count = (last + 8).saturating_sub(first) / 8;
     for row in 0..count {
@@ -67,8 +65,7 @@ pub fn put_cells<W: Sink>(
 #[inline(never)]
 pub fn put_processor<W: Sink>(machine: &Rig, pp: u8, out: &mut W) -> Result<(), Failed>
     requires { pp < 10 }
-    ensures text { Writes (W.text out.old) (W.text out.new) result (processor_text machine.now pp) }
-    ensures counts { Counts (W.failure_count out.old) (W.failure_count out.new) result }
+    ensures { Puts ⟦<W as Sink>⟧ out.old out.new result (processor_text machine.now pp) }
 {
     let phase = machine.value(&Place::Phase { pp });
     let mut line: ArrayVec<u8, 48> = ArrayVec::new();
@@ -103,8 +100,7 @@ fn state_text(state: u64) -> &'static [u8]
 #[tactic(auto, unfolding(crate::specs::Dumps::channels_text), using(crate::proofs::Each::each_one))]
 #[inline(never)]
 pub fn put_channels<W: Sink>(machine: &Rig, out: &mut W) -> Result<(), Failed>
-    ensures text { Writes (W.text out.old) (W.text out.new) result (channels_text machine.now) }
-    ensures counts { Counts (W.failure_count out.old) (W.failure_count out.new) result }
+    ensures { Puts ⟦<W as Sink>⟧ out.old out.new result (channels_text machine.now) }
 {
     let mut lines: ArrayVec<u8, 160> = ArrayVec::new();
     for c in 0..12 {
@@ -128,8 +124,7 @@ pub fn put_channels<W: Sink>(machine: &Rig, out: &mut W) -> Result<(), Failed>
 #[tactic(auto, unfolding(crate::specs::Dumps::frame_text), using(crate::proofs::Each::each_one))]
 #[inline(never)]
 pub fn put_frame<W: Sink>(machine: &Rig, out: &mut W) -> Result<(), Failed>
-    ensures text { Writes (W.text out.old) (W.text out.new) result (frame_text machine.now) }
-    ensures counts { Counts (W.failure_count out.old) (W.failure_count out.new) result }
+    ensures { Puts ⟦<W as Sink>⟧ out.old out.new result (frame_text machine.now) }
 {
     let mut lines: ArrayVec<u8, 432> = ArrayVec::new();
     for i in 0..16 {
@@ -162,8 +157,7 @@ pub fn put_central<W: Sink>(machine: &Rig, first: u32, last: u32, out: &mut W) -
     requires in_order { first ≤ last }
     requires within { last < machine.now.setup.central_words }
     requires small { last < 0o400000 }
-    ensures text { Writes (W.text out.old) (W.text out.new) result (central_text machine.now first last) }
-    ensures counts { Counts (W.failure_count out.old) (W.failure_count out.new) result }
+    ensures { Puts ⟦<W as Sink>⟧ out.old out.new result (central_text machine.now first last) }
 {
     for a in first..last + 1 {
         put_all(out, word_line(machine, a).as_slice())?;
@@ -207,8 +201,7 @@ fn reader_line(machine: &Rig) -> ArrayVec<u8, 64>
 /// `Failed` if a call of the sink fails.
 #[inline(never)]
 pub fn put_reader<W: Sink>(machine: &Rig, out: &mut W) -> Result<(), Failed>
-    ensures text { Writes (W.text out.old) (W.text out.new) result (reader_text machine.now) }
-    ensures counts { Counts (W.failure_count out.old) (W.failure_count out.new) result }
+    ensures { Puts ⟦<W as Sink>⟧ out.old out.new result (reader_text machine.now) }
 {
     put_all(out, reader_line(machine).as_slice())
 }

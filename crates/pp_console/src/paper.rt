@@ -1,7 +1,6 @@
 //! The printer's paper in lines of text.
 ghost use Rattle.std.specs.Prelude.{◌≡◌, ◌<◌, ◌≤◌, ◌++◌, length, map, position, codes, IfSome, MatchOption};
-ghost use Rattle.pp_lines.specs.Device.{Counts};
-ghost use Rattle.pp_lines.specs.Output.{Writes};
+ghost use Rattle.pp_lines.specs.Puts.{Puts};
 ghost use Rattle.pp_console.specs.DisplayCode.{character};
 ghost use Rattle.pp_console.specs.Dumps.{printer_text};
 ghost use Rattle.pp_console.specs.Paper.{marked, paper_text};
@@ -45,8 +44,7 @@ fn characters(symbols: &[u8]) -> ArrayVec<u8, PIECE>
 
 /// Writes the characters of the symbols, a piece at a time.
 fn put_characters<W: Sink>(symbols: &[u8], out: &mut W) -> Result<(), Failed>
-    ensures text { Writes (W.text out.old) (W.text out.new) result (map character symbols.now) }
-    ensures counts { Counts (W.failure_count out.old) (W.failure_count out.new) result }
+    ensures { Puts ⟦<W as Sink>⟧ out.old out.new result (map character symbols.now) }
 {
     let mut rest = symbols;
     'pieces: while !rest.is_empty() {
@@ -59,9 +57,7 @@ fn put_characters<W: Sink>(symbols: &[u8], out: &mut W) -> Result<(), Failed>
 
 /// Writes a line of the paper after a mark.
 fn put_line<W: Sink>(mark: &[u8], symbols: &[u8], out: &mut W) -> Result<(), Failed>
-    ensures text { Writes (W.text out.old) (W.text out.new) result
-        (marked mark.now (map character symbols.now)) }
-    ensures counts { Counts (W.failure_count out.old) (W.failure_count out.new) result }
+    ensures { Puts ⟦<W as Sink>⟧ out.old out.new result (marked mark.now (map character symbols.now)) }
 {
     put_all(out, mark)?;
     put_characters(symbols, out)?;
@@ -92,8 +88,7 @@ fn next_line(symbols: &[u8]) -> Option<(&[u8], &[u8])>
 
 /// Writes the paper: each line after a bar, and the symbols after the last line end after a slash.
 fn put_paper<W: Sink>(symbols: &[u8], out: &mut W) -> Result<(), Failed>
-    ensures text { Writes (W.text out.old) (W.text out.new) result (paper_text symbols.now) }
-    ensures counts { Counts (W.failure_count out.old) (W.failure_count out.new) result }
+    ensures { Puts ⟦<W as Sink>⟧ out.old out.new result (paper_text symbols.now) }
 {
     let mut rest = symbols;
     'lines: while let Some((line, later)) = next_line(rest) {
@@ -113,8 +108,7 @@ fn put_paper<W: Sink>(symbols: &[u8], out: &mut W) -> Result<(), Failed>
 #[inline(never)]
 #[tactic(auto, unfolding(crate::specs::Dumps::printer_text))]
 pub fn put_printer<W: Sink>(machine: &Rig, out: &mut W) -> Result<(), Failed>
-    ensures text { Writes (W.text out.old) (W.text out.new) result (printer_text machine.now) }
-    ensures counts { Counts (W.failure_count out.old) (W.failure_count out.new) result }
+    ensures { Puts ⟦<W as Sink>⟧ out.old out.new result (printer_text machine.now) }
 {
     put_all(out, printer_line(machine).as_slice())?;
     put_paper(machine.paper(), out)

@@ -21,12 +21,11 @@ pub struct Progress {
     pub line: LineCutter<KEPT>,
     pub bytes: u32,
     /// The lines that have ended.
-    pub lines: u32,
-    pub refused: u32,
+    pub summary: Summary,
     ghost bytes_within: { bytes ≤ BYTE_LIMIT },
-    ghost lines_within: { lines ≤ LINE_LIMIT },
-    ghost line_within: { 0 < length line → lines < LINE_LIMIT },
-    ghost refused_within: { refused ≤ lines },
+    ghost lines_within: { summary.lines ≤ LINE_LIMIT },
+    ghost line_within: { 0 < length line → summary.lines < LINE_LIMIT },
+    ghost refused_within: { summary.refused ≤ summary.lines },
 }
 
 impl Progress {
@@ -34,25 +33,16 @@ impl Progress {
     pub fn new() -> Self
         ensures line { result.line ≡ [] }
         ensures bytes { result.bytes ≡ 0 }
-        ensures lines { result.lines ≡ 0 }
-        ensures refused { result.refused ≡ 0 }
+        ensures lines { result.summary.lines ≡ 0 }
+        ensures refused { result.summary.refused ≡ 0 }
     {
         Progress {
             line: LineCutter::new(),
             bytes: 0,
-            lines: 0,
-            refused: 0,
-        }
-    }
-
-    /// Returns the summary of the lines that have ended.
-    pub fn summary(&self) -> Summary
-        ensures lines { result.lines ≡ self.now.lines }
-        ensures refused { result.refused ≡ self.now.refused }
-    {
-        Summary {
-            lines: self.lines,
-            refused: self.refused,
+            summary: Summary {
+                lines: 0,
+                refused: 0,
+            },
         }
     }
 }

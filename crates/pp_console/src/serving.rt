@@ -6,10 +6,9 @@ ghost use Rattle.pp_history.specs.SessionValue.{IsAt};
 ghost use Rattle.pp_rig.specs.Rules.{rules};
 ghost use Rattle.pp_lines.specs.Output.{Written};
 ghost use Rattle.pp_lines.specs.Lines.{IsPrefixOf, finished, unfinished};
-ghost use Rattle.pp_console.specs.Commands.{Performs, State, Value};
-ghost use Rattle.pp_console.specs.Script.{answer_line, run};
-ghost use Rattle.pp_console.specs.Serving.{Origin, Performed, Breaks, Serves, Stops, CountsReads, CountsWrites, origin_of};
-ghost use Rattle.pp_console.specs.ServingSteps.{HasRead, Interrupts, IsNoReadFault};
+ghost use Rattle.pp_console.specs.Commands.{State, Value};
+ghost use Rattle.pp_console.specs.Serving.{Origin, Breaks, Serves, Stops, CountsReads, CountsWrites, origin_of};
+ghost use Rattle.pp_console.specs.ServingSteps.{HasEnded, HasRead, Interrupts, IsNoReadFault};
 
 #[cfg(test)]
 mod limit_tests;
@@ -17,33 +16,14 @@ mod limit_tests;
 use crate::commands::answer_line;
 use crate::progress::{BYTE_LIMIT, KEPT, LINE_LIMIT, Progress, Summary};
 use pp_history::Session;
-use pp_lines::{Failed, IoFault, LineCutter, Sink, Source, next_line};
+use pp_lines::{Failed, IoFault, Sink, Source, next_line};
 use pp_rig::Rig;
 
 /// The largest number of bytes read at once.
 const PIECE: usize = 4096;
 
-/// Answers a line whose kept prefix is `front` and which ends with this text. If nothing was kept, the
-/// text is the whole line, and is not copied.
-fn answer_kept_line<W: Sink>(
-    front: &mut LineCutter<KEPT>,
-    text: &[u8],
-    session: &mut Session<Rig>,
-    out: &mut W,
-) -> Result<bool, Failed>
-    requires { finished text.now ≡ [] }
-    ensures performs { (bytes : List ℕ) → IsPrefixOf KEPT front.old bytes →
-        Performs ⟦<W as Sink>⟧ session.old session.new out.old out.new result (λ v. answer_line v (unfinished (bytes ++ text.now))) }
-    ensures counts { Counts (W.failure_count out.old) (W.failure_count out.new) result }
-{
-    if front.line().is_empty() {
-        return answer_line(session, text, out);
-    }
-    front.take_text(text);
-    answer_line(session, front.line(), out)
-}
-
-/// Performs the unfinished line, which ends with this text, and begins the next.
+/// Performs the unfinished line, which ends with this text, and begins the next. If nothing of it was
+/// kept, the text is the whole line, and is not copied.
 fn end_line<W: Sink>(
     progress: &mut Progress,
     text: &[u8],
@@ -51,27 +31,25 @@ fn end_line<W: Sink>(
     out: &mut W,
 ) -> Result<(), Failed>
     requires text { finished text.now ≡ [] }
-    requires lines { progress.old.lines < LINE_LIMIT }
-    ensures performed { (origin : Origin) (bytes : List ℕ) → IsPrefixOf KEPT progress.old.line bytes →
-        Performed session.old (W.text out.old) origin (finished bytes) →
+    requires lines { progress.old.summary.lines < LINE_LIMIT }
+    ensures ended { (origin : Origin) (bytes : List ℕ) → IsPrefixOf KEPT progress.old.line bytes →
+        HasEnded progress.old.summary session.old (W.text out.old) origin (finished bytes) →
         MatchResult result
-        (λ _. Performed session.new (W.text out.new) origin (finished bytes ++ unfinished (bytes ++ text.now) ∷ []))
+        (λ _. HasEnded progress.new.summary session.new (W.text out.new) origin (finished bytes ++ unfinished (bytes ++ text.now) ∷ []))
         (λ _. Breaks session.new (W.text out.new) origin (finished bytes) (unfinished (bytes ++ text.now))) }
-    ensures refused { OnOk result ((origin : Origin) (bytes : List ℕ) → IsPrefixOf KEPT progress.old.line bytes →
-        Performed session.old (W.text out.old) origin (finished bytes) →
-        progress.old.refused ≡ (run origin.start (finished bytes)).refused →
-        progress.new.refused ≡ (run origin.start (finished bytes ++ unfinished (bytes ++ text.now) ∷ [])).refused) }
-    ensures lines { OnOk result (progress.new.lines ≡ progress.old.lines + 1) }
     ensures line { OnOk result ((bytes : List ℕ) → IsPrefixOf KEPT progress.new.line (bytes ++ 10 ∷ [])) }
     ensures bytes { progress.new.bytes ≡ progress.old.bytes }
     ensures counts { Counts (W.failure_count out.old) (W.failure_count out.new) result }
 {
-    let refused = !answer_kept_line(&mut progress.line, text, session, out)?;
+    let performed = if progress.line.line().is_empty() {
+        answer_line(session, text, out)?
+    } else {
+        progress.line.take_text(text);
+        answer_line(session, progress.line.line(), out)?
+    };
     progress.line.end_line();
-    progress.lines += 1;
-    if refused {
-        progress.refused += 1;
-    }
+    progress.summary.lines += 1;
+    progress.summary.refused += u32::from(!performed);
     Ok(())
 }
 
@@ -91,7 +69,7 @@ fn feed_text(progress: &mut Progress, text: &[u8]) -> Result<(), IoFault>
         return Ok(());
     }
     let room = (BYTE_LIMIT - progress.bytes) as usize;
-    if progress.lines == LINE_LIMIT || text.len() > room {
+    if progress.summary.lines == LINE_LIMIT || text.len() > room {
         return Err(IoFault::LineLimit);
     }
     progress.bytes += text.len() as u32;
@@ -118,7 +96,7 @@ fn feed_line<W: Sink>(
     ensures faults { IfErr result IsNoReadFault }
 {
     let room = (BYTE_LIMIT - progress.bytes) as usize;
-    if progress.lines == LINE_LIMIT || text.len() >= room {
+    if progress.summary.lines == LINE_LIMIT || text.len() >= room {
         return Err(IoFault::LineLimit);
     }
     progress.bytes += text.len() as u32 + 1;
@@ -167,10 +145,10 @@ fn finish<W: Sink>(
     ensures faults { IfErr result IsNoReadFault }
 {
     if progress.line.line().is_empty() {
-        return Ok(progress.summary());
+        return Ok(progress.summary);
     }
     match end_line(progress, b"", session, out) {
-        Ok(()) => Ok(progress.summary()),
+        Ok(()) => Ok(progress.summary),
         Err(Failed) => Err(IoFault::WriteFailed),
     }
 }

@@ -1,8 +1,7 @@
 //! Watched places in lines of text.
 ghost use Rattle.std.specs.Prelude.{◌≡◌, ◌≤◌, ◌+◌, ◌++◌, length};
 ghost use Rattle.arrayvec.specs.ArrayVec.{array_vec_len};
-ghost use Rattle.pp_lines.specs.Device.{Counts};
-ghost use Rattle.pp_lines.specs.Output.{Writes};
+ghost use Rattle.pp_lines.specs.Puts.{Puts};
 ghost use Rattle.pp_console.specs.Watches.{place_text, digits_of, watches_text, hit_text};
 
 use crate::text::push_field;
@@ -51,8 +50,7 @@ fn digits_of(place: Watched) -> u8
 #[inline(never)]
 pub fn put_watches<W: Sink>(watches: &[Watched], out: &mut W) -> Result<(), Failed>
     requires { length watches.now ≤ 8 }
-    ensures text { Writes (W.text out.old) (W.text out.new) result (watches_text watches.now) }
-    ensures counts { Counts (W.failure_count out.old) (W.failure_count out.new) result }
+    ensures { Puts ⟦<W as Sink>⟧ out.old out.new result (watches_text watches.now) }
 {
     if watches.is_empty() {
         return put_all(out, b"W NONE\n");

@@ -1,6 +1,5 @@
 //! Writes text to a sink.
-ghost use Rattle.pp_lines.specs.Device.{Counts};
-ghost use Rattle.pp_lines.specs.Output.{Writes};
+ghost use Rattle.pp_lines.specs.Puts.{Puts};
 
 use crate::device::{Failed, Sink};
 
@@ -9,8 +8,7 @@ use crate::device::{Failed, Sink};
 /// # Errors
 /// `Failed` if a call of the sink fails. A proper prefix of the text was then written.
 pub fn put_all<W: Sink>(out: &mut W, text: &[u8]) -> Result<(), Failed>
-    ensures text { Writes (W.text out.old) (W.text out.new) result text.now }
-    ensures counts { Counts (W.failure_count out.old) (W.failure_count out.new) result }
+    ensures { Puts ⟦<W as Sink>⟧ out.old out.new result text.now }
 {
     let mut written = 0;
     while written < text.len() {

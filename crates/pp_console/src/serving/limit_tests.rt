@@ -4,7 +4,7 @@ ghost use Rattle.pp_console.specs.declared.progress.TheConstants.{BYTE_LIMIT};
 
 use super::*;
 use crate::tests::{With, session_of};
-use pp_lines::Tray;
+use pp_lines::{LineCutter, Tray};
 use std::process::Abort;
 use std::test::Fail;
 
@@ -15,8 +15,10 @@ fn progress_at(bytes: u32) -> Progress
     Progress {
         line: LineCutter::new(),
         bytes,
-        lines: 0,
-        refused: 0,
+        summary: Summary {
+            lines: 0,
+            refused: 0,
+        },
     }
 }
 

@@ -1,20 +1,20 @@
 use Rattle.std.proofs.Common.{◌/◌}
 use Rattle.pp_console.specs.Dumps.{row_at}
-use Rattle.pp_console.proofs.Prelude.{Remains-fails, Remains-none, err_from_is_err_and}
+use Rattle.pp_console.proofs.Prelude.{err_from_is_err_and}
 use Rattle.pp_console.proofs.Each.{each-first, each-none}
-use Rattle.pp_console.proofs.Shown.{IsPartWritten-next}
+use Rattle.pp_console.proofs.Shown.{IsPartWritten-all, IsPartWritten-next, IsPartWritten-fails}
 use Rattle.pp_console.proofs.dumps.put_cells.Goals as goal
 
 pub loop-row-preserved : goal.loop-row-preserved
 loop-row-preserved g c =
     let before = rw (each-first (row_at c.args.machine.now c.args.pp c.args.first c.args.last) c.loop-row.row (c.saturating_sub-count.result / 8) c.loop-row-test.true, ← c.row_line.ensures, ← c.as_slice.ensures.value) at c.loop-row.invariant in
-    IsPartWritten-next g.W.Sink _ c.loop-row.out _ _ _ _ before c.in_ok-put_all.ensures.text c.in_ok-put_all.ensures.counts
+    IsPartWritten-next g.W.Sink _ c.loop-row.out _ _ _ _ before c.in_ok-put_all.ensures
 
-pub returns-in_err-put_all-clause-text : goal.returns-in_err-put_all-clause-text
-returns-in_err-put_all-clause-text g c =
-    let before = rw (each-first (row_at c.args.machine.now c.args.pp c.args.first c.args.last) c.loop-row.row (c.saturating_sub-count.result / 8) c.loop-row-test.true, ← c.row_line.ensures, ← c.as_slice.ensures.value) at c.loop-row.invariant.text in
-    rw (err_from_is_err_and c.from_residual.result c.from_residual.ensures.1).1 (Remains-fails _ (g.W.Sink.text c.loop-row.out) _ _ _ _ before c.in_err-put_all.ensures.text)
+pub returns-in_err-put_all : goal.returns-in_err-put_all
+returns-in_err-put_all g c =
+    let before = rw (each-first (row_at c.args.machine.now c.args.pp c.args.first c.args.last) c.loop-row.row (c.saturating_sub-count.result / 8) c.loop-row-test.true, ← c.row_line.ensures, ← c.as_slice.ensures.value) at c.loop-row.invariant in
+    rw (err_from_is_err_and c.from_residual.result c.from_residual.ensures.1).1 (IsPartWritten-fails g.W.Sink _ c.loop-row.out _ _ _ _ before c.in_err-put_all.ensures)
 
-pub returns-clause-text : goal.returns-clause-text
-returns-clause-text g c =
-    Remains-none _ _ _ (rw (each-none (row_at c.args.machine.now c.args.pp c.args.first c.args.last) c.loop-row.row (c.saturating_sub-count.result / 8) c.loop-row-test.false) at c.loop-row.invariant.text)
+pub returns : goal.returns
+returns g c =
+    IsPartWritten-all g.W.Sink _ _ _ (rw (each-none (row_at c.args.machine.now c.args.pp c.args.first c.args.last) c.loop-row.row (c.saturating_sub-count.result / 8) c.loop-row-test.false) at c.loop-row.invariant)

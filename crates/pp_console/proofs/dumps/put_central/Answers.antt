@@ -1,20 +1,20 @@
 use Rattle.std.proofs.Common.{◌+◌}
 use Rattle.pp_console.specs.Dumps.{central_line}
-use Rattle.pp_console.proofs.Prelude.{Remains-fails, Remains-none, err_from_is_err_and}
+use Rattle.pp_console.proofs.Prelude.{err_from_is_err_and}
 use Rattle.pp_console.proofs.Each.{each-first, each-none}
-use Rattle.pp_console.proofs.Shown.{IsPartWritten-next}
+use Rattle.pp_console.proofs.Shown.{IsPartWritten-all, IsPartWritten-next, IsPartWritten-fails}
 use Rattle.pp_console.proofs.dumps.put_central.Goals as goal
 
 pub loop-a-preserved : goal.loop-a-preserved
 loop-a-preserved g c =
     let before = rw (each-first (central_line c.args.machine.now) c.loop-a.a (c.args.last + 1) c.loop-a-test.true, ← c.word_line.ensures, ← c.as_slice.ensures.value) at c.loop-a.invariant in
-    IsPartWritten-next g.W.Sink _ c.loop-a.out _ _ _ _ before c.in_ok-put_all.ensures.text c.in_ok-put_all.ensures.counts
+    IsPartWritten-next g.W.Sink _ c.loop-a.out _ _ _ _ before c.in_ok-put_all.ensures
 
-pub returns-in_err-put_all-clause-text : goal.returns-in_err-put_all-clause-text
-returns-in_err-put_all-clause-text g c =
-    let before = rw (each-first (central_line c.args.machine.now) c.loop-a.a (c.args.last + 1) c.loop-a-test.true, ← c.word_line.ensures, ← c.as_slice.ensures.value) at c.loop-a.invariant.text in
-    rw (err_from_is_err_and c.from_residual.result c.from_residual.ensures.1).1 (Remains-fails _ (g.W.Sink.text c.loop-a.out) _ _ _ _ before c.in_err-put_all.ensures.text)
+pub returns-in_err-put_all : goal.returns-in_err-put_all
+returns-in_err-put_all g c =
+    let before = rw (each-first (central_line c.args.machine.now) c.loop-a.a (c.args.last + 1) c.loop-a-test.true, ← c.word_line.ensures, ← c.as_slice.ensures.value) at c.loop-a.invariant in
+    rw (err_from_is_err_and c.from_residual.result c.from_residual.ensures.1).1 (IsPartWritten-fails g.W.Sink _ c.loop-a.out _ _ _ _ before c.in_err-put_all.ensures)
 
-pub returns-clause-text : goal.returns-clause-text
-returns-clause-text g c =
-    Remains-none _ _ _ (rw (each-none (central_line c.args.machine.now) c.loop-a.a (c.args.last + 1) c.loop-a-test.false) at c.loop-a.invariant.text)
+pub returns : goal.returns
+returns g c =
+    IsPartWritten-all g.W.Sink _ _ _ (rw (each-none (central_line c.args.machine.now) c.loop-a.a (c.args.last + 1) c.loop-a-test.false) at c.loop-a.invariant)

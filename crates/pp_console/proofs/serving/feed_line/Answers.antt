@@ -19,5 +19,5 @@ returns-in-Err-clause-has_read g c = λ origin bytes has_read. (
   unfinished (bytes ++ c.args.text.now),
   [],
   HasRead-finishes _ _ _ origin bytes c.args.text.now c.requires has_read (grind (arith, nat_tests)) (grind (arith, nat_tests)),
-  c.in-Err.ensures.performed origin bytes has_read.keeps has_read.performed,
+  c.in-Err.ensures.ended origin bytes has_read.keeps has_read.ended,
 )

@@ -1,4 +1,4 @@
-use Rattle.std.proofs.Common.{◌∙◌, [], arith, inr, append-nil}
+use Rattle.std.proofs.Common.{[], arith, inr, append-nil}
 use Rattle.std.proofs.lemmas.Bool.Decides.{nat_tests}
 use Rattle.pp_console.proofs.Prelude.{finished, unfinished, KEPT}
 use Rattle.pp_lines.proofs.Limits.{lines-last}
@@ -8,14 +8,12 @@ use Rattle.pp_console.proofs.serving.finish.Goals as goal
 
 pub returns-then-is_empty-clause-serves : goal.returns-then-is_empty-clause-serves
 returns-then-is_empty-clause-serves g c = λ origin bytes has_read.
-    Serves-whole _ c.args.progress.now _ _ origin bytes has_read (grind (arith, nat_tests)) c.summary.ensures.lines c.summary.ensures.refused
+    Serves-whole c.args.progress.now _ _ origin bytes has_read (grind (arith, nat_tests))
 
 pub returns-in-Ok-clause-serves : goal.returns-in-Ok-clause-serves
 returns-in-Ok-clause-serves g c = λ origin bytes has_read.
     Serves-last _ c.args.progress.now _ _ (g.W.Sink.text c.args.out.now) _ origin bytes has_read (grind (arith, nat_tests))
-    (c.summary-in-Ok.ensures.lines ∙ c.in-Ok.ensures.lines)
-    (c.summary-in-Ok.ensures.refused ∙ rw (append-nil bytes) at (c.in-Ok.ensures.refused origin bytes has_read.keeps has_read.performed has_read.counts_refused))
-    (rw (append-nil bytes) at (c.in-Ok.ensures.performed origin bytes has_read.keeps has_read.performed))
+    (rw (append-nil bytes) at (c.in-Ok.ensures.ended origin bytes has_read.keeps has_read.ended))
 
 pub returns-in-Err-clause-serves : goal.returns-in-Err-clause-serves
 returns-in-Err-clause-serves g c = λ origin bytes has_read left end. (
@@ -23,5 +21,5 @@ returns-in-Err-clause-serves g c = λ origin bytes has_read left end. (
   unfinished bytes,
   [],
   inr (lines-last KEPT c.args.progress.now.line bytes has_read.keeps (grind (arith, nat_tests)), HasRead-within _ _ _ _ bytes has_read, end),
-  rw (append-nil bytes) at (c.in-Err.ensures.performed origin bytes has_read.keeps has_read.performed),
+  rw (append-nil bytes) at (c.in-Err.ensures.ended origin bytes has_read.keeps has_read.ended),
 )
