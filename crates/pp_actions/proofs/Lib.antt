@@ -1,3 +1,4 @@
+pub mod Padding
 pub mod Unwatching
 pub mod WatchCodes
 pub mod WriteLists

@@ -1,6 +1,7 @@
 pub mod Admitting
 pub mod CellLaws
 pub mod Deadstart
+pub mod Padding
 pub mod Ranges
 pub mod RecordLists
 pub mod Settings

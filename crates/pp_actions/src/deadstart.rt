@@ -83,11 +83,12 @@ pub fn numbers_of(pairs: &[Write]) -> ArrayVec<u32, 76>
     list
 }
 
-/// Returns as many of the first pairs as there are numbers, with these numbers.
-fn with_numbers(pairs: &[Write], numbers: &[u32]) -> ArrayVec<Write, 76>
-    requires { length pairs.now ≤ 76 }
-    ensures { write_list result.items ≡ with_new_numbers (write_list pairs.now) numbers.now }
+/// Returns the places of a dead start with these numbers.
+pub fn renumbered(numbers: &[u32]) -> ArrayVec<Write, 76>
+    ensures { write_list result.items ≡ with_new_numbers deadstart_places numbers.now }
 {
+    let settings = deadstart_settings(&[0; 12]);
+    let pairs = settings.as_slice();
     let mut list = ArrayVec::new();
     for (i, pair) in pairs.iter().enumerate() {
         if i >= numbers.len() {
@@ -96,11 +97,4 @@ fn with_numbers(pairs: &[Write], numbers: &[u32]) -> ArrayVec<Write, 76>
         list.push(Write::new(pair.place, u64::from(numbers[i])));
     }
     list
-}
-
-/// Returns the places of a dead start with these numbers.
-pub fn renumbered(numbers: &[u32]) -> ArrayVec<Write, 76>
-    ensures { write_list result.items ≡ with_new_numbers deadstart_places numbers.now }
-{
-    with_numbers(&deadstart_settings(&[0; 12]), numbers)
 }

@@ -10,9 +10,7 @@ pub(crate) fn append<T: Copy + Drop, const N: usize>(list: &mut ArrayVec<T, N>, 
     ensures items { list.new.items ≡ list.old.items ++ items.now }
     ensures len { array_vec_len list.new ≡ array_vec_len list.old + length items.now }
 {
-    let Ok(()) = list.try_extend_from_slice(items) else {
-        unreachable!()
-    };
+    list.try_extend_from_slice(items).unwrap();
 }
 
 /// Returns a list of these items.
@@ -20,7 +18,5 @@ pub fn list_of<T: Copy + Default + Drop, const N: usize>(items: &[T]) -> ArrayVe
     requires { length items.now ≤ N }
     ensures { result.items ≡ items.now }
 {
-    let mut list = ArrayVec::new();
-    append(&mut list, items);
-    list
+    ArrayVec::try_from(items).unwrap()
 }

@@ -1,14 +1,16 @@
 //! The words of one action that sets cells.
+ghost use Rattle.std.proofs.Common.{ap₂};
 ghost use Rattle.std.specs.Prelude.{◌≡◌, ℕ, ◌≤◌, List, length, take};
+ghost use Rattle.pp_actions.specs.Padding.{padded};
 
 use arrayvec::ArrayVec;
 use std::marker::Model;
 
 /// Words for cells, at most eight. Contracts see them as a list.
-#[derive(Drop)]
+#[derive(Clone, Copy, Drop)]
 pub struct Values {
     count: u8,
-    /// The words, followed by unused elements with any content.
+    /// The words, followed by zeros.
     words: [u16; 8],
 }
 
@@ -17,11 +19,17 @@ impl Model for Values {
 
     ghost view = { λ values. take values.count values.words };
 
-    ghost invariant = { λ values. values.count ≤ 8 };
+    ghost invariant = { λ values. (values.count ≤ 8)
+        × (length (take values.count values.words) ≡ values.count) × (padded (take values.count values.words) ≡ values.words) };
+
+    ghost inverse = { λ list. record { count = length list; words = padded list } };
+
+    ghost inverse_ok = { λ values kept. ap₂ (λ count words. record { count = count; words = words }) kept.1 kept.2 };
 }
 
 impl Values {
     /// Returns a value with these words.
+    #[tactic(auto, using(crate::proofs::Padding::padding))]
     pub fn new(words: ArrayVec<u16, 8>) -> Values
         ensures { result ≡ words.items }
     {
@@ -40,15 +48,5 @@ impl Values {
         ensures at_most { length result.now ≤ 8 }
     {
         &self.words[..self.count as usize]
-    }
-
-    /// Returns a copy.
-    pub fn copied(&self) -> Values
-        ensures { result ≡ self.now }
-    {
-        Values {
-            count: self.count,
-            words: self.words,
-        }
     }
 }

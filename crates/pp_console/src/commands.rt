@@ -139,7 +139,7 @@ fn answer_request<W: Sink>(
     ensures { Performs ⟦<W as Sink>⟧ session.old session.new out.old out.new result (answer command.now) }
 {
     match command.request() {
-        Request::Act(action) => act(session, action.copied(), out),
+        Request::Act(action) => act(session, *action, out),
         Request::Step(most) => step(session, *most, out),
         Request::Back(actions) => back(session, *actions, out),
         Request::BackToChange => back_to_change(session, out),

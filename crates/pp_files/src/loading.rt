@@ -11,7 +11,7 @@ use crate::fault::LoadFault;
 use crate::progress::{FILE_LIMIT, LONGEST, Progress};
 use crate::rows::are_numbers;
 use crate::sheet::Sheet;
-use pp_lines::{Failed, LINE_FEED, Source, are_octal, is_ignored, without_return};
+use pp_lines::{Failed, LINE_FEED, LineCutter, Source, are_octal, is_ignored, without_return};
 
 /// The largest number of bytes read at once.
 const PIECE: usize = 4096;
@@ -110,7 +110,11 @@ pub fn read_sheet<R: Source, S: Sheet>(source: &mut R, sheet: &mut S) -> Result<
     ensures reads { CountsReads (R.failure_count source.old) (R.failure_count source.new) result }
     ensures faults { IfErr result (IsSheetFault S.needs_memory) }
 {
-    let mut progress = Progress::new();
+    let mut progress = Progress {
+        cutter: LineCutter::new(),
+        bytes: 0,
+        lines: 0,
+    };
     let mut piece = [0; PIECE];
     'pieces: loop {
         match source.take(&mut piece) {

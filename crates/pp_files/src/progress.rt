@@ -1,5 +1,5 @@
 //! The progress of a file.
-ghost use Rattle.std.specs.Prelude.{◌≡◌, ◌≤◌, []};
+ghost use Rattle.std.specs.Prelude.{◌≤◌};
 ghost use Rattle.pp_files.specs.declared.progress.TheConstants.{FILE_LIMIT};
 
 use pp_lines::LineCutter;
@@ -24,19 +24,4 @@ pub struct Progress {
     pub lines: u32,
     ghost bytes_within: { bytes ≤ FILE_LIMIT },
     ghost lines_within: { lines ≤ bytes },
-}
-
-impl Progress {
-    /// Returns the progress before the first byte.
-    pub fn new() -> Self
-        ensures front { result.cutter ≡ [] }
-        ensures bytes { result.bytes ≡ 0 }
-        ensures lines { result.lines ≡ 0 }
-    {
-        Progress {
-            cutter: LineCutter::new(),
-            bytes: 0,
-            lines: 0,
-        }
-    }
 }

@@ -1,7 +1,6 @@
 //! Reads the numbers in the text of a line.
 ghost use Rattle.std.specs.Prelude.{◌≡◌, ◌<◌, ◌≤◌, length, IfSome, IsTrue, MatchOption, All};
 ghost use Rattle.std.specs.List.{list_all};
-ghost use Rattle.pp_arith.specs.Octal.{octal_value};
 ghost use Rattle.pp_lines.specs.Words.{words};
 ghost use Rattle.pp_files.specs.Rows.{is_number, numbers};
 
@@ -26,18 +25,6 @@ pub fn are_numbers(text: &[u8]) -> bool
     true
 }
 
-/// Returns the value of a word.
-fn number(word: &[u8]) -> u16
-    requires { IsTrue (is_number word.now) }
-    ensures value { result ≡ octal_value word.now }
-    ensures within { result < 0o10000 }
-{
-    match read_octal(word, MOST) {
-        Ok(value) => value as u16,
-        Err(_) => unreachable!(),
-    }
-}
-
 /// Returns the numbers in the text, or `None` if there are more than `ROOM`.
 pub fn numbers<const ROOM: usize>(text: &[u8]) -> Option<ArrayVec<u16, ROOM>>
     requires { IsTrue (list_all is_number (words text.now)) }
@@ -52,7 +39,7 @@ pub fn numbers<const ROOM: usize>(text: &[u8]) -> Option<ArrayVec<u16, ROOM>>
         if row.is_full() {
             return None;
         }
-        row.push(number(word));
+        row.push(read_octal(word, MOST).unwrap() as u16);
         rest = others;
     }
     Some(row)

@@ -1,8 +1,8 @@
 -- The event that a host logs.
 use Rattle.std.specs.Prelude.{ℕ, List}
 use Rattle.pp_lines.specs.declared.log.Log.{Log}
-use Rattle.pp_host.specs.declared.file_event.FileEvent.{FileEvent}
-use Rattle.pp_host.specs.declared.file_event.FileEvent.TheVariants as logged
+use Rattle.pp_host.specs.declared.file_log.FileEvent.{FileEvent}
+use Rattle.pp_host.specs.declared.file_log.FileEvent.TheVariants as logged
 use Rattle.pp_host.specs.Events.{Closed, Event, Missing, Opened}
 
 abbrev bytes_of : Log → List ℕ

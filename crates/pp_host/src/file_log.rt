@@ -5,9 +5,21 @@ ghost use Rattle.std.specs.Borrow.{ftrue};
 ghost use Rattle.std.specs.Coded.{coded_list};
 ghost use Rattle.std.specs.Prelude.{◌≡◌, ◌∷◌, ◌++◌, [], List};
 
-use crate::file_event::FileEvent;
+use pp_lines::Log;
+use pp_trouble::FileKind;
 use std::marker::Model;
 use std::mem::size_of;
+
+/// What a host logs about a file that the program asked for. Only contracts see the paths and bytes.
+#[derive(Drop)]
+pub enum FileEvent {
+    /// The file was opened.
+    Opened(FileKind, Log),
+    /// The file could not be opened.
+    Missing(FileKind, Log),
+    /// The file that was opened last was closed, after these bytes were read from it.
+    Closed(Log),
+}
 
 // Beside `pp_lines::Log`, and not one generic log: the logic stores ghost data by a code, and `coded_event` is that of
 // an event.

@@ -1,24 +1,20 @@
 //! The words, files and streams of a program, and the files that its options name.
 #![tactic(auto)]
 
-mod file_event;
 mod file_log;
 mod host;
 mod loading;
 mod memory;
 mod options;
-mod stored;
 mod system;
 #[cfg(test)]
 mod tests;
 mod words;
 
-pub use file_event::FileEvent;
-pub use file_log::FileLog;
+pub use file_log::{FileEvent, FileLog};
 pub use host::{Host, WordsFault};
 pub use loading::{deck, open, panel};
-pub use memory::Memory;
+pub use memory::{Memory, StoredFile};
 pub use options::options_of;
-pub use stored::StoredFile;
 pub use system::{FileSystem, System};
 pub use words::words_of;

@@ -57,10 +57,7 @@ pub fn deck<H: Host>(
     let mut file = open(host, FileKind::Deck, path.as_str())?;
     let read = load_deck(alloc, &mut file);
     host.close(file);
-    match read {
-        Ok(deck) => Ok(deck),
-        Err(fault) => Err(Trouble::load(FileKind::Deck, fault)),
-    }
+    read.map_err(|fault| Trouble::load(FileKind::Deck, fault))
 }
 
 /// Loads the named dead start panel, or returns `None` without a name.
@@ -86,8 +83,6 @@ pub fn panel<H: Host>(host: &mut H, path: &Option<String>) -> Result<Option<[u16
     let mut file = open(host, FileKind::Panel, path.as_str())?;
     let read = load_panel(&mut file);
     host.close(file);
-    match read {
-        Ok(panel) => Ok(Some(panel)),
-        Err(fault) => Err(Trouble::load(FileKind::Panel, fault)),
-    }
+    read.map(Some)
+        .map_err(|fault| Trouble::load(FileKind::Panel, fault))
 }

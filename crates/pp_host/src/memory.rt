@@ -2,12 +2,20 @@
 ghost use Rattle.pp_host.specs.Memory.{file_named};
 ghost use Rattle.std.specs.Prelude.{◌≡◌, Some, option_map};
 
-use crate::stored::StoredFile;
 use crate::system::FileSystem;
 use pp_lines::{Calls, Feed, Log};
 
 /// The largest number of bytes that one read of a stored file returns.
 const PIECE: usize = 512;
+
+/// A file in memory. One of its reads can be made to fail.
+#[derive(Drop)]
+pub struct StoredFile<'a> {
+    pub path: &'a str,
+    pub bytes: &'a [u8],
+    /// The read that fails, counted from 1, or `None`.
+    pub failing: Option<u64>,
+}
 
 /// The files of a system in memory.
 #[derive(Drop)]

@@ -3,8 +3,7 @@ ghost use Rattle.pp_arguments.specs.CommandLine.{Text};
 ghost use Rattle.pp_host.specs.Host.{Agrees, IsOpened, words_known};
 ghost use Rattle.std.specs.Prelude.{◌≡◌, [], IfSome, MatchOption, None, Option, ℕ, List};
 
-use crate::file_event::FileEvent;
-use crate::file_log::FileLog;
+use crate::file_log::{FileEvent, FileLog};
 use crate::host::{Host, WordsFault};
 use pp_lines::{Log, Source};
 use pp_trouble::FileKind;

@@ -15,9 +15,7 @@ fn collected(alloc: Global, words: Args) -> Result<Vec<String>, WordsFault>
 {
     let mut kept = Vec::new(alloc);
     for word in words {
-        if kept.push(word).is_err() {
-            return Err(WordsFault::NoMemory);
-        }
+        kept.push(word).or(Err(WordsFault::NoMemory))?;
     }
     Ok(kept)
 }

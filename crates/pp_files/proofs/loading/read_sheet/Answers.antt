@@ -11,7 +11,7 @@ pieces-init g c = record {
     [],
     Consumes-nothing (g.R.Source.rest c.args.source.now),
     sym (append-nil (g.R.Source.given c.args.source.now)),
-    HasRead-new _ g.S.Sheet.rule _ c.new-progress.ensures.front c.new-progress.ensures.bytes c.new-progress.ensures.lines c.requires,
+    HasRead-new _ g.S.Sheet.rule _ c.new.ensures refl refl c.requires,
   );
   reads = refl;
 }

@@ -3,14 +3,8 @@ use Rattle.std.proofs.lemmas.Grind.{common_steps}
 use Rattle.pp_lines.specs.Device.{all_bytes}
 use Rattle.pp_host.proofs.loading.deck.Goals as goal
 
-pub returns-in-Ok-clause-deck : goal.returns-in-Ok-clause-deck
-returns-in-Ok-clause-deck g c =
-    let file = c.in-Ok.ensures.file in
-    let all = all_bytes (g.H.File.Source.rest c.in_ok-file.file) file.0 in
-    (Some file.0, Some all, grind (arith, common_steps), grind (arith, common_steps), grind (arith, common_steps))
-
-pub returns-in-Err-clause-deck : goal.returns-in-Err-clause-deck
-returns-in-Err-clause-deck g c =
-    let file = c.in-Err.ensures.file in
+pub returns-clause-deck : goal.returns-clause-deck
+returns-clause-deck g c =
+    let file = c.load_deck-read.ensures.file in
     let all = all_bytes (g.H.File.Source.rest c.in_ok-file.file) file.0 in
     (Some file.0, Some all, grind (arith, common_steps), grind (arith, common_steps), grind (arith, common_steps))

@@ -5,7 +5,7 @@ use Rattle.pp_host.specs.contracts.file_log.FileLog.with as f
 use Rattle.pp_host.proofs.file_log.FileLog.with.Statement as stated
 use Rattle.pp_host.proofs.file_log.FileLog.with.Code as code
 use Rattle.pp_host.specs.contracts.file_log.FileLog as trail
-use Rattle.pp_host.specs.contracts.file_event.FileEvent as event
+use Rattle.pp_host.specs.contracts.file_log.FileEvent as event
 
 abbrev stayed : Stays (f.ended).signature.params (f.ended).kept
 stayed = (stay_none_ref (0 ∷ []) tt (plain (λ _. trail.the_row)) yes, (stay_none_ref (1 ∷ []) tt (plain (λ _. event.the_row)) yes, tt))

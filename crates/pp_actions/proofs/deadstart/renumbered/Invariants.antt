@@ -2,7 +2,7 @@ use Rattle.std.proofs.Common.{◌≡◌, ◌++◌, drop}
 use Rattle.arrayvec.specs.ArrayVec.{array_vec_len}
 use Rattle.pp_machine.specs.WriteList.{write_list}
 use Rattle.pp_actions.specs.RecordLists.{with_new_numbers}
-use Rattle.pp_actions.proofs.deadstart.with_numbers.Given as goal
+use Rattle.pp_actions.proofs.deadstart.renumbered.Given as goal
 
 abbrev pub invariant-loop-i : goal.invariant-loop-i
 invariant-loop-i l = record {
