@@ -9,7 +9,7 @@ use std::marker::Model;
 /// 400000 (octal). Only `parse` creates one.
 #[derive(Drop)]
 pub struct Command {
-    pub(crate) request: Request,
+    request: Request,
 }
 
 impl Model for Command {
@@ -24,6 +24,14 @@ impl Model for Command {
 }
 
 impl Command {
+    /// Returns the command of a request.
+    pub(crate) fn new(request: Request) -> Command
+        requires { IsInRange request }
+        ensures { result ≡ request }
+    {
+        Command { request }
+    }
+
     /// Returns the request of the command.
     pub fn request(&self) -> &Request
         ensures value { result.now ≡ self.now }

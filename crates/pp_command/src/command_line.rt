@@ -39,25 +39,39 @@ fn request_of(name: &[u8], text: &[u8]) -> Result<Request, LineFault>
     ensures value { result ≡ spec.request_of name.now (words text.now) }
     ensures in_range { IfOk result IsInRange }
 {
-    match name {
-        _ if is_word(name, b"SET") => set(text),
-        _ if is_word(name, b"STEP") => Ok(Request::Step(count(text)?)),
-        _ if is_word(name, b"BACK") => back(text),
-        _ if is_word(name, b"FORWARD") => Ok(Request::Forward(count(text)?)),
-        _ if is_word(name, b"WATCH") => Ok(Request::Act(Action::Watch(place(text)?))),
-        _ if is_word(name, b"UNWATCH") => Ok(Request::Act(Action::Unwatch(place(text)?))),
-        _ if is_word(name, b"DEADSTART") => alone(Request::Act(Action::Deadstart), text),
-        _ if is_word(name, b"DUMP") => dump(text),
-        _ => Err(LineFault::NotACommand),
+    if is_word(name, b"SET") {
+        set(text)
+    } else if is_word(name, b"STEP") {
+        Ok(Request::Step(count(text)?))
+    } else if is_word(name, b"BACK") {
+        back(text)
+    } else if is_word(name, b"FORWARD") {
+        Ok(Request::Forward(count(text)?))
+    } else if is_word(name, b"WATCH") {
+        Ok(Request::Act(Action::Watch(place(text)?)))
+    } else if is_word(name, b"UNWATCH") {
+        Ok(Request::Act(Action::Unwatch(place(text)?)))
+    } else if is_word(name, b"DEADSTART") {
+        alone(Request::Act(Action::Deadstart), text)
+    } else if is_word(name, b"DUMP") {
+        dump(text)
+    } else {
+        Err(LineFault::NotACommand)
     }
+}
+
+/// Returns whether the byte is a tab or a printable ASCII character.
+fn is_printable(byte: u8) -> bool
+    ensures { result ≡ spec.is_printable byte }
+{
+    byte == b'\t' || byte >= b' ' && byte <= b'~'
 }
 
 /// Returns whether every byte is a tab or a printable ASCII character.
 fn are_printable(text: &[u8]) -> bool
     ensures { result ≡ list_all spec.is_printable text.now }
 {
-    text.iter()
-        .all(|byte| *byte == b'\t' || *byte >= b' ' && *byte <= b'~')
+    text.iter().all(|byte| is_printable(*byte))
 }
 
 /// Parses a line without its line feed. One carriage return at the end is dropped. Returns `None` for
@@ -87,7 +101,7 @@ pub fn parse(line: &[u8]) -> Result<Option<Command>, LineFault>
     }
     // Not by `?`, which would copy the request once more.
     match request_of(first, rest) {
-        Ok(request) => Ok(Some(Command { request })),
+        Ok(request) => Ok(Some(Command::new(request))),
         Err(fault) => Err(fault),
     }
 }

@@ -6,10 +6,9 @@ ghost use Rattle.pp_command.specs.CommandLine as spec;
 ghost use Rattle.pp_command.specs.Ranges.{IsInRange};
 
 use crate::fault::LineFault;
-use crate::numbers::{number, one, two};
+use crate::numbers::{one, three, two};
 use crate::request::Request;
 use crate::words::{first_word, is_word, no_words};
-use pp_lines::are_octal;
 
 /// Returns the request if the text has no words.
 ///
@@ -26,25 +25,20 @@ pub fn alone(request: Request, text: &[u8]) -> Result<Request, LineFault>
 }
 
 /// Parses `DUMP M n a b`.
-#[tactic(auto, unfolding(crate::specs::CommandLine::dump_cells, crate::specs::Numbers::three))]
+#[tactic(auto, unfolding(crate::specs::CommandLine::dump_cells))]
 fn dump_cells(text: &[u8]) -> Result<Request, LineFault>
     ensures value { result ≡ spec.dump_cells (words text.now) }
     ensures in_range { IfOk result IsInRange }
 {
-    let (pp, rest) = first_word(text)?;
-    let (first, rest) = first_word(rest)?;
-    let (last, rest) = first_word(rest)?;
-    no_words(rest)?;
-    if !are_octal(text) {
-        return Err(LineFault::NotANumber);
-    }
-    let pp = number(pp, 0o11)? as u8;
-    let first = number(first, 0o7777)? as u16;
-    let last = number(last, 0o7777)? as u16;
+    let (pp, first, last) = three(text, 0o11, 0o7777, 0o7777)?;
     if first > last {
         return Err(LineFault::OutOfRange);
     }
-    Ok(Request::DumpCells { pp, first, last })
+    Ok(Request::DumpCells {
+        pp: pp as u8,
+        first: first as u16,
+        last: last as u16,
+    })
 }
 
 /// Parses `DUMP C a b`.
@@ -73,15 +67,24 @@ pub fn dump(text: &[u8]) -> Result<Request, LineFault>
     ensures in_range { IfOk result IsInRange }
 {
     let (kind, rest) = first_word(text)?;
-    match kind {
-        _ if is_word(kind, b"M") => dump_cells(rest),
-        _ if is_word(kind, b"PP") => Ok(Request::DumpProcessor(one(rest, 0o11)? as u8)),
-        _ if is_word(kind, b"H") => alone(Request::DumpChannels, rest),
-        _ if is_word(kind, b"C") => dump_central(rest),
-        _ if is_word(kind, b"XP") => alone(Request::DumpFrame, rest),
-        _ if is_word(kind, b"CR") => alone(Request::DumpReader, rest),
-        _ if is_word(kind, b"LP") => alone(Request::DumpPrinter, rest),
-        _ if is_word(kind, b"W") => alone(Request::DumpWatches, rest),
-        _ => Err(LineFault::NotACommand),
+    if is_word(kind, b"M") {
+        dump_cells(rest)
+    } else if is_word(kind, b"PP") {
+        let pp = one(rest, 0o11)? as u8;
+        Ok(Request::DumpProcessor(pp))
+    } else if is_word(kind, b"H") {
+        alone(Request::DumpChannels, rest)
+    } else if is_word(kind, b"C") {
+        dump_central(rest)
+    } else if is_word(kind, b"XP") {
+        alone(Request::DumpFrame, rest)
+    } else if is_word(kind, b"CR") {
+        alone(Request::DumpReader, rest)
+    } else if is_word(kind, b"LP") {
+        alone(Request::DumpPrinter, rest)
+    } else if is_word(kind, b"W") {
+        alone(Request::DumpWatches, rest)
+    } else {
+        Err(LineFault::NotACommand)
     }
 }

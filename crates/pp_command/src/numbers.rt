@@ -79,6 +79,26 @@ pub fn processor_and(text: &[u8], most: u64) -> Result<(u8, u64), LineFault>
     Ok((pp as u8, number))
 }
 
+/// Reads three numbers, 0 to `first`, 0 to `second` and 0 to `third`.
+///
+/// # Errors
+/// `WordCount` if the text does not have exactly three words. Otherwise `NotANumber` if any word is not
+/// octal. Otherwise `OutOfRange` if any value is above its maximum.
+#[tactic(auto, unfolding(crate::specs::Numbers::three))]
+pub fn three(text: &[u8], first: u64, second: u64, third: u64) -> Result<(u64, u64, u64), LineFault>
+    ensures value { result ≡ spec.three first second third (words text.now) }
+    ensures within { IfOk result (λ values. (values.0 ≤ first) × (values.1 ≤ second) × (values.2 ≤ third)) }
+{
+    let (x, rest) = first_word(text)?;
+    let (y, rest) = first_word(rest)?;
+    let (z, rest) = first_word(rest)?;
+    no_words(rest)?;
+    if !is_octal(x) || !is_octal(y) || !is_octal(z) {
+        return Err(LineFault::NotANumber);
+    }
+    Ok((number(x, first)?, number(y, second)?, number(z, third)?))
+}
+
 /// Reads a count of 1 to 1000000 (octal). Returns 1 if the text has no words.
 ///
 /// # Errors

@@ -19,16 +19,25 @@ pub fn place(text: &[u8]) -> Result<Watched, LineFault>
     ensures in_range { IfOk result IsPlaceInRange }
 {
     let (kind, rest) = first_word(text)?;
-    match kind {
-        _ if is_word(kind, b"M") => {
-            let (pp, a) = processor_and(rest, 0o7777)?;
-            Ok(Watched::Cell { pp, a: a as u16 })
-        }
-        _ if is_word(kind, b"A") => one(rest, 0o11).map(|pp| Watched::RegA { pp: pp as u8 }),
-        _ if is_word(kind, b"P") => one(rest, 0o11).map(|pp| Watched::RegP { pp: pp as u8 }),
-        _ if is_word(kind, b"Q") => one(rest, 0o11).map(|pp| Watched::RegQ { pp: pp as u8 }),
-        _ if is_word(kind, b"C") => one(rest, 0o377777).map(|a| Watched::Central { a: a as u32 }),
-        _ if is_word(kind, b"H") => one(rest, 0o14).map(|c| Watched::Register { c: c as u8 }),
-        _ => Err(LineFault::NotACommand),
+    if is_word(kind, b"M") {
+        let (pp, a) = processor_and(rest, 0o7777)?;
+        Ok(Watched::Cell { pp, a: a as u16 })
+    } else if is_word(kind, b"A") {
+        let pp = one(rest, 0o11)? as u8;
+        Ok(Watched::RegA { pp })
+    } else if is_word(kind, b"P") {
+        let pp = one(rest, 0o11)? as u8;
+        Ok(Watched::RegP { pp })
+    } else if is_word(kind, b"Q") {
+        let pp = one(rest, 0o11)? as u8;
+        Ok(Watched::RegQ { pp })
+    } else if is_word(kind, b"C") {
+        let a = one(rest, 0o377777)? as u32;
+        Ok(Watched::Central { a })
+    } else if is_word(kind, b"H") {
+        let c = one(rest, 0o14)? as u8;
+        Ok(Watched::Register { c })
+    } else {
+        Err(LineFault::NotACommand)
     }
 }

@@ -73,11 +73,14 @@ fn state(word: &[u8]) -> Result<ChannelState, LineFault>
     ensures value { result ≡ spec.state word.now }
     ensures in_range { IfOk result (λ state. state_number state < 3) }
 {
-    match word {
-        _ if is_word(word, b"I") => Ok(ChannelState::Inactive),
-        _ if is_word(word, b"E") => Ok(ChannelState::Empty),
-        _ if is_word(word, b"F") => Ok(ChannelState::Full),
-        _ => Err(LineFault::NotACommand),
+    if is_word(word, b"I") {
+        Ok(ChannelState::Inactive)
+    } else if is_word(word, b"E") {
+        Ok(ChannelState::Empty)
+    } else if is_word(word, b"F") {
+        Ok(ChannelState::Full)
+    } else {
+        Err(LineFault::NotACommand)
     }
 }
 
@@ -116,25 +119,23 @@ pub fn set(text: &[u8]) -> Result<Request, LineFault>
     ensures in_range { IfOk result IsInRange }
 {
     let (kind, rest) = first_word(text)?;
-    match kind {
-        _ if is_word(kind, b"M") => set_cells(rest),
-        _ if is_word(kind, b"A") => {
-            let (pp, v) = processor_and(rest, 0o777777)?;
-            Ok(Request::Act(Action::SetA { pp, v: v as u32 }))
-        }
-        _ if is_word(kind, b"P") => {
-            let (pp, v) = processor_and(rest, 0o7777)?;
-            Ok(Request::Act(Action::SetP { pp, v: v as u16 }))
-        }
-        _ if is_word(kind, b"Q") => {
-            let (pp, v) = processor_and(rest, 0o7777)?;
-            Ok(Request::Act(Action::SetQ { pp, v: v as u16 }))
-        }
-        _ if is_word(kind, b"C") => {
-            let (a, v) = two(rest, 0o377777, (1 << 60) - 1)?;
-            Ok(Request::Act(Action::SetWord { a: a as u32, v }))
-        }
-        _ if is_word(kind, b"H") => set_channel(rest),
-        _ => Err(LineFault::NotACommand),
+    if is_word(kind, b"M") {
+        set_cells(rest)
+    } else if is_word(kind, b"A") {
+        let (pp, v) = processor_and(rest, 0o777777)?;
+        Ok(Request::Act(Action::SetA { pp, v: v as u32 }))
+    } else if is_word(kind, b"P") {
+        let (pp, v) = processor_and(rest, 0o7777)?;
+        Ok(Request::Act(Action::SetP { pp, v: v as u16 }))
+    } else if is_word(kind, b"Q") {
+        let (pp, v) = processor_and(rest, 0o7777)?;
+        Ok(Request::Act(Action::SetQ { pp, v: v as u16 }))
+    } else if is_word(kind, b"C") {
+        let (a, v) = two(rest, 0o377777, (1 << 60) - 1)?;
+        Ok(Request::Act(Action::SetWord { a: a as u32, v }))
+    } else if is_word(kind, b"H") {
+        set_channel(rest)
+    } else {
+        Err(LineFault::NotACommand)
     }
 }

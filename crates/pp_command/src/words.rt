@@ -32,5 +32,8 @@ pub fn no_words(text: &[u8]) -> Result<(), LineFault>
     ensures { MatchResult result (λ _. words text.now ≡ [])
         (λ fault. (word : List ℕ) × (others : List (List ℕ)) × (words text.now ≡ word ∷ others) × (fault ≡ LineFault.WordCount)) }
 {
-    next_word(text).map_or(Ok(()), |_| Err(LineFault::WordCount))
+    match next_word(text) {
+        Some(_) => Err(LineFault::WordCount),
+        None => Ok(()),
+    }
 }
