@@ -4,12 +4,16 @@ ghost use Rattle.pp_machine.specs.Devices.{AreJoined, AreStepped, DevicesModel, 
 ghost use Rattle.pp_machine.specs.Parts.{AreIdle};
 ghost use Rattle.pp_machine.specs.Prelude.{Machine, over, lookup};
 
+mod all;
+
 use crate::channel::ChannelState;
 use crate::channels::Channels;
 use crate::device::Device;
 use crate::place::Place;
-use crate::printer::{Printer, PrinterRecord};
-use crate::reader::{Reader, ReaderRecord};
+pub use all::{
+    AllDevices, AllRecords, all_devices, device_records_restore, device_writes_are_distinct,
+    devices_keep_ranges,
+};
 use std::marker::Model;
 
 /// The devices of a machine.
@@ -173,26 +177,4 @@ impl<D: Device, R: Devices> Devices for On<D, R> {
     fn was(back: &OnRecords<D::Record, R::Records>, place: &Place) -> Option<u64> {
         D::was(&back.own, back.channel, place).or(R::was(&back.others, place))
     }
-}
-
-/// The devices of every machine, in the order of their steps.
-pub type AllDevices = On<Reader, On<Printer, NoDevices>>;
-
-/// Their undo records.
-pub type AllRecords = OnRecords<ReaderRecord, OnRecords<PrinterRecord, NoDevices>>;
-
-/// Puts the devices on their channels, each 0 to 0o13.
-#[tactic(auto, using(crate::proofs::AllDevices::printer_joined, crate::proofs::AllDevices::reader_joined))]
-pub fn all_devices(
-    reader_channel: u8,
-    reader: Reader,
-    printer_channel: u8,
-    printer: Printer,
-) -> AllDevices
-    requires reads { reader_channel < 12 }
-    requires prints { printer_channel < 12 }
-    ensures { result ≡ record { channel = reader_channel; device = reader; others = record { channel = printer_channel; device = printer; others = record {} } } }
-{
-    let others = On::new(printer_channel, printer, NoDevices);
-    On::new(reader_channel, reader, others)
 }
