@@ -8,17 +8,17 @@ use Rattle.pp_history.specs.declared.marks.Marks.{Marks}
 without : (some u b : Bool) → (some && (u || false)) ≡ true → (some && (u || b)) ≡ true
 without some u b h = grind (arith, nat_tests)
 
--- a place is covered if the mark that is returned for it was added
-covered_by : (m : Marks) (mark own : Option ℕ) → IfSome mark (λ i. own ≡ Some i) → is_covered m mark ≡ true → is_covered m own ≡ true
-covered_by m mark own same h = grind (arith, nat_tests)
+-- a place is covered if the marks that are returned for it were added
+covered_by : (m : Marks) (marks own : Option (ℕ × ℕ)) → IfSome marks (λ two. own ≡ Some two) → is_covered m marks ≡ true → is_covered m own ≡ true
+covered_by m marks own same h = grind (arith, nat_tests)
 
 -- what covers some places, and then one more
-pub covers_more : {P : Type 0} (mark_of : P → Option ℕ) (old new : Marks) (mark : Option ℕ) (places : List P) (i : ℕ) (d item : P) →
-    item ≡ get_or places i d → ((k : Option ℕ) → is_covered old k ≡ true → is_covered new k ≡ true) → is_covered new mark ≡ true →
-    IfSome mark (λ k. mark_of item ≡ Some k) → i < length places → AreCovered mark_of old (take i places) →
-    AreCovered mark_of new (take (i + 1) places)
-covers_more mark_of old new mark places i d item here keeps covered same within all =
-    All-more (λ p. covers mark_of new p ≡ true) places i d within
-    (All-from_get_or (λ p. covers mark_of new p ≡ true) (take i places) d
-    (λ k at_most. keeps _ (All-get_or (λ p. covers mark_of old p ≡ true) (take i places) k d at_most all)))
-    (rw here at (covered_by new mark (mark_of item) same covered))
+pub covers_more : {P : Type 0} (marks_of : P → Option (ℕ × ℕ)) (old new : Marks) (marks : Option (ℕ × ℕ)) (places : List P) (i : ℕ) (d item : P) →
+    item ≡ get_or places i d → ((k : Option (ℕ × ℕ)) → is_covered old k ≡ true → is_covered new k ≡ true) → is_covered new marks ≡ true →
+    IfSome marks (λ two. marks_of item ≡ Some two) → i < length places → AreCovered marks_of old (take i places) →
+    AreCovered marks_of new (take (i + 1) places)
+covers_more marks_of old new marks places i d item here keeps covered same within all =
+    All-more (λ p. covers marks_of new p ≡ true) places i d within
+    (All-from_get_or (λ p. covers marks_of new p ≡ true) (take i places) d
+    (λ k at_most. keeps _ (All-get_or (λ p. covers marks_of old p ≡ true) (take i places) k d at_most all)))
+    (rw here at (covered_by new marks (marks_of item) same covered))

@@ -1,14 +1,13 @@
 -- An action that is performed again and again.
-use Rattle.std.proofs.Common.{◌≡◌, ℕ, zero, suc, ◌+◌, ◌-◌, ◌<◌, ◌≤◌, [], add-one, arith, ap, refl, inl, inr, IfSome, length, min, sym, List, Option, set, get_or, length-set}
+use Rattle.std.proofs.Common.{◌≡◌, ℕ, zero, suc, ◌+◌, ◌<◌, ◌≤◌, [], add-one, arith, ap, refl, inl, inr, IfSome, length, min, sym, List, Option, set, get_or, length-set}
 use Rattle.std.proofs.lemmas.Bool.{cases_lt}
 use Rattle.circular_buffer.specs.Buffer.{Buffer}
-use Rattle.pp_history.specs.Contents.{Contents}
 use Rattle.pp_history.specs.Joining.{IsActed, IsLog, first_of, log_value}
 use Rattle.pp_history.specs.LogValue.{LogValue}
 use Rattle.pp_history.specs.Marks.{IsUnmarked}
 use Rattle.pp_history.specs.Parts.{contents}
 use Rattle.pp_history.specs.Repeating.{AreUnmarked, after_acts, machine_after}
-use Rattle.pp_history.specs.SessionValue.{IsAt, SessionValue, after_act, replay}
+use Rattle.pp_history.specs.SessionValue.{SessionValue, after_act, replay}
 use Rattle.pp_history.specs.Slots.{IsEnd, IsNextSlot, turned}
 use Rattle.pp_history.specs.Tails.{in_tail}
 use Rattle.pp_history.specs.declared.marks.Marks.{Marks}
@@ -52,7 +51,7 @@ module _ {M A R P H : Type 0} (rules : Ghosts M A R P H) where
   -- once more, without a covered place
   pub unmarked_more : (marks : Marks) (action : A) (count : ℕ) (start machine machine' : M) (head' : Option H) (tails tails' : Tails A R)
       → machine ≡ machine_after rules count action start → machine' ≡ machine_after rules (count + 1) action start → IsActed rules machine machine' action head' tails tails'
-      → 1 ≤ tails.ring.capacity → IfSome (first_of rules.unpacked in_tail head' tails'.ring.items) (λ newest. IsUnmarked rules.mark_of rules.old_value marks newest.1)
+      → 1 ≤ tails.ring.capacity → IfSome (first_of rules.unpacked in_tail head' tails'.ring.items) (λ newest. IsUnmarked rules.marks_of rules.old_value marks newest.1)
       → AreUnmarked rules marks action count start → AreUnmarked rules marks action (count + 1) start
   unmarked_more marks action count start machine machine' head' tails tails' old new acted room unmarked before k less = elim (cases_lt k count) [
     | inl earlier ↦ before k earlier

@@ -1,4 +1,4 @@
--- Marks of places, a Bloom filter with one hash. They show of most undo records that they have none of the places.
+-- Marks of places, a Bloom filter with two hashes. They show of most undo records that they have none of the places.
 use Rattle.std.specs.Prelude.{ℕ, Bool, true, false, ◌≡◌, ◌%◌, ◌||◌, ◌&&◌, List, Option, Some, None, get_or}
 use Rattle.std.specs.List.{All}
 use Rattle.pp_history.specs.declared.marks.Marks.{Marks}
@@ -6,17 +6,18 @@ use Rattle.pp_history.specs.declared.marks.Marks.{Marks}
 abbrev pub is_set : Marks → ℕ → Bool
 is_set m i = get_or m.marks (i % 1024) false
 
-abbrev pub is_marked : Marks → Option ℕ → Bool
+-- both marks of a place are set
+abbrev pub is_marked : Marks → Option (ℕ × ℕ) → Bool
 is_marked m None = false
-is_marked m (Some i) = is_set m i
+is_marked m (Some (i, j)) = is_set m i && is_set m j
 
--- the mark is set, or a place without a mark was given, and then every record is searched
-abbrev pub is_covered : Marks → Option ℕ → Bool
-is_covered m mark = m.has_places && (m.has_unmarked || is_marked m mark)
+-- the marks are set, or a place without marks was given, and then every record is searched
+abbrev pub is_covered : Marks → Option (ℕ × ℕ) → Bool
+is_covered m marks = m.has_places && (m.has_unmarked || is_marked m marks)
 
-module _ {P : Type 0} (mark_of : P → Option ℕ) where
+module _ {P : Type 0} (marks_of : P → Option (ℕ × ℕ)) where
   abbrev pub covers : Marks → P → Bool
-  covers m p = is_covered m (mark_of p)
+  covers m p = is_covered m (marks_of p)
 
   abbrev pub AreCovered : Marks → List P → Type 0
   AreCovered m places = All (λ p. covers m p ≡ true) places

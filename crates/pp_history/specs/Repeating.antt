@@ -18,7 +18,7 @@ module _ {M A R P S : Type 0} (rules : Ghosts M A R P S) where
   -- an action led from one machine to the other, and its undo record has none of the places that the marks cover
   abbrev pub IsUnmarkedAct : Marks → M → M → Type 0
   IsUnmarkedAct marks old new =
-      (back : R) × rules.fits back new × (rules.after_undo back new ≡ old) × IsUnmarked rules.mark_of rules.old_value marks back
+      (back : R) × rules.fits back new × (rules.after_undo back new ≡ old) × IsUnmarked rules.marks_of rules.old_value marks back
 
   -- the first so many times, no undo record had one of the places that the marks cover
   abbrev pub AreUnmarked : Marks → A → ℕ → M → Type 0

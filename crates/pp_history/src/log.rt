@@ -287,7 +287,7 @@ fn may_have<T: Reversible>(
     marks: &Marks,
 ) -> bool
     ensures { result ≡ false → IfSome (first_of T.unpacked in_tail head.now tails.now.ring.items) (λ newest.
-        IsUnmarked T.mark_of T.old_value marks.now newest.1) }
+        IsUnmarked T.marks_of T.old_value marks.now newest.1) }
 {
     if !marks.has_places {
         return false;
@@ -365,7 +365,7 @@ fn is_changed<T: Reversible>(
     looks: &mut Looks,
 ) -> bool
     requires has_places { All (λ place. T.has_place machine.now place) places.now }
-    requires covers { AreCovered T.mark_of marks.now places.now }
+    requires covers { AreCovered T.marks_of marks.now places.now }
     ensures { IsSearched T.Reversible machine.now places.now (whole_record T.unpacked back.now) looks.old.count looks.new.count result }
 {
     if !T::may_have(back, marks) {

@@ -13,7 +13,7 @@ use Rattle.pp_history.specs.declared.marks.Marks.{Marks}
 use Rattle.pp_history.specs.SessionLaws.{machine_at}
 use Rattle.pp_history.specs.Repeating.{AreUnmarked, after_acts}
 use Rattle.pp_history.specs.SessionValue.{SessionValue, after_act, replay}
-use Rattle.pp_rig.specs.Marks.{mark_of}
+use Rattle.pp_rig.specs.Marks.{marks_of}
 use Rattle.pp_rig.specs.Rules.{rules}
 use Rattle.pp_rig.specs.Stopping.{after_turns, first_change, hit_of, hit_or, one_turn_more, stopped, turned}
 use Rattle.pp_rig.specs.Turn.{turn}
@@ -144,16 +144,16 @@ none_changed m back Watches (w ∷ ws) fits none all =
 
 -- a turn whose record has no marked place changed no watched number
 pub unmarked-hit : (old new : Machine) (marks : Marks) (back : RigRecord) → new ≡ turn old → FitsRecord back new → before back new ≡ old →
-    ((p : Place) → covers mark_of marks p ≡ true → lookup (record_pairs back) p ≡ None) →
-    AreCovered mark_of marks (map watched_place (watches_of old)) → None ≡ hit_of old
+    ((p : Place) → covers marks_of marks p ≡ true → lookup (record_pairs back) p ≡ None) →
+    AreCovered marks_of marks (map watched_place (watches_of old)) → None ≡ hit_of old
 unmarked-hit old new marks back turned fits led_back none covered =
-    let Covered = λ (p : Place). covers mark_of marks p ≡ true in
+    let Covered = λ (p : Place). covers marks_of marks p ≡ true in
     let all = recursion_from_All Covered (map watched_place (watches_of old)) covered in
     sym (rw (led_back, turned) at (none_changed new back Covered (watches_of old) fits none all))
 
 -- turns whose records have no marked place
 pub unmarked_turns : (marks : Marks) (n turns : ℕ) (machine : Machine) → turns ≤ n → AreUnmarked rules marks Turn turns machine →
-    AreCovered mark_of marks (map watched_place (watches_of machine)) → stopped n machine ≡ turns_before turns (stopped (n - turns) (turned turns machine))
+    AreCovered marks_of marks (map watched_place (watches_of machine)) → stopped n machine ≡ turns_before turns (stopped (n - turns) (turned turns machine))
 unmarked_turns marks n zero machine within none covered = before_start n machine
 unmarked_turns marks n (suc turns) machine within none covered =
     let before = unmarked_turns marks n turns machine (omega arith) (λ k less. none k (omega arith)) covered in
@@ -165,7 +165,7 @@ unmarked_turns marks n (suc turns) machine within none covered =
 
 -- the last of some turns changed a watched number, or no turn did
 pub last_turn : (marks : Marks) (turns : ℕ) (machine : Machine) → AreUnmarked rules marks Turn turns machine →
-    AreCovered mark_of marks (map watched_place (watches_of machine)) →
+    AreCovered marks_of marks (map watched_place (watches_of machine)) →
     stopped (turns + 1) machine ≡ record { turns = turns + 1; hit = hit_of (turned turns machine) }
 unfolding turns_before stopped
 last_turn marks turns machine none covered =

@@ -1,5 +1,5 @@
 -- The marks of places, and the places of undo records without a mark.
-use Rattle.std.specs.Prelude.{ℕ, false, ◌≡◌, ◌+◌, ◌*◌, ◌/◌, ◌%◌, Option, Some, None}
+use Rattle.std.specs.Prelude.{ℕ, false, ◌≡◌, ◌+◌, ◌-◌, ◌*◌, ◌/◌, ◌%◌, Option, Some, None}
 use Rattle.pp_history.specs.Marks.{is_marked}
 use Rattle.pp_history.specs.declared.marks.Marks.{Marks}
 use Rattle.pp_machine.specs.Writes.{AllPlaces, Writes}
@@ -18,13 +18,14 @@ central_mark a = 768 + a / 16 % 256
 abbrev pub channel_mark : ℕ → ℕ
 channel_mark c = 640 + c
 
--- the number of the mark of a cell, a central word or a channel's register; several places may share a mark
-abbrev pub mark_of : Place → Option ℕ
-mark_of (Cell n a) = Some (cell_mark n a)
-mark_of (Central a) = Some (central_mark a)
-mark_of (ChannelWord c) = Some (channel_mark c)
-mark_of _ = None
+-- The numbers of the two marks of a cell, a central word or a channel's register: its own block's, and that of the fourth cell or the
+-- fifteenth word before it. Five cells, or sixteen words, that have a place begin in one of its two blocks.
+abbrev pub marks_of : Place → Option (ℕ × ℕ)
+marks_of (Cell n a) = Some (cell_mark n a, cell_mark n (a + 0o10000 - 4))
+marks_of (Central a) = Some (central_mark a, central_mark (a + 0o10000 - 15))
+marks_of (ChannelWord c) = Some (channel_mark c, channel_mark c)
+marks_of _ = None
 
 -- no place that a step of processor n wrote is marked
 abbrev pub AreUnmarked : Marks → ℕ → Writes PpPlace → Type 0
-AreUnmarked m n = AllPlaces (λ x. is_marked m (mark_of (pp_place n x)) ≡ false)
+AreUnmarked m n = AllPlaces (λ x. is_marked m (marks_of (pp_place n x)) ≡ false)

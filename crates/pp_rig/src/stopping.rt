@@ -5,7 +5,7 @@ ghost use Rattle.pp_history.specs.SessionValue.{SessionValue, IsAt, Moves, after
 ghost use Rattle.pp_history.specs.UndoRecord.{whole_record};
 ghost use Rattle.pp_machine.specs.Machine.{Machine};
 ghost use Rattle.pp_rig.specs.Action.{FitsRecord, before};
-ghost use Rattle.pp_rig.specs.Marks.{mark_of};
+ghost use Rattle.pp_rig.specs.Marks.{marks_of};
 ghost use Rattle.pp_rig.specs.Rules.{rules};
 ghost use Rattle.pp_rig.specs.Short.{unpacked};
 ghost use Rattle.pp_rig.specs.Stopping.{after_turns, first_change, stopped, turned};
@@ -74,7 +74,7 @@ fn newest_change(session: &Session<Rig>) -> Option<Hit>
 #[tactic(auto, unfolding(pp_actions::specs::Admitting::first_fault), using(crate::proofs::Runs::runs))]
 fn run_part(session: &mut Session<Rig>, n: u32, marks: &Marks) -> Stopped
     requires some { 1 ≤ n }
-    requires covered { AreCovered mark_of marks.now (map watched_place (watches_of session.old.machine)) }
+    requires covered { AreCovered marks_of marks.now (map watched_place (watches_of session.old.machine)) }
     ensures some { (1 ≤ result.turns) × (result.turns ≤ n) }
     ensures stops { result ≡ stopped result.turns session.old.machine }
     ensures machine { session.new.machine ≡ turned result.turns session.old.machine }

@@ -1,14 +1,15 @@
-//! Marks of cells, central words and registers of channels. Cells and central words have marks by blocks of addresses, so
-//! the five cells of a block write have at most two marks, and the sixteen words of an exchange too.
+//! Marks of cells, central words and registers of channels. Cells and central words have marks by blocks of addresses. The
+//! five cells of a block write begin in the block of each of them or in that of four cells before it; a place has both as
+//! its marks, so one look at the mark of the first cell tells of all five. The sixteen words of an exchange likewise.
 ghost use Rattle.std.specs.Prelude.{◌≡◌, ◌||◌, ℕ, true, false, None, Some, IfSome};
 ghost use Rattle.pp_history.specs.Marks.{covers};
 ghost use Rattle.pp_machine.specs.Prelude.{lookup};
 ghost use Rattle.pp_rig.specs.Marks as spec;
-ghost use Rattle.pp_rig.specs.Marks.{AreUnmarked, mark_of};
+ghost use Rattle.pp_rig.specs.Marks.{AreUnmarked, marks_of};
 ghost use Rattle.pp_rig.specs.Short.{whole_turn};
 ghost use Rattle.pp_rig.specs.Turn.{turn_pairs};
 ghost use Rattle.pp_step.specs.Exchange.{word_pairs};
-ghost use Rattle.pp_step.specs.Pairs.{pairs_as, target_pairs};
+ghost use Rattle.pp_step.specs.Pairs.{target_pairs};
 
 use super::{ShortTurn, TurnRecord, TurnRest};
 use pp_history::Marks;
@@ -39,21 +40,27 @@ fn channel_mark(c: u8) -> u16
     640 + u16::from(c)
 }
 
-/// Returns the number of the mark of a place, or `None` if places of its kind have none: registers of processors and the
-/// clock are in nearly every undo record.
-pub(super) fn mark_of(place: &Place) -> Option<u16>
-    ensures { IfSome result (λ mark. mark_of place.now ≡ Some mark) }
+/// Returns the numbers of the two marks of a place, or `None` if places of its kind have none: registers of processors and
+/// the clock are in nearly every undo record. Cells and central words repeat after 0o10000 addresses.
+pub(super) fn marks_of(place: &Place) -> Option<(u16, u16)>
+    ensures { IfSome result (λ marks. marks_of place.now ≡ Some marks) }
 {
     match *place {
-        Place::Cell { pp, a } => Some(cell_mark(pp, u64::from(a))),
-        Place::Central { a } => Some(central_mark(u64::from(a))),
-        Place::ChannelWord { c } => Some(channel_mark(c)),
+        Place::Cell { pp, a } => {
+            let a = u64::from(a);
+            Some((cell_mark(pp, a), cell_mark(pp, a + 0o10000 - 4)))
+        }
+        Place::Central { a } => {
+            let a = u64::from(a);
+            Some((central_mark(a), central_mark(a + 0o10000 - 15)))
+        }
+        Place::ChannelWord { c } => Some((channel_mark(c), channel_mark(c))),
         _ => None,
     }
 }
 
 impl TurnRest {
-    /// Returns whether marks say nothing of the turn: a place without a mark was given, or a device was called.
+    /// Returns whether marks say nothing of the turn: a place without marks was given, or a device was called.
     #[inline(always)]
     fn must_search(&self, marks: &Marks) -> bool
         ensures { result ≡ (self.now.are_devices_called || marks.now.has_unmarked) }
@@ -67,7 +74,7 @@ impl ShortTurn {
     #[inline(always)]
     #[tactic(auto, using(crate::proofs::Marks::not_in_turn, crate::proofs::Marks::step_unmarked))]
     pub(super) fn may_have(&self, marks: &Marks) -> bool
-        ensures { result ≡ false → (p : Place) → covers mark_of marks.now p ≡ true → lookup (turn_pairs (whole_turn self.now)) p ≡ None }
+        ensures { result ≡ false → (p : Place) → covers marks_of marks.now p ≡ true → lookup (turn_pairs (whole_turn self.now)) p ≡ None }
     {
         self.rest.must_search(marks) || is_target_marked(self.rest.slot, &self.pp, marks)
     }
@@ -78,7 +85,7 @@ impl TurnRecord {
     /// exchange: any other turn has a short one.
     #[inline(always)]
     pub(super) fn may_have(&self, marks: &Marks) -> bool
-        ensures { result ≡ false → (p : Place) → covers mark_of marks.now p ≡ true → lookup (turn_pairs self.now) p ≡ None }
+        ensures { result ≡ false → (p : Place) → covers marks_of marks.now p ≡ true → lookup (turn_pairs self.now) p ≡ None }
     {
         match &self.pp {
             PpRecord::Step(_) => true,
@@ -90,8 +97,9 @@ impl TurnRecord {
     }
 }
 
-/// Returns whether a place of the step's target is marked.
+/// Returns whether a place of the step's target may be marked.
 #[inline(always)]
+#[tactic(auto, using(crate::proofs::Marks::cells_unmarked))]
 fn is_target_marked(slot: u8, step: &StepRecord, marks: &Marks) -> bool
     ensures { result ≡ false → AreUnmarked marks.now slot (target_pairs step.now) }
 {
@@ -101,32 +109,18 @@ fn is_target_marked(slot: u8, step: &StepRecord, marks: &Marks) -> bool
     }
     match step.target {
         Target::Wait | Target::Nothing | Target::State => false,
-        Target::Cell | Target::CellAndState => {
+        Target::Cell | Target::Cells | Target::CellAndState => {
             marks.is_set(cell_mark(slot, u64::from(step.address.get())))
         }
-        Target::Cells => are_cells_marked(slot, step, marks),
         Target::Word => marks.is_set(central_mark(u64::from(step.address.get()))),
         Target::Channel => marks.is_set(channel_mark(step.channel)),
     }
 }
 
-/// Returns whether one of the five cells from the step's address on is marked. These are in the blocks of the first and
-/// the last; cell 0o7777 ends a block, so the block after it has the mark of the one at 0.
-#[inline(always)]
-#[tactic(auto, using(crate::proofs::Marks::cells_unmarked))]
-fn are_cells_marked(slot: u8, step: &StepRecord, marks: &Marks) -> bool
-    ensures { result ≡ false → AreUnmarked marks.now slot (pairs_as Target.Cells step.now) }
-{
-    let first = u64::from(step.address.get());
-    marks.is_set(cell_mark(slot, first)) || marks.is_set(cell_mark(slot, first + 4))
-}
-
-/// Returns whether one of the sixteen central words from an address on is marked. These are in the blocks of the first
-/// and the last, as cells are.
+/// Returns whether one of the sixteen central words from an address on may be marked.
 #[inline(always)]
 fn are_words_marked(first: u32, words: &[u64; 16], marks: &Marks) -> bool
     ensures { result ≡ false → (slot size : ℕ) → AreUnmarked marks.now slot (word_pairs size first 0 words.now) }
 {
-    let first = u64::from(first);
-    marks.is_set(central_mark(first)) || marks.is_set(central_mark(first + 15))
+    marks.is_set(central_mark(u64::from(first)))
 }
