@@ -1,6 +1,6 @@
 -- Items in slots that are overwritten in turn.
 use Rattle.std.proofs.lemmas.Grind.{common_steps}
-use Rattle.std.proofs.Common.{◌≡◌, ℕ, suc, ◌+◌, ◌-◌, ◌<◌, ◌≤◌, inl, inr, List, [], ◌∷◌, ◌++◌, length, take, drop, set, get_or, reverse, slice_get, Some, add-one, append-nil, append_assoc, arith, ap, sym, ◌∙◌, length-drop, length-take, get_or-take}
+use Rattle.std.proofs.Common.{◌≡◌, ℕ, suc, ◌+◌, ◌-◌, ◌<◌, ◌≤◌, inl, inr, ◌⊎◌, List, [], ◌∷◌, ◌++◌, length, take, drop, set, get_or, reverse, slice_get, Some, add-one, append-nil, append_assoc, arith, ap, sym, ◌∙◌, length-drop, length-take, get_or-take}
 use Rattle.std.proofs.lemmas.List.{drop_all, take_all, drop-set-lt, get_or-reverse, length-reverse}
 use Rattle.std.proofs.lemmas.Option.{get_or_from_slice_get, slice_get_read}
 use Rattle.std.proofs.Math.Seq.{take-suc-set}
@@ -24,6 +24,17 @@ turned-next slots end at next = grind (arith, common_steps)
 -- reading from the end and from the end as the index after that of a slot is the same
 pub turned-last : {X : Type 0} (slots : List X) (end last : ℕ) → IsLastEnd end (length slots) last → turned end slots ≡ turned last slots
 turned-last slots end last is = grind (arith, common_steps)
+
+-- the end of the slots that are behind k newer ones
+abbrev pub IsEndBehind : ℕ → ℕ → ℕ → ℕ → Type 0
+IsEndBehind end count k behind = (behind ≤ count) × ((behind + k ≡ end) ⊎ (behind + k ≡ end + count))
+
+-- the last of these slots
+pub slot_behind : (end n k behind last : ℕ) → IsEndBehind end n k behind → IsLastEnd behind n last → k < n → IsKeptSlot end n k (last - 1)
+slot_behind end n k behind last is at within = grind arith
+
+pub end_behind : (end n k at : ℕ) → IsKeptSlot end n k at → IsEndBehind end n (k + 1) at
+end_behind end n k at slot = grind arith
 
 -- the slot before the newest ones, whose slots are side by side
 pub side_by_side : (n end k : ℕ) → k < end → end ≤ n → IsKeptSlot (end - k) n 0 (end - 1 - k)

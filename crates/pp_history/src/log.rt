@@ -9,7 +9,7 @@ ghost use Rattle.pp_history.specs.Marks.{AreCovered, IsUnmarked};
 ghost use Rattle.pp_history.specs.Parts.{IsSession, contents};
 ghost use Rattle.pp_history.specs.Repeating.{AreUnmarked, after_acts, machine_after};
 ghost use Rattle.pp_history.specs.SessionValue.{Moves, after_back, after_forward};
-ghost use Rattle.pp_history.specs.Slots.{IsKeptSlot, IsLastEnd, IsNextSlot};
+ghost use Rattle.pp_history.specs.Slots.{IsLastEnd, IsNextSlot};
 ghost use Rattle.pp_history.specs.Search.{IsSearched, first_changing, differs_from};
 ghost use Rattle.pp_history.specs.UndoRecord.{whole_record};
 ghost use Rattle.pp_history.specs.Tails.{in_tail, pushed};
@@ -191,7 +191,7 @@ impl<T: Reversible> Log<T> {
         if self.kept == 0 {
             return None;
         }
-        let at = kept_slot(self.end, self.slots.len(), 0);
+        let at = last_end(self.end, self.slots.len()) - 1;
         undo_record(&self.slots[at], &self.tails, 0)
     }
 
@@ -211,9 +211,11 @@ impl<T: Reversible> Log<T> {
         ensures kept { IfSome result (λ k. k ≤ length self.now.records) }
     {
         let marks = Marks::of::<T>(places);
+        let mut at = self.end;
         let mut tail = 0;
         for k in 0..self.kept() {
-            let head = &self.slots[kept_slot(self.end, self.slots.len(), k as usize)];
+            at = last_end(at, self.slots.len()) - 1;
+            let head = &self.slots[at];
             let back = undo_record(head, &self.tails, tail).unwrap();
             if is_changed(machine, &back, places, &marks, looks) {
                 return Some(k + 1);
@@ -416,20 +418,6 @@ fn last_end(end: usize, capacity: usize) -> usize
     ensures { IsLastEnd end capacity result }
 {
     if end == 0 { capacity } else { end }
-}
-
-/// Returns the index of the slot of the kept action behind k newer ones.
-#[inline(always)]
-fn kept_slot(end: usize, capacity: usize, k: usize) -> usize
-    requires k { k < capacity }
-    requires within { (end ≤ capacity) × (capacity ≤ 10000) }
-    ensures { IsKeptSlot end capacity k result }
-{
-    if k < end {
-        end - 1 - k
-    } else {
-        end + capacity - 1 - k
-    }
 }
 
 /// Performs the next action again: that of its head, or else the first of the undone ones, which is taken out.
