@@ -1,6 +1,6 @@
 //! Marks of cells, central words and registers of channels. Cells and central words have marks by blocks of addresses. The
 //! five cells of a block write begin in the block of each of them or in that of four cells before it; a place has both as
-//! its marks, so one look at the mark of the first cell tells of all five. The sixteen words of an exchange likewise.
+//! its marks, so one look, at the mark of the first cell, is enough for all five. The sixteen words of an exchange likewise.
 ghost use Rattle.std.specs.Prelude.{◌≡◌, ◌||◌, ℕ, true, false, None, Some, IfSome};
 ghost use Rattle.pp_history.specs.Marks.{covers};
 ghost use Rattle.pp_machine.specs.Prelude.{lookup};
@@ -99,7 +99,6 @@ impl TurnRecord {
 
 /// Returns whether a place of the step's target may be marked.
 #[inline(always)]
-#[tactic(auto, using(crate::proofs::Marks::cells_unmarked))]
 fn is_target_marked(slot: u8, step: &StepRecord, marks: &Marks) -> bool
     ensures { result ≡ false → AreUnmarked marks.now slot (target_pairs step.now) }
 {
