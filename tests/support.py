@@ -1,0 +1,84 @@
+"""What the tests share: the program under test, the pages, and ways to run things."""
+
+import os
+import re
+import subprocess
+import sys
+import tempfile
+import unittest
+from typing import NamedTuple
+
+TOP = os.path.dirname(os.path.dirname(os.path.abspath(__file__)))
+EXAMPLES = os.path.join(TOP, "examples")
+PATIENCE = 120  # seconds for a command
+PYTHON = (sys.executable, "-S")  # without what is installed beside the standard library: it starts sooner
+
+sys.dont_write_bytecode = True
+sys.path.insert(0, os.path.join(TOP, "tools"))  # so that tests can import the tools' package, pp6600
+
+
+def program():
+    """Returns the path of the program under test: $PP6600, or else the one that ./pp6600 runs."""
+    named = os.environ.get("PP6600")
+    if named:
+        return os.path.abspath(named)
+    done = subprocess.run([os.path.join(TOP, "share", "which-build")], stdout=subprocess.PIPE, text=True, check=False)
+    if done.returncode:
+        raise RuntimeError("there is no program to test; the line above says why")
+    return done.stdout.splitlines()[0]
+
+
+class Done(NamedTuple):
+    """What a command has written, and its exit status."""
+    out: str
+    err: str
+    status: int
+
+
+def run(*words, script="", env=None, **how):
+    """Runs a command at the top of the repository, with the program under test as the simulator of all tools."""
+    environment = {**os.environ, "PP6600": program(), **(env or {})}
+    how = {"cwd": TOP, "timeout": PATIENCE, **how}
+    done = subprocess.run(words, input=script.encode("latin-1"), env=environment, capture_output=True, check=False, **how)
+    return Done(done.stdout.decode("utf-8", "replace"), done.stderr.decode("utf-8", "replace"), done.returncode)
+
+
+def tool(name, *words, script="", **how):
+    """Runs a tool on a script."""
+    return run(*PYTHON, os.path.join(TOP, "tools", name), *words, script=script, **how)
+
+
+def read(*names):
+    """Returns the text of a file of the repository."""
+    with open(os.path.join(TOP, *names), encoding="utf-8") as file:
+        return file.read()
+
+
+class Block(NamedTuple):
+    """A block of a page between two lines of three grave accents."""
+    place: str  # the page and the line of its first line, for messages
+    words: list  # what the first line says after the accents, as ["session", "--deck", "deck"]
+    text: str
+
+
+def blocks(page, kind):
+    """Returns the blocks of this kind of a page, as docs/TOOLS.md, in their order."""
+    text = read(*page.split("/"))
+    found = []
+    for block in re.finditer(r"^```([^\n]*)\n(.*?)^```", text, flags=re.M | re.S):
+        words = block[1].split()
+        if words[:1] == [kind]:
+            found.append(Block(f"{page}, line {text.count(chr(10), 0, block.start()) + 1}", words, block[2]))
+    return found
+
+
+class Case(unittest.TestCase):
+    """A test case with a folder of its own where it wants one."""
+
+    maxDiff = 4000
+
+    def room(self):
+        """Returns a new folder, which is removed when the test has ended."""
+        folder = tempfile.TemporaryDirectory(prefix="pp6600-test-")
+        self.addCleanup(folder.cleanup)
+        return folder.name
