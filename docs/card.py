@@ -1,4 +1,4 @@
-#!/usr/bin/env -S /bin/sh -c '[ ! -d /dev/stdin ] || exec <&-; exec python3 "$0" "$@"'
+#!/usr/bin/env python3
 """Makes card.html from CARD.md, beside this file: one sheet of A4 when it is printed.
 
 Without a word it writes card.html. With `--check` it writes nothing, and fails if card.html is not what it makes.

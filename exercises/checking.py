@@ -17,10 +17,10 @@ IS_CHECKOUT = os.path.exists(os.path.join(CHECKOUT, "crates.txt"))
 OWN = CHECKOUT if IS_CHECKOUT else INSTALLED  # the folder with install and tools
 sys.path.insert(0, os.path.join(OWN, "tools"))
 
-from command_line import Failure
-from console import Console
-from files import checked_program
-from options import BadWord
+from pp6600.command_line import Failure
+from pp6600.console import Console
+from pp6600.files import checked_program
+from pp6600.options import BadWord
 
 ANSWERS = ("script", "panel")  # the files of an exercise that a student changes
 SECONDS = 60  # for an answer, unless --seconds says another number

@@ -1,4 +1,4 @@
-#!/usr/bin/env -S /bin/sh -c '[ ! -d /dev/stdin ] || exec <&-; exec python3 "$0" "$@"'
+#!/usr/bin/env python3
 """Converses with the simulator over a pipe, and shows each line of a script with its answer.
 
     examples/over-a-pipe/show.py ./pp6600 [WORD ..] <SCRIPT

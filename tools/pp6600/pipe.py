@@ -8,7 +8,7 @@ import signal
 import subprocess
 import sys
 
-from failure import Failure
+from .failure import Failure
 
 PATIENCE = 30  # seconds without a byte
 LONGEST_LINE = 4096
@@ -31,19 +31,14 @@ def patience():
 
 @functools.lru_cache(maxsize=None)
 def built(program):
-    """Returns the program to run. The launcher of a checkout proves and builds first, which takes its time and shows its
-    progress; then it is the program that it built."""
+    """Returns the program to run: of the launcher of a checkout the build that it would choose."""
     top, name = os.path.split(os.path.realpath(program))
     if os.sep not in program or name != "pp6600" or not os.path.exists(os.path.join(top, "crates.txt")):
         return program
-    try:
-        done = subprocess.run([program, "--help"], stdin=subprocess.DEVNULL, stdout=subprocess.DEVNULL, check=False)
-    except OSError as error:
-        raise Failure(f"can't run {program}: {error.strerror}") from error
+    done = subprocess.run([os.path.join(top, "share", "which-build")], stdin=subprocess.DEVNULL, stdout=subprocess.PIPE, check=False)
     if done.returncode:
-        raise Failure(f"{program} has no simulator to run; the lines above say why")
-    result = os.path.join(top, "crates", "pp6600", "out", "pp6600")
-    return result if os.access(result, os.X_OK) else program
+        raise Failure(f"{program} has no simulator to run; the line above says why")
+    return os.fsdecode(done.stdout.splitlines()[0])
 
 
 class Pipe:

@@ -3,20 +3,22 @@
 import os
 import subprocess
 
-from command_line import Failure, run
-
-TOOLS = os.path.dirname(os.path.abspath(__file__))
+from .command_line import Failure, run
+from .options import TOOLS
 
 
 def tool_names():
-    """Returns the names of the tools: the files beside this one whose names have no ending."""
+    """Returns the names of the tools: the files of that folder whose names have no ending."""
     return sorted(name for name in os.listdir(TOOLS) if "." not in name and os.path.isfile(os.path.join(TOOLS, name)))
 
 
 def tool_files():
-    """Returns the names of the tools and of all that they need."""
-    names = (name for name in os.listdir(TOOLS) if not name.endswith(".pyc"))
-    return sorted(name for name in names if os.path.isfile(os.path.join(TOOLS, name)))
+    """Returns the tools and all that they need: paths below their folder."""
+    found = []
+    for folder, folders, names in os.walk(TOOLS):
+        folders[:] = [name for name in folders if name != "__pycache__"]
+        found += [os.path.relpath(os.path.join(folder, name), TOOLS) for name in names]
+    return sorted(found)
 
 
 def checked_program(path):

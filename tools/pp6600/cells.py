@@ -2,7 +2,7 @@
 
 import re
 
-from failure import Failure
+from .failure import Failure
 
 CELLS = 0o10000
 

@@ -3,10 +3,10 @@
 import re
 from typing import Callable, NamedTuple
 
-from console import CLOCK, MOST_TURNS, PROCESSORS
-from failure import Failure
-from machine_state import CELLS, ROW
-from panel_screen import PANES, REGISTERS
+from ..console import CLOCK, MOST_TURNS, PROCESSORS
+from ..failure import Failure
+from ..machine_state import CELLS, ROW
+from .screen import PANES, REGISTERS
 
 ROUND = PROCESSORS  # turns
 MOST_COUNT_DIGITS = 10

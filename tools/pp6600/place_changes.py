@@ -4,8 +4,8 @@ A watch finds the changes. Where they are close together, many short STEPs are w
 changes that these found, to see what was about to make each, and FORWARD over them again, to the end.
 """
 
-from console import CHANNEL_LINES, MARK, MOST_TURNS, PROCESSORS
-from instructions import Processor
+from .console import CHANNEL_LINES, MARK, MOST_TURNS, PROCESSORS
+from .instructions import Processor
 
 CLOSE_STEPS, CLOSE_TURNS = 128, 64  # at most 8192 turns at once, which are all kept
 NEAR = 256  # turns to a change after which the next is expected soon

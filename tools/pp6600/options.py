@@ -5,10 +5,11 @@ import os
 import re
 import sys
 
-from ending import write
-from failure import Failure
+from .ending import write
+from .failure import Failure
 
-ABOVE = os.path.dirname(os.path.dirname(os.path.abspath(__file__)))  # of the tools: the checkout, or where they are installed
+TOOLS = os.path.dirname(os.path.dirname(os.path.abspath(__file__)))
+ABOVE = os.path.dirname(TOOLS)  # the checkout, or where the tools are installed
 OPTIONS = {"history": "N", "central": "K", "deck": "F", "reader": "C", "printer": "C", "panel": "F"}
 PLAIN = "\0"  # before a word that is no option, though it begins like one; no word of a command line has this byte
 

@@ -5,11 +5,11 @@ import shutil
 import signal
 import sys
 
-from ending import flush, write
-from failure import Failure
-from options import ABOVE
-from session import answer, shown
-from text_files import input_lines
+from .ending import flush, write
+from .failure import Failure
+from .options import ABOVE
+from .session import answer, shown
+from .text_files import input_lines
 
 PROMPT = "> "
 WRAPPED = "PP6600_WRAPPED"  # set for the tool that rlwrap runs

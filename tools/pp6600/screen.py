@@ -1,7 +1,7 @@
 """The whole machine on a screen of 80 columns and 24 lines (decimal)."""
 
-from console import PROCESSORS
-from instructions import processor_at, states_of
+from .console import PROCESSORS
+from .instructions import processor_at, states_of
 
 
 def processor_line(console, number, states):

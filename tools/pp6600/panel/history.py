@@ -1,6 +1,6 @@
 """How many actions the simulator keeps and has ahead, counted from its answers."""
 
-from failure import Failure
+from ..failure import Failure
 
 MOST_KEPT = 10000  # decimal, without --history
 

@@ -1,8 +1,8 @@
 """Lines with their answers, as a session is shown."""
 
-from ending import write
-from failure import Failure
-from text_files import script_lines
+from .ending import write
+from .failure import Failure
+from .text_files import script_lines
 
 
 def shown(line):

@@ -12,8 +12,8 @@ if sys.version_info < (3, 9):
         os.path.basename(sys.argv[0]), sys.version_info[0], sys.version_info[1]))
     sys.exit(2)
 
-from ending import complain, run, write
-from failure import Failure
-from options import (
+from .ending import complain, run, write
+from .failure import Failure
+from .options import (
     Parser, add_script, arguments, cell, channel, count, octal, place_of, processor, simulator, words_after)
-from text_files import bytes_of, read_lines, script_lines
+from .text_files import bytes_of, read_lines, script_lines

@@ -3,14 +3,14 @@
 import html
 import os
 
-from display_code import SYMBOLS
-from failure import Failure
-from film_data import encode
-from film_places import LAYOUT, MODES
-from film_run import TURN
-from instructions import BLOCK_GOES_ON, COMPLETES, NAMES, NOT_THERE, NOT_THERE_IN_BLOCK, TWO_WORDS, WAITS_FOR
-from replay import take
-from text_files import script_lines
+from ..display_code import SYMBOLS
+from ..failure import Failure
+from .data import encode
+from .places import LAYOUT, MODES
+from .run import TURN
+from ..instructions import BLOCK_GOES_ON, COMPLETES, NAMES, NOT_THERE, NOT_THERE_IN_BLOCK, TWO_WORDS, WAITS_FOR
+from ..replay import take
+from ..text_files import script_lines
 
 HERE = os.path.dirname(os.path.abspath(__file__))
 BLOCK_CODES = (0o61, 0o63, 0o71, 0o73)
@@ -18,7 +18,7 @@ LONGEST_ANSWER = 40  # lines of one that a page keeps
 
 
 def template(ending):
-    with open(os.path.join(HERE, f"film_page.{ending}"), encoding="utf-8") as file:
+    with open(os.path.join(HERE, f"page.{ending}"), encoding="utf-8") as file:
         return file.read()
 
 

@@ -2,7 +2,7 @@
 
 import sys
 
-from failure import Failure
+from .failure import Failure
 
 
 def bytes_of(path):

@@ -3,9 +3,9 @@
 import re
 from typing import NamedTuple
 
-from console import CLOCK, PROCESSORS
-from failure import Failure
-from instructions import Processor
+from .console import CLOCK, PROCESSORS
+from .failure import Failure
+from .instructions import Processor
 
 CELLS = 0o10000
 ROW = 8  # cells in a row of a dump

@@ -8,8 +8,8 @@ import signal
 import sys
 import time
 
-from failure import Failure
-from panel_text import CHANGED, CHOSEN, CURSOR, CUT, CUT_IN_ASCII, HEAD, HERE, REFUSED, SLOT, TITLE, WATCHED
+from ..failure import Failure
+from .text import CHANGED, CHOSEN, CURSOR, CUT, CUT_IN_ASCII, HEAD, HERE, REFUSED, SLOT, TITLE, WATCHED
 
 ESCAPE_DELAY = 20  # milliseconds in which the rest of a key's sequence comes
 BETWEEN_DRAWINGS = 0.03  # seconds, while more keys are waiting

@@ -1,8 +1,8 @@
 """A run turn by turn."""
 
-from console import PROCESSORS
-from instructions import Processor
-from replay import Replay, looks, turns_of
+from .console import PROCESSORS
+from .instructions import Processor
+from .replay import Replay, looks, turns_of
 
 
 class Tracer:

@@ -1,8 +1,8 @@
 """The processors that wait."""
 
-from console import PROCESSORS
-from instructions import processor_at, states_of
-from replay import Replay, looks, to_turn, turns_of
+from .console import PROCESSORS
+from .instructions import processor_at, states_of
+from .replay import Replay, looks, to_turn, turns_of
 
 FIRST_SPAN = 0o10000  # of turns at the end that are searched first
 

@@ -3,9 +3,9 @@
 What a turn may change follows from the instruction and the numbers before it, so only that is dumped after the turn. At
 intervals and at the end all numbers are dumped and compared: a change that was not dumped ends the tool."""
 
-from console import MOST_TURNS, Console
-from failure import Failure
-from film_places import (CELLS, CENTRAL_ADDRESSES, CHANNELS, FRAME_WORDS, LAYOUT, MODES, PROCESSORS, REGISTERS,
+from ..console import MOST_TURNS, Console
+from ..failure import Failure
+from .places import (CELLS, CENTRAL_ADDRESSES, CHANNELS, FRAME_WORDS, LAYOUT, MODES, PROCESSORS, REGISTERS,
                          STATES, cell, register)
 
 TURN, LINE, JUMP = range(3)  # the kinds of a moment: a turn, another action, a BACK or FORWARD

@@ -4,8 +4,8 @@ A replay needs lines of the simulator for each turn that is looked at. Before it
 fresh simulator, from the same start.
 """
 
-from console import PROCESSORS, Console
-from failure import Failure
+from .console import PROCESSORS, Console
+from .failure import Failure
 
 
 def take(actions, count):

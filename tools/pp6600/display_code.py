@@ -1,6 +1,6 @@
 """Display code: 64 symbols, two in a word. docs/MACHINE.md has the table."""
 
-from failure import Failure
+from .failure import Failure
 
 SYMBOLS = ":ABCDEFGHIJKLMNOPQRSTUVWXYZ0123456789+-*/()$= ,.#[]%\"_!&'?<>@\\^;"
 BLANK = " "

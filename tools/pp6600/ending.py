@@ -4,7 +4,7 @@ import os
 import signal
 import sys
 
-from failure import Failure
+from .failure import Failure
 
 FAILED = 2
 

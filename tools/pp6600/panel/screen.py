@@ -3,8 +3,8 @@
 from dataclasses import dataclass, field
 from typing import Optional
 
-from machine_state import CELLS, ROW
-from panel_text import (
+from ..machine_state import CELLS, ROW
+from .text import (
     CHANGED, CHOSEN, CURSOR, HEAD, HERE, REFUSED, SLOT, TITLE, WATCHED, Line, beside, in_height, last_in)
 
 LEAST_COLUMNS, LEAST_ROWS = 80, 24

@@ -1,20 +1,9 @@
-"""A conversation with the simulator, for the tools and for programs of your own:
-
-    from console import Console
-
-    console = Console(["./pp6600", "--deck", "deck"])
-    console.ask("STEP 100")    # the lines of the answer: ["TURNS 100 SLOT 04"]
-    console.registers(0)       # {"P": "0100", "A": "000000", "Q": "0000", "PHASE": "0000", "SLOT": "04"}
-    console.cells(0, 0o100, 0o103)
-    console.end()              # the exit status
-
-What can't be done raises Failure, with a message in plain words.
-"""
+"""A conversation with the simulator."""
 
 import re
 
-from failure import Failure
-from pipe import Ended, Pipe
+from .failure import Failure
+from .pipe import Ended, Pipe
 
 PROCESSORS = 10
 CHANNELS = 12

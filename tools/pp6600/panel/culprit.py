@@ -3,7 +3,7 @@ that it is as it was."""
 
 from itertools import islice
 
-from console import PROCESSORS
+from ..console import PROCESSORS
 
 TURNS_AT_ONCE = 0o100  # of one processor
 

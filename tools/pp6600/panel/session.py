@@ -1,9 +1,9 @@
 """The session of tools/panel: lines sent to the simulator, what they answered, and the machine's state after them."""
 
-from console import Console
-from failure import Failure
-from machine_state import MachineState, questions
-from panel_history import MOST_KEPT, History
+from ..console import Console
+from ..failure import Failure
+from ..machine_state import MachineState, questions
+from .history import MOST_KEPT, History
 
 MOST_LINES = 1000000  # decimal, of one simulator
 LINES_LEFT = 10000  # decimal; with fewer lines left, the session goes on in a fresh simulator

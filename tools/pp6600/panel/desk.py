@@ -3,14 +3,14 @@
 import os
 import time
 
-from failure import Failure
-from panel_culprit import changed_place, turn_text
-from panel_keys import (
+from ..failure import Failure
+from .culprit import changed_place, turn_text
+from .keys import (
     ARROWS, LETTERS, LINES, MOST_COUNT_DIGITS, Facts, go_to, help_lines, move, next_pane, normal, words_to_find)
-from panel_prompt import Prompt
-from panel_screen import (
+from .prompt import Prompt
+from .screen import (
     LEAST_COLUMNS, LEAST_ROWS, Shown, View, central_top, layout, log_lines, memory_top, page_screen, screen)
-from panel_text import Line
+from .text import Line
 
 CELL_DIGITS = 4
 CENTRAL_DIGITS = 20

@@ -1,0 +1,1 @@
+"""The film: a run as one web page."""

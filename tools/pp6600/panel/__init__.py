@@ -1,0 +1,1 @@
+"""The panel: the live machine on a full screen."""
