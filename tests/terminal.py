@@ -6,6 +6,7 @@ import os
 import pty
 import re
 import select
+import signal
 import struct
 import termios
 import time
@@ -13,12 +14,11 @@ import time
 SEQUENCE = re.compile(rb"\x1b(?:\[([?>!]?)([0-9;]*)([@-~])|[()][A-Z0-9]|\][^\x07]*\x07|[78=>McDEHZ])")
 
 
-class Screen:
-    """The characters of a screen."""
+class Emulator:
+    """The characters that a terminal shows."""
 
     def __init__(self, columns, rows):
         self.resize(columns, rows)
-        self.bold = self.reverse = False
         self.colours = set()
         self.unknown = []
 
@@ -173,8 +173,9 @@ class Terminal:
     """A program in a pseudo-terminal."""
 
     def __init__(self, words, columns=80, rows=24, kind="xterm", environment=None, folder=None):
-        self.screen = Screen(columns, rows)
+        self.screen = Emulator(columns, rows)
         self.rest = self.written = b""
+        self.is_collected = False
         self.pid, self.number = pty.fork()
         if self.pid == 0:
             try:
@@ -224,19 +225,30 @@ class Terminal:
     def is_ended(self):
         return os.waitid(os.P_PID, self.pid, os.WEXITED | os.WNOHANG | os.WNOWAIT) is not None
 
-    def is_echoing(self):
-        """Returns whether the terminal shows what is typed, as a shell leaves it."""
-        return bool(termios.tcgetattr(self.number)[3] & termios.ECHO)
-
     def status(self, seconds=10):
         """Waits for the end, and returns the exit status, or minus the number of a signal; None if it does not end."""
         self.wait_until(Terminal.is_ended, seconds)
         self.settle(0.05)
-        if not self.is_ended():
-            os.kill(self.pid, 9)
-            os.waitpid(self.pid, 0)
-            os.close(self.number)
-            return None
-        status = os.waitpid(self.pid, 0)[1]
+        status = os.waitstatus_to_exitcode(os.waitpid(self.pid, 0)[1]) if self.is_ended() else None
+        self.is_collected = status is not None
+        self.close()
+        return status
+
+    def hang_up(self, seconds=5):
+        """Closes the terminal. Returns whether the program then ends."""
         os.close(self.number)
-        return os.waitstatus_to_exitcode(status)
+        self.number = None
+        deadline = time.monotonic() + seconds
+        while not self.is_ended() and time.monotonic() < deadline:
+            time.sleep(0.01)
+        return self.is_ended()
+
+    def close(self):
+        """Ends the program, if it has not ended, and closes the terminal."""
+        if not self.is_collected:
+            os.kill(self.pid, signal.SIGKILL)
+            os.waitpid(self.pid, 0)
+            self.is_collected = True
+        if self.number is not None:
+            os.close(self.number)
+            self.number = None

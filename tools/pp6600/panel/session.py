@@ -1,4 +1,7 @@
-"""The session of tools/panel: lines sent to the simulator, what they answered, and the machine's state after them."""
+"""The session of the panel: lines sent to the simulator, what they answered, and the machine's state after them."""
+
+import os
+from typing import NamedTuple
 
 from ..console import Console
 from ..failure import Failure
@@ -32,6 +35,20 @@ class Simulator(Console):
             answers += self.pipe.lines  # what else has come, at once: there are thousands
             self.pipe.lines.clear()
         return answers
+
+
+class Outcome(NamedTuple):
+    """What came of some lines."""
+
+    answer: list  # to the last one that was sent
+    discarded: int  # how many actions that were ahead are so no longer
+    watched: list  # the places that were watched before
+
+
+def normal(place):
+    """Returns a place without leading zeros, so that places can be compared."""
+    kind, *numbers = place.split()
+    return " ".join([kind] + [f"{int(number, 8):o}" for number in numbers])
 
 
 def history_room(words):
@@ -68,10 +85,14 @@ class Session:
         first, last = self.central
         return self.simulator.state((max(first - ALLOWANCE, 0), min(last + ALLOWANCE, self.size - 1)))
 
-    def look_at_central(self, first, last):
-        """Sees that the state has these central words."""
-        self.central = (first, last)
-        if first not in self.state.central or last not in self.state.central:
+    def watched(self):
+        """Returns the watched places."""
+        return [normal(watch.place) for watch in self.state.watches]
+
+    def look_at_central(self, first, rows):
+        """Sees that the state has so many central words from the first on."""
+        self.central = (first, first + rows - 1)
+        if any(address not in self.state.central for address in self.central):
             self.state = self.read()
 
     def find_central(self, word, first):
@@ -113,18 +134,21 @@ class Session:
 
     def perform(self, lines, stops=never):
         """Sends lines up to one that is refused, or that ends with a HIT, or until it `stops`: that is asked before each
-        line but the first, with how many are done and how many there are. Then reads the state. Returns the last answer."""
-        old, changed, answer = self.state, False, []
+        line but the first, with how many are done and how many there are. Then reads the state. Returns the outcome."""
+        old, ahead, watched = self.state, self.history.ahead.count, self.watched()
+        discarded, is_changed, answer = 0, False, []
         for number, line in enumerate(lines):
             if number and stops(number, len(lines)):
                 break
-            answer, one_changed = self.send(line)
-            changed |= one_changed
-            if len(answer) > 1 and answer[1].startswith("HIT ") or answer and answer[0].startswith("ERR "):
+            answer, changed = self.send(line)
+            is_changed |= changed
+            kind = answer[0].split()[0] if answer else ""
+            discarded = ahead if kind in ("OK", "TURNS") else discarded
+            if kind == "ERR" or len(answer) > 1 and answer[1].startswith("HIT "):
                 break
-        if changed:
+        if is_changed:
             self.state, self.before = self.read(), old
-        return answer
+        return Outcome(answer, discarded, watched)
 
     def perform_script(self, lines, stops=never):
         """Performs a script, whatever is refused; `stops` is asked before each line. Returns whether all was performed."""
@@ -160,6 +184,8 @@ class Session:
 
     def save(self, path, over=False):
         """Writes all that was sent into a file, a script that gives the same session again."""
+        if over and os.path.exists(path) and not os.path.isfile(path):  # a FIFO would wait for a reader
+            raise Failure(f"can't write {path}: it is not a file")
         text = "".join(f"{line}\n" for line in [self.note(), *self.sent]).encode("latin-1")
         try:
             with open(path, "wb" if over else "xb") as file:
