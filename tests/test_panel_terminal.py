@@ -1,4 +1,4 @@
-"""The whole panel in a terminal."""
+"""The whole panel in a terminal, and what talk answers there to a newcomer."""
 
 import os
 import signal
@@ -6,7 +6,7 @@ import subprocess
 import sys
 import time
 
-from .support import PYTHON, TOP, read
+from .support import PYTHON, TOP, read, run
 from .terminal import Terminal
 from .test_panel_keys import DECK, OVERWRITTEN, PROGRAM, PanelCase, press
 
@@ -207,3 +207,28 @@ class Failures(TerminalCase):
                 done = subprocess.run(TOOL, input=given, capture_output=True, timeout=20, check=False)
                 self.assertEqual(2, done.returncode)
                 self.assertIn(b"must be a terminal", done.stderr)
+
+
+class Talk(TerminalCase):
+    def test_first_words(self):
+        """Who asks for help or for the end as elsewhere is told how talk ends; no line is sent."""
+        talk = [*PYTHON, os.path.join(TOP, "tools", "talk"), "--program", PROGRAM]
+        terminal = self.terminal(talk, kind="dumb")
+        self.assert_shows(terminal, ">")
+        for count, word in enumerate(("help", "?", "Quit", "EXIT", " exit "), 1):
+            with self.subTest(word):
+                terminal.type(f"{word}\r")
+                wanted = "Ctrl-D ends. Card: docs/CARD.md."
+                self.assertIsNotNone(terminal.wait_until(lambda one: one.screen.text().count(wanted) == count), terminal.screen.text())
+        terminal.type("STEP\r")
+        self.assert_shows(terminal, "TURNS 1 SLOT 01")
+        terminal.type("\x04")
+        self.assertEqual(0, terminal.status(), "no line was refused")
+        terminal = self.terminal(talk, kind="dumb")
+        self.assert_shows(terminal, ">")
+        terminal.type("help me\r")
+        self.assert_shows(terminal, "ERR 01 NOT A COMMAND")
+        terminal.type("\x04")
+        self.assertEqual(1, terminal.status())
+        done = run(*talk, script="help\n")
+        self.assertEqual("> help\nERR 01 NOT A COMMAND\n", done.out, "over a pipe it is a line like any other")

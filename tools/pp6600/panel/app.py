@@ -209,7 +209,7 @@ class Panel:
 
     def take_console_line(self, text):
         if text.lower() in FIRST_WORDS:
-            self.message = f"q ends, ? shows all keys. Card of the lines: {card()}."
+            self.message = f"q quits, ? shows all keys. Card of the console: {card()}."
         elif text:
             self.send([text])
             if self.session.log and len(self.session.log[-1][1]) > LONG_ANSWER:

@@ -145,7 +145,8 @@ def help_lines():
         lines.append(f"{'  '.join('Space' if name == ' ' else name for name in names):17}{text}")
     return lines + [
         "",
-        "A star is beside each number that the last action changed. > is before the",
-        "processor whose turn comes next, and before the cell at P; w is before a watched",
-        "cell. WAITS FOR has a channel, and the state in which the processor would go on.",
+        "A star is beside each number that the last action changed, but not beside P of a",
+        "processor that only passed through words 0000. > is before the processor whose",
+        "turn comes next, and before the cell at P; w is before a watched cell. WAITS FOR",
+        "has a channel, and the state in which the processor would go on.",
         "KEPT and AHEAD: how many actions BACK can undo and FORWARD can perform again."]
