@@ -198,7 +198,7 @@ class Failures(TerminalCase):
             with self.subTest(wanted):
                 terminal = self.terminal([*TOOL, *words], environment=environment, columns=200)
                 self.assertEqual(2, terminal.status())
-                lines = [line for line in terminal.screen.text() if line]
+                lines = terminal.lines()
                 self.assertTrue(len(lines) == 1 and wanted in lines[0], lines)
 
     def test_no_terminal(self):
@@ -213,22 +213,15 @@ class Talk(TerminalCase):
     def test_first_words(self):
         """Who asks for help or for the end as elsewhere is told how talk ends; no line is sent."""
         talk = [*PYTHON, os.path.join(TOP, "tools", "talk"), "--program", PROGRAM]
-        terminal = self.terminal(talk, kind="dumb")
-        self.assert_shows(terminal, ">")
-        for count, word in enumerate(("help", "?", "Quit", "EXIT", " exit "), 1):
-            with self.subTest(word):
-                terminal.type(f"{word}\r")
-                wanted = "Ctrl-D ends. Card: docs/CARD.md."
-                self.assertIsNotNone(terminal.wait_until(lambda one: one.screen.text().count(wanted) == count), terminal.screen.text())
-        terminal.type("STEP\r")
-        self.assert_shows(terminal, "TURNS 1 SLOT 01")
-        terminal.type("\x04")
-        self.assertEqual(0, terminal.status(), "no line was refused")
-        terminal = self.terminal(talk, kind="dumb")
-        self.assert_shows(terminal, ">")
-        terminal.type("help me\r")
-        self.assert_shows(terminal, "ERR 01 NOT A COMMAND")
-        terminal.type("\x04")
-        self.assertEqual(1, terminal.status())
+        told = "Ctrl-D ends. Card: docs/CARD.md."
+        for typed, answer, status in (("help", told, 0), ("?", told, 0), ("Quit", told, 0), (" EXIT ", told, 0),
+                                      ("help me", "ERR 01 NOT A COMMAND", 1)):
+            with self.subTest(typed):
+                terminal = self.terminal(talk, kind="dumb")
+                for answered, text in enumerate((f"{typed}\r", "STEP\r", "\x04")):
+                    terminal.wait_until(lambda one: one.lines()[2 * answered:] == [">"])
+                    terminal.type(text)
+                self.assertEqual(status, terminal.status())
+                self.assertEqual([f"> {typed}".rstrip(), answer, "> STEP", "TURNS 1 SLOT 01", ">"], terminal.lines())
         done = run(*talk, script="help\n")
         self.assertEqual("> help\nERR 01 NOT A COMMAND\n", done.out, "over a pipe it is a line like any other")
