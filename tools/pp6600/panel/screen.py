@@ -1,6 +1,7 @@
 """What the panel shows: from the machine's state to lines of text with marks. No terminal is needed for it."""
 
 from dataclasses import dataclass, field
+from functools import lru_cache
 from typing import Optional
 
 from ..machine_state import CELLS, ROW, MachineState
@@ -68,15 +69,15 @@ def layout(columns, rows):
 # ---- the parts of the machine
 
 
-def passes(shown, number):
-    """Returns whether a processor only passed through words 0000 between both states. The clock grows by 1 in a round, so
-    that it and the slot say how many turns the processor had."""
-    now, was = shown.state, shown.before
+@lru_cache(maxsize=16)  # a long way is compared once, not at each drawing
+def is_idle(now, was, number):
+    """Returns whether a processor only passed through words 0000 between two states. The clock grows by 1 in a round, so that
+    it and the slot say how many turns the processor had."""
     first, last = was.processors[number], now.processors[number]
     rounds = int(now.clock, 8) - int(was.clock, 8)
     turns = (rounds + (now.slot > number) - (was.slot > number)) % CELLS
-    start, moved = int(first.registers["P"], 8), int(last.registers["P"], 8) - int(first.registers["P"], 8)
-    if moved % CELLS != turns or first.phase or {**first.registers, "P": ""} != {**last.registers, "P": ""}:
+    start, end = int(first.registers["P"], 8), int(last.registers["P"], 8)
+    if (end - start - turns) % CELLS or first.phase or {**first.registers, "P": ""} != {**last.registers, "P": ""}:
         return False
     steps = range(turns + 1) if turns <= CELLS // 2 else range(turns - CELLS, 1)  # on, or back
     return all(memory.word(start + step) == "0000" for memory in (was.memories[number], now.memories[number]) for step in steps)
@@ -95,7 +96,7 @@ def processor_line(shown, number):
         cursor = shown.cursor_in("processors") if chosen and view.register == name else None
         line.add_number(now.registers[name], was.registers[name] if is_new else None, cursor)
 
-    add_register("P", not passes(shown, number))
+    add_register("P", not is_idle(state, before, number))
     at = int(now.registers["P"], 8)
     for address in (at,) if now.phase else (at, at + 1):
         line.add_number(memory.word(address), memory_before.word(address))
