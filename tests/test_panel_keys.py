@@ -9,8 +9,8 @@ import sys
 from .support import EXAMPLES, TOP, Case, program, read, run
 
 from pp6600.console import Console
+from pp6600.history import History
 from pp6600.panel.app import Panel
-from pp6600.panel.history import History
 from pp6600.panel.keys import LINE_KEYS, LINES, OTHER_KEYS, Facts, help_lines, step_lines
 from pp6600.panel.session import Session
 
@@ -327,13 +327,13 @@ class Sessions(PanelCase):
     def test_fresh_simulator(self):
         """Near the limit of lines the session goes on in a fresh simulator, with the same answers."""
         panel, other = self.panel(FIRST_PROGRAM), self.panel(FIRST_PROGRAM)
-        first = panel.session.simulator
+        first = panel.session.simulator.pipe
         keys = "ssbfSBWt5sWbb"
         press(panel, keys[:6])
-        first.lines = 999000
+        panel.session.simulator.lines = 999000
         press(panel, keys[6:])
         press(other, keys)
-        self.assertIsNot(first, panel.session.simulator)
+        self.assertIsNot(first, panel.session.simulator.pipe)
         self.assertEqual(other.session.log, panel.session.log)
         self.assertEqual(press(other), press(panel))
 

@@ -5,6 +5,7 @@ import os
 import re
 import time
 
+from ..answers import KINDS
 from ..failure import Failure
 from ..keyboard import FIRST_WORDS, card
 from .keys import LINES, Facts, help_lines
@@ -15,7 +16,6 @@ from .screen import LEAST_COLUMNS, LEAST_ROWS, Shown, is_too_small, layout, log_
 from .text import Line
 from .view import ARROWS, View
 
-CELL_DIGITS, CENTRAL_DIGITS = 4, 20  # of a word
 MOST_COUNT_DIGITS = 10
 LONG_ANSWER = 2  # lines; a longer answer is shown on a page
 BETWEEN_REPORTS = 0.2  # seconds
@@ -25,9 +25,9 @@ PROMPTS = {":": "> ", "g": "go to ", "/": "search ", "w": "w "}
 AFTER_FAULT = ("w", "L", "?", "Tab", "Shift-Tab", *ARROWS)  # keys that need no simulator
 
 
-def words_to_find(text, digits):
-    """Returns the words of a search, each with all its digits."""
-    words = text.split()
+def words_to_find(text, kind):
+    """Returns the words of a search, each with all digits of a word of this kind of places."""
+    words, digits = text.split(), KINDS[kind].digits
     if not words or any(not re.fullmatch("[0-7]+", word) or len(word.lstrip("0")) > digits for word in words):
         raise Failure(f"{text or 'nothing'} can't be searched: give octal words, as 7512 0100")
     return [f"{int(word, 8):0{digits}o}" for word in words]
@@ -227,12 +227,12 @@ class Panel:
         text = text or (self.typed["/"] or [""])[-1]
         view, session = self.view, self.session
         if view.pane == "central":
-            word, *more = words_to_find(text, CENTRAL_DIGITS)
+            word, *more = words_to_find(text, "C")
             if more:
                 raise Failure("in central memory one word is searched at a time")
             found = self.guard(session.find_central, word, view.word + 1)
         else:
-            found = session.state.memories[view.processor].find(words_to_find(text, CELL_DIGITS), view.cell + 1)
+            found = session.state.memories[view.processor].find(words_to_find(text, "M"), view.cell + 1)
         if found is None:
             self.message = self.message or f"{text} is not there"
         elif view.pane == "central":

@@ -2,7 +2,8 @@
 
 from typing import Callable, NamedTuple
 
-from ..console import MOST_TURNS, PROCESSORS
+from ..answers import PROCESSORS
+from ..console import MOST_TURNS
 
 ROUND = PROCESSORS  # turns
 

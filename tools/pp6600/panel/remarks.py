@@ -1,6 +1,7 @@
 """What the panel says of the lines that were sent, beside their answers."""
 
 from .next_change import next_change
+from .session import hit_of, kind_of
 
 # What to do after an answer.
 ADVICE = {"ERR 07": "< goes back to the oldest state that is kept", "ERR 10": "the tool changes finds older ones",
@@ -9,12 +10,9 @@ ADVICE = {"ERR 07": "< goes back to the oldest state that is kept", "ERR 10": "t
 
 def remarks(session, outcome, place):
     """Returns what an operator may not expect of the last lines, the most important first; the cursor is at the place."""
-    answer = outcome.answer
-    kind = answer[0].split()[0] if answer else ""
-    if kind == "ERR":
-        return [advice(answer[0])]
-    if len(answer) > 1 and answer[1].startswith("HIT "):
-        return [answer[1]]
+    kind, hit = kind_of(outcome.answer), hit_of(outcome.answer)
+    if kind == "ERR" or hit:
+        return [hit or advice(outcome.answer[0])]
     discarded = [f"the {outcome.discarded:o} actions ahead are discarded"] if outcome.discarded else []
     if kind != "BACK":
         return discarded

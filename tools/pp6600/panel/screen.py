@@ -4,7 +4,8 @@ from dataclasses import dataclass, field
 from functools import lru_cache
 from typing import Optional
 
-from ..machine_state import CELLS, ROW, MachineState
+from ..answers import CELLS, ROW
+from ..machine_state import MachineState
 from .text import (
     CHANGED, CHOSEN, CURSOR, HEAD, HERE, REFUSED, SLOT, TITLE, WATCHED, Line, beside, in_height, last_in)
 from .view import View, central_top, memory_top

@@ -3,17 +3,13 @@
 import re
 from dataclasses import dataclass
 
-from ..console import CLOCK, PROCESSORS
+from ..answers import CELLS, CLOCK, KINDS, PROCESSORS, ROW
 from ..failure import Failure
-from ..machine_state import CELLS, ROW
 
 PANES = ("processors", "channels", "memory", "central")
 REGISTERS = ("P", "A", "Q")  # those that can be watched
 CHANNELS_IN_COLUMN = 7
 ARROWS = ("Up", "Down", "Left", "Right", "Page Up", "Page Down")
-# The kinds of places with the greatest number of each; that of a central word depends on the machine.
-PLACES = {"M": (PROCESSORS - 1, CELLS - 1), "A": (PROCESSORS - 1,), "P": (PROCESSORS - 1,), "Q": (PROCESSORS - 1,),
-          "PP": (PROCESSORS - 1,), "H": (CLOCK,), "C": (None,)}
 
 
 @dataclass
@@ -67,17 +63,17 @@ class View:
 
     def go_to(self, text, size):
         """Moves the cursor to an address of the memory that it is in, or to a place."""
+        sizes = {**{kind: one.sizes for kind, one in KINDS.items()}, "PP": (PROCESSORS,), "C": (size,)}
         words = text.upper().split()
-        kind = words.pop(0) if words and words[0] in PLACES else "C" if self.pane == "central" else None
+        kind = words.pop(0) if words and words[0] in sizes else "C" if self.pane == "central" else None
         if any(not re.fullmatch("[0-7]{1,12}", word) for word in words):
             raise Failure(f"{text} is neither an octal address nor a place, as M 0 106, A 0, H 12 or C 1000")
         numbers = [int(word, 8) for word in words]
         if kind is None:
             kind, numbers = "M", [self.processor, *numbers]
-        most = [size - 1 if one is None else one for one in PLACES[kind]]
-        if len(numbers) != len(most):
+        if len(numbers) != len(sizes[kind]):
             raise Failure(f"{text} does not name one place")
-        if any(number > one for number, one in zip(numbers, most)):
+        if any(number >= one for number, one in zip(numbers, sizes[kind])):
             raise Failure(f"there is no place {text}")
         self.go_to_place(kind, numbers)
 
