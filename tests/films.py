@@ -5,6 +5,8 @@
 makes the films of docs/films anew, with the picture of one of them. It needs chromium.
 """
 
+import atexit
+import functools
 import os
 import random
 import re
@@ -12,10 +14,10 @@ import shutil
 import sys
 import tempfile
 
-from pp6600.film.data import decode
+from tests.browser import Browser, found
+from tests.support import TOP, Case, read, tool
 
-from .browser import Browser, found
-from .support import TOP, Case, read, tool
+from pp6600.film.data import decode
 
 FOLDER = os.path.join(TOP, "docs", "films")
 CARDS = "exercises/dead-start-from-cards"
@@ -28,6 +30,21 @@ SHOWN = {
 }
 # The film that has a picture, and where the picture is taken.
 PICTURED, MOMENT, SIZE = "overwritten-loader", "#turn=405&place=M+0+106", (1140, 640)
+
+
+ROOM = tempfile.TemporaryDirectory(prefix="pp6600-films-")  # of the films that several tests look at
+atexit.register(ROOM.cleanup)
+
+
+@functools.cache
+def shown_film(name):
+    """Makes a film of docs/films, and returns the path of its page."""
+    options, files = SHOWN[name]
+    path = os.path.join(ROOM.name, f"{name}.html")
+    done = tool("film", *options, "--title", name.replace("-", " "), "-o", path, script=text_of(*files))
+    if done.status:
+        raise RuntimeError(done.err)
+    return path
 
 
 def text_of(*files):
@@ -53,11 +70,6 @@ class FilmCase(Case):
         path = os.path.join(self.room(), name)
         self.assertEqual(("", "", 0), tool("film", *words, "-o", path, script=script))
         return path
-
-    def shown(self, name):
-        """Makes a film of docs/films, and returns the path of its page."""
-        options, files = SHOWN[name]
-        return self.film(*options, "--title", name.replace("-", " "), script=text_of(*files))
 
 
 class PageCase(FilmCase):
@@ -132,19 +144,9 @@ def random_session(seed):
 # ---- docs/films
 
 
-def make_shown(room):
-    """Makes the films of docs/films."""
-    for name, (options, files) in SHOWN.items():
-        path = os.path.join(room, f"{name}.html")
-        done = tool("film", *options, "--title", name.replace("-", " "), "-o", path, script=text_of(*files))
-        if done.status:
-            sys.exit(done.err)
-        shutil.copyfile(path, os.path.join(FOLDER, f"{name}.html"))
-
-
 def main():
-    with tempfile.TemporaryDirectory() as room:
-        make_shown(room)
+    for name in SHOWN:
+        shutil.copyfile(shown_film(name), os.path.join(FOLDER, f"{name}.html"))
     if not found():
         sys.exit("films: there is no browser (chromium) to make the picture with")
     browser = Browser(found())

@@ -8,13 +8,13 @@ moments of a film from its name. Other seeds: FILM_SEEDS="100 50" compares 50 se
 import os
 import random
 
+from tests.films import PageCase, film_text, random_session, text_of
+from tests.support import TOP, program
+
 from pp6600.console import Console
 from pp6600.film.data import decode
 from pp6600.film.places import LAYOUT
 from pp6600.instructions import processor_at, states_of
-
-from .films import PageCase, film_text, random_session, text_of
-from .support import TOP, program
 
 MOMENTS = 10  # compared of each run
 SEEDS = "0 5"  # of the random sessions: the first, and how many

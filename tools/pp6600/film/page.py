@@ -47,13 +47,13 @@ def heading(title, script):
 
 def write_page(path, text):
     """Writes a file whole, or leaves it as it was. What is no plain file, as a pipe, is written to as it is."""
-    path, data = os.path.realpath(path), text.encode("utf-8")
+    data = text.encode("utf-8")
     try:
         if os.path.exists(path) and not os.path.isfile(path):
             with open(path, "wb") as file:
                 file.write(data)
         else:
-            replace_file(path, data)
+            replace_file(os.path.realpath(path), data)
     except OSError as error:
         raise Failure(f"can't write {path}: {error.strerror}") from error
 
