@@ -29,7 +29,7 @@ SHOWN = {
                               (f"{CARDS}/script", f"{CARDS}/check")),
 }
 # The film that has a picture, and where the picture is taken.
-PICTURED, MOMENT, SIZE = "overwritten-loader", "#turn=405&place=M+0+106", (1140, 640)
+PICTURED, MOMENT, SIZE = "overwritten-loader", "#turn=405&place=M+0+106", (1140, 628)
 
 
 ROOM = tempfile.TemporaryDirectory(prefix="pp6600-films-")  # of the films that several tests look at
@@ -73,9 +73,10 @@ class FilmCase(Case):
 
 
 class PageCase(FilmCase):
-    """Tests of a page in a browser; without one they are skipped."""
+    """Tests of a page in a browser. Without one they are skipped, or look at the film alone if a browser is not all they need."""
 
     browser = None
+    needs_browser = True
 
     @classmethod
     def setUpClass(cls):
@@ -87,13 +88,12 @@ class PageCase(FilmCase):
 
     def setUp(self):
         super().setUp()
-        if not self.browser:
+        if self.browser:
+            self.browser.log.clear()
+            self.browser.look(1280, 800)
+            self.addCleanup(lambda: self.assertEqual([], self.browser.log, "complaints of the page"))
+        elif self.needs_browser:
             self.skipTest("there is no browser (chromium), so no page is walked")
-        self.browser.log.clear()
-        self.browser.look(1280, 800)
-
-    def tearDown(self):
-        self.assertEqual([], self.browser.log, "complaints of the page")
 
     def value(self, text):
         """Returns the value of an expression in the page."""

@@ -154,9 +154,7 @@ class Tool(FilmCase):
 class Long(PageCase):
     """100,000 (decimal) turns of a program in each processor that stores, counts and jumps."""
 
-    def setUp(self):
-        if self.browser:
-            super().setUp()
+    needs_browser = False
 
     def test_long(self):
         """Less than 10 MB, and five moves through it in less than a second."""

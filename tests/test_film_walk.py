@@ -137,10 +137,7 @@ def numbers_at(page, moments):
 
 class Walk(PageCase):
 
-    def setUp(self):
-        if not self.browser:
-            return  # what is kept in the films is compared without one
-        super().setUp()
+    needs_browser = False  # what is kept in the films is compared without one
 
     def walk(self, name, options, lines):
         """Compares the film of a run, and its page where there is a browser, with the dumps."""
