@@ -51,6 +51,15 @@ def write(line, at_once=False):
         flush()
 
 
+def write_lines(lines, otherwise=None, at_once=False):
+    """Writes lines; if there is none, another one."""
+    for line in lines:
+        write(line, at_once)
+        otherwise = None
+    if otherwise:
+        write(otherwise)
+
+
 def open_streams():
     """Opens each closed standard stream to nowhere, so that no other file takes its number; and lets any text be written."""
     closed = [stream is None for stream in (sys.stdin, sys.stdout, sys.stderr)]

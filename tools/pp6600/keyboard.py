@@ -8,7 +8,7 @@ import sys
 from .ending import flush, write
 from .failure import Failure
 from .options import ABOVE
-from .session import answer, shown
+from .show import answer, shown
 from .text_files import input_lines
 
 PROMPT = "> "
