@@ -14,11 +14,12 @@ from tests.films import FOLDER, SHOWN, FilmCase, PageCase, about, film_text, ran
 from tests.support import TOP, program, read, run, tool
 
 from pp6600.failure import Failure
-from pp6600.film import run as film_run
+from pp6600.film.camera import Film, Transcript
 from pp6600.film.data import decode
+from pp6600.film.footprint import Footprint
 from pp6600.film.page import SCRIPTS, page
 from pp6600.film.places import LAYOUT
-from pp6600.film.run import Film, Footprint, Transcript
+from pp6600.run import Run
 
 RANDOM_WORDS = ("--central", "32", "--panel", f"{TOP}/examples/dead-start/panel", "--deck", f"{TOP}/examples/read-a-deck/deck")
 BYTE = "\udcff"  # a byte of a command line that is not UTF-8, as Python has it
@@ -40,14 +41,14 @@ class Camera(unittest.TestCase):
     def test_fresh_simulators(self):
         """A film that goes on in fresh simulators is the same, and one that begins late has the same end."""
         whole = filmed(self.words, self.lines)
-        with mock.patch.object(film_run, "MOST_LINES", 700):
+        with mock.patch.object(Run, "most_lines", 700):
             self.assertEqual(whole.moments, filmed(self.words, self.lines).moments)
         late = filmed(self.words, self.lines, len(whole.moments) // 2)
         paper = LAYOUT["paper"]
         self.assertEqual(whole.machine.numbers[:paper], late.machine.numbers[:paper])
 
     def test_a_change_that_was_not_dumped(self):
-        with mock.patch.object(Footprint, "_of_instruction", lambda *_: None), self.assertRaisesRegex(Failure, "^a change was overlooked"):
+        with mock.patch.object(Footprint, "_add", lambda *_: None), self.assertRaisesRegex(Failure, "^a change was overlooked"):
             filmed(self.words, ["SET M 0 0 1405 3420", "STEP 20"])
 
 

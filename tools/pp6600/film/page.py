@@ -10,15 +10,12 @@ from ..display_code import SYMBOLS
 from ..failure import Failure
 from .data import encode
 from .places import LAYOUT, MODES
-from .run import TURN
-from ..instructions import BLOCK_GOES_ON, COMPLETES, NAMES, NOT_THERE, NOT_THERE_IN_BLOCK, TWO_WORDS, WAITS_FOR
-from ..replay import take
+from ..instructions import BLOCK_GOES_ON, COMPLETES, IN_BLOCK, NAMES, NOT_THERE, NOT_THERE_IN_BLOCK, TWO_WORDS, WAITS_FOR
 from ..options import OPTIONS
 from ..text_files import bytes_of, lines_of
 
 WEB = os.path.join(os.path.dirname(os.path.abspath(__file__)), "web")
 SCRIPTS = ("state", "places", "machine", "lanes", "controls")  # the page's script, in the order in which it is joined
-BLOCK_CODES = (0o61, 0o63, 0o71, 0o73)
 LONGEST_ANSWER = 40  # lines of one that a page keeps
 
 
@@ -79,7 +76,7 @@ def text_of(film, asked, script):
 
 def tables():
     """What the page has to know of the machine."""
-    return {"layout": LAYOUT, "names": NAMES, "two_words": TWO_WORDS, "block_codes": BLOCK_CODES, "completes": COMPLETES,
+    return {"layout": LAYOUT, "names": NAMES, "two_words": TWO_WORDS, "block_codes": list(IN_BLOCK), "completes": COMPLETES,
             "blocks": BLOCK_GOES_ON, "waits_for": WAITS_FOR, "not_there": [NOT_THERE, NOT_THERE_IN_BLOCK], "symbols": SYMBOLS,
             "modes": MODES}
 
@@ -123,7 +120,7 @@ def of_machine(film):
 def of_script(film):
     """The lines of the script with their answers and moments, and how many turns are in effect where the film begins and
     where it jumps."""
-    turns = turns_in_effect(film.transcript)
+    turns = film.transcript.turns
     numbers = {first: number for number, first in film.first_moments.items()}
     begins = turns[min(film.first_moments)][0] + film.turns_passed if film.first_moments else 0
     return {"lines": list(lines(film)), "turns_before": begins,
@@ -142,28 +139,3 @@ def lines(film):
         yield {"text": line.encode("latin-1").decode("utf-8", "replace").rstrip("\r"),
                "answer": answer[:LONGEST_ANSWER] + more, "acts": first is not None,
                "first": last if first is None else first, "moment": last}
-
-
-def turns_in_effect(transcript):
-    """How many turns are in effect before and after each line that did something."""
-    done, ahead, turns, now = [], [], {}, 0
-    for number, kind, count in transcript.actions():
-        before, word = now, transcript.lines[number][0].upper().split()[0]
-        if word == "BACK":
-            moved = take(done, count)
-            now -= turns_of(moved)
-            ahead += moved
-        elif word == "FORWARD":
-            moved = take(ahead, count)
-            now += turns_of(moved)
-            done += moved
-        else:
-            done.append(("STEP" if kind == TURN else word, count))
-            now += turns_of(done[-1:])
-            ahead.clear()
-        turns[number] = before, now
-    return turns
-
-
-def turns_of(actions):
-    return sum(times for line, times in actions if line == "STEP")
