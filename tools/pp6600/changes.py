@@ -4,8 +4,18 @@ A watch finds the changes. Where they are close together, many short STEPs are w
 changes that these found, to see what was about to make each, and FORWARD over them again, to the end.
 """
 
-from .console import CHANNEL_LINES, MARK, MOST_TURNS, PROCESSORS
+from .answers import CLOCK, PROCESSORS, Place
+from .command_line import arguments, script_lines, simulator, words_after, write_lines
+from .console import CHANNEL_LINES, MARK, MOST_TURNS
+from .history import STEP
 from .instructions import Processor
+from .run import Replay, actions_in_effect
+
+DESCRIPTION = """Shows every change of a place (M 0 106, A 0, C 1000, H 12 ..) over the whole run of a script, however
+long: the turn, counted in octal from 1, the processor whose turn it was, its P before the turn, the name of its
+instruction, and the number before and after. H c is the register of a channel, with the state of the channel beside it.
+In that turn the card reader, the printer or the clock may have made the change. A SET or a DEADSTART is shown by its
+name, with the turns before it. What the script took back and did not perform again has no changes."""
 
 CLOSE_STEPS, CLOSE_TURNS = 128, 64  # at most 8192 turns at once, which are all kept
 NEAR = 256  # turns to a change after which the next is expected soon
@@ -92,17 +102,31 @@ def changes_of_turns(run, turns, channel):
         turns -= made
 
 
+def shown_number(run, place, channel):
+    return run.number(place.short) if channel is None else run.channel(channel)
+
+
 def place_changes(run, place, actions):
     """Yields the line of each change of a place."""
-    kind, number = place.split()[0], int(place.split()[-1], 8)
-    channel = number if kind == "H" and number < len(CHANNEL_LINES) - 1 else None  # the clock has no state
-    run.watch(place)
+    channel = place.numbers[0] if place.kind == "H" and place.numbers[0] < CLOCK else None  # the clock has no state
+    run.watch(place.short)
     for line, times in actions:
-        if line == "STEP":
+        if line == STEP:
             yield from changes_of_turns(run, times, channel)
             continue
-        was = run.number(place) if channel is None else run.channel(channel)
+        was = shown_number(run, place, channel)
         run.perform(line)
-        now = run.number(place) if channel is None else run.channel(channel)
+        now = shown_number(run, place, channel)
         if was.split()[-1] != now.split()[-1]:
             yield f"TURN {run.turn:o} {line.split()[0].upper()} WAS {was} NOW {now}"
+
+
+def main():
+    parser = arguments(DESCRIPTION, "[OPTION ..] PLACE [SCRIPT]")
+    parser.add_argument("words", nargs="*", metavar="PLACE [SCRIPT]", help="without a script, standard input is it")
+    asked = parser.parse()
+    place, rest = Place.first_of(asked.words)
+    (script,) = words_after(rest, 1, "give one place, one script")
+    words = simulator(asked)
+    actions = actions_in_effect(words, script_lines(script))
+    write_lines(place_changes(Replay(words), place, actions), "NO CHANGE")

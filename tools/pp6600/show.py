@@ -1,8 +1,11 @@
 """Lines with their answers, as a session is shown."""
 
-from .ending import write
-from .failure import Failure
-from .text_files import script_lines
+from .command_line import Failure, add_script, arguments, complain, script_lines, simulator, write
+from .console import Console
+
+DESCRIPTION = """Shows each line of a script after '> ', and below it the answer. The exit status is the simulator's: 0
+if no line was refused, else 1. A DUMP CR of the tool's own is written first and after each DUMP, and once something is
+watched, after each STEP. All lines together are at most 1,000,000 (decimal)."""
 
 
 def shown(line):
@@ -29,3 +32,15 @@ def show_script(console, path, stop=False):
         if stop and refused:
             return number
     return None
+
+
+def main():
+    parser = arguments(DESCRIPTION)
+    parser.add_argument("--stop", action="store_true", help="stop at the first line that is refused")
+    add_script(parser)
+    asked = parser.parse()
+    console = Console(simulator(asked))
+    stopped = show_script(console, asked.script, asked.stop)
+    if stopped:
+        complain(f"stopped at line {stopped} (decimal), which was refused")
+    return console.end()

@@ -1,8 +1,16 @@
 """The processors that wait."""
 
-from .console import PROCESSORS
+from .answers import CELLS, PROCESSORS, REGISTERS
+from .command_line import add_script, arguments, script_lines, simulator, write_lines
+from .history import STEP, turns_of
 from .instructions import processor_at, states_of
-from .replay import Replay, looks, to_turn, turns_of
+from .run import Replay, actions_in_effect
+
+DESCRIPTION = """Shows each processor that waits at the end of a script: the address of its instruction and its name, P,
+the channel that it waits for with its state and register, and the turn since which it waits, counted in octal from 1.
+FROM in place of SINCE: it will wait in its next turn, which has this number, if the channel is still the same. In a block
+transfer P is the cell of the next word; the address is NONE if no such instruction is where cell 0000 says, as after a
+dead start. A jump to itself is no wait."""
 
 FIRST_SPAN = 0o10000  # of turns at the end that are searched first
 
@@ -21,20 +29,20 @@ class Waiting:
         end = self.processor
         now = run.registers(self.number)
         address = int(end.registers["P"], 8)
-        return (all(now[name] == end.registers[name] for name in ("P", "A", "Q", "PHASE"))
+        return (all(now[name] == end.registers[name] for name in REGISTERS)
                 and run.cells(self.number, address, address) == end.words[:1])
 
     def stays_from(self, turn):
         """Returns whether it stays in its place from there to the end. A phase changes alone only when a block begins, so
         before the place is reached."""
         run = Replay(self.words)
-        rest = to_turn(run, self.actions, turn)
+        rest = run.to_turn(self.actions, turn)
         stays = self.is_in_place(run)
         for place in (f"{name} {self.number:o}" for name in ("P", "A", "Q")):
             run.watch(place)
         run.watch(f"M {self.number:o} {self.processor.registers['P']}")
         for line, times in rest if stays else []:
-            if line != "STEP":
+            if line != STEP:
                 run.perform(line)
                 stays = self.is_in_place(run)
             else:
@@ -60,7 +68,7 @@ class Waiting:
     def first_turn(self):
         """Returns since which turn it waits: its first one in its place, or the turn that it will have."""
         run = Replay(self.words)
-        for slot, _ in looks(run, self.actions, self.in_place_since(), [self.number]):
+        for slot, _ in run.looks(self.actions, self.in_place_since(), [self.number]):
             if slot is not None:
                 run.end()
                 return f"SINCE TURN {run.turn + 1:o}"
@@ -72,14 +80,14 @@ def address_of_instruction(console, number, processor):
     """Returns the address: P, or in a block transfer what cell 0000 says, if the instruction is there."""
     if not processor.phase:
         return processor.registers["P"]
-    address = (int(console.cells(number, 0, 0)[0], 8) - 1) % 0o10000
+    address = (int(console.cells(number, 0, 0)[0], 8) - 1) % CELLS
     return f"{address:04o}" if console.cells(number, address, address)[0] == processor.registers["PHASE"] else "NONE"
 
 
 def waits(words, actions):
     """Yields a line for each processor that waits."""
     run = Replay(words)
-    to_turn(run, actions, turns_of(actions))
+    run.to_turn(actions, turns_of(actions))
     channels = run.channels()
     for number in range(PROCESSORS):
         processor = processor_at(run, number)
@@ -90,3 +98,12 @@ def waits(words, actions):
             since = Waiting(number, processor, words, actions).first_turn()
             yield f"PP {number:02o} AT {at} {processor.name} P {processor.registers['P']} {line} {since}"
     run.end()
+
+
+def main():
+    parser = arguments(DESCRIPTION)
+    add_script(parser)
+    asked = parser.parse()
+    words = simulator(asked)
+    actions = actions_in_effect(words, script_lines(asked.script))
+    write_lines(waits(words, actions), "NO PROCESSOR WAITS", at_once=True)

@@ -1,8 +1,17 @@
 """A run turn by turn."""
 
-from .console import PROCESSORS
+from .answers import PROCESSORS, REGISTERS
+from .command_line import add_script, arguments, channel, count, processor, script_lines, simulator, write_lines
+from .history import turns_of
 from .instructions import Processor
-from .replay import Replay, looks, turns_of
+from .run import Replay, actions_in_effect
+
+DESCRIPTION = """Shows each turn of a script, as the processor stood before it: the turn, counted in octal from 1, the
+processor, P and the two words from P on, the name of the instruction, A, Q and the phase; and WAITS if the turn was a
+wait. In a block transfer P is the cell of the next word, and the name is that of the transfer. Turns that the script
+took back and did not perform again are left out. With --channel it shows the turns that touched the channel: that
+completed an instruction on it, or in which it changed, by a processor, a device or the clock; a wait is not one. Its
+state and register are shown in place of Q and the phase."""
 
 
 class Tracer:
@@ -33,7 +42,7 @@ class Tracer:
         channel_before = self.channel_line
         self.run.advance(1)
         after = self.known[slot] = self.run.registers(slot)
-        waited = before.goes_on_in and all(before.registers[name] == after[name] for name in ("P", "A", "Q", "PHASE"))
+        waited = before.goes_on_in and all(before.registers[name] == after[name] for name in REGISTERS)
         text = f"TURN {self.run.turn:o} PP {slot:02o} {instruction(before)}"
         wait = " WAITS" if waited else ""
         if self.channel is None:
@@ -58,7 +67,7 @@ def lines_from(words, actions, processors, channel, first):
     """Yields the line of each turn to be shown, of those from number `first` on (from 0)."""
     run = Replay(words)
     tracer = Tracer(run, channel)
-    for slot, _ in looks(run, actions, first, processors):
+    for slot, _ in run.looks(actions, first, processors):
         if slot is None:
             tracer.forget()
         else:
@@ -86,3 +95,16 @@ def trace(words, actions, processors=None, channel=None, last=None):
     if last is not None:
         return last_lines(words, actions, processors, channel, last)
     return lines_from(words, actions, processors, channel, 0)
+
+
+def main():
+    parser = arguments(DESCRIPTION)
+    parser.add_argument("--processor", metavar="N", type=processor, action="append",
+                        help="this one alone, octal; may be given several times")
+    parser.add_argument("--channel", metavar="H", type=channel, help="the turns that touched this channel, octal")
+    parser.add_argument("--last", metavar="COUNT", type=count, help="the last of these turns alone, octal")
+    add_script(parser)
+    asked = parser.parse()
+    words = simulator(asked)
+    actions = actions_in_effect(words, script_lines(asked.script))
+    write_lines(trace(words, actions, asked.processor, asked.channel, asked.last))
