@@ -9,8 +9,6 @@ import shutil
 import subprocess
 import tempfile
 
-import png
-
 NAMES = ("chromium", "chromium-browser", "google-chrome", "google-chrome-stable")
 PATIENCE = 30  # seconds for one answer
 
@@ -126,10 +124,16 @@ class Browser:
         self.ask("Emulation.setEmulatedMedia", media=media, features=colours)
 
     def picture(self, path):
-        """Writes what is seen as a PNG."""
-        result = self.ask("Page.captureScreenshot", format="png")
+        """Writes what is seen, without loss, as a picture of the kind that the file's name ends with: .webp or .png."""
+        kind = os.path.splitext(path)[1][1:]
+        quality = {"quality": 100} if kind == "webp" else {}
+        result = self.ask("Page.captureScreenshot", format=kind, **quality)
         with open(path, "wb") as file:
-            file.write(png.small(base64.b64decode(result["data"])))
+            file.write(base64.b64decode(result["data"]))
+
+    def save_into(self, folder):
+        """Lets the page save files into a folder."""
+        self.ask("Browser.setDownloadBehavior", behavior="allow", downloadPath=folder)
 
     def paper(self, path):
         """Writes the page as it is printed, a PDF."""

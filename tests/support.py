@@ -82,3 +82,9 @@ class Case(unittest.TestCase):
         folder = tempfile.TemporaryDirectory(prefix="pp6600-test-")
         self.addCleanup(folder.cleanup)
         return folder.name
+
+
+def add_tests(case, check, named):
+    """Gives a class of tests one for each pair of a name and an argument: test_NAME calls check(self, argument)."""
+    for name, argument in named:
+        setattr(case, "test_" + re.sub(r"\W+", "_", name), lambda self, it=argument: check(self, it))

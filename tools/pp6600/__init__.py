@@ -11,5 +11,14 @@
 What can't be done raises Failure, with a message in plain words.
 """
 
+import os
+import sys
+
+# Any Python can read this file and the tools: an older one gets a line that says what is needed.
+if sys.version_info < (3, 9):
+    sys.stderr.write("{}: Python 3.9 or later is needed, and this is Python {}.{}\n".format(
+        os.path.basename(sys.argv[0]), sys.version_info[0], sys.version_info[1]))
+    sys.exit(2)
+
 from .console import Console
 from .failure import Failure

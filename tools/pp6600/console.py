@@ -2,13 +2,10 @@
 
 import re
 
+from .answers import ANSWER, CLOCK, FRAME_WORDS, ROW, Place
 from .failure import Failure
-from .pipe import Ended, Pipe
+from .pipe import Pipe
 
-PROCESSORS = 10
-CHANNELS = 12
-CLOCK = 0o14
-FRAME_WORDS = 16
 MOST_TURNS = 0o1000000  # of one STEP
 CHANNEL_LINES = [f"H {number:02o} " for number in range(CLOCK + 1)]
 SIZES_OF_CENTRAL = (0o400000, 0o200000, 0o100000)
@@ -21,14 +18,6 @@ ONE_LINE_ANSWER = re.compile("[ \t]*(SET|WATCH|UNWATCH|DEADSTART|BACK|FORWARD)([
 STEP = re.compile("[ \t]*STEP([ \t\r]|$)", re.I)  # its answer has one line if nothing is watched
 NO_ANSWER = re.compile("[ \t]*([*][\t -~]*)?")  # a note, or a line without words
 LONGEST_LINE = 255
-ANSWER = re.compile("|".join((
-    "OK", "ERR [01][0-7] [A-Z ]+", "(TURNS|BACK|FORWARD) [1-7][0-7]{0,6} SLOT [01][0-7]",
-    "HIT [MAPQCH] [0-7]+( [0-7]+){2,3}", "[0-7]{4}( [0-7]{4}){1,8}",
-    "PP [01][0-7] P [0-7]{4} A [0-7]{6} Q [0-7]{4} PHASE [0-7]{4} SLOT [01][0-7]",
-    "H [01][0-7] [IEFX] [0-7]{4}", "C [0-7]{6} [0-7]{20}", "XP [01][0-7] [0-7]{20}",
-    "CR H [01][0-7] CARD [0-7]{4} OF [0-7]{4} COLUMN [0-7]{3} MODE [A-Z]+",
-    "LP H [01][0-7] SYMBOLS [0-7]{6} COLUMN [0-7]{3} MODE [A-Z]+", "[|/].*",
-    "W (NONE|[MAPQCH] [0-7]+( [0-7]+)?)")))
 
 
 def has_no_answer(line):
@@ -84,6 +73,15 @@ class Console:
         self.send(line, MARK)
         return list(self.up_to_mark())
 
+    def ask_all(self, lines):
+        """Returns the lines of all answers to lines of which the last one, and no other, is DUMP CR. There may be thousands,
+        so they are taken as they come."""
+        self.send(*lines)
+        answers = self.pipe.more_lines()
+        while not answers[-1].startswith("CR "):
+            answers += self.pipe.more_lines()
+        return answers
+
     def demand(self, line):
         """As `ask`, of a line that must not be refused."""
         answer = self.ask(line)
@@ -136,7 +134,7 @@ class Console:
 
     def cells(self, processor, first, last):
         """Returns the words of the cells from first to last."""
-        rows = [f"{address:04o} " for address in range(first, last + 1, 8)]
+        rows = [f"{address:04o} " for address in range(first, last + 1, ROW)]
         answer = self.question(f"DUMP M {processor:o} {first:o} {last:o}", rows)
         return [word for row in answer for word in row.split()[1:]]
 
@@ -181,15 +179,13 @@ class Console:
         return answer
 
     def number(self, place):
-        """Returns the digits of the number at a place."""
-        kind, *numbers = place.split()
+        """Returns the digits of the number at a place, as M 0 106."""
+        kind, numbers = Place.parse(place)
         if kind == "M":
-            return self.demand(f"DUMP M {numbers[0]} {numbers[1]} {numbers[1]}")[0].split()[1]
+            return self.cells(*numbers, numbers[1])[0]
         if kind == "C":
-            return self.demand(f"DUMP C {numbers[0]} {numbers[0]}")[0].split()[2]
-        if kind == "H":
-            return self.channel(min(int(numbers[0], 8), CLOCK)).split()[1]
-        return self.registers(int(numbers[0], 8))[kind]
+            return self.central(*numbers, *numbers)[0].split()[2]
+        return self.channel(*numbers).split()[1] if kind == "H" else self.registers(*numbers)[kind]
 
     # ---- turns
 

@@ -4,8 +4,6 @@ from .failure import Failure
 
 SYMBOLS = ":ABCDEFGHIJKLMNOPQRSTUVWXYZ0123456789+-*/()$= ,.#[]%\"_!&'?<>@\\^;"
 BLANK = " "
-MOST_COLUMNS = 80
-MOST_CARDS = 2000
 
 
 def code_of(symbol):
@@ -25,20 +23,3 @@ def words_of(text):
 def text_of(words):
     """Returns the text of words, each of four octal digits."""
     return "".join(SYMBOLS[int(word[:2], 8)] + SYMBOLS[int(word[2:], 8)] for word in words)
-
-
-def cards(lines):
-    """Returns the line of a deck file for each line of a text."""
-    if len(lines) > MOST_CARDS:
-        raise Failure(f"a deck has at most {MOST_CARDS} (decimal) cards")
-    return [card(number, line) for number, line in enumerate(lines, 1)]
-
-
-def card(number, line):
-    try:
-        words = words_of(line)
-    except Failure as failure:
-        raise Failure(f"line {number} (decimal): {failure}") from failure
-    if len(words) > MOST_COLUMNS:
-        raise Failure(f"line {number} (decimal) has more than 160 (decimal) symbols")
-    return " ".join(words) or "0"

@@ -1,22 +1,132 @@
-"""The instructions by their names, and what a processor is about to do. docs/MACHINE.md has the tables."""
+"""The instructions, and what a processor is about to do. docs/MACHINE.md has the tables."""
 
-# In the order of the codes 00 to 77.
-NAMES = """
-PSN LJM RJM UJN ZJN NJN PJN MJN SHN LMN LPN SCN LDN LCN ADN SBN LDC ADC LPC LMC PSN PSN EXN RPN LDD ADD SBD LMD STD RAD
-AOD SOD LDI ADI SBI LMI STI RAI AOI SOI LDM ADM SBM LMM STM RAM AOM SOM CRD CRM CWD CWM AJM IJM FJM EJM IAN IAM OAN OAM
-ACN DCN FAN FNC""".split()
+from typing import NamedTuple, Optional
 
+from .answers import CELLS, CLOCK
+
+# Of each code its name, its number of words, the states of channel d in which it completes (- if it never waits), and what it
+# writes from what, beside P, which goes on. PLACE=SOURCE is a number moved, or its lower twelve bits; PLACE<SOURCES one computed.
+#   A P Q PHASE  registers of the processor          d m dm  the constants of its words; word: the first one
+#   X  the operand cell    I  cell d as an index     return  P and the number of words
+#   D  cell d    D5  cells d to d+4                  B  cell P in a block    B5  cells P to P+4    R  cell 0000
+#   C  the central word at A    C20 F20  the central words from A on, and the frame's    F  word 0 of the frame
+#   H  the register of channel d; the clock if d is 14                       S  its state
+TABLE = """
+00 PSN 1 -
+01 LJM 2 - P<m,I
+02 RJM 2 - X=return P<m,I
+03 UJN 1 - P<P,d
+04 ZJN 1 - P<P,d
+05 NJN 1 - P<P,d
+06 PJN 1 - P<P,d
+07 MJN 1 - P<P,d
+10 SHN 1 - A<A,d
+11 LMN 1 - A<A,d
+12 LPN 1 - A<A,d
+13 SCN 1 - A<A,d
+14 LDN 1 - A=d
+15 LCN 1 - A<d
+16 ADN 1 - A<A,d
+17 SBN 1 - A<A,d
+20 LDC 2 - A=dm
+21 ADC 2 - A<A,dm
+22 LPC 2 - A<A,dm
+23 LMC 2 - A<A,dm
+24 PSN 1 -
+25 PSN 1 -
+26 EXN 1 - F20=C20 C20=F20
+27 RPN 1 - A<F
+30 LDD 1 - A=X
+31 ADD 1 - A<A,X
+32 SBD 1 - A<A,X
+33 LMD 1 - A<A,X
+34 STD 1 - X=A
+35 RAD 1 - A<A,X X<A,X
+36 AOD 1 - A<X X<X
+37 SOD 1 - A<X X<X
+40 LDI 1 - A=X
+41 ADI 1 - A<A,X
+42 SBI 1 - A<A,X
+43 LMI 1 - A<A,X
+44 STI 1 - X=A
+45 RAI 1 - A<A,X X<A,X
+46 AOI 1 - A<X X<X
+47 SOI 1 - A<X X<X
+50 LDM 2 - A=X
+51 ADM 2 - A<A,X
+52 SBM 2 - A<A,X
+53 LMM 2 - A<A,X
+54 STM 2 - X=A
+55 RAM 2 - A<A,X X<A,X
+56 AOM 2 - A<X X<X
+57 SOM 2 - A<X X<X
+60 CRD 1 - D5=C
+61 CRM 2 - Q=D R=return P=m PHASE=word
+62 CWD 1 - C=D5
+63 CWM 2 - Q=D R=return P=m PHASE=word
+64 AJM 2 - P=m
+65 IJM 2 - P=m
+66 FJM 2 - P=m
+67 EJM 2 - P=m
+70 IAN 1 F A=H S=empty
+71 IAM 2 - R=return P=m PHASE=word
+72 OAN 1 E H=A S=full
+73 OAM 2 - R=return P=m PHASE=word
+74 ACN 1 I S=empty
+75 DCN 1 EFX S=inactive
+76 FAN 1 I H=A S=function
+77 FNC 2 I H=m S=function
+"""
+# The later turns of a block by its code: the states of channel d in which it goes on or ends, and what a turn that goes on writes
+# beside P; a block ends when its count is 0, and one over a channel on an inactive one, where 71 writes a cell of zero.
+BLOCKS = """
+61 - B5=C A<A Q<Q
+63 - C=B5 A<A Q<Q
+71 IF B=H S=empty A<A
+73 IE H=B S=full A<A
+"""
+END_OF_BLOCK, END_OF_INPUT = "P<R PHASE=zero", "B=zero P<R PHASE=zero"
+STATES_WORDS = {"F": "full", "IF": "full", "E": "empty", "IE": "empty", "I": "inactive", "EFX": "active"}
+
+
+class Effect(NamedTuple):
+    """A place that an instruction writes, and from what, by the letters of the table."""
+
+    place: str
+    is_moved: bool  # and not computed
+    sources: tuple
+
+    @classmethod
+    def all_of(cls, text):
+        parts = [word.replace("=", "<").split("<") for word in text.split()]
+        return tuple(cls(place, "=" in word, tuple(sources.split(","))) for word, (place, sources) in zip(text.split(), parts))
+
+
+class Instruction(NamedTuple):
+    """A row of the table."""
+
+    name: str
+    words: int
+    goes_on_in: Optional[str]  # the states of its channel in which its turn is no wait; None if it never waits
+    effects: tuple
+
+
+def row(name, words, states, *effects):
+    return Instruction(name, int(words), None if states == "-" else states, Effect.all_of(" ".join(effects)))
+
+
+INSTRUCTIONS = [row(*line.split()[1:]) for line in TABLE.strip().splitlines()]
+IN_BLOCK = {int(code, 8): row(INSTRUCTIONS[int(code, 8)].name, 2, *rest)
+            for code, *rest in map(str.split, BLOCKS.strip().splitlines())}
+
+NAMES = [one.name for one in INSTRUCTIONS]
+TWO_WORDS = tuple(code for code, one in enumerate(INSTRUCTIONS) if one.words == 2)
+COMPLETES = {code: one.goes_on_in for code, one in enumerate(INSTRUCTIONS) if one.goes_on_in}
+BLOCK_GOES_ON = {code: one.goes_on_in for code, one in IN_BLOCK.items() if one.goes_on_in}
+WAITS_FOR = {code: STATES_WORDS[states] for code, states in {**COMPLETES, **BLOCK_GOES_ON}.items()}
 CHANNEL_CODES = range(0o64, 0o100)
-TWO_WORDS = (0o01, 0o02, *range(0o20, 0o24), *range(0o50, 0o60), 0o61, 0o63, *range(0o64, 0o70), 0o71, 0o73, 0o77)
-BLOCK_INPUT, BLOCK_OUTPUT = 0o71, 0o73
-CLOCK = 0o14  # the channel of the clock, which is always full
-# The states in which an instruction completes, and those in which a block goes on or ends: else it waits.
-COMPLETES = {0o70: "F", 0o72: "E", 0o74: "I", 0o75: "EFX", 0o76: "I", 0o77: "I"}
-BLOCK_GOES_ON = {BLOCK_INPUT: "IF", BLOCK_OUTPUT: "IE"}
 # The state of a channel that is not there: to a block it is inactive, and no other instruction completes on it.
 NOT_THERE, NOT_THERE_IN_BLOCK = "-", "I"
-WAITS_FOR = {0o70: "full", BLOCK_INPUT: "full", 0o72: "empty", BLOCK_OUTPUT: "empty", 0o74: "inactive", 0o75: "active",
-             0o76: "inactive", 0o77: "inactive"}
 
 
 class Processor:
@@ -29,6 +139,11 @@ class Processor:
         self.instruction = self.phase or int(words[0], 8)
         self.code = self.instruction >> 6
         self.channel = self.instruction & 0o77
+
+    @property
+    def row(self):
+        """The row of the table that says what its turn does; in a block transfer that of a turn that goes on."""
+        return IN_BLOCK[self.code] if self.phase else INSTRUCTIONS[self.code]
 
     @property
     def name(self):
@@ -44,7 +159,7 @@ class Processor:
     @property
     def goes_on_in(self):
         """The states of its channel in which its turn is no wait; None if it never waits."""
-        return (BLOCK_GOES_ON if self.phase else COMPLETES).get(self.code)
+        return self.row.goes_on_in
 
     def uses(self, channel):
         return self.code in CHANNEL_CODES and self.channel == channel
@@ -66,6 +181,21 @@ class Processor:
         if self.channel < len(states):
             return states[self.channel]
         return NOT_THERE_IN_BLOCK if self.phase else NOT_THERE
+
+    def cells(self, symbol, cell):
+        """Returns the address of the first cell that a letter of the table means, and how many they are; None if it means no
+        cells. The function `cell` returns the number in a cell of this processor."""
+        if symbol == "X":
+            return self.operand(cell), 1
+        first = {"D": self.channel, "I": self.channel, "B": int(self.registers["P"], 8), "R": 0}.get(symbol[0])
+        return None if first is None else (first, int(symbol[1:] or "1"))
+
+    def operand(self, cell):
+        """Returns the address of the operand cell: d, or that in cell d, or m indexed by cell d."""
+        if 0o30 <= self.code < 0o50:
+            return self.channel if self.code < 0o40 else cell(self.channel)
+        address = int(self.words[1], 8) + (cell(self.channel) if self.channel else 0)
+        return address if address < CELLS else address - (CELLS - 1)
 
 
 def processor_at(console, number, registers=None):

@@ -1,23 +1,13 @@
 """The machine's state, read from the answers to one batch of dumps. Every number stays the octal digits of its answer."""
 
-import re
 from typing import NamedTuple
 
-from .console import CLOCK, PROCESSORS
+from .answers import CELLS, CLOCK, FORMS, PROCESSORS, REGISTERS, ROW, Place
 from .failure import Failure
 from .instructions import Processor
 
-CELLS = 0o10000
-ROW = 8  # cells in a row of a dump
-NAMES_OF_STATES = {"I": "inactive", "E": "empty", "F": "full", "X": "function"}
-
-PROCESSOR = re.compile("PP ([0-7]{2}) P ([0-7]{4}) A ([0-7]{6}) Q ([0-7]{4}) PHASE ([0-7]{4}) SLOT ([0-7]{2})")
-CELL_ROW = re.compile("[0-7]{4}( [0-7]{4}){8}")
-CHANNEL = re.compile("H ([0-7]{2}) ([IEFX]) ([0-7]{4})")
-CENTRAL = re.compile("C ([0-7]{6}) ([0-7]{20})")
-READER = re.compile("CR H ([0-7]{2}) CARD ([0-7]{4}) OF ([0-7]{4}) COLUMN ([0-7]{3}) MODE ([A-Z]+)")
-PRINTER = re.compile("LP H ([0-7]{2}) SYMBOLS ([0-7]{6}) COLUMN ([0-7]{3}) MODE ([A-Z]+)")
-WATCH = re.compile("W (NONE|M [0-7]{2} [0-7]{4}|[APQH] [0-7]{2}|C [0-7]{6})")
+ROWS = CELLS // ROW  # of a memory
+COUNTS = {"PP": PROCESSORS, "H": CLOCK + 1, "LP": 1, "CR": 1, "W": None, "C": None}  # of lines, if it is known
 
 
 class Channel(NamedTuple):
@@ -90,69 +80,32 @@ def questions(central=None):
     return lines + ["DUMP CR"]
 
 
-class Answers:
-    """The lines of answers, taken one after another."""
-
-    def __init__(self, lines):
-        self.lines = lines
-        self.at = 0
-
-    def next_is(self, beginning):
-        return self.at < len(self.lines) and self.lines[self.at].startswith(beginning)
-
-    def take(self, pattern):
-        """Returns the parts of the next line, which must have this form."""
-        text = self.lines[self.at] if self.at < len(self.lines) else ""
-        found = pattern.fullmatch(text)
-        if not found:
-            raise Failure(f"what is run is not the simulator: it answers {text[:60]!r} to a dump")
-        self.at += 1
-        return found.groups()
-
-    def take_rows(self):
-        """Returns the rows of a whole memory."""
-        rows = self.lines[self.at:self.at + CELLS // ROW]
-        if len(rows) < CELLS // ROW or not CELL_ROW.fullmatch(rows[0]) or not CELL_ROW.fullmatch(rows[-1]):
-            raise Failure("what is run is not the simulator: a dump of a memory is not one")
-        self.at += len(rows)
-        return rows
-
-    def take_paper(self):
-        """Returns the lines of paper. They may be many, and what comes after them is little, so their end is looked for."""
-        first, self.at = self.at, len(self.lines)
-        while self.at > first and not self.lines[self.at - 1].startswith(("|", "/")):
-            self.at -= 1
-        return self.lines[first:self.at]
-
-
 class MachineState:
     """A whole state of the machine: `slot`, `processors`, `memories`, `channels` (the clock is the last), `watches`,
     `printer`, `reader`, and `central`: the central words that were asked for, by their addresses."""
 
     def __init__(self, lines):
         """The lines are the answers to the lines of `questions`."""
-        answers = Answers(lines)
-        self.processors, self.memories = [], []
-        for _ in range(PROCESSORS):
-            self._take_processor(answers)
-        self.channels = [Channel(*answers.take(CHANNEL)) for _ in range(CLOCK + 1)]
-        self._places = []
-        while answers.next_is("W "):
-            self._places += [place for place in answers.take(WATCH) if place != "NONE"]
-        self.printer = Printer(*answers.take(PRINTER), answers.take_paper())
+        rows, paper, others = [], [], []
+        for line in lines:
+            (rows if line[:1].isdigit() else paper if line[:1] in "|/" else others).append(line)
+        found = {form: [parts.groups() for parts in map(FORMS[form].fullmatch, others) if parts] for form in COUNTS}
+        if len(rows) != PROCESSORS * ROWS or any(len(found[form]) != count for form, count in COUNTS.items() if count):
+            raise Failure(f"what is run is not the simulator: its answers to dumps begin with {lines[0][:60]!r}")
+        self.memories = [Memory(rows[ROWS * number:ROWS * (number + 1)]) for number in range(PROCESSORS)]
+        self.processors = [self._processor(*parts) for parts in found["PP"]]
+        self.slot = int(found["PP"][0][-1], 8)
+        self.channels = [Channel(*parts) for parts in found["H"]]
+        self._places = [Place.parse(place) for place, in found["W"] if place != "NONE"]
+        self.printer = Printer(*found["LP"][0], paper)
+        self.reader = Reader(*found["CR"][0])
         self.central = {}
-        while answers.next_is("C "):
-            self.add_central(answers.take(CENTRAL))
-        self.reader = Reader(*answers.take(READER))
+        for line in found["C"]:
+            self.add_central(line)
 
-    def _take_processor(self, answers):
-        _, *registers, slot = answers.take(PROCESSOR)
-        memory = Memory(answers.take_rows())
-        address = int(registers[0], 8)
-        registers = dict(zip(("P", "A", "Q", "PHASE"), registers))
-        self.slot = int(slot, 8)
-        self.memories.append(memory)
-        self.processors.append(Processor(registers, [memory.word(address), memory.word(address + 1)]))
+    def _processor(self, number, *registers):
+        memory, address = self.memories[int(number, 8)], int(registers[0], 8)
+        return Processor(dict(zip(REGISTERS, registers)), [memory.word(address), memory.word(address + 1)])
 
     def add_central(self, line):
         """Adds a central word: its address and its digits."""
@@ -161,23 +114,23 @@ class MachineState:
 
     def missing_central(self):
         """Returns the addresses of watched central words that were not asked for."""
-        addresses = [int(place[2:], 8) for place in self._places if place.startswith("C ")]
-        return [address for address in addresses if address not in self.central]
+        return [place.numbers[0] for place in self._places if place.kind == "C" and place.numbers[0] not in self.central]
 
     @property
     def watches(self):
-        return [Watch(place, self.number(place)) for place in self._places]
+        return [Watch(place.text, self.number_at(place)) for place in self._places]
 
     def watched_cells(self, processor):
         """Returns the addresses of the watched cells of a processor."""
-        beginning = f"M {processor:02o} "
-        return [int(place[5:], 8) for place in self._places if place.startswith(beginning)]
+        return [place.numbers[1] for place in self._places if place.kind == "M" and place.numbers[0] == processor]
 
     def number(self, place):
-        """Returns the digits of the number at a place, as DUMP W writes it; None if it is a central word that was not
-        asked for."""
-        kind, *numbers = place.split()
-        numbers = [int(number, 8) for number in numbers]
+        """As `number_at`, of a place by its text, as M 0 106."""
+        return self.number_at(Place.parse(place))
+
+    def number_at(self, place):
+        """Returns the digits of the number at a place; None if it is a central word that was not asked for."""
+        kind, numbers = place
         if kind == "M":
             return self.memories[numbers[0]].word(numbers[1])
         if kind == "C":

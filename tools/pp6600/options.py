@@ -5,6 +5,7 @@ import os
 import re
 import sys
 
+from .answers import CELLS, CLOCK, PROCESSORS
 from .ending import write
 from .failure import Failure
 
@@ -93,15 +94,15 @@ def up_to(text, most, what):
 
 
 def processor(text):
-    return up_to(text, 0o11, "processor")
+    return up_to(text, PROCESSORS - 1, "processor")
 
 
 def cell(text):
-    return up_to(text, 0o7777, "cell")
+    return up_to(text, CELLS - 1, "cell")
 
 
 def channel(text):
-    return up_to(text, 0o14, "channel")
+    return up_to(text, CLOCK, "channel")
 
 
 def count(text):
@@ -109,18 +110,6 @@ def count(text):
     if number == 0:
         raise BadWord("a count is 1 or more")
     return number
-
-
-def place_of(words):
-    """Returns the place that the words begin with, as M 0 106 or A 0, and the words after it."""
-    kind = words[0].upper() if words else ""
-    length = 3 if kind == "M" else 2
-    if kind not in ("M", "A", "P", "Q", "C", "H") or len(words) < length:
-        raise Failure("a place is M n a, A n, P n, Q n, C a or H c, as on a console line")
-    for number in words[1:length]:
-        if not re.fullmatch("[0-7]+", number):
-            raise Failure(f"{number} is not octal")
-    return " ".join(words[:length]).upper(), words[length:]
 
 
 def words_after(words, most, what):

@@ -35,7 +35,7 @@ def built(program):
     top, name = os.path.split(os.path.realpath(program))
     if os.sep not in program or name != "pp6600" or not os.path.exists(os.path.join(top, "crates.txt")):
         return program
-    done = subprocess.run([os.path.join(top, "share", "which-build")], stdin=subprocess.DEVNULL, stdout=subprocess.PIPE, check=False)
+    done = subprocess.run(os.path.join(top, "share", "which-build"), stdin=subprocess.DEVNULL, stdout=subprocess.PIPE, check=False)
     if done.returncode:
         raise Failure(f"{program} has no simulator to run; the line above says why")
     return os.fsdecode(done.stdout.splitlines()[0])
@@ -149,6 +149,9 @@ class Pipe:
             return self.process.wait(patience())
         except subprocess.TimeoutExpired:
             raise self.stopped(f"{self.program} does not end after the end of its input") from None
+        finally:
+            self.process.stdout.close()
+            self.process.stderr.close()
 
     def end(self):
         """As `close`, and passes on what the program wrote to standard error."""

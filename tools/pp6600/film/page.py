@@ -2,72 +2,113 @@
 
 import html
 import os
+import re
+import secrets
+import shlex
 
 from ..display_code import SYMBOLS
 from ..failure import Failure
 from .data import encode
 from .places import LAYOUT, MODES
-from .run import TURN
-from ..instructions import BLOCK_GOES_ON, COMPLETES, NAMES, NOT_THERE, NOT_THERE_IN_BLOCK, TWO_WORDS, WAITS_FOR
-from ..replay import take
-from ..text_files import script_lines
+from ..instructions import BLOCK_GOES_ON, COMPLETES, IN_BLOCK, NAMES, NOT_THERE, NOT_THERE_IN_BLOCK, TWO_WORDS, WAITS_FOR
+from ..options import OPTIONS
+from ..text_files import bytes_of, lines_of
 
-HERE = os.path.dirname(os.path.abspath(__file__))
-BLOCK_CODES = (0o61, 0o63, 0o71, 0o73)
+WEB = os.path.join(os.path.dirname(os.path.abspath(__file__)), "web")
+SCRIPTS = ("state", "places", "machine", "lanes", "controls")  # the page's script, in the order in which it is joined
 LONGEST_ANSWER = 40  # lines of one that a page keeps
 
 
-def template(ending):
-    with open(os.path.join(HERE, f"page.{ending}"), encoding="utf-8") as file:
-        return file.read()
+def part_of_page(name):
+    with open(os.path.join(WEB, name), encoding="utf-8") as file:
+        return file.read().rstrip()
 
 
 def page(title, text):
     """Returns the page of a film with this text."""
-    whole = template("html")
-    parts = {"<!--title-->": html.escape(title), "/*--style--*/": template("css").rstrip(),
-             "/*--script--*/": template("js").rstrip(), "<!--film-->": text}
-    for mark, part in parts.items():
-        whole = whole.replace(mark, part)
-    return whole
+    parts = {"<!--title-->": html.escape(title), "/*--style--*/": part_of_page("page.css"), "<!--film-->": text,
+             "/*--script--*/": "\n\n".join(part_of_page(f"{name}.js") for name in SCRIPTS)}
+    marks = "|".join(map(re.escape, parts))
+    return re.sub(marks, lambda mark: parts[mark[0]], part_of_page("page.html")) + "\n"
+
+
+def readable(text):
+    """Returns a word of the command line without what is not UTF-8."""
+    return text.encode("utf-8", "surrogateescape").decode("utf-8", "replace")
+
+
+def heading(title, script):
+    """Returns the heading of a page: the title that was asked for, or else the name of the script's file."""
+    return readable(title or "") or name_of(script, "standard input")
 
 
 def write_page(path, text):
-    """Writes a file, or leaves none behind. What is no plain file, as a pipe, is written to as it is."""
-    part = path if os.path.exists(path) and not os.path.isfile(path) else f"{path}.part"
+    """Writes a file whole, or leaves it as it was. What is no plain file, as a pipe, is written to as it is."""
+    data = text.encode("utf-8")
     try:
-        with open(part, "w", encoding="utf-8") as file:
-            file.write(text)
-        os.replace(part, path)
+        if os.path.exists(path) and not os.path.isfile(path):
+            with open(path, "wb") as file:
+                file.write(data)
+        else:
+            replace_file(os.path.realpath(path), data)
     except OSError as error:
-        if part != path and os.path.exists(part):
-            os.remove(part)
         raise Failure(f"can't write {path}: {error.strerror}") from error
 
 
-def text_of(film, given):
-    """Returns the text of a film; `given` has the deck and the panel."""
-    return encode({**tables(), **given, **of_machine(film), **of_script(film)}, film.moments)
+def replace_file(path, data):
+    """Puts a fresh file with these bytes in the place of a file."""
+    fresh = f"{path}.{secrets.token_hex(4)}.part"
+    file = os.open(fresh, os.O_WRONLY | os.O_CREAT | os.O_EXCL, 0o666)
+    try:
+        with open(file, "wb") as opened:
+            opened.write(data)
+        os.replace(fresh, path)
+    except BaseException:
+        os.remove(fresh)
+        raise
+
+
+def text_of(film, asked, script):
+    """Returns the text of a film of the script, which is given as bytes, with the options that were asked for."""
+    given = carried(asked, script)
+    return encode({**tables(), **given, **setup(given["files"]), **of_machine(film), **of_script(film)}, film.moments)
 
 
 def tables():
     """What the page has to know of the machine."""
-    return {"layout": LAYOUT, "names": NAMES, "two_words": TWO_WORDS, "block_codes": BLOCK_CODES, "completes": COMPLETES,
+    return {"layout": LAYOUT, "names": NAMES, "two_words": TWO_WORDS, "block_codes": list(IN_BLOCK), "completes": COMPLETES,
             "blocks": BLOCK_GOES_ON, "waits_for": WAITS_FOR, "not_there": [NOT_THERE, NOT_THERE_IN_BLOCK], "symbols": SYMBOLS,
             "modes": MODES}
 
 
-def words_of(path):
+def carried(asked, script):
+    """What the page carries of the run's files: their bytes, as characters, and how one runs them again. `asked` has the
+    options, and the names of the files or None; `script` is the bytes of the script."""
+    files = [{"kind": "script", "name": name_of(asked.script, "script"), "bytes": script.decode("latin-1")}]
+    words = ["pp6600"]
+    for option in OPTIONS:
+        value = getattr(asked, option)
+        if value is not None and option in ("deck", "panel"):
+            files.append({"kind": option, "name": name_of(value, option), "bytes": bytes_of(value).decode("latin-1")})
+            value = files[-1]["name"]
+        words += [] if value is None else [f"--{option}", value]
+    return {"files": files, "again": " ".join(map(shlex.quote, [*words, files[0]["name"]]))}
+
+
+def name_of(path, otherwise):
+    return readable(os.path.basename(path or "")) or otherwise
+
+
+def octal_rows(text):
     """The words of each line of a deck or panel file, which the simulator has accepted."""
-    if path is None:
-        return []
-    rows = [line.split() for line in script_lines(path)]
+    rows = [line.split() for line in lines_of(text)]
     return [[int(word, 8) for word in row] for row in rows if row and not row[0].startswith("*")]
 
 
-def setup(deck, panel):
-    """What the simulator was given, for the page; both are names of files, or None."""
-    return {"deck": words_of(deck), "panel": [word for row in words_of(panel) for word in row]}
+def setup(files):
+    """The cards and the panel that the simulator was given."""
+    rows = {file["kind"]: octal_rows(file["bytes"]) for file in files if file["kind"] != "script"}
+    return {"deck": rows.get("deck", []), "panel": [word for row in rows.get("panel", []) for word in row]}
 
 
 def of_machine(film):
@@ -79,7 +120,7 @@ def of_machine(film):
 def of_script(film):
     """The lines of the script with their answers and moments, and how many turns are in effect where the film begins and
     where it jumps."""
-    turns = turns_in_effect(film.transcript)
+    turns = film.transcript.turns
     numbers = {first: number for number, first in film.first_moments.items()}
     begins = turns[min(film.first_moments)][0] + film.turns_passed if film.first_moments else 0
     return {"lines": list(lines(film)), "turns_before": begins,
@@ -98,28 +139,3 @@ def lines(film):
         yield {"text": line.encode("latin-1").decode("utf-8", "replace").rstrip("\r"),
                "answer": answer[:LONGEST_ANSWER] + more, "acts": first is not None,
                "first": last if first is None else first, "moment": last}
-
-
-def turns_in_effect(transcript):
-    """How many turns are in effect before and after each line that did something."""
-    done, ahead, turns, now = [], [], {}, 0
-    for number, kind, count in transcript.actions():
-        before, word = now, transcript.lines[number][0].upper().split()[0]
-        if word == "BACK":
-            moved = take(done, count)
-            now -= turns_of(moved)
-            ahead += moved
-        elif word == "FORWARD":
-            moved = take(ahead, count)
-            now += turns_of(moved)
-            done += moved
-        else:
-            done.append(("STEP" if kind == TURN else word, count))
-            now += turns_of(done[-1:])
-            ahead.clear()
-        turns[number] = before, now
-    return turns
-
-
-def turns_of(actions):
-    return sum(times for line, times in actions if line == "STEP")

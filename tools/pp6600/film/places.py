@@ -2,14 +2,9 @@
 
 A word of sixty bits has two places: for its upper and its lower thirty bits."""
 
-PROCESSORS = 10
-CELLS = 0o10000
-CHANNELS = 12
-FRAME_WORDS = 16
-REGISTERS = ("P", "A", "Q", "PHASE")
-STATES = "IEFX"  # of a channel, as DUMP H has them: 0 to 3
+from ..answers import CELLS, CHANNELS, FRAME_WORDS, PROCESSORS, REGISTERS
+
 MODES = {"reader": ("IDLE", "READING", "STATUS", "SENT"), "printer": ("IDLE", "PRINTING", "STATUS", "SENT")}
-CENTRAL_ADDRESSES = 0o1000000
 
 
 def _layout():

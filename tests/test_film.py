@@ -1,0 +1,171 @@
+"""Tests tools/film: what it writes and says, that docs/films has what it makes today, and a long run.
+
+Other expected values are those of docs/FILM.md and of the run's own files.
+"""
+
+import os
+import re
+import stat
+import subprocess
+import unittest
+from unittest import mock
+
+from tests.films import FOLDER, SHOWN, FilmCase, PageCase, about, film_text, random_session, shown_film
+from tests.support import TOP, program, read, run, tool
+
+from pp6600.failure import Failure
+from pp6600.film.camera import Film, Transcript
+from pp6600.film.data import decode
+from pp6600.film.footprint import Footprint
+from pp6600.film.page import SCRIPTS, page
+from pp6600.film.places import LAYOUT
+from pp6600.run import Run
+
+RANDOM_WORDS = ("--central", "32", "--panel", f"{TOP}/examples/dead-start/panel", "--deck", f"{TOP}/examples/read-a-deck/deck")
+BYTE = "\udcff"  # a byte of a command line that is not UTF-8, as Python has it
+
+
+def filmed(words, lines, skipped=0):
+    film = Film(words, Transcript(words, lines), 0o12, 0o13)
+    film.shoot(skipped)
+    return film
+
+
+class Camera(unittest.TestCase):
+    """How a run is filmed."""
+
+    def setUp(self):
+        self.words = [program(), *RANDOM_WORDS]
+        self.lines = random_session(3)
+
+    def test_fresh_simulators(self):
+        """A film that goes on in fresh simulators is the same, and one that begins late has the same end."""
+        whole = filmed(self.words, self.lines)
+        with mock.patch.object(Run, "most_lines", 700):
+            self.assertEqual(whole.moments, filmed(self.words, self.lines).moments)
+        late = filmed(self.words, self.lines, len(whole.moments) // 2)
+        paper = LAYOUT["paper"]
+        self.assertEqual(whole.machine.numbers[:paper], late.machine.numbers[:paper])
+
+    def test_a_change_that_was_not_dumped(self):
+        with mock.patch.object(Footprint, "_add", lambda *_: None), self.assertRaisesRegex(Failure, "^a change was overlooked"):
+            filmed(self.words, ["SET M 0 0 1405 3420", "STEP 20"])
+
+
+class Tool(FilmCase):
+    """What the tool writes and says."""
+
+    def test_failures(self):
+        """One line in plain words, status 2, and no file."""
+        room = self.room()
+        path = os.path.join(room, "none.html")
+        for words, script in (((), "STEP\n"), (("-o", f"{room}/no/folder.html"), "STEP\n"), (("-o", path, "no-such-file"), ""),
+                              (("-o", path), "STEP 1000000\nSTEP\n"), (("-o", path, "--last", "9"), "STEP\n"), (("-o", room), "STEP\n"),
+                              (("-o", path, "--deck", "no-such-file"), "STEP\n"), (("-o", path, "--reader", "99"), "STEP\n"),
+                              (("-o", path, "--program", "no-such-program"), "STEP\n")):
+            with self.subTest(words=words):
+                done = tool("film", *words, script=script)
+                self.assertEqual((2, 1, False), (done.status, done.err.count("\n"), "Traceback" in done.err))
+        self.assertEqual([], os.listdir(room))
+
+    def test_pipe(self):
+        """A page goes through a pipe, which stays one."""
+        pipe = os.path.join(self.room(), "pipe")
+        os.mkfifo(pipe)
+        with subprocess.Popen(["cat", pipe], stdout=subprocess.PIPE) as reader:
+            self.assertEqual(("", "", 0), tool("film", "-o", pipe, script="STEP\n"))
+            self.assertTrue(reader.stdout.read().endswith(b"</html>\n"))
+        self.assertTrue(stat.S_ISFIFO(os.stat(pipe).st_mode))
+        piped = run("bash", "-c", "tools/film -o /dev/stdout | tail -n 1", script="STEP\n")
+        self.assertEqual(("</html>\n", "", 0), piped)
+
+    def test_central_memory_of_a_number_in_another_form(self):
+        self.film("--central", "032", script="SET A 0 100000\nSET M 0 0 6200\nSTEP\n")
+
+    def test_links(self):
+        """Nothing is written through a link at the name of a part; the file that the output's link names is replaced."""
+        room = self.room()
+        other, target, link = (os.path.join(room, name) for name in ("other", "target.html", "film.html"))
+        for path in other, target:
+            with open(path, "w", encoding="ascii") as file:
+                file.write("kept")
+        os.symlink(other, f"{link}.part")
+        os.symlink(target, link)
+        self.assertEqual(("", "", 0), tool("film", "-o", link, script="STEP\n"))
+        self.assertEqual("kept", read(other))
+        self.assertTrue(os.path.islink(link) and read(target).startswith("<!DOCTYPE html>"))
+        self.assertEqual(["film.html", "film.html.part", "other", "target.html"], sorted(os.listdir(room)))
+
+    def test_a_page_that_can_not_be_written_whole(self):
+        """What was there before stays."""
+        path = self.film(script="STEP\n")
+        before = read(path)
+        done = run("bash", "-c", 'ulimit -f 8; exec "$@"', "bash", os.path.join(TOP, "tools", "film"), "-o", path, script="STEP 3\n")
+        self.assertEqual((2, f"film: can't write {path}: File too large\n"), (done.status, done.err))
+        self.assertEqual((before, ["film.html"]), (read(path), os.listdir(os.path.dirname(path))))
+
+    def test_headings(self):
+        """The title that was asked for, or the name of the script's file without its folders; never the page's own source."""
+        room = self.room()
+        script, odd = os.path.join(room, "a <script>"), os.path.join(room, f"b{BYTE}")
+        for path in script, odd:
+            with open(path, "w", encoding="ascii") as file:
+                file.write("STEP\n")
+        for words, wanted in (((script,), "a &lt;script&gt;"), ((odd,), "b\ufffd"), (("--title", f"c{BYTE}", script), "c\ufffd"), ((), "standard input"),
+                              (("--title", "/*--script--*/<!--film-->"), "/*--script--*/&lt;!--film--&gt;")):
+            with self.subTest(words=words):
+                made = read(self.film(*words, script="STEP\n"))
+                self.assertEqual([wanted] * 2, re.findall(r"<(?:title|h1)>(.*?)</", made))
+
+    def test_one_page_of_five_scripts(self):
+        """The page's script is all files of its folder, each once, and no mark of the template is left."""
+        folder = os.path.join(TOP, "tools", "pp6600", "film", "web")
+        self.assertEqual(sorted(f"{name}.js" for name in SCRIPTS), sorted(name for name in os.listdir(folder) if name.endswith(".js")))
+        made = page("title", "text")
+        for name in SCRIPTS:
+            self.assertEqual(1, made.count(read(folder, f"{name}.js").strip()))
+        self.assertEqual([], re.findall(r"<!--\w+-->|/\*--\w+--\*/", made))
+
+    def test_files_of_the_run(self):
+        """The page has the script, the deck and the panel byte for byte, and how one runs them again."""
+        room = self.room()
+        contents = {"script": b"STEP 3\r\n* caf\xe9 \xff\nGO", "deck": b"* one card\n0001 0002\n", "my panel": b"1 2 3 4 5 6\n7 10 11 12 13 14\n"}
+        for name, data in contents.items():
+            with open(os.path.join(room, name), "wb") as file:
+                file.write(data)
+        words = ("--deck", f"{room}/deck", "--panel", f"{room}/my panel", "--central", "32")
+        kept = about(read(self.film(*words, f"{room}/script")))
+        self.assertEqual(contents, {file["name"]: file["bytes"].encode("latin-1") for file in kept["files"]})
+        self.assertEqual(["script", "deck", "panel"], [file["kind"] for file in kept["files"]])
+        self.assertEqual("pp6600 --central 32 --deck deck --panel 'my panel' script", kept["again"])
+        self.assertEqual(([[1, 2]], [*range(1, 13)]), (kept["deck"], kept["panel"]))
+        typed = about(read(self.film(script="STEP\n")))
+        self.assertEqual(([{"kind": "script", "name": "script", "bytes": "STEP\n"}], "pp6600 script"), (typed["files"], typed["again"]))
+
+    def test_docs_films(self):
+        """docs/films has what tools/film makes today. Only the deflated bytes may differ, by the zlib that made them."""
+        for name in SHOWN:
+            pages = read(shown_film(name)), read(FOLDER, f"{name}.html")
+            with self.subTest(name, part="page"):
+                self.assertEqual(*(re.sub(r'(?s)(id="film">\n).*?(\n</script>)', r"\1\2", page) for page in pages))
+            with self.subTest(name, part="film"):
+                self.assertEqual(*(decode(film_text(page)) for page in pages))
+
+
+class Long(PageCase):
+    """100,000 (decimal) turns of a program in each processor that stores, counts and jumps."""
+
+    needs_browser = False
+
+    def test_long(self):
+        """Less than 10 MB, and five moves through it in less than a second."""
+        words = "1405 3460 3060 3161 1003 1277 5450 200 3650 1277 3450 5550 300 562 361".split()
+        lines = [f"SET M {n:o} {0o100 + at:o} {' '.join(words[at:at + 8])}" for n in range(10) for at in (0, 8)]
+        lines += [f"SET P {n:o} 100" for n in range(10)] + [f"STEP {100000:o}"]
+        path = self.film(script="\n".join(lines))
+        self.assertLess(os.path.getsize(path), 10_000_000)
+        if self.browser:
+            self.browser.open(path)
+            took = self.value("(() => { const start = performance.now(); for (const at of [0.9, 0.1, 0.5, 1, 0]) "
+                              "moveTo(Math.floor(at * (film.count - 1))); return performance.now() - start; })()")
+            self.assertLess(took, 1000)

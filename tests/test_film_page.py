@@ -1,0 +1,375 @@
+"""Tests the page of a film in a browser: what it shows, where it opens, and what its keys and controls do.
+
+Expected values are those of README.md, docs/FILM.md, docs/EXERCISES.md, docs/MACHINE.md and the notes of the examples.
+"""
+
+import itertools
+import json
+import os
+import re
+
+from tests.films import PageCase, shown_film, text_of
+
+from pp6600.instructions import Processor
+
+CHOSEN = "byId('chosen-text').textContent"
+TURN_AND_PLACE = "[film.turn[film.at], shown.chosen && shown.chosen.name]"
+# In the page: for what PP 00 waits with a word at P or as its phase, where all channels have one state.
+WAIT = """([word, state, count, phase]) => {
+  const numbers = film.numbers;
+  [numbers[0], numbers[register(0, 1)], numbers[register(0, 3)]] = phase ? [0, count, word] : [word, count, 0];
+  numbers.fill(STATES.indexOf(state), film.layout.states, film.layout.states + CHANNELS);
+  return waitText(0);
+}"""
+# In the page: the controls that are seen and smaller than 32 pixels.
+SMALL = """[...document.querySelectorAll("button, select, input")].filter((one) => one.offsetParent
+  && (one.getBoundingClientRect().width < 32 || one.getBoundingClientRect().height < 32)).map((one) => one.outerHTML)"""
+# In the page: what is wider than its room and neither wraps, ends with a mark, nor has a line that says so.
+CUT = """[...document.querySelectorAll("body *")].filter((one) => one.offsetParent && one.scrollWidth > one.clientWidth + 1
+  && getComputedStyle(one).overflowX !== "visible" && getComputedStyle(one).textOverflow !== "ellipsis"
+  && !(one.previousElementSibling?.matches(".sign") && /more.*→/.test(one.previousElementSibling.innerText))).map((one) => one.outerHTML.slice(0, 200))"""
+COUNTER = "SET M 0 100 1405 3420 300\nSET P 0 100\n"  # LDN 5, STD 20, UJN 0
+
+
+def processor_line(n):
+    """In the page: the processor's registers, as DUMP PP has them."""
+    return (f"['P', 'A', 'Q', 'PHASE'].map((name) => `${{name}} ${{textAt(placeNamed(`${{name}} {n}`))}}`).join(' ')"
+            " + ' SLOT ' + textAt(placeNamed('SLOT'))")
+
+
+class Answers(PageCase):
+    """What a page answers."""
+
+    def click_line(self, text):
+        self.value(f"[...document.querySelectorAll('#script .line')].find((line) => line.textContent === '{text}').click()")
+
+    def test_loader(self):
+        """README.md: after 1300 turns and a WATCH, BACK W takes back 675 actions, to before a turn of PP 00 in its block input."""
+        self.browser.open(shown_film("overwritten-loader"))
+        self.click_line("STEP 1300")
+        self.browser.key("/")
+        self.browser.write("m 0 106")
+        self.browser.key("Enter")
+        turn = 0o1301 - 0o675 + 1
+        self.assertIn(f"turn {turn:o}, by PP 00, in the block of IAM 12 at 0104.", self.value(CHOSEN))
+        self.browser.key("[")
+        self.assertEqual([turn, "M 00 0106"], self.value(
+            "[film.turn[film.at], document.querySelector('#memory button.changed').place.name]"))
+        self.browser.key("ArrowLeft")
+        self.assertEqual("P 0106 A 000051 Q 0000 PHASE 7112 SLOT 00", self.value(processor_line(0)))
+        self.browser.click("#memory button[data-place='M 00 0100']")
+        self.browser.key("[")
+        self.assertEqual(turn - 0o75 + 1, self.value("film.turn[film.at]"))
+        self.browser.key("]")
+        self.assertIn("No change before the line BACK W, which goes back.", self.value(CHOSEN))
+
+    def test_handshake(self):
+        """The notes of examples/handshake: after 1000 turns PP 00 waits at 0105 for the answer on channel 06, PP 01 at 0103 for
+        the question on channel 05; the OAN at 0102 put the question there, and DCN 05 disconnected a full channel."""
+        self.browser.open(shown_film("handshake"))
+        self.click_line("STEP 1000")
+        rows = "[...document.querySelectorAll('#processors tbody tr')].slice(0, 2).map((row) => row.innerText.split(/\\s+/).slice(-2).join(' '))"
+        self.assertEqual(["06 full", "05 full"], self.value(rows))
+        self.assertEqual([1, 1], self.value("lanes.all.slice(0, 2).map((lane) => lane.kinds[lane.begins.findLastIndex((at) => at <= film.at)])"))
+        self.browser.click("#channels button[data-place='H 05']")
+        self.browser.key("[")
+        self.assertIn("by PP 00, OAN 05 at 0102.", self.value(CHOSEN))
+        self.browser.click("#channels button[data-place='STATE 05']")
+        self.browser.key("]")
+        self.assertEqual("PP 00, DCN 05 at 0103", self.value("turnText(film.at)"))
+        self.value("scrollTo(0, 0)")
+        self.browser.click_at(*self.value("(() => { const box = byId('picture').getBoundingClientRect(); return [box.x + LABEL + pictureWidth() / 2, box.y + 40]; })()"))
+        self.assertTrue(self.value("Math.abs(film.at - film.count / 2) <= 2"), "a click in the middle of a lane")
+
+    def test_exercise(self):
+        """docs/EXERCISES.md, the exercise with a film alone: what its answers say."""
+        self.browser.open(self.film("exercises/who-wrote-it/script"), f"#turn={0o2000:o}")
+        last = "changeBefore(momentsThatChanged(placeNamed('{}').places), film.count - 1)"
+        for place, turn, text in (("C 1005", 0o65, "PP 02, in the block of CWM 30 at 0102"), ("C 1002", 0o27, None),
+                                  ("C 1003", 0o41, None), ("C 1004", 0o53, None), ("P 2", 0o77, None)):
+            with self.subTest(place):
+                self.value(f"moveTo({last.format(place)})")
+                self.assertEqual(turn, self.value("film.turn[film.at]"))
+                if text:
+                    self.assertEqual(text, self.value("turnText(film.at)"))
+        self.assertEqual("P 0104", self.value(processor_line(2))[:6])
+        self.value("choose(placeNamed('PHASE 2'))")
+        self.browser.key("[")
+        self.browser.key("[")
+        self.assertEqual([0o15, "0004"], self.value("[film.turn[film.at], textAt(placeNamed('M 2 30'))]"))
+
+    def test_each_wait(self):
+        """docs/MACHINE.md: in which state of its channel each instruction completes, and each block goes on or ends; what they
+        do on channel 14; and that there is no channel 15 to 77."""
+        completes = {0o70: ("F", "full"), 0o72: ("E", "empty"), 0o74: ("I", "inactive"), 0o75: ("EFX", "active"),
+                     0o76: ("I", "inactive"), 0o77: ("I", "inactive")}
+        blocks = {0o71: ("IF", "full"), 0o73: ("IE", "empty")}
+        self.browser.open(self.film(script="STEP\n"), "#moment=0")
+        cases, wanted = [], []
+        for code, channel, state, count, phase in itertools.product(range(0o100), (3, 0o14, 0o15, 0o77), "IEFX", (0, 1), (False, True)):
+            if phase and code not in (0o61, 0o63, 0o71, 0o73):
+                continue
+            goes_on, name = (blocks if phase else completes).get(code, ("IEFX", ""))
+            if channel == 0o14:
+                waits = code in (0o72, 0o74, 0o76, 0o77) if not phase else code == 0o73
+            elif channel > 0o14:
+                waits = name != "" and not phase
+            else:
+                waits = state not in goes_on
+            waits = waits and not (phase and count == 0)
+            wanted.append(f"{channel:02o} {name if channel < 0o14 else 'never'}" if waits else "")
+            cases.append((code << 6 | channel, state, count, phase))
+        self.assertEqual(wanted, self.value(f"{json.dumps(cases)}.map({WAIT})"), "in the film")
+        self.assertEqual(wanted, [
+            Processor({"A": f"{count:06o}", "PHASE": f"{word if phase else 0:04o}"}, [f"{0 if phase else word:04o}"])
+            .waits_for([state] * 12 + ["F"]) for word, state, count, phase in cases], "in the tools")
+
+
+class Controls(PageCase):
+    """Keys, fields and buttons."""
+
+    LAST = 2 + 0o1000 + 2  # the last moment
+
+    def open(self, address=""):
+        self.browser.open(self.film("--title", "<b>&", script=f"{COUNTER}STEP 1000\nBACK 10\nFORWARD 4\n"), address)
+
+    def test_keys(self):
+        """docs/FILM.md: what each key does."""
+        self.open("#moment=0")
+        self.assertEqual(["<b>&", "<b>&"], self.value("[document.title, document.querySelector('h1').textContent]"))
+        last = self.LAST
+        for key, shift, wanted in (
+                ("End", False, last), ("ArrowRight", False, last), ("ArrowLeft", False, last - 1), ("Home", False, 0), ("ArrowLeft", False, 0),
+                ("ArrowRight", False, 1), ("ArrowRight", False, 2), ("ArrowRight", True, 12), ("ArrowRight", True, 22), ("ArrowLeft", True, 12),
+                (".", False, 2 + 0o1000), (".", False, last - 1), (",", False, 2 + 0o1000), (",", False, 2), (",", False, 1)):
+            self.browser.key(key, shift)
+            with self.subTest(key=key, shift=shift):
+                self.assertEqual(wanted, self.value("film.at"))
+        self.value(f"moveTo({last - 1})")
+        self.assertEqual([0o770, "BACK 10 SLOT 04"], self.value("[film.turn[film.at], lineOf(film.at).answer[0]]"))
+        self.value("moveTo(0); byId('rate').value = 4")
+        self.browser.key(" ")
+        self.value("new Promise((done) => setTimeout(done, 600))")
+        self.assertEqual([last, None], self.value("[film.at, shown.playing]"))
+
+    def test_turns(self):
+        """A turn is typed; a wrong one says so."""
+        self.open("#moment=0")
+        shown = "[film.at, byId('no-turn').innerText, byId('turn').getAttribute('aria-invalid')]"
+        for word, wanted in (("13", [2 + 0o13, "", "false"]), ("9", [2 + 0o13, "not an octal number", "true"]),
+                             ("77777", [self.LAST, "the last turn is 1000", "true"]), ("x", [self.LAST, "not an octal number", "true"]),
+                             ("1000", [2 + 0o1000, "", "false"])):
+            self.browser.key("g")
+            self.browser.write(word)
+            self.browser.key("Enter")
+            with self.subTest(word):
+                self.assertEqual(wanted, self.value(shown))
+            self.browser.key("Escape")
+        for address, wanted in (("#turn=1001", "the last turn is 1000"), ("#turn=18", "not an octal number"), ("#turn=20", "")):
+            self.value(f"location.hash = '{address}'; followAddress()")
+            with self.subTest(address):
+                self.assertEqual(wanted, self.value("byId('no-turn').innerText"))
+        self.browser.open(self.film("--last", "10", script="STEP 100\n"), "#turn=5")
+        self.assertEqual([0, "the film begins at turn 70"], self.value(shown)[:2])
+
+    def test_place_box(self):
+        """docs/FILM.md: the box of the place has the name of the number that was clicked; what it says if there is no such place."""
+        self.open("#moment=0")
+        shown = ("[byId('place').value, shown.chosen && shown.chosen.name, byId('no-place').innerText, byId('place').getAttribute('aria-invalid')"
+                 ", document.activeElement.id]")
+        self.assertEqual(["", "M 0 106"], self.value("[byId('place').value, byId('place').placeholder]"))
+        self.browser.click("#memory button[data-place='M 00 0020']")
+        self.assertEqual(["M 00 0020", "M 00 0020", "", "false", ""], self.value(shown))
+        outline = "getComputedStyle(byId('place')).outlineStyle + getComputedStyle(byId('place')).outlineColor"
+        self.browser.key("/")
+        focus = self.value(outline)
+        for word in "M 12 0", "M 0", "nothing":
+            self.browser.key("Escape")
+            self.browser.key("/")
+            self.browser.write(word)
+            self.browser.key("Enter")
+            with self.subTest(word):
+                self.assertEqual([word, "M 00 0020", "no such place", "true", "place"], self.value(shown))
+        self.assertNotEqual(focus, self.value(outline))
+        self.browser.click("#processors button[data-place='A 01']")
+        self.assertEqual(["A 01", "A 01", "", "false", ""], self.value(shown))
+        self.browser.key("/")
+        self.browser.write("h 5")
+        self.browser.key("Enter")
+        self.assertEqual(["H 05", "H 05", "", "false", ""], self.value(shown))
+        self.browser.key("Escape")
+        self.assertEqual(["", None, "", "false", ""], self.value(shown))
+
+    def test_first_change(self):
+        """At a place that has not changed yet the next change is offered; that it has none is said."""
+        self.browser.open(self.film(script=f"{COUNTER}STEP 1000\n"), "#moment=2&place=M+0+20")
+        buttons = "['previous-change', 'next-change'].map((id) => { const one = byId(id); return one.offsetParent ? [one.innerText, !one.disabled] : null; })"
+        self.assertEqual("M 00 0020 is 0000. First change: turn 13, by PP 00, STD 20 at 0101.", self.value(CHOSEN))
+        self.assertEqual([None, ["first change ]", True]], self.value(buttons))
+        self.browser.click("#next-change")
+        self.assertEqual([0o13, "M 00 0020"], self.value(TURN_AND_PLACE))
+        self.assertEqual("M 00 0020 is 0005. Changed here, by PP 00, STD 20 at 0101. No change after this.", self.value(CHOSEN))
+        self.value("choose(placeNamed('M 5 0'))")
+        self.assertEqual("M 05 0000 is 0000. No change in this run.", self.value(CHOSEN))
+        self.assertEqual([None, ["next change ]", False]], self.value(buttons))
+        # The script goes back to before the change, and makes it later in another turn.
+        self.browser.open(self.film(script=f"{COUNTER}STEP 5\nBACK 3\nSET M 0 30 1\nSTEP 20\n"), "#turn=3&place=M+0+20")
+        self.assertIn("First change: turn 13, by PP 00, STD 20 at 0101.", self.value(CHOSEN))
+
+    def test_memory_follows(self):
+        """Memory is that of the processor that was at work last, until one is chosen; Esc and F let it follow again."""
+        script = "SET M 0 100 1405 3420 7001\nSET M 1 200 1406 3421 7001\nSET P 0 100\nSET P 1 200\nSTEP 100\n"
+        self.browser.open(self.film(script=script), "#moment=2")
+        shown = "[byId('memory-of').selectedOptions[0].text, document.querySelector('#memory .at-p').place.name]"
+        rows = (("#moment=2", "PP 01, at work last"), ("#turn=1", "PP 00, at work last"), ("#turn=2", "PP 01, at work last"),
+                ("#turn=12", "PP 01, at work last"), ("#turn=13", "PP 00, at work last"), ("#turn=100", "PP 01, at work last"))
+        for address, wanted in rows:
+            self.value(f"location.hash = '{address}'; followAddress()")
+            with self.subTest(address):
+                self.assertEqual(wanted, self.value(shown)[0])
+        self.assertEqual("M 01 0202", self.value(shown)[1])
+        self.browser.key("0")
+        self.browser.key("ArrowLeft")
+        self.assertEqual(["PP 00", "M 00 0102"], self.value(shown))
+        self.browser.key("f")
+        self.assertEqual(["PP 01, at work last", "M 01 0202"], self.value(shown))
+        self.value("choose(placeNamed('M 3 7000'))")
+        self.assertEqual("PP 03", self.value(shown.split(",")[0][1:]))
+        self.browser.key("Escape")
+        self.assertEqual(["PP 01, at work last", "M 01 0202"], self.value(shown))
+
+    def test_save(self):
+        """The buttons save the script and the deck, byte for byte."""
+        room = self.room()
+        deck = os.path.join(room, "my deck")
+        with open(deck, "wb") as file:
+            file.write(b"* caf\xe9\n0001 0002\n")
+        path = self.film("--deck", deck, script="STEP 3\n* \xff\n")
+        saved = os.path.join(room, "saved")
+        os.mkdir(saved)
+        self.browser.save_into(saved)
+        self.browser.open(path)
+        self.assertEqual(["save script", "save deck: my deck"], self.value("[...document.querySelectorAll('#files button')].map((one) => one.innerText)"))
+        self.assertEqual("To run it again: pp6600 --deck 'my deck' script", self.value("byId('again').innerText"))
+        for at in 1, 2:
+            self.browser.click(f"#files button:nth-child({at})")
+        for name, data in (("script", b"STEP 3\n* \xff\n"), ("my deck", b"* caf\xe9\n0001 0002\n")):
+            with self.subTest(name):
+                self.assertEqual(data, self.saved(os.path.join(saved, name)))
+
+    def saved(self, path):
+        """Waits for a file that the page saves, and returns its bytes."""
+        for _ in range(100):
+            if os.path.exists(path) and os.path.getsize(path):
+                break
+            self.value("new Promise((done) => setTimeout(done, 50))")
+        with open(path, "rb") as file:
+            return file.read()
+
+
+class Opening(PageCase):
+    """Where a page opens."""
+
+    def test_where_the_question_is(self):
+        """A script that ends in a BACK W or in a watch opens at the change that was found; any other at its end."""
+        loader = text_of("examples/overwritten-loader/script")
+        asked = loader[:loader.index("DUMP PP 0\nDUMP M 0 100 110\n* It was")]
+        again = loader[:loader.index("DUMP M 0 100 110\n* Here all")]
+        self.assertTrue(asked.endswith("BACK W\n") and again.endswith("BACK W\n"))
+        turn = 0o1301 - 0o675 + 1  # README.md: BACK 675 goes back over the WATCH and this turn
+        rows = (("a BACK W", asked, [turn, "M 00 0106"]), ("a second one", again, [turn - 0o75 + 1, "M 00 0100"]),
+                ("a dump after it", f"{asked}DUMP PP 0\n* a note\n", [turn, "M 00 0106"]),
+                ("a watch", asked.removesuffix("BACK W\n"), [turn, "M 00 0106"]),
+                ("a watch without a change", f"{COUNTER}STEP 20\nWATCH M 0 777\n", [0o20, "M 00 0777"]),
+                ("a BACK W that is refused", f"{COUNTER}STEP 20\nBACK W\n", [0o20, None]),
+                ("a turn that a watch ended", f"{COUNTER}WATCH A 0\nSTEP 20\n", [1, "A 00"]),
+                ("a cell that a watch ended at", f"{COUNTER}WATCH M 0 20\nSTEP 20\n", [0o13, "M 00 0020"]),
+                ("the later of two watches", f"{COUNTER}STEP 20\nWATCH A 0\nWATCH M 0 20\nBACK W\n", [0o13, "M 00 0020"]),
+                ("turns", loader, [0o335, None]), ("a BACK", f"{COUNTER}STEP 20\nBACK 3\n", [0o15, None]),
+                ("a line that sets", f"{COUNTER}STEP 20\nSET A 0 1\n", [0o20, None]), ("nothing at all", "", [0, None]))
+        for name, script, wanted in rows:
+            with self.subTest(name):
+                self.browser.open(self.film("--deck", "examples/overwritten-loader/deck", script=script))
+                self.assertEqual(wanted, self.value(TURN_AND_PLACE))
+
+    def test_address(self):
+        """A link leads to a moment and a place."""
+        path = shown_film("overwritten-loader")
+        for address, wanted in (("#turn=405&place=M+0+106", [0o405, "M 00 0106"]), ("#turn=405", [0o405, None]), ("#moment=0", [0, None]),
+                                ("#place=A+0", [0o335, "A 00"]), ("#turn=405&place=nothing", [0o405, None])):
+            with self.subTest(address):
+                self.browser.open(path, address)
+                self.assertEqual(wanted, self.value(TURN_AND_PLACE))
+        self.assertEqual("no such place", self.value("byId('no-place').innerText"))
+        self.value("moveTo(film.turn.indexOf(0o400)); choose(placeNamed('M 0 106')); new Promise((done) => setTimeout(done, 500))")
+        self.assertEqual("#moment=403&place=M+00+0106", self.value("location.hash"))
+
+
+class Looks(PageCase):
+    """What is seen, on a screen, a phone and paper."""
+
+    def test_quiet_lanes(self):
+        """Lanes that tell nothing are one line, which unfolds."""
+        for name, drawn, text in (("overwritten-loader", ["PP 00", "H 12"], "PP 01 to PP 11: each only passes"),
+                                  ("handshake", ["PP 00", "PP 01", "H 05", "H 06"], "PP 02 to PP 11: each only passes"),
+                                  ("dead-start-from-cards", ["PP 00", "H 12", "H 13"],
+                                   "PP 01 to PP 11: each only waits; H 01 to H 11: each stays empty")):
+            with self.subTest(name):
+                self.browser.open(shown_film(name))
+                self.assertEqual([drawn, f"▸ {text}"], self.value("[lanesShown().map((lane) => lane.name), byId('fold').innerText]"))
+                self.browser.click("#fold")
+                self.assertEqual([True, f"▾ {text}"], self.value("[lanesShown().length === lanes.all.length, byId('fold').innerText]"))
+
+    def test_first_screen(self):
+        """Memory is on the first screen, and no number of it below."""
+        for name, address in (("overwritten-loader", "#turn=405&place=M+0+106"), ("handshake", "#turn=31&place=H+5"), ("dead-start-from-cards", "")):
+            with self.subTest(name):
+                self.browser.open(shown_film(name), address)
+                self.assertLessEqual(self.value("byId('memory').getBoundingClientRect().bottom"), 800)
+
+    def test_no_wider_than_the_window(self):
+        path = self.film(script=f"{COUNTER}STEP 1000\n")
+        for width in (360, 800, 1280, 1920):
+            with self.subTest(width=width):
+                self.browser.look(width, 800, dark=width == 800)
+                self.browser.open(path, "#turn=20&place=A+0")
+                self.assertTrue(self.value("document.documentElement.scrollWidth <= innerWidth"))
+
+    def test_phone(self):
+        """On a phone controls are at least 32 pixels wide and high, and what is cut has a mark."""
+        self.browser.look(390, 844)
+        for name, address in (("overwritten-loader", "#turn=405&place=M+0+106"), ("handshake", ""), ("dead-start-from-cards", "#turn=520&place=SYMBOLS")):
+            self.browser.open(shown_film(name), address)
+            with self.subTest(name):
+                self.assertEqual([], self.value(SMALL))
+                self.assertEqual([], self.value(CUT))
+                self.assertEqual("more →", self.value("document.querySelector('#memory .sign').innerText"))
+                self.assertTrue(self.value("document.documentElement.scrollWidth <= innerWidth"))
+
+    def test_cut_text(self):
+        """docs/FILM.md: the text of a card that is wider than its part of the page ends with a mark, and its title is all of it."""
+        self.browser.look(1024, 800)
+        self.browser.open(shown_film("overwritten-loader"))
+        card = "document.querySelector('#reader .cards div')"
+        self.assertEqual([True, "ellipsis", "hidden"], self.value(
+            f"[{card}.scrollWidth > {card}.clientWidth, getComputedStyle({card}).textOverflow, getComputedStyle({card}).overflowX]"))
+        # The columns of this deck are 1 to 77; docs/MACHINE.md has display code.
+        text = self.value(f"{card}.title")
+        self.assertEqual(["0000 :A:B:C", ":Y:Z:0:1"], [text[:11], text[text.index(":Y"):][:8]])
+
+    def test_paper(self):
+        """A short script is on the one page of paper that the machine has, and each line of a long one is printed."""
+        pages = {}
+        for turns in 1, 200:
+            script = COUNTER + f"{'STEP ' + chr(10)}" * turns
+            self.browser.open(self.film(script=script), "#turn=1&place=A+0")
+            path = os.path.join(self.room(), "paper.pdf")
+            self.browser.paper(path)
+            with open(path, "rb") as file:
+                pages[turns] = len(re.findall(rb"/Type /Page\b(?!s)", file.read()))
+        self.assertEqual(1, pages[1])
+        self.assertGreater(pages[200], 2)
+        self.browser.look(1280, 800, media="print")
+        list_of_lines = "document.querySelector('#script ol')"
+        self.assertEqual([True, True], self.value(
+            f"[{list_of_lines}.offsetParent !== null, {list_of_lines}.scrollHeight <= {list_of_lines}.clientHeight + 1]"))

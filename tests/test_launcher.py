@@ -1,0 +1,305 @@
+"""Tests ./pp6600, the choice of the build that it runs, ./prove and ./check, in a repository of a few files with a stand-in for rt."""
+
+import contextlib
+import fcntl
+import os
+import pty
+import shutil
+import signal
+import struct
+import subprocess
+import termios
+import time
+import unittest
+
+from tests.support import TOP, Case, program
+
+NEEDED = ("bash", "readlink", "dirname", "find", "sort", "xargs", "sha256sum", "cut", "grep", "awk", "nproc", "rm", "cp", "cmp", "mkdir",
+          "mktemp", "tee", "tail", "sleep", "stty", "sed", "cat", "chmod", "python3")
+GREETING = ("pp6600 7.8.9: SET STEP BACK FORWARD WATCH UNWATCH DEADSTART DUMP\r\n"
+            "All numbers are octal. Card: docs/CARD.md. Ctrl-D ends.\r\n"
+            "This program was proved elsewhere; ./prove proves it here.\r\n")
+ANSWERED = ("TURNS 12 SLOT 00\n", "", 0)
+# A file that is marked so changes what the stand-in does.
+STAND_IN = """#!/bin/bash
+case $* in
+    version) echo 'a kit'; exit ;;
+    'all check --jobs '*) echo "$PWD" >'{room}/proved'; if [ -e '{room}/fails' ]; then echo 'a goal is open'; exit 1; fi ;;
+    run) mkdir -p out; cp '{program}' out/pp6600; if [ -e '{room}/other' ]; then echo >>out/pp6600; fi ;;
+    ci) mkdir -p crates/pp6600/out; cp '{program}' crates/pp6600/out/pp6600; cat '{room}/ci'; exit ;;
+esac
+if [ -e '{room}/edits' ]; then echo >>'{room}/repository/crates/pp_arith/src/lib.rt'; fi
+if [ -e '{room}/slow' ]; then echo $$ >'{room}/child'; exec sleep 60; fi
+"""
+
+
+class Launched(Case):
+    """A test in a repository of a few files, with dist/pp6600 and without rt."""
+
+    def setUp(self):
+        self.folder = self.room()
+        self.top = os.path.join(self.folder, "repository")
+        self.plain, self.kit = os.path.join(self.folder, "plain"), os.path.join(self.folder, "kit")
+        for path in (self.plain, self.kit):
+            os.makedirs(path)
+        for name in NEEDED:
+            os.symlink(shutil.which(name), os.path.join(self.plain, name))
+        for name in ("pp6600", "prove", "check", "share/which-build", "share/commands"):
+            os.makedirs(os.path.dirname(os.path.join(self.top, name)), exist_ok=True)
+            shutil.copy2(os.path.join(TOP, name), os.path.join(self.top, name))
+        self.write("VERSION", "7.8.9\n")
+        self.write("crates.txt", "pp_arith:\npp6600: pp_arith\n")
+        for name in ("crates/pp_arith/src/lib.rt", "crates/pp_arith/specs/Arith.antt", "crates/pp_arith/proofs/Laws.antt",
+                     "crates/pp6600/src/main.rt"):
+            self.write(name, f"// {name}\n")
+        self.launcher = os.path.join(self.top, "pp6600")
+        self.built = os.path.join(self.top, "crates/pp6600/out/pp6600")
+        self.write("dist/pp6600", b"")
+        shutil.copy2(program(), os.path.join(self.top, "dist/pp6600"))
+        self.write("dist/sources", f"program {self.sum_of('dist/pp6600')}\nsources {self.checksum()}\nkit a kit\n")
+        with open(os.path.join(self.kit, "rt"), "w", encoding="ascii") as file:
+            file.write(STAND_IN.format(room=self.folder, program=program()))
+        os.chmod(os.path.join(self.kit, "rt"), 0o755)
+
+    def write(self, name, text, mode=0o644):
+        """Writes a file of the repository."""
+        path = os.path.join(self.top, name)
+        os.makedirs(os.path.dirname(path), exist_ok=True)
+        with open(path, "wb") as file:
+            file.write(text if isinstance(text, bytes) else text.encode())
+        os.chmod(path, mode)
+        return path
+
+    def text_of(self, name):
+        with open(os.path.join(self.top, name), encoding="utf-8") as file:
+            return file.read()
+
+    def sum_of(self, name):
+        return subprocess.run(["sha256sum", os.path.join(self.top, name)], capture_output=True, text=True, check=True).stdout[:64]
+
+    def checksum(self, **how):
+        words = [os.path.join(self.top, "share/which-build"), "--checksum"]
+        return subprocess.run(words, capture_output=True, text=True, check=True, **how).stdout.strip()
+
+    @contextlib.contextmanager
+    def marked(self, name, text=""):
+        """Makes a file that the stand-in looks for."""
+        path = os.path.join(self.folder, name)
+        with open(path, "w", encoding="utf-8") as file:
+            file.write(text)
+        yield
+        os.remove(path)
+
+    def environment(self, rt=True, more=(), home=True):
+        names = {"PATH": ":".join([*([self.kit] if rt else []), self.plain, *more]), "TERM": "xterm"}
+        return {**names, "HOME": self.folder} if home else names
+
+    def run_here(self, *words, rt=False, script="STEP 12\n", before=()):
+        """Runs a command of the repository, as pp6600, and returns what it wrote and its status."""
+        path = words[0] if os.sep in words[0] else os.path.join(self.top, words[0])
+        done = subprocess.run([*before, path, *words[1:]], input=script, capture_output=True, text=True, cwd=self.folder,
+                              env=self.environment(rt), timeout=60, check=False)
+        return done.stdout, done.stderr, done.returncode
+
+    def refused(self, answer, words):
+        """Checks that there is no output, one line that has these words, and the status 2."""
+        out, err, status = answer
+        self.assertEqual(("", 1, 2), (out, err.count("\n"), status), err)
+        self.assertIn(words, err)
+
+
+class Choice(Launched):
+    """Which build is run, by checksums alone."""
+
+    def test_a_fresh_clone_runs_the_program_of_dist_at_once(self):
+        began = time.monotonic()
+        self.assertEqual(ANSWERED, self.run_here("pp6600"))
+        self.assertLess(time.monotonic() - began, 0.5)
+
+    def test_neither_python_nor_rt_is_needed(self):
+        os.remove(os.path.join(self.plain, "python3"))
+        self.assertEqual(ANSWERED, self.run_here("pp6600"))
+
+    def test_a_link_to_the_launcher_works(self):
+        for name, target in (("link", self.launcher), ("link of a link", os.path.join(self.folder, "link"))):
+            os.symlink(target, os.path.join(self.folder, name))
+            self.assertEqual(ANSWERED, self.run_here(os.path.join(self.folder, name)))
+
+    def test_changed_sources_are_said_and_nothing_runs(self):
+        for name in ("crates/pp_arith/src/lib.rt", "crates/pp_arith/specs/Arith.antt", "crates/pp_arith/proofs/Laws.antt", "crates.txt"):
+            with self.subTest(name):
+                before = self.text_of(name)
+                path = self.write(name, before + "\n")
+                os.utime(path, (1, 1))  # older than the program
+                self.refused(self.run_here("pp6600"), "./prove")
+                self.write(name, before)
+                self.assertEqual(ANSWERED, self.run_here("pp6600"))
+
+    def test_a_new_source_and_a_source_that_is_gone_are_changes(self):
+        path = self.write("crates/pp_arith/src/more.rt", "")
+        self.refused(self.run_here("pp6600"), "./prove")
+        os.remove(path)
+        os.remove(os.path.join(self.top, "crates/pp_arith/proofs/Laws.antt"))
+        self.refused(self.run_here("pp6600"), "./prove")
+
+    def test_what_the_program_is_not_made_from_is_no_change(self):
+        self.write("crates/pp_arith/README.md", "more\n")
+        self.write("crates/pp_arith/must-fail/a.edit", "file: src/lib.rt\n")
+        self.write("crates/pp_arith/src/lib.rt", self.text_of("crates/pp_arith/src/lib.rt"), 0o600)
+        self.assertEqual(ANSWERED, self.run_here("pp6600"))
+
+    def test_another_program_in_place_of_a_build_is_not_run(self):
+        for name in ("crates/pp6600/out/pp6600", "dist/pp6600"):
+            with self.subTest(name):
+                self.write(name, "#!/bin/sh\necho planted\n", 0o755)
+                self.assertNotIn("planted", "".join(self.run_here("pp6600")[:2]))
+        self.refused(self.run_here("pp6600"), "./prove")  # the second was that of dist
+
+    def test_the_checksum_knows_no_locale_mask_or_owner(self):
+        before = self.checksum()
+        self.assertEqual(before, self.checksum(env={**os.environ, "LC_ALL": "tr_TR.UTF-8", "LANG": "tr_TR.UTF-8"}))
+        self.assertEqual(before, self.checksum(preexec_fn=lambda: os.umask(0o077)))
+
+    def test_the_version(self):
+        self.assertEqual(("pp6600 7.8.9\n", "", 0), self.run_here("pp6600", "--version"))
+
+
+class Prove(Launched):
+    """./prove, over a stand-in for rt."""
+
+    def test_what_was_built_is_what_is_shipped(self):
+        out, err, status = self.run_here("prove", rt=True)
+        self.assertEqual(("", 0, "prove: what was built is dist/pp6600, byte for byte"), (err, status, out.splitlines()[-1]))
+        self.assertEqual(self.text_of("dist/sources"), self.text_of("crates/pp6600/out/pp6600.proved"))
+
+    def test_the_launcher_runs_what_was_built(self):
+        with self.marked("other"):
+            out, _, status = self.run_here("prove", rt=True)
+        self.assertEqual((0, True), (status, "is not dist/pp6600" in out))
+        chosen = self.run_here(os.path.join(self.top, "share/which-build"))
+        self.assertEqual((f"{self.built}\nhere\n", "", 0), chosen)
+        self.write("crates/pp_arith/src/lib.rt", "// changed\n")
+        self.refused(self.run_here("pp6600"), "./prove")
+
+    def test_renewing_ships_what_was_built(self):
+        self.write("crates/pp_arith/src/lib.rt", "// changed\n")
+        with self.marked("other"):
+            self.assertEqual(0, self.run_here("prove", "--renew", rt=True)[2])
+        self.assertEqual(self.sum_of("dist/pp6600"), self.sum_of("crates/pp6600/out/pp6600"))
+        shutil.rmtree(os.path.dirname(self.built))
+        self.assertEqual(f"{self.top}/dist/pp6600\ndist\n", self.run_here(os.path.join(self.top, "share/which-build"))[0])
+
+    def test_a_proof_that_fails_leaves_no_stamp(self):
+        self.run_here("prove", rt=True)
+        with self.marked("fails"):
+            out, err, status = self.run_here("prove", rt=True)
+        self.assertEqual(("a goal is open\n", "prove: not proved; what went wrong is above\n", 1), (out, err, status))
+        self.assertFalse(os.path.exists(f"{self.built}.proved"))
+
+    def test_a_source_that_changes_meanwhile_leaves_no_stamp(self):
+        with self.marked("edits"):
+            self.assertEqual(1, self.run_here("prove", rt=True)[2])
+        self.assertFalse(os.path.exists(f"{self.built}.proved"))
+
+    def test_what_hinders_it_is_one_line(self):
+        self.refused(self.run_here("prove"), "kit")
+        self.refused(self.run_here("prove", "--test", rt=True), "usage")
+        nobody = [] if os.geteuid() else ["setpriv", "--reuid=65534", "--regid=65534", "--clear-groups"]
+        if nobody:
+            os.symlink(shutil.which("setpriv"), os.path.join(self.plain, "setpriv"))
+        os.chmod(self.folder, 0o711)
+        os.chmod(os.path.join(self.top, "crates/pp6600"), 0o555)
+        self.refused(self.run_here("prove", rt=True, before=nobody), "cannot be written")
+
+    def test_an_interrupt_ends_rt(self):
+        with self.marked("slow"):
+            run = subprocess.Popen([os.path.join(self.top, "prove")], env=self.environment(), start_new_session=True,
+                                   stdout=subprocess.DEVNULL, stderr=subprocess.DEVNULL,
+                                   preexec_fn=lambda: signal.signal(signal.SIGINT, signal.SIG_DFL))
+            child = os.path.join(self.folder, "child")
+            while not os.path.exists(child) or not os.path.getsize(child):
+                time.sleep(0.05)
+            os.killpg(run.pid, signal.SIGINT)
+            self.assertNotEqual(0, run.wait(timeout=30))
+        self.assertFalse(os.path.exists(f"{self.built}.proved"))
+
+
+class Check(Launched):
+    """./check, over stand-ins for rt and for the tests."""
+
+    def setUp(self):
+        super().setUp()
+        for name in ("__main__", "refusals", "memory"):
+            self.write(f"tests/{name}.py", "print('2 passed, 0 failed')\n")
+
+    def test_the_counts_of_all_parts(self):
+        with self.marked("ci", "rt: ok\n5 passed, 0 failed\n"):
+            out, _, status = self.run_here("check", rt=True)
+        self.assertEqual(("15 passed, 0 failed", 0), (out.splitlines()[-1], status), out)
+
+    def test_without_the_kit(self):
+        out, err, status = self.run_here("check", "--program")
+        self.assertEqual((["check: this proves nothing; ./check does", "2 passed, 0 failed"], "", 0), (out.splitlines()[-2:], err, status))
+        self.refused(self.run_here("check"), "kit")
+
+    def test_another_program_than_that_of_dist(self):
+        self.write("dist/pp6600", "another\n", 0o755)
+        with self.marked("ci", "5 passed, 0 failed\n"):
+            out, _, status = self.run_here("check", rt=True)
+        self.assertEqual(("13 passed, 2 failed", 1), (out.splitlines()[-1], status), out)
+
+    def test_a_part_that_fails_or_says_nothing(self):
+        for ci, last in (("a word\n4 passed, 1 failed\n", "14 passed, 1 failed"), ("it died\n", "10 passed, 1 failed")):
+            with self.subTest(ci), self.marked("ci", ci):
+                out, _, status = self.run_here("check", rt=True)
+                self.assertEqual((last, 1), (out.splitlines()[-1], status), out)
+
+
+class Terminal(Launched):
+    """What the launcher adds at a terminal."""
+
+    def at_terminal(self, typed, words=(), more=(), home=True, folder=None):
+        """Returns what a session at a terminal shows, after the last line was answered, and the exit status."""
+        process, terminal = pty.fork()
+        if process == 0:
+            fcntl.ioctl(0, termios.TIOCSWINSZ, struct.pack("HHHH", 24, 80, 0, 0))
+            os.chdir(folder or self.folder)
+            os.execve(self.launcher, [self.launcher, *words], self.environment(False, more, home))
+        shown = b""
+        for text in (*typed, b"\x04"):
+            time.sleep(0.5)
+            os.write(terminal, text)
+        while True:
+            try:
+                piece = os.read(terminal, 4096)
+            except OSError:  # the other end is closed
+                break
+            if not piece:
+                break
+            shown += piece
+        return shown.decode(), os.waitstatus_to_exitcode(os.waitpid(process, 0)[1])
+
+    def test_the_greeting_and_an_answer(self):
+        shown, status = self.at_terminal([b"STEP 12\r"])
+        self.assertEqual((1, 0), (shown.count(GREETING), status), shown)
+        self.assertIn("TURNS 12 SLOT 00\r\n", shown)
+        self.assertNotIn("> ", shown)
+        self.assertLessEqual(max(map(len, shown.split("\r\n"))), 80)
+
+    def test_words_that_are_not_accepted(self):
+        shown, status = self.at_terminal([], ["--deck", "none"])
+        self.assertEqual(("pp6600: CANNOT OPEN DECK\r\n", 2), (shown.replace("^D\x08\x08", ""), status))
+
+    @unittest.skipUnless(shutil.which("rlwrap"), "there is no rlwrap here")
+    def test_line_editing(self):
+        shown, status = self.at_terminal([b"DEAD\t", b"\r"], more=["/usr/bin", "/bin"])
+        self.assertIn("> DEADSTART", shown)
+        self.assertIn("ERR 14 NO PANEL", shown)
+        self.assertEqual(1, status)
+        self.assertTrue(os.path.exists(os.path.join(self.folder, ".pp6600_history")))
+
+    @unittest.skipUnless(shutil.which("rlwrap"), "there is no rlwrap here")
+    def test_line_editing_without_a_home_folder(self):
+        empty = self.room()
+        shown, _ = self.at_terminal([b"STEP 12\r"], more=["/usr/bin", "/bin"], home=False, folder=empty)
+        self.assertEqual((True, False, []), ("TURNS 12" in shown, "warning" in shown, os.listdir(empty)))

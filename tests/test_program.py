@@ -1,0 +1,203 @@
+"""Runs the program on every case of tests/cases and of examples/, and tests where it meets the system.
+
+A case is a folder:
+  args      the program's words, one a line (none: no words)
+  stdin     its standard input (none: no input)
+  stdout    what it must write to standard output, byte for byte
+  stderr    what it must write to standard error (none: nothing)
+  status    its exit status (none: 0)
+  how       a way of running that is not the plain one: a function of Ways, and its words
+Other files lie where the program runs.
+"""
+
+import os
+import resource
+import shutil
+import subprocess
+import sys
+import time
+
+from tests.support import EXAMPLES, PATIENCE, TOP, Case, add_tests, program, read
+
+PLAIN = ("args", "stdin", "stdout", "stderr", "status", "how")
+# The functions of a turn that stand in the loops over many turns, and so have no name of their own in the built program.
+OF_A_TURN = (b"pp_rig::rig::RigReversible::perform", b"pp_rig::rig::Rig::perform_turn", b"pp_rig::rig::Rig::turn_short",
+             b"pp_rig::rig::Rig::finish_turn", b"pp_rig::rig::Rig::undo_turn_short", b"pp_step::stepping::step_short", b"pp_step::effect::effect")
+
+
+def cases(root):
+    """Returns the name and the folder of each case."""
+    paths = [os.path.join(root, name) for name in sorted(os.listdir(root))]
+    return [(os.path.basename(path), path) for path in paths if os.path.isdir(path)]
+
+
+def part(case, name, default=b""):
+    """Returns the bytes of a file of a case."""
+    path = os.path.join(case, name)
+    if not os.path.exists(path):
+        return default
+    with open(path, "rb") as file:
+        return file.read()
+
+
+def words_of(case):
+    return part(case, "args").decode().splitlines()
+
+
+class Ways:
+    """The ways to run a case. Each returns what the program wrote to standard output and error, and its status."""
+
+    def __init__(self, case, folder):
+        self.case, self.folder = case, folder
+        self.script, self.words = part(case, "stdin"), [program(), *words_of(case)]
+
+    def plain(self, **how):
+        how = {"stdout": subprocess.PIPE, "stderr": subprocess.PIPE, **how}
+        done = subprocess.run(self.words, input=self.script, cwd=self.folder, timeout=PATIENCE, check=False, **how)
+        return done.stdout or b"", done.stderr, done.returncode
+
+    def by(self, script):
+        """By a Python script of the case, which runs the program."""
+        self.words = [sys.executable, script, *self.words]
+        return self.plain()
+
+    def line_feeds(self, name, count):
+        """With so many line feeds as a file or as standard input."""
+        if name == "stdin":
+            self.script = b"\n" * int(count)
+        else:
+            with open(os.path.join(self.folder, name), "wb") as file:
+                file.write(b"\n" * int(count))
+        return self.plain()
+
+    def closed_output(self):
+        self.words = ["sh", "-c", 'exec "$@" >&-', "sh", *self.words]
+        return self.plain()
+
+    def full_output(self):
+        with open("/dev/full", "wb") as full:
+            return self.plain(stdout=full)
+
+    def file_size_limit(self, size):
+        """Under its launcher, with a file of at most so many bytes as standard output."""
+        self.words[0] = os.path.join(TOP, "pp6600")
+        path = os.path.join(self.folder, "output")
+        with open(path, "wb") as file:
+            limit = (int(size), int(size))
+            _, err, status = self.plain(stdout=file, preexec_fn=lambda: resource.setrlimit(resource.RLIMIT_FSIZE, limit))
+        return part(self.folder, "output"), err, status
+
+    def byte_by_byte(self):
+        """With its input written byte by byte."""
+        with self.started() as process:
+            for byte in self.script:
+                process.stdin.write(bytes([byte]))
+            out, err = process.communicate(timeout=PATIENCE)
+        return out, err, process.returncode
+
+    def line_by_line(self):
+        """With a program at the other end that reads the answer to each line before it writes the next."""
+        seen = b""
+        with self.started() as process:
+            for line, answer in zip(self.script.splitlines(keepends=True), part(self.case, "stdout").splitlines(keepends=True)):
+                process.stdin.write(line)
+                seen += (read_now := process.stdout.readline())
+                if read_now != answer:
+                    break
+            out, err = process.communicate(timeout=PATIENCE)
+        return seen + out, err, process.returncode
+
+    def started(self):
+        pipe = subprocess.PIPE
+        return subprocess.Popen(self.words, cwd=self.folder, stdin=pipe, stdout=pipe, stderr=pipe, bufsize=0)
+
+
+class Cases(Case):
+    """The cases of tests/cases and of examples/."""
+
+    def check(self, case):
+        folder = self.room()
+        for name in os.listdir(case):
+            if name not in PLAIN:
+                shutil.copy(os.path.join(case, name), folder)
+        way, *words = part(case, "how", b"plain").decode().split()
+        out, err, status = getattr(Ways(case, folder), way.replace("-", "_"))(*words)
+        self.assertEqual(part(case, "stdout"), out)
+        self.assertEqual((part(case, "stderr"), int(part(case, "status", b"0"))), (err, status))
+
+
+add_tests(Cases, Cases.check, cases(os.path.join(TOP, "tests", "cases")))
+add_tests(Cases, Cases.check, [(f"example_{name}", case) for name, case in cases(EXAMPLES)])
+
+
+class Listed(Case):
+    """examples/README.md shows the command of each example."""
+
+    def check(self, case):
+        name, files = os.path.basename(case), os.listdir(case)
+        words = ["./pp6600"] + [f"examples/{name}/{word}" if word in files else word for word in words_of(case)]
+        how = part(case, "how").decode().split()
+        if how[:1] == ["by"]:
+            words = [f"examples/{name}/{how[1]}", *words]
+        if "stdin" in files:
+            words.append(f"<examples/{name}/stdin")
+        self.assertIn(f"    {' '.join(words)}", read("examples", "README.md").splitlines())
+
+
+add_tests(Listed, Listed.check, cases(EXAMPLES))
+
+
+class System(Case):
+    """Where the program meets the system: each line of crates/pp6600/src/main.rt."""
+
+    def test_deck_panel_and_script_are_opened_in_this_order(self):
+        """Each is a named pipe, and is opened only by who reads that very path."""
+        contents = {"a deck": b"1 2 3\n", "ein Pult": b"1405 3420 300 0 0 0 0 0 0 0 0 0\n", "--script": b"DEADSTART\nDUMP M 0 1 2\nDUMP CR\n"}
+        folder = self.room()
+        for name in contents:
+            os.mkfifo(os.path.join(folder, name))
+        words = [program(), "--deck", "a deck", "--panel=ein Pult", "--", "--script"]
+        process = subprocess.Popen(words, cwd=folder, stdin=subprocess.DEVNULL, stdout=subprocess.PIPE, stderr=subprocess.PIPE)
+        for name, content in contents.items():
+            with open(writer(os.path.join(folder, name)), "wb") as pipe:
+                pipe.write(content)
+        out, err = process.communicate(timeout=60)
+        self.assertEqual((b"OK\n0001 1405 3420\nCR H 12 CARD 0000 OF 0001 COLUMN 000 MODE IDLE\n", b"", 0), (out, err, process.returncode))
+
+    def test_with_a_script_file_nothing_of_standard_input_is_read(self):
+        path = os.path.join(self.room(), "script")
+        with open(path, "wb") as file:
+            file.write(b"STEP\n")
+        reader, end = os.pipe()
+        os.write(end, b"STEP 2\n")
+        done = subprocess.run([program(), path], stdin=reader, capture_output=True, timeout=60, check=False)
+        left = os.read(reader, 100)
+        os.close(reader)
+        os.close(end)
+        self.assertEqual((b"TURNS 1 SLOT 01\n", b"STEP 2\n", 0), (done.stdout, left, done.returncode))
+
+    def test_streams_and_statuses(self):
+        for words, script, wanted in (
+                ([], b"STEP\n", (b"TURNS ", b"", 0)), ([], b"GO\n", (b"ERR 01", b"", 1)), (["--help"], b"", (b"usage:", b"", 0)),
+                (["--deck", ""], b"", (b"", b"pp6600: CANNOT OPEN DECK\n", 2)), ([b"\xff"], b"", (b"", b"pp6600: BAD ARGUMENTS\n", 2)),
+                (["."], b"", (b"", b"pp6600: READ FAILED\n", 3))):
+            with self.subTest(words):
+                done = subprocess.run([program(), *words], input=script, capture_output=True, timeout=60, check=False)
+                self.assertEqual(wanted, (done.stdout[:6], done.stderr, done.returncode))
+
+    def test_the_compiler_has_put_a_turn_into_the_loops(self):
+        """It drops inline(always) from a function that would grow very large, and says nothing; then STEP is 1.5 times as slow."""
+        with open(program(), "rb") as file:
+            names = file.read()
+        self.assertIn(b"\0pp_history::log::Log::repeat", names)
+        self.assertEqual([], [name for name in OF_A_TURN if b"\0" + name + b"\0" in names])
+
+
+def writer(path):
+    """Returns the end of a named pipe to write to, once somebody has opened it to read."""
+    for _ in range(600):
+        try:
+            return os.open(path, os.O_WRONLY | os.O_NONBLOCK)
+        except OSError:
+            time.sleep(0.1)
+    raise TimeoutError(f"{path} is not opened")

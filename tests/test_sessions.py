@@ -1,0 +1,91 @@
+"""Runs every session and every shell command that a page shows, and every exercise with its solution.
+
+A block of a page that begins with `session` has typed lines after > and their answers; the words after `session` are the program's,
+and `continued` goes on with the session before. A block `shell` has commands after $ and what they write; a block `python NAME` is the
+file NAME for all later commands of the page. A block `tools` has the sessions of the tools, which tests/test_tools.py runs.
+
+An exercise is a folder: script (the lines to begin with), check (the lines that follow the finished script), expected (the last lines
+that the program must then write), args, and solution, a folder with the files that replace those of the same name.
+"""
+
+import glob
+import os
+import re
+import shutil
+
+from tests.support import EXAMPLES, TOP, Case, add_tests, blocks, program, read, run
+
+PAGES = ["README.md", *sorted(os.path.relpath(path, TOP) for path in glob.glob(os.path.join(TOP, "docs", "*.md")))]
+EXERCISES = [path for path in sorted(glob.glob(os.path.join(TOP, "exercises", "*"))) if os.path.isdir(os.path.join(path, "solution"))]
+
+
+def sessions():
+    """Returns the place of each session, and a list of the program's words, the lines typed, and the answers."""
+    found = []
+    for page in PAGES:
+        for block in blocks(page, "session"):
+            if block.words[1:] != ["continued"]:
+                found.append((block.place, (block.words[1:], [], [])))
+            for line in block.text.splitlines(keepends=True):
+                found[-1][1][1 if line.startswith(">") else 2].append(re.sub("^> ?", "", line))
+    return found
+
+
+def shell_blocks():
+    """Returns the place of each block of commands, and a list of the commands, what they write, and the page's files."""
+    found = []
+    for page in PAGES:
+        files = {block.words[1]: block.text for block in blocks(page, "python") if len(block.words) == 2}
+        for block in blocks(page, "shell"):
+            lines = block.text.splitlines(keepends=True)
+            commands = "".join(line[2:] for line in lines if line.startswith("$ "))
+            found.append((block.place, (commands, "".join(line for line in lines if not line.startswith("$ ")), files)))
+    return found
+
+
+class Sessions(Case):
+    """The sessions of the pages. The files that they name are those of examples/."""
+
+    def check(self, session):
+        words, script, answers = session
+        folder = self.room()
+        shutil.copytree(EXAMPLES, folder, dirs_exist_ok=True)
+        done = run(program(), *words, script="".join(script), cwd=folder)
+        self.assertEqual("".join(answers), done.out)
+        self.assertEqual(("", int(any(line.startswith("ERR ") for line in answers))), done[1:])
+
+
+class Commands(Case):
+    """The shell commands of the pages, which a reader types at the top of the repository. None of them writes there."""
+
+    def check(self, block):
+        commands, wanted, files = block
+        folder = self.room()
+        os.symlink(program(), os.path.join(folder, "pp6600"))
+        for name in ("examples", "exercises", "tools"):
+            os.symlink(os.path.join(TOP, name), os.path.join(folder, name))
+        for name, text in files.items():
+            with open(os.path.join(folder, name), "w", encoding="utf-8") as file:
+                file.write(text)
+        done = run("bash", "-c", f"exec 2>&1\n{commands}", cwd=folder)
+        self.assertEqual(wanted, done.out)
+
+
+class Exercises(Case):
+    """An exercise is not solved before its solution, and its solution solves it; docs/EXERCISES.md shows how to try it."""
+
+    def check(self, case):
+        name = os.path.basename(case)
+        words = [os.path.join(TOP, "exercises", "check-exercise"), name]
+        self.assertEqual(1, run(*words, case).status, "it is solved before its solution")
+        done = run(*words, os.path.join(case, "solution"))
+        self.assertEqual(0, done.status, done.out)
+        files = os.listdir(case)
+        with open(os.path.join(case, "args") if "args" in files else os.devnull, encoding="utf-8") as file:
+            arguments = "".join(f" {name}/{word}" if word in files else f" {word}" for word in file.read().splitlines())
+        self.assertIn(f"    cat {name}/script - | ./pp6600{arguments}", read("docs", "EXERCISES.md").splitlines())
+
+
+add_tests(Sessions, Sessions.check, sessions())
+add_tests(Commands, Commands.check, shell_blocks())
+add_tests(Exercises, Exercises.check, [(os.path.basename(path), path) for path in EXERCISES])

@@ -1,0 +1,475 @@
+"""The tools: every session of docs/TOOLS.md, what the other pages say, and their messages. Expected values are those of README.md,
+docs/TUTORIAL.md, docs/TUTORIAL-2.md and docs/MACHINE.md."""
+
+import fcntl
+import os
+import pty
+import random
+import re
+import select
+import subprocess
+import termios
+import time
+from unittest import mock
+
+from .support import EXAMPLES, TOP, Case, blocks, program, read, run, tool
+
+from pp6600 import Console
+from pp6600.changed import look
+from pp6600.changes import place_changes
+from pp6600.answers import ANSWER, CELLS, Place
+from pp6600.history import History
+from pp6600.instructions import END_OF_BLOCK, END_OF_INPUT, IN_BLOCK, Effect, processor_at
+from pp6600.run import Replay, Run, actions_in_effect
+from pp6600.trace import lines_from
+
+LOADER = ("--deck", os.path.join(EXAMPLES, "overwritten-loader", "deck"))
+# The loader of README.md up to its first question.
+OVERWRITTEN = """\
+SET M 0 100 7712 1 7412 1477 7112 60 7512 100
+SET M 0 110 60
+SET P 0 100
+STEP 1300
+"""
+FIRST_PROGRAM = "SET M 0 100 1405 3420 300\nSET P 0 100\n"
+# docs/TUTORIAL-2.md: two processors that wait for each other.
+DEADLOCK = "SET M 0 100 1407 7205 300\nSET P 0 100\nSET M 1 100 7005 300\nSET P 1 100\nSTEP 40\n"
+NAMES = ("changed", "changes", "deck", "film", "load", "panel", "show", "state", "talk", "trace", "waits", "words")
+
+
+def random_line(choose):
+    """A line of a script: a number set, turns, watches, steps back and forward, a note or a refused line."""
+    number = choose.randrange(10)
+    return choose.choice((
+        f"SET M {number:o} {choose.randrange(16):o} {choose.randrange(4096):o} {choose.randrange(4096):o}",
+        f"SET A {number:o} {choose.randrange(1 << 18):o}", f"set p {number:o} {choose.randrange(16):o}", "SET H 5 F 7",
+        f"STEP {choose.randrange(1, 40):o}", f"STEP {choose.randrange(1, 40):o}", f"WATCH A {number:o}", "WATCH P 0",
+        f"UNWATCH A {number:o}", "DEADSTART", "BACK", "BACK W", f"BACK {choose.randrange(1, 60):o}", "FORWARD",
+        f"FORWARD {choose.randrange(1, 30):o}", "DUMP CR", "* a note", "GO"))
+
+
+def lines_of(done):
+    return done.out.splitlines()
+
+
+class Pages(Case):
+    """Each command of docs/TOOLS.md and what it writes."""
+
+    def test_sessions(self):
+        room = self.room()  # ./pp6600 of the page is the program under test
+        for name, path in (("pp6600", program()), ("tools", os.path.join(TOP, "tools")), ("examples", EXAMPLES)):
+            os.symlink(path, os.path.join(room, name))
+        for block in blocks("docs/TOOLS.md", "tools"):
+            for session in re.split(r"^\$ ", block.text, flags=re.M)[1:]:
+                command, _, wanted = session.partition("\n")
+                with self.subTest(command, at=block.place):
+                    self.assertEqual(wanted, run("bash", "-c", f"{command} 2>&1", cwd=room).out)
+
+
+class Changes(Case):
+    def changes(self, *words, script):
+        return lines_of(tool("changes", *words, script=script))
+
+    def test_cells_of_the_loader(self):
+        """README.md: after 1300 turns and a WATCH, BACK W takes back 675 actions, to a turn of slot 00."""
+        got = self.changes("M", "0", "106", *LOADER, script=OVERWRITTEN)
+        self.assertEqual([f"TURN {0o1301 - 0o675 + 1:o} PP 00 P 0106 IAM WAS 7512 NOW 0027"], got[1:])
+        # From there it was 0060 .. that were read: 0100 is lost in the turn that the second BACK W goes back to.
+        got = self.changes("M", "0", "100", *LOADER, script=OVERWRITTEN)
+        self.assertEqual([f"TURN {0o1301 - 0o675 - 0o75 + 2:o} PP 00 P 0100 IAM WAS 7712 NOW 0021"], got[1:])
+
+    def test_clock_of_a_run_longer_than_what_is_kept(self):
+        self.assertEqual(2 * 0o1000000 // 10, len(self.changes("H", "14", script="STEP 1000000\nSTEP 1000000\n")))
+
+    def test_watches_and_steps_back(self):
+        script = FIRST_PROGRAM + "WATCH P 0\nSTEP 1000\nSTEP 1000\nBACK\nSTEP 12\n"
+        self.assertEqual(["TURN 13 PP 00 P 0101 STD WAS 0000 NOW 0005"], self.changes("M", "0", "20", script=script))
+
+
+class Changed(Case):
+    """docs/MACHINE.md on the exchange jump and docs/TUTORIAL.md on a store of the same number."""
+
+    def test_exchange(self):
+        script = "SET C 0 00001234000005123456\nSET C 10 777\nSET M 0 100 2600\nSET P 0 100\nSTEP\n"
+        wanted = ["P 00 0100 -> 0101", f"XP 00 {0:020} -> 00001234000005000000", f"XP 10 {0:020} -> {777:020}",
+                  f"C 000000 00001234000005123456 -> {0:020}", f"C 000010 {777:020} -> {0:020}"]
+        self.assertEqual(f"TURN 1 PP 00: {', '.join(wanted)}", lines_of(tool("changed", "1", script=script))[-1])
+
+    def test_store_of_the_same_number(self):
+        script = "SET M 0 50 5\nSET M 0 100 1405 3450 300\nSET P 0 100\nSTEP 13\n"
+        self.assertEqual("TURN 13 PP 00: P 00 0101 -> 0102\n", tool("changed", "1", script=script).out)
+
+    def test_past_the_end_of_central_memory(self):
+        got = tool("changed", "1", "--central", "032", script="SET A 0 100000\nSTEP\n")
+        self.assertEqual(("SET A 0 100000\nTURN 1 PP 00: P 00 0000 -> 0001\n", "", 0), got)
+
+
+class Trace(Case):
+    def trace(self, *words, script):
+        return lines_of(tool("trace", *words, script=script))
+
+    def test_names_of_the_codes(self):
+        """Each name and code as in the table of docs/MACHINE.md."""
+        row = re.compile(r"^\| ([0-7]{2}(?:, [0-7]{2})*) \| ([A-Z]{3}(?:, [A-Z]{3})*) \|", flags=re.M)
+        names = {}
+        for codes, got in row.findall(read("docs", "MACHINE.md")):
+            codes, got = codes.split(", "), got.split(", ")
+            names.update(zip(codes, got * len(codes) if len(got) == 1 else got))
+        self.assertEqual(0o100, len(names))
+        script = "".join(f"SET M 0 0 {code}17 0\nSET P 0 0\nSET A 0 0\nSTEP 12\n" for code in sorted(names))
+        got = self.trace("--processor", "0", script=script)
+        self.assertEqual([names[code] for code in sorted(names)], [line.split()[8] for line in got])
+
+    def test_processors(self):
+        got = self.trace("--processor", "3", "--processor", "0", script="STEP 16\n")
+        self.assertEqual(["1 PP 00", "4 PP 03", "13 PP 00", "16 PP 03"], [line[5:].split(" P ")[0] for line in got])
+        got = self.trace("--processor", "3", "--last", "2", script="STEP 100\n")
+        self.assertEqual(["TURN 66 PP 03", "TURN 100 PP 03"], [line.split(" P ")[0] for line in got])
+
+    def test_turns_that_touch_a_channel(self):
+        """The channel of docs/TUTORIAL-2.md: one processor sends a word, another receives it; a wait touches no channel."""
+        script = ("SET M 0 100 7405 1407 7205 6605 103 7505 300\nSET P 0 100\nSET M 1 100 7005 300\nSET P 1 100\n"
+                  "STEP 200\n")
+        wanted = [("ACN", "05 I 0000 -> E 0000"), ("OAN", "05 E 0000 -> F 0007"), ("IAN", "05 F 0007 -> E 0007"),
+                  ("FJM", "05 E 0007"), ("DCN", "05 E 0007 -> I 0007")]
+        got = self.trace("--channel", "5", script=script)
+        self.assertEqual(wanted, [(line.split()[8], line.partition(" H ")[2]) for line in got])
+        got = self.trace("--channel", "5", "--last", "1", script=script + "STEP 1000\n")
+        self.assertEqual(wanted[-1:], [(line.split()[8], line.partition(" H ")[2]) for line in got])
+        got = self.trace("--channel", "14", "--last", "1", script="STEP 100\n")
+        self.assertEqual(["F 0005 -> F 0006"], [line.partition(" H 14 ")[2] for line in got])
+
+
+class State(Case):
+    def test_deadlock(self):
+        got = lines_of(tool("state", script=DEADLOCK))
+        self.assertEqual(" PP 00 P 0101 A 000007 Q 0000 PHASE 0000  AT P 7205 0300 OAN WAITS ", got[0][:67])
+        self.assertEqual(" PP 01 P 0100 A 000000 Q 0000 PHASE 0000  AT P 7005 0300 IAN WAITS ", got[1][:67])
+        self.assertEqual(">PP 02 PSN", got[2][:6] + got[2][56:66].rstrip(), "the slot, and one that does not wait")
+        self.assertEqual("H 14 F 0003", got[12].strip())
+
+    def test_watches(self):
+        script = "".join(f"WATCH M {number:o} {0o7777 - number:o}\n" for number in range(8))
+        got = lines_of(tool("state", script=script))
+        self.assertEqual(["WATCHES M 00 7777, M 01 7776, M 02 7775, M 03 7774",
+                          "        M 04 7773, M 05 7772, M 06 7771, M 07 7770"], got[-2:])
+        self.assertTrue(len(got) <= 24 and max(map(len, got)) <= 80)
+
+
+class Show(Case):
+    ODD = ["* \u00e9", "dump cr", " \tDUMP\tCR \r", "\r", "*" * 256, "*" * 255 + "\r", "", "DUMP LP", "STEP 0", "steps", "BACK\r",
+           "*\x07", "DUMP CR\x0b", "STEP\t2 ", "DUMP H", "WATCH P 0 1", "set", "\x0bSTEP", "STEP 3\x0b", "BACKW"]
+
+    def test_session_of_readme(self):
+        wanted = next(block.text for block in blocks("README.md", "session") if block.words[1:] == ["--deck", "overwritten-loader/deck"])
+        self.assertEqual((wanted, "", 0), tool("show", *LOADER, os.path.join(EXAMPLES, "overwritten-loader", "script")))
+
+    def test_simulator_that_ends_early(self):
+        ended = "show: the simulator ended early, with status 2: pp6600: CANNOT OPEN DECK\n"
+        for script in ("", "STEP\n"):
+            self.assertEqual(("", ended, 2), tool("show", "--deck", "no-such-file", script=script))
+
+    def test_each_answer_once(self):
+        for seed in range(8):
+            choose = random.Random(seed)
+            lines = "".join(f"{choose.choice((random_line(choose), choose.choice(self.ODD)))}\n" for _ in range(60))
+            direct = run(program(), script=lines)
+            got = tool("show", script=lines)
+            answers = "".join(f"{line}\n" for line in got.out.split("\n")[:-1] if not line.startswith(">"))
+            with self.subTest(seed=seed):
+                self.assertEqual(direct, (answers, got.err, got.status))
+
+
+class Words(Case):
+    def test_display_code(self):
+        """The table of docs/MACHINE.md, there and back."""
+        rows = re.findall(r"^[0-7]  (.{15})$", read("docs", "MACHINE.md"), flags=re.M)
+        symbols = "".join(row[::2] for row in rows)
+        self.assertEqual(64, len(symbols))
+        wanted = "".join(f"{first:02o}{first + 1:02o} " for first in range(0, 64, 2)).split()
+        self.assertEqual(wanted, tool("words", "--", symbols).out.split())
+        self.assertEqual(f"{symbols}\n", tool("words", "--back", *wanted).out)
+
+    def test_at(self):
+        wanted = "SET M 0 7776 0102 0304 0506 0710 1112 1314 1516 1720\nSET M 0 6 2122\n"
+        self.assertEqual(wanted, tool("words", "--at", "0", "7776", "ABCDEFGHIJKLMNOPQR").out)
+        self.assertEqual("SET M 0 300 4646 3055\n", tool("words", "--at", "0", "300", "--", "--x").out)
+
+
+class Load(Case):
+    def test_three_forms(self):
+        """A file of words, loaded and dumped again."""
+        choose = random.Random(1)
+        words = [choose.randrange(0o10000) for _ in range(0o1001)]
+        rows = [" ".join(f"{word:o}" for word in words[at:at + 5]) + "\t* a note" for at in range(0, len(words), 5)]
+        texts = {"": ("* the words\n\n" + "\r\n".join(rows)).encode(),
+                 "--packed": bytes.fromhex("".join(f"{word:03x}" for word in words) + "0"),
+                 "--two-bytes": b"".join(word.to_bytes(2, "big") for word in words)}
+        for option, data in texts.items():
+            done = tool("load", *option.split(), "3", "7000", script=data.decode("latin-1"))
+            console = Console([program()])
+            console.perform_all(lines_of(done))
+            with self.subTest(option):
+                self.assertEqual([f"{word:04o}" for word in words], console.cells(3, 0o7000, 0o7777) + console.cells(3, 0, 0))
+            console.end()
+
+
+class Waits(Case):
+    """docs/TUTORIAL-2.md: two processors that wait for each other; docs/HOWTO.md: after a dead start, in a block, alone."""
+
+    CODES = {0o70: "F", 0o72: "E", 0o74: "I", 0o75: "EF", 0o76: "I", 0o77: "I"}  # by the table of docs/MACHINE.md
+
+    def waits(self, *words, script):
+        return lines_of(tool("waits", *words, script=script))
+
+    def test_deadlock(self):
+        wanted = ["PP 00 AT 0101 OAN P 0101 H 05 I 0000 SINCE TURN 13", "PP 01 AT 0100 IAN P 0100 H 05 I 0000 SINCE TURN 2"]
+        self.assertEqual(wanted, self.waits(script=DEADLOCK))
+        self.assertEqual(wanted, self.waits(script=DEADLOCK + "STEP 1000000\n" * 3), "for long")
+
+    def test_after_dead_start(self):
+        got = self.waits("--panel", "examples/dead-start/panel", script="STEP 5\nDEADSTART\nSTEP 300\n")
+        self.assertEqual([f"PP {n:02o} AT NONE IAM P 0000 H {n:02o} E 0000 SINCE TURN {5 + n + 1:o}" for n in range(2, 10)], got)
+
+    def test_in_a_block(self):
+        script = "SET M 0 104 7105 300\nSET P 0 104\nSET A 0 3\nSET H 5 F 1234\nSTEP 13\n"
+        self.assertEqual(["PP 00 AT 0104 IAM P 0301 H 05 E 1234 FROM TURN 25"], self.waits(script=script))
+        # A phase that changes alone: the block begins at its own address.
+        got = self.waits(script="SET M 0 104 7105 104\nSET P 0 104\nSET A 0 3\nSET H 5 E\nSTEP 100\n")
+        self.assertEqual(["PP 00 AT 0104 IAM P 0104 H 05 E 0000 SINCE TURN 13"], got)
+
+    def test_none(self):
+        self.assertEqual(["NO PROCESSOR WAITS"], self.waits(script="STEP 100\n"))
+
+    def test_each_state(self):
+        """Each code on a channel of its own in the same state; channel 14, and one that is none."""
+        for state in "IEF":
+            script = "".join(f"SET M {n:o} 0 {code:o}{n:02o} 17\nSET H {n:o} {state}\n" for n, code in enumerate(self.CODES))
+            got = self.waits(script=script + "SET M 6 0 7214\nSET M 7 0 7014\nSET M 10 0 7515\nSET M 11 0 6615\n")
+            wanted = [f"PP {n:02o}" for n, completes in enumerate(self.CODES.values()) if state not in completes]
+            with self.subTest(state):
+                self.assertEqual([*wanted, "PP 06", "PP 10"], [line[:5] for line in got])
+        self.assertEqual("PP 10 AT 0000 DCN P 0000 H 15 NONE FROM TURN 11", got[-1], "a channel that is none")
+
+    def test_on_no_channel(self):
+        script = "".join(f"SET M {n:o} 0 {code:o}15 17\n" for n, code in enumerate((0o74, 0o76, 0o77, 0o66, 0o71)))
+        got = self.waits(script=script + "STEP 5\n")
+        self.assertEqual(["PP 00 AT 0000 ACN", "PP 01 AT 0000 FAN", "PP 02 AT 0000 FNC"], [line[:17] for line in got])
+
+
+def typed(words, keys, environment):
+    """What a tool writes at a terminal where these lines are typed, each after a prompt."""
+    master, end = pty.openpty()
+    process = subprocess.Popen(words, stdin=end, stdout=end, stderr=end, cwd=TOP, env=environment, start_new_session=True,
+                               preexec_fn=lambda: fcntl.ioctl(0, termios.TIOCSCTTY, 0))
+    os.close(end)
+    seen, deadline = b"", time.monotonic() + 30
+    while time.monotonic() < deadline:
+        if not select.select([master], [], [], 0.1)[0]:
+            continue
+        try:
+            seen += os.read(master, 1000)
+        except OSError:  # the tool has ended
+            break
+        if keys and seen.endswith(b"> "):
+            os.write(master, keys.pop(0))
+    os.close(master)
+    return seen.decode().replace("\r\n", "\n"), process.wait(10)
+
+
+class Talk(Case):
+    """A script, then what is typed, with a prompt."""
+
+    SCRIPT = "examples/first-steps/script"
+
+    def test_at_a_terminal(self):
+        environment = {**os.environ, "TERM": "dumb", "PP6600": program()}
+        got, status = typed([os.path.join(TOP, "tools", "talk"), self.SCRIPT], [b"STEP 12\n", b"\x03GO\n", b"\x04"], environment)
+        # The terminal shows the interrupt, which does nothing, as ^C.
+        shown = tool("show", self.SCRIPT).out
+        self.assertEqual((f"{shown}> STEP 12\nTURNS 12 SLOT 01\n> GO\nERR 01 NOT A COMMAND\n> \n", 1), (got.replace("^C", ""), status))
+
+    def test_over_a_pipe(self):
+        lines = [line[2:] for line in lines_of(tool("show", self.SCRIPT)) if line.startswith("> ")]
+        wanted = tool("show", script="\n".join([*lines, "STEP 12\n"]))
+        self.assertEqual(wanted, tool("talk", self.SCRIPT, script="STEP 12\n"))
+
+
+def machine(console):
+    """All that the dumps show, but for the watches."""
+    processors = [f"PP {n:o}" for n in range(10)] + [f"M {n:o} 0 7777" for n in range(10)]
+    return [console.ask(f"DUMP {what}") for what in (*processors, "H", "XP", "C 0 777", "CR", "LP")]
+
+
+class Replays(Case):
+    def test_random_scripts(self):
+        """The actions in effect at the end of a script, performed anew, come to the same machine; so does a run that goes
+        on in fresh simulators, and it can then go back and forward as the simulator would have."""
+        for seed in range(30):
+            choose = random.Random(seed)
+            words = [program(), "--history", choose.choice(("1", "5", "10000")), "--panel", "examples/dead-start/panel"]
+            lines = [random_line(choose) for _ in range(choose.randrange(1, 80))]
+            with self.subTest(seed=seed):
+                self.replayed(words, lines, choose)
+
+    def replayed(self, words, lines, choose):
+        plain, anew, long = Console(words), Replay(words), Run(words)
+        long.most_lines = 100
+        for line in lines:
+            self.assertEqual(plain.ask(line)[:1], long.act(line)[:1], line)
+        for slot, _ in anew.looks(actions_in_effect(words, lines), choose.randrange(100), choose.choice(((3,), range(10)))):
+            if slot is not None:
+                self.assertEqual(anew.slot(), slot)
+                anew.advance(1)
+        self.assertEqual(machine(plain), machine(anew))
+        self.assertEqual((anew.turn, anew.next_slot), (long.turn, long.next_slot))
+        self.assertEqual(machine(plain), machine(long))
+        for console in (plain, anew, long):
+            console.end()
+
+    def expected_trace(self, turns):
+        """The trace of PP 03 in a machine of zeros, where each instruction passes."""
+        return [f"TURN {turn:o} PP 03 P {at:04o} 0000 0000 PSN A 000000 Q 0000 PHASE 0000"
+                for at, turn in enumerate(range(4, turns + 1, 10))]
+
+    def test_long_runs(self):
+        """Runs that need more lines than one simulator reads: here its limit is lowered."""
+        words = [program(), "--history", "1"]
+        actions = actions_in_effect(words, ["SET M 3 7000 1", "STEP 3000", "SET M 4 7000 1", "STEP 1750"])
+        turns = 0o4750
+        with mock.patch.object(Run, "most_lines", 300), mock.patch.object(Run, "start", autospec=True, side_effect=Run.start) as start:
+            self.assertEqual(self.expected_trace(turns), list(lines_from(words, actions, [3], None, 0)))
+            self.assertGreater(start.call_count, 2)
+            start.reset_mock()
+            wanted = [f"TURN {turn:o} PP 03 P {at:04o} PSN WAS {at:04o} NOW {at + 1:04o}"
+                      for at, turn in enumerate(range(4, turns + 1, 10))]
+            self.assertEqual(wanted, list(place_changes(Replay(words), Place.parse("P 3"), actions)))
+            self.assertGreater(start.call_count, 2)
+
+
+class Answers(Case):
+    def test_places(self):
+        for text, short, digits in (("M 00 0106", "M 0 106", 4), ("A 11", "A 11", 6), ("C 001000", "C 1000", 20), ("H 14", "H 14", 4)):
+            place = Place.parse(short.lower())
+            self.assertEqual((text, short, digits), (place.text, place.short, place.digits))
+        self.assertEqual(["A 0", "M 0 77", "M 0 100", "M 1 0"],
+                         [place.short for place in sorted(map(Place.parse, ("M 1 0", "M 0 100", "A 0", "M 0 77")))])
+
+    def test_each_answer_of_the_pages(self):
+        for page in ("docs/CONSOLE.md", "docs/HOWTO.md", "docs/TUTORIAL.md", "docs/TUTORIAL-2.md", "README.md"):
+            for block in blocks(page, "session"):
+                for line in block.text.splitlines():
+                    if not line.startswith((">", "..")):
+                        self.assertTrue(ANSWER.fullmatch(line), f"{block.place}: {line}")
+
+    def test_history(self):
+        history = History(5)
+        for line, answer in (("SET P 0 1", "OK"), ("STEP 7", "TURNS 7 SLOT 07"), ("BACK 3", "BACK 3 SLOT 04"), ("GO", "ERR 01 NOT A COMMAND")):
+            history.take(line, [answer])
+        self.assertEqual((3, 2, 3, 4), (history.older.count, history.kept.count, history.ahead.count, history.turns))
+        self.assertEqual([("SET P 0 1", 1), ("STEP", 4)], history.in_effect())
+        history.perform_anew()
+        self.assertEqual((3, 2, 3, 4), (history.older.count, history.kept.count, history.ahead.count, history.turns))
+        history.take("WATCH P 0", ["OK"])
+        self.assertEqual((3, 3, 0), (history.older.count, history.kept.count, history.ahead.count))
+
+
+class Table(Case):
+    """The table of what each code reads and writes, against the program."""
+
+    def random_state(self, code, trial, choose):
+        """Lines of a machine with an instruction of this code at P of PP 00, before its turn, or in its block."""
+        d = choose.choice((0, 0o14, 0o15, choose.randrange(64))) if code < 0o64 or trial > 7 else 5
+        first, m = choose.choice((0, 0o100, 0o7776)), choose.randrange(CELLS)
+        lines = [f"SET M 0 {at:o} {' '.join(f'{choose.randrange(CELLS):o}' for _ in range(8))}" for at in range(0, 0o100, 8)]
+        lines += [f"SET C {at:o} {choose.randrange(1 << 60):o}" for at in range(0o20)]
+        lines += [f"SET M 0 {first:o} {code:02o}{d:02o} {m:o}", f"SET P 0 {first:o}", f"SET A 0 {choose.choice((0, 3, choose.randrange(1 << 18))):o}"]
+        lines += [f"SET H {number:o} {'IEFX'[(trial + number) % 4]} {choose.randrange(CELLS):o}" for number in range(12)]
+        return lines + ["STEP 12"] * (trial % 3 if code in IN_BLOCK else 0)
+
+    def places(self, effects, processor, cell):
+        """The places that effects write, but for P, as `changed` has them."""
+        found = set()
+        for place, _, _ in effects:
+            some = processor.cells(place, cell)
+            first = int(processor.registers["A"], 8)
+            if some:
+                found |= {f"M 00 {(some[0] + at) % CELLS:04o}" for at in range(some[1])}
+            elif place in ("C", "C20"):
+                found |= {f"C {(first + at) % 0o1000000:06o}" for at in range(int(place[1:] or "1"))}
+            elif place == "F20":
+                found |= {f"XP {at:02o}" for at in range(0o20)}
+            else:
+                found.add(f"{place} {processor.channel if place in 'HS' else 0:02o}")
+        return found
+
+    def test_each_changed_place_is_in_it(self):
+        console, choose = Console([program(), "--reader", "0", "--printer", "1"]), random.Random(7)
+        for code in range(0o100):
+            for trial in range(24 if code in IN_BLOCK else 8 if code >= 0o64 else 3):
+                lines = self.random_state(code, trial, choose)
+                console.perform_all(lines)
+                console.advance(-console.slot() % 10)
+                self.one_turn(console, lines)
+        console.end()
+
+    @staticmethod
+    def look(console, old_registers=None):
+        """The numbers that the processor may change, without P, and with the states of channels by themselves."""
+        numbers = look(console, 0, 0o100000, old_registers)
+        for line in console.channels()[2:-1]:  # without those of the devices, and the clock
+            numbers[line[:4]], numbers[f"S {line[2:4]}"] = line[7:], line[5]
+        return {place: number for place, number in numbers.items()
+                if place.split()[0] in ("M", "A", "Q", "PHASE", "C", "XP", "H", "S") and place not in ("H 00", "H 01", "H 14")}
+
+    def one_turn(self, console, lines):
+        processor = processor_at(console, 0)
+        before = self.look(console)
+        console.advance(1)
+        after = self.look(console, processor.registers)
+        effects = list(processor.row.effects)
+        if processor.phase:
+            effects += [*Effect.all_of(END_OF_BLOCK), *(Effect.all_of(END_OF_INPUT) if processor.code == 0o71 else ())]
+        changed = {place for place in before if before[place] != after[place]}
+        wanted = self.places(effects, processor, lambda address: int(before[f"M 00 {address:04o}"], 8))
+        self.assertLessEqual(changed, wanted, (processor.text, processor.registers, lines))
+        for effect in effects:
+            if effect.is_moved and effect.place == "A" and effect.sources == ("X",):
+                (source,) = self.places([effect._replace(place="X")], processor, lambda address: int(before[f"M 00 {address:04o}"], 8))
+                self.assertEqual(f"00{before[source]}", after["A 00"], processor.text)
+
+
+class Messages(Case):
+    CASES = (
+        (("changes", "M", "0", "9"), "", "9 is not octal"), (("changes", "Z", "1"), "", "a place is"),
+        (("changes",), "", "a place is"), (("changes", "M", "20", "1"), "STEP\n", "ERR 04 RANGE to WATCH M 20 1"),
+        (("changed", "8"), "", "8 is not octal"), (("changed", "0"), "", "a count is 1 or more"),
+        (("trace", "--processor", "12"), "", "12 is no processor: it is 0 to 11"),
+        (("trace", "--channel", "15"), "", "15 is no channel: it is 0 to 14"),
+        (("trace", "--last", "1", "--last", "2"), "", "--last is given twice"),
+        (("words",), "", "give a text"), (("words", "\u00e9"), "", "display code has no '\u00e9'"),
+        (("words", "stra\u00dfe"), "", "display code has no '\u00df'"), (("words", "--back", "8"), "", "8 is no octal number"),
+        (("words", "--at", "12", "0", "HI"), "", "12 is no processor"), (("words", "--at", "0", "100000", "HI"), "", "no cell"),
+        (("words", "--dump", "0"), "TURNS 1 SLOT 01\n", "line 1 (decimal) is no row of a DUMP M"),
+        (("words", "--dump", "0"), "1405 3420 0300\n7712 0001\n", "line 2 (decimal) is no row of the dump"),
+        (("words", "--dump", "0"), "7776 0001 0002 0003\n", "line 1 (decimal) is no row of the dump"),
+        (("deck",), "A" * 161, "more than 160"), (("deck",), "A\n" * 2001, "at most 2000"),
+        (("load", "0", "100"), "* nothing\n", "no word"), (("load", "0", "100"), "1\n10000\n", "line 2 (decimal): 10000 is no"),
+        (("load", "0", "100"), "0 " * 4097, "more than the 10000 cells"), (("load", "12", "0"), "1", "12 is no processor"),
+        (("load", "0"), "1", "required: A"), (("load", "--packed", "0", "0"), "A", "do not end with a word"),
+        (("load", "--packed", "0", "0"), "AB", "do not end with a word"), (("load", "--two-bytes", "0", "0"), "A", "not two"),
+        (("load", "--two-bytes", "0", "0"), "\0A A", "from byte 2 "), (("show", "--central", "33"), "STEP\n", "BAD ARGUMENTS"))
+
+    def test_words_that_are_not_right(self):
+        for (name, *words), script, text in self.CASES:
+            got = tool(name, *words, script=script)
+            with self.subTest(name, words=words):
+                self.assertEqual((2, 1), (got.status, got.err.count("\n")))
+                self.assertTrue(got.err.startswith(f"{name}: ") and text in got.err, got.err)
+
+    def test_help_and_version(self):
+        for name in NAMES:
+            with self.subTest(name):
+                got = tool(name, "--help")
+                self.assertEqual(("", 0, "usage: "), (got.err, got.status, got.out[:7]))
+                self.assertEqual((f"{name} {read('VERSION')}", "", 0), tool(name, "--version"))

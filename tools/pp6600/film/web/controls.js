@@ -1,0 +1,314 @@
+// ---- the chosen number
+
+function choose(place) {
+  shown.chosen = place;
+  shown.marks = place && momentsThatChanged(place.places);
+  byId("place").value = place ? place.name : "";
+  accept("place", "");
+  byId("chosen").hidden = !place;
+  if (place && place.kind === "M") showCell(...place.numbers, false);
+  else if (place && place.kind === "C") showCentralWord(place.numbers[0], false);
+  drawLanes();
+  show();
+}
+
+function chooseNone() {
+  choose(null);
+  followTurns();
+}
+
+// The latest change and the one to which "previous change" goes: that before it, at the moment of the change itself.
+function changesBack() {
+  const here = resolve(film.at), last = changeBefore(shown.marks, film.at);
+  return [last, last && last === film.at ? changeBefore(shown.marks, here - 1) : last];
+}
+
+// The change to which "next change" goes, whether it is the first at all, and the line that goes back before there is one.
+function changeAhead(last) {
+  const [next, cut] = changeAfter(shown.marks, film.at);
+  if (next || last) return { next, first: !last, cut };
+  return { next: shown.marks.indexOf(1, film.at + 1), first: true, cut }; // though the script goes back before it
+}
+
+function showChosen() {
+  const place = shown.chosen;
+  if (!place) return;
+  const [last, previous] = changesBack(), { next, first, cut } = changeAhead(last);
+  const by = (moment) => `by ${makerText(moment, place.places[0])}.`;
+  const parts = [`${place.name} is ${textAt(place)}.`];
+  if (last) parts.push(`${last === film.at ? "Changed here" : `Last change: ${whenText(last)}`}, ${by(last)}`);
+  if (next > 0) parts.push(`${first ? "First change" : "Next change"}: ${whenText(next)}, ${by(next)}`);
+  else if (cut) parts.push(`No change before the line ${lineOf(cut).text.trim()}, which goes back.`);
+  else parts.push(`No change ${last ? "after this" : film.turns_before ? "in the film" : "in this run"}.`);
+  setText(byId("chosen-text"), parts.join(" "));
+  byId("previous-change").disabled = !previous;
+  byId("previous-change").hidden = !last;
+  byId("next-change").disabled = next <= 0;
+  setText(byId("next-change"), `${first && next > 0 ? "first" : "next"} change ]`);
+}
+
+const whenText = (moment) => (film.kinds[moment] === TURN ? `turn ${octal(film.turn[moment])}` : `before turn ${octal(film.turn[moment] + 1)}`);
+
+function moveToChange(direction) {
+  if (!shown.chosen) return;
+  const [last, previous] = changesBack(), target = direction > 0 ? changeAhead(last).next : previous;
+  if (target > 0) moveTo(target);
+}
+
+// ---- the page as a whole
+
+function show() {
+  showProcessors();
+  showChannels();
+  showMemory();
+  showCentral();
+  showReader();
+  showPrinter();
+  showWatches();
+  showNumbers();
+  showScript();
+  showChosen();
+  showPosition();
+  showSigns();
+  if (setView()) drawLanes();
+  showHead();
+}
+
+function showPosition() {
+  const turn = octal(film.turn[film.at]), line = film.lineAt[film.at];
+  setText(byId("position"), `After turn ${turn}. Moment ${octal(film.at)} of ${octal(film.count - 1)}.`
+    + (line >= 0 ? ` Line ${octal(line + 1)} of the script: ${lineOf(film.at).text.trim()}` : ""));
+  showAction();
+  const slider = byId("slider");
+  slider.value = film.at;
+  slider.setAttribute("aria-valuetext", `turn ${turn}`);
+  if (document.activeElement !== byId("turn")) byId("turn").value = turn;
+}
+
+function showAction() {
+  const action = byId("action"), changes = film.at && film.kinds[film.at] !== JUMP ? changesOf(film.at) : [];
+  action.textContent = `${actionText(film.at)}${changes.length ? ":" : "."}`;
+  changes.slice(0, 12).forEach(({ name, text }) => {
+    const entry = document.createElement("span");
+    entry.textContent = `${name} ${text}`;
+    action.append(" ", entry);
+  });
+  if (changes.length > 12) action.append(" ..");
+}
+
+// Goes to a moment, as a hand asked for it.
+function moveTo(moment) {
+  accept("turn", "");
+  goTo(moment);
+  show();
+  setAddress();
+}
+
+// Keeps the moment and the chosen place in the address, so that a link leads to them.
+function setAddress() {
+  clearTimeout(shown.timer);
+  shown.timer = setTimeout(() => {
+    const place = shown.chosen ? `&place=${shown.chosen.name.replace(/ /g, "+")}` : "";
+    history.replaceState(null, "", `#moment=${octal(film.at)}${place}`);
+  }, 300);
+}
+
+function followAddress() {
+  const words = new URLSearchParams(location.hash.slice(1));
+  const moment = words.get("moment"), turn = words.get("turn"), place = words.get("place");
+  if (/^[0-7]+$/.test(moment)) goTo(parseInt(moment, 8));
+  else if (/^[0-7]+$/.test(turn)) goTo(momentOfTurn(parseInt(turn, 8)));
+  choose(place ? placeNamed(place) : shown.chosen);
+  accept("turn", turn === null ? "" : wrongTurn(turn));
+  if (place && !shown.chosen) accept("place", "no such place");
+}
+
+// Where a film without an address opens: the moment, and the name of a place or "". If the script ends in a BACK W, the turn that
+// it has found; if in a watch, or in turns that a watch has ended, the latest change of the watched number; else the end.
+function opening() {
+  const line = film.lines.findLast((one) => one.acts), end = film.count - 1;
+  if (!line) return [end, ""];
+  const hit = line.answer.find((text) => text.startsWith("HIT ")), words = line.text.trim().toUpperCase().split(/\s+/);
+  if (hit) return [end, hit.split(" ").slice(1, hit.startsWith("HIT M") ? 4 : 3).join(" ")];
+  if (words[0] === "BACK" && words[1] === "W") return latestChange(watchesAt(line.first - 1), line.first - 1, end);
+  return words[0] === "WATCH" ? latestChange([words.slice(1).join(" ")], end, end) : [end, ""];
+}
+
+function watchesAt(moment) {
+  goTo(moment);
+  return film.watches[film.numbers[film.layout.watches]];
+}
+
+// The latest change of the places that is in effect at a moment, and the place that changed; without one the last moment.
+function latestChange(names, moment, end) {
+  const changes = names.map((name) => [changeBefore(momentsThatChanged(placeNamed(name).places), moment), placeNamed(name).name]);
+  const [change, name] = changes.reduce((one, other) => (other[0] > one[0] ? other : one), [-1, ""]);
+  return [change > 0 ? change : end, name];
+}
+
+// The first moment after so many turns, or the last moment.
+function momentOfTurn(turn) {
+  const moment = film.turn.indexOf(turn);
+  return moment >= 0 ? moment : turn < film.turn[0] ? 0 : film.count - 1;
+}
+
+// What is wrong with the number of a turn, or "".
+function wrongTurn(text) {
+  if (!/^[0-7]+$/.test(text)) return "not an octal number";
+  const turn = parseInt(text, 8);
+  if (film.turn.includes(turn)) return "";
+  return turn < film.turn[0] ? `the film begins at turn ${octal(film.turn[0])}` : `the last turn is ${octal(film.lastTurn)}`;
+}
+
+// ---- playing
+
+function play(on) {
+  shown.playing = on && film.at < film.count - 1 ? { since: performance.now(), from: film.at } : null;
+  byId("play").textContent = shown.playing ? "Pause" : "Play";
+  byId("action").setAttribute("aria-live", shown.playing ? "off" : "polite");
+  if (shown.playing) requestAnimationFrame(playOn);
+}
+
+function playOn(now) {
+  if (!shown.playing) return;
+  const { since, from } = shown.playing, moment = from + Math.floor(((now - since) / 1000) * RATES[byId("rate").value]);
+  if (moment > film.at) {
+    goTo(moment);
+    show();
+  }
+  if (film.at >= film.count - 1) {
+    play(false);
+    setAddress();
+  } else requestAnimationFrame(playOn);
+}
+
+function changeRate(step) {
+  const rate = byId("rate");
+  rate.value = Math.max(0, Math.min(RATES.length - 1, Number(rate.value) + step));
+  if (shown.playing) play(true);
+}
+
+// ---- keys and controls
+
+const byHand = (move) => () => { play(false); move(); };
+
+const KEYS = {
+  ArrowLeft: byHand(() => moveTo(film.at - 1)), ArrowRight: byHand(() => moveTo(film.at + 1)),
+  "Shift+ArrowLeft": byHand(() => moveTo(aRound(-1))), "Shift+ArrowRight": byHand(() => moveTo(aRound(1))),
+  Home: byHand(() => moveTo(0)), End: byHand(() => moveTo(film.count - 1)),
+  " ": () => play(!shown.playing), "+": () => changeRate(1), "=": () => changeRate(1), "-": () => changeRate(-1),
+  ",": byHand(() => moveLine(-1)), ".": byHand(() => moveLine(1)),
+  "[": byHand(() => moveToChange(-1)), "]": byHand(() => moveToChange(1)),
+  "/": () => byId("place").select(), g: () => byId("turn").select(), "?": () => showHelp(byId("help").hidden),
+  f: () => followTurns(), Escape: () => (byId("help").hidden ? chooseNone() : showHelp(false)),
+};
+
+function showHelp(on) {
+  byId("help").hidden = !on;
+}
+
+function pressed(event) {
+  if (event.ctrlKey || event.metaKey || event.altKey) return;
+  const target = event.target, inText = target.matches("input:not([type=range]), select");
+  if (inText) {
+    if (event.key === "Escape") target.blur();
+    return;
+  }
+  if (event.key === " " && target.matches("button:not(.number)")) return;
+  const arrow = event.key.startsWith("Arrow") && event.shiftKey;
+  const key = KEYS[arrow ? `Shift+${event.key}` : event.key.length === 1 ? event.key.toLowerCase() : event.key];
+  if (!key && !/^[0-9]$/.test(event.key)) return;
+  event.preventDefault();
+  if (key) key();
+  else chooseMemory(Number(event.key));
+}
+
+function buildControls() {
+  const slider = byId("slider");
+  slider.max = film.count - 1;
+  slider.oninput = byHand(() => moveTo(Number(slider.value)));
+  RATES.forEach((rate, at) => byId("rate").add(new Option(rate === 1 ? "1 turn a second" : `${octal(rate)} turns a second`, at)));
+  byId("rate").value = 1;
+  byId("rate").onchange = () => changeRate(0);
+  const buttons = { first: "Home", "round-back": "Shift+ArrowLeft", back: "ArrowLeft", play: " ", forward: "ArrowRight",
+    "round-forward": "Shift+ArrowRight", last: "End", "previous-change": "[", "next-change": "]", "help-button": "?" };
+  for (const [id, key] of Object.entries(buttons)) byId(id).onclick = KEYS[key];
+  byId("choose-none").onclick = chooseNone;
+  byId("go-turn").onsubmit = (event) => { event.preventDefault(); goToTyped(); };
+  byId("go-place").onsubmit = (event) => { event.preventDefault(); chooseTyped(); };
+  document.addEventListener("click", (event) => {
+    const button = event.target.closest("button.number");
+    if (button) choose(button.place);
+    setAddress();
+  });
+  document.addEventListener("keydown", pressed);
+}
+
+// Says beside a field what is wrong with its text, and marks it; "" if it is right.
+function accept(name, wrong) {
+  setText(byId(`no-${name}`), wrong);
+  byId(name).setAttribute("aria-invalid", wrong !== "");
+}
+
+function goToTyped() {
+  const field = byId("turn"), text = field.value.trim(), wrong = wrongTurn(text);
+  if (/^[0-7]+$/.test(text)) byHand(() => moveTo(momentOfTurn(parseInt(text, 8))))();
+  accept("turn", wrong);
+  if (!wrong) field.blur();
+}
+
+function chooseTyped() {
+  const place = placeNamed(byId("place").value);
+  if (!place) return accept("place", "no such place");
+  byId("place").blur();
+  choose(place);
+  setAddress();
+}
+
+function build() {
+  for (const part of [buildControls, buildProcessors, buildChannels, buildMemory, buildCentral, buildFrame, buildReader,
+    buildPrinter, buildScript, buildFiles, buildLanes, buildSigns]) part();
+  byId("panel").hidden = !film.panel.length;
+  document.querySelector("#panel p").textContent = film.panel.map(four).join(" ");
+  const redraw = () => { drawLegend(); drawLanes(); showHead(); showSigns(); };
+  for (const query of ["(prefers-color-scheme: dark)", "print"]) matchMedia(query).addEventListener("change", redraw);
+  window.addEventListener("resize", redraw);
+  window.addEventListener("beforeprint", redraw);
+  window.addEventListener("afterprint", redraw);
+  window.addEventListener("hashchange", followAddress);
+}
+
+async function openFilm() {
+  const [about, heads, places, growths] = await unpack(byId("film").textContent);
+  film = { ...about, at: 0, phaseMarks: [] };
+  film.jumps = new Map(about.jumps.map(([moment, target, turn]) => [moment, [target, turn]]));
+  film.centralIndex = new Map(film.central.map((address, at) => [address, at]));
+  film.count = heads.length;
+  makeTables();
+  fillRows(heads, places, growths);
+  film.at = film.count - 1;
+  film.lineAt = linesOfMoments();
+  film.lastTurn = film.turn.reduce((one, other) => Math.max(one, other), 0);
+  build();
+  setView();
+  drawLegend();
+  const [start, place] = opening();
+  goTo(start);
+  if (location.hash.length > 1) followAddress();
+  else choose(placeNamed(place));
+  document.body.dataset.open = "yes";
+}
+
+// The number of the script's line of each moment, -1 before the first.
+function linesOfMoments() {
+  const lineAt = new Int32Array(film.count).fill(-1);
+  film.lines.forEach((line, number) => {
+    if (line.acts) lineAt.fill(number, line.first, line.moment + 1);
+  });
+  return lineAt;
+}
+
+openFilm().catch((error) => {
+  byId("fault").hidden = false;
+  byId("fault").textContent = `This film can't be shown: ${error.message}`;
+});

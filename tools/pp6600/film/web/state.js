@@ -1,0 +1,186 @@
+// A film in the browser: the numbers of the machine are one row of places, and each moment of the film has a list of the places that it
+// changed, with their numbers before and after it. So the page goes to and fro over any distance without computing a turn.
+
+const TURN = 0, LINE = 1, JUMP = 2; // the kinds of a moment: a turn, another action, a BACK or FORWARD
+const IDLE = 0, WAITING = 1, BUSY = 2, BLOCK = 3; // what a processor did in a turn
+const PROCESSORS = 10, CHANNELS = 12, CLOCK = 12, CELLS = 4096, ROUND = 10, FRAME_WORDS = 16;
+const STATES = "IEFX", STATE_NAMES = ["inactive", "empty", "full", "function"];
+const RATES = [1, 8, 64, 512, 4096];
+
+let film; // what the page is made of; see openFilm
+let shown = { moment: -1, chosen: null, playing: null };
+
+const byId = (name) => document.getElementById(name);
+const octal = (number, digits = 1) => number.toString(8).padStart(digits, "0");
+const two = (number) => octal(number, 2);
+const four = (number) => octal(number, 4);
+
+// ---- the film as it is kept in the page
+
+async function inflate(bytes) {
+  if (!window.DecompressionStream) throw new Error("this browser is too old, one of 2023 or later can");
+  const stream = new Blob([bytes]).stream().pipeThrough(new DecompressionStream("deflate"));
+  return new Uint8Array(await new Response(stream).arrayBuffer());
+}
+
+// Returns the numbers of a row of bytes: seven bits a byte, the lowest first.
+function numbersOf(bytes) {
+  const numbers = [];
+  let number = 0, factor = 1;
+  for (const byte of bytes) {
+    number += (byte & 0x7f) * factor;
+    factor *= 128;
+    if (byte < 128) {
+      numbers.push(number);
+      number = 0;
+      factor = 1;
+    }
+  }
+  return numbers;
+}
+
+const signed = (number) => (number % 2 ? -(number + 1) / 2 : number / 2);
+
+async function unpack(text) {
+  const bytes = await inflate(Uint8Array.from(atob(text.replace(/\s/g, "")), (letter) => letter.charCodeAt(0)));
+  const size = new DataView(bytes.buffer).getUint32(0, true);
+  const about = JSON.parse(new TextDecoder().decode(bytes.subarray(4, 4 + size)));
+  let at = 4 + size;
+  const streams = about.streams.map((length) => numbersOf(bytes.subarray(at, (at += length))));
+  return [about, ...streams];
+}
+
+// Fills the rows of the film: of each moment its kind and its first change, of each change its place and its numbers.
+function fillRows(heads, places, growths) {
+  film.count = heads.length;
+  film.kinds = Uint8Array.from(heads, (head) => head & 3);
+  film.starts = new Uint32Array(heads.length + 1);
+  film.places = new Int32Array(places.length);
+  film.was = new Int32Array(places.length);
+  film.now = new Int32Array(places.length);
+  film.numbers = new Int32Array(film.layout.central + 2 * film.central.length);
+  heads.forEach((head, moment) => fillMoment(moment, head >> 2, places, growths));
+}
+
+function fillMoment(moment, count, places, growths) {
+  const first = film.starts[moment];
+  let place = 0;
+  before(moment);
+  for (let at = first; at < first + count; at++) {
+    place += places[at];
+    film.places[at] = place;
+    film.was[at] = film.numbers[place];
+    film.now[at] = film.numbers[place] += signed(growths[at]);
+  }
+  film.starts[moment + 1] = first + count;
+  after(moment);
+}
+
+// ---- what each moment was: worked out once, while the rows are filled
+
+const register = (processor, index) => film.layout.registers + 4 * processor + index; // P, A, Q, phase
+
+function makeTables() {
+  film.processor = new Uint8Array(film.count); // whose turn it was
+  film.word = new Uint16Array(film.count); // the instruction, in a block transfer that of the transfer
+  film.second = new Uint16Array(film.count);
+  film.p = new Uint16Array(film.count); // P before
+  film.inBlock = new Uint8Array(film.count);
+  film.did = new Uint8Array(film.count);
+  film.turn = new Int32Array(film.count); // how many turns are in effect
+  film.depth = new Int32Array(film.count); // how many actions of the film are in effect
+}
+
+// Notes the processor as it is before a moment.
+function before(moment) {
+  const numbers = film.numbers, processor = numbers[film.layout.slot];
+  const p = numbers[register(processor, 0)], phase = numbers[register(processor, 3)];
+  film.processor[moment] = processor;
+  film.p[moment] = p;
+  film.inBlock[moment] = phase ? 1 : 0;
+  film.word[moment] = phase || numbers[processor * CELLS + p];
+  film.second[moment] = numbers[processor * CELLS + (p + 1) % CELLS];
+}
+
+function after(moment) {
+  const kind = film.kinds[moment];
+  if (kind === TURN) film.did[moment] = whatWasDone(moment);
+  if (kind === JUMP) {
+    const [target, turn] = film.jumps.get(moment);
+    film.turn[moment] = turn;
+    film.depth[moment] = target < 0 ? -1 : film.depth[target];
+  } else if (moment) {
+    film.turn[moment] = film.turn[moment - 1] + (kind === TURN ? 1 : 0);
+    film.depth[moment] = film.depth[moment - 1] + 1;
+  } else {
+    film.turn[0] = film.turns_before;
+  }
+}
+
+function changedIn(moment, first, last) {
+  for (let at = film.starts[moment]; at < film.starts[moment + 1]; at++) {
+    if (film.places[at] >= first && film.places[at] <= last) return true;
+  }
+  return false;
+}
+
+function whatWasDone(moment) {
+  const processor = film.processor[moment], code = film.word[moment] >> 6;
+  const moved = changedIn(moment, register(processor, 0), register(processor, 3));
+  if (film.inBlock[moment]) return moved ? BLOCK : WAITING;
+  if (moved) return film.names[code] === "PSN" ? IDLE : film.block_codes.includes(code) ? BLOCK : BUSY;
+  return code in film.completes ? WAITING : IDLE;
+}
+
+// ---- to and fro
+
+function goTo(moment) {
+  moment = Math.max(0, Math.min(film.count - 1, moment));
+  const { numbers, places, was, now, starts } = film;
+  for (let at = starts[film.at + 1]; at < starts[moment + 1]; at++) numbers[places[at]] = now[at];
+  for (let at = starts[film.at + 1] - 1; at >= starts[moment + 1]; at--) numbers[places[at]] = was[at];
+  film.at = moment;
+}
+
+// The moment that a BACK or FORWARD leads to, else the moment itself; -1 if it is before the film.
+function resolve(moment) {
+  while (moment > 0 && film.kinds[moment] === JUMP) moment = film.jumps.get(moment)[0];
+  return moment;
+}
+
+// Marks the moments that changed one of the places.
+function momentsThatChanged(places) {
+  const marks = new Uint8Array(film.count);
+  for (let moment = 1; moment < film.count; moment++) {
+    if (film.kinds[moment] === JUMP) continue;
+    if (places.some((place) => changedIn(moment, place, place))) marks[moment] = 1;
+  }
+  return marks;
+}
+
+// The latest change in effect at a moment; 0 if there is none in the film.
+function changeBefore(marks, moment) {
+  for (let at = resolve(moment); at > 0; at = resolve(at - 1)) if (marks[at]) return at;
+  return 0;
+}
+
+// The next change after a moment, or 0; and the line that takes that moment back before any, if one does.
+function changeAfter(marks, moment) {
+  const depth = film.depth[moment];
+  for (let at = moment + 1; at < film.count; at++) {
+    if (film.kinds[at] === JUMP && film.depth[at] < depth) return [0, at];
+    if (marks[at]) return [at, 0];
+  }
+  return [0, 0];
+}
+
+// A round to or fro: ten turns.
+function aRound(direction) {
+  let moment = film.at;
+  for (let turns = 0; turns < ROUND && moment + direction >= 0 && moment + direction < film.count;) {
+    if (direction > 0) moment++;
+    if (film.kinds[moment] === TURN) turns++;
+    if (direction < 0) moment--;
+  }
+  return moment;
+}

@@ -1,0 +1,63 @@
+"""Files of words, as SET lines."""
+
+from .cells import set_lines, word_of
+from .command_line import Failure, Parser, bytes_of, cell, processor, read_lines, write_lines
+
+DESCRIPTION = """Writes the SET lines that load the words of a file into the cells of processor N from cell A on; after
+cell 7777 comes cell 0000. Without an option the file is text: octal numbers to 7777, one or many a line; what follows a *
+is a note, to the end of the line."""
+
+
+def octal_words(lines):
+    """Returns the words of the lines of a text, separated by blanks and tabs. What follows a * is a note."""
+    words = []
+    for number, line in enumerate(lines, 1):
+        try:
+            words += [word_of(text) for text in line.partition("*")[0].split()]
+        except Failure as failure:
+            raise Failure(f"line {number} (decimal): {failure}") from failure
+    return words
+
+
+def packed_words(data):
+    """Returns the words of bytes that hold two words in three, the upper bits first. After an odd number of words the last
+    four bits are 0."""
+    bits = data.hex()
+    left = len(bits) % 3
+    if left == 2 or left == 1 and bits[-1] != "0":
+        raise Failure(f"{len(data)} (decimal) bytes do not end with a word of 12 bits")
+    return [f"{int(bits[at:at + 3], 16):04o}" for at in range(0, len(bits) - left, 3)]
+
+
+def two_byte_words(data):
+    """Returns the words of bytes that hold each word in two, the upper bits first."""
+    if len(data) % 2:
+        raise Failure(f"{len(data)} (decimal) bytes are not two for each word")
+    for at in range(0, len(data), 2):
+        if data[at] > 0o17:
+            raise Failure(f"the two bytes from byte {at} (decimal, the first is 0) on have more than 12 bits")
+    return [f"{upper << 8 | lower:04o}" for upper, lower in zip(data[::2], data[1::2])]
+
+
+def words_of(asked):
+    """Returns the words of the file."""
+    if asked.packed:
+        return packed_words(bytes_of(asked.file))
+    return two_byte_words(bytes_of(asked.file)) if asked.two_bytes else octal_words(read_lines(asked.file))
+
+
+def main():
+    parser = Parser(DESCRIPTION, "[--packed | --two-bytes] N A [FILE]")
+    kinds = parser.add_mutually_exclusive_group()
+    kinds.add_argument("--packed", action="store_true",
+                       help="the file is binary: two words in three bytes, the upper bits first")
+    kinds.add_argument("--two-bytes", action="store_true",
+                       help="the file is binary: each word in two bytes, the upper bits first")
+    parser.add_argument("processor", metavar="N", type=processor, help="the processor, octal")
+    parser.add_argument("cell", metavar="A", type=cell, help="the first cell, octal")
+    parser.add_argument("file", metavar="FILE", nargs="?", help="without it, standard input is the file")
+    asked = parser.parse()
+    words = words_of(asked)
+    if not words:
+        raise Failure("there is no word to load")
+    write_lines(set_lines(asked.processor, asked.cell, words))

@@ -1,0 +1,109 @@
+"""The processors that wait."""
+
+from .answers import CELLS, PROCESSORS, REGISTERS
+from .command_line import add_script, arguments, script_lines, simulator, write_lines
+from .history import STEP, turns_of
+from .instructions import processor_at, states_of
+from .run import Replay, actions_in_effect
+
+DESCRIPTION = """Shows each processor that waits at the end of a script: the address of its instruction and its name, P,
+the channel that it waits for with its state and register, and the turn since which it waits, counted in octal from 1.
+FROM in place of SINCE: it will wait in its next turn, which has this number, if the channel is still the same. In a block
+transfer P is the cell of the next word; the address is NONE if no such instruction is where cell 0000 says, as after a
+dead start. A jump to itself is no wait."""
+
+FIRST_SPAN = 0o10000  # of turns at the end that are searched first
+
+
+class Waiting:
+    """A processor that waits at the end of a script, in its place there."""
+
+    def __init__(self, number, processor, words, actions):
+        self.number = number
+        self.processor = processor
+        self.words = words
+        self.actions = actions
+
+    def is_in_place(self, run):
+        """Returns whether its registers and its instruction are those of the end."""
+        end = self.processor
+        now = run.registers(self.number)
+        address = int(end.registers["P"], 8)
+        return (all(now[name] == end.registers[name] for name in REGISTERS)
+                and run.cells(self.number, address, address) == end.words[:1])
+
+    def stays_from(self, turn):
+        """Returns whether it stays in its place from there to the end. A phase changes alone only when a block begins, so
+        before the place is reached."""
+        run = Replay(self.words)
+        rest = run.to_turn(self.actions, turn)
+        stays = self.is_in_place(run)
+        for place in (f"{name} {self.number:o}" for name in ("P", "A", "Q")):
+            run.watch(place)
+        run.watch(f"M {self.number:o} {self.processor.registers['P']}")
+        for line, times in rest if stays else []:
+            if line != STEP:
+                run.perform(line)
+                stays = self.is_in_place(run)
+            else:
+                stays = all(len(answer) == 1 for _, answer in run.step(times))
+            if not stays:
+                break
+        run.end()
+        return stays
+
+    def in_place_since(self):
+        """Returns the number of turns after which it stays in its place."""
+        total = turns_of(self.actions)
+        span, known, too_early = FIRST_SPAN, total, -1
+        while known > 0 and too_early < 0:
+            turn = max(total - span, 0)
+            known, too_early = (turn, -1) if self.stays_from(turn) else (known, turn)
+            span *= 8
+        while known - too_early > 1:
+            middle = (known + too_early) // 2
+            known, too_early = (middle, too_early) if self.stays_from(middle) else (known, middle)
+        return known
+
+    def first_turn(self):
+        """Returns since which turn it waits: its first one in its place, or the turn that it will have."""
+        run = Replay(self.words)
+        for slot, _ in run.looks(self.actions, self.in_place_since(), [self.number]):
+            if slot is not None:
+                run.end()
+                return f"SINCE TURN {run.turn + 1:o}"
+        run.end()
+        return f"FROM TURN {run.turn + 1 + (self.number - run.next_slot) % PROCESSORS:o}"
+
+
+def address_of_instruction(console, number, processor):
+    """Returns the address: P, or in a block transfer what cell 0000 says, if the instruction is there."""
+    if not processor.phase:
+        return processor.registers["P"]
+    address = (int(console.cells(number, 0, 0)[0], 8) - 1) % CELLS
+    return f"{address:04o}" if console.cells(number, address, address)[0] == processor.registers["PHASE"] else "NONE"
+
+
+def waits(words, actions):
+    """Yields a line for each processor that waits."""
+    run = Replay(words)
+    run.to_turn(actions, turns_of(actions))
+    channels = run.channels()
+    for number in range(PROCESSORS):
+        processor = processor_at(run, number)
+        if processor.would_wait(states_of(channels)):
+            at = address_of_instruction(run, number, processor)
+            channel = processor.channel
+            line = channels[channel] if channel < len(channels) else f"H {channel:02o} NONE"
+            since = Waiting(number, processor, words, actions).first_turn()
+            yield f"PP {number:02o} AT {at} {processor.name} P {processor.registers['P']} {line} {since}"
+    run.end()
+
+
+def main():
+    parser = arguments(DESCRIPTION)
+    add_script(parser)
+    asked = parser.parse()
+    words = simulator(asked)
+    actions = actions_in_effect(words, script_lines(asked.script))
+    write_lines(waits(words, actions), "NO PROCESSOR WAITS", at_once=True)
