@@ -2,8 +2,9 @@
 
 import os
 import shutil
+import subprocess
 
-from tests.support import PYTHON, TOP, Case, run
+from tests.support import PYTHON, TOP, Case
 
 LABEL = "rt: must-fail pp_arith/{}.edit: {}\n"
 GOAL = "refused, as it must be: note: src/accumulator.rt:8:1: it is not proved that what the function ensures holds when it returns (`returns`)"
@@ -31,9 +32,9 @@ class Refusals(Case):
             with open(os.path.join(room, "crates", "pp_arith", path), "w", encoding="utf-8") as file:
                 file.write(text)
         script = shutil.copy(os.path.join(TOP, "tests", "refusals.py"), os.path.join(room, "tests"))
-        done = run(*PYTHON, script, script=said, cwd=room)
-        self.assertEqual("", done.err)
-        return done.out.splitlines()[-1], done.status
+        done = subprocess.run([*PYTHON, script], input=said, cwd=room, capture_output=True, text=True, check=False)
+        self.assertEqual("", done.stderr)
+        return done.stdout.splitlines()[-1], done.returncode
 
     def test_line_of_rt(self):
         for text, wanted in ((GOAL, 0), (ANSWER, 0), (LOST, 1), (LOST_FIRST, 1), (LIMIT, 1), (ACCEPTED, 1), ("refused, as it must be", 1),
