@@ -111,8 +111,8 @@ class Tool(FilmCase):
         for path in script, odd:
             with open(path, "w", encoding="ascii") as file:
                 file.write("STEP\n")
-        for words, wanted in (((script,), "a &lt;script&gt;"), ((odd,), "b\ufffd"), (("--title", f"c{BYTE}", script), "c\ufffd"), ((), "standard input"),
-                              (("--title", "/*--script--*/<!--film-->"), "/*--script--*/&lt;!--film--&gt;")):
+        for words, wanted in (((script,), "a &lt;script&gt;"), ((odd,), "b\ufffd"), (("--title", f"c{BYTE}", script), "c\ufffd"),
+                              ((), "standard input"), (("--title", "/*--script--*/<!--film-->"), "/*--script--*/&lt;!--film--&gt;")):
             with self.subTest(words=words):
                 made = read(self.film(*words, script="STEP\n"))
                 self.assertEqual([wanted] * 2, re.findall(r"<(?:title|h1)>(.*?)</", made))

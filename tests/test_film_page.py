@@ -27,7 +27,8 @@ SMALL = """[...document.querySelectorAll("button, select, input")].filter((one) 
 # In the page: what is wider than its room and neither wraps, ends with a mark, nor has a line that says so.
 CUT = """[...document.querySelectorAll("body *")].filter((one) => one.offsetParent && one.scrollWidth > one.clientWidth + 1
   && getComputedStyle(one).overflowX !== "visible" && getComputedStyle(one).textOverflow !== "ellipsis"
-  && !(one.previousElementSibling?.matches(".sign") && /more.*→/.test(one.previousElementSibling.innerText))).map((one) => one.outerHTML.slice(0, 200))"""
+  && !(one.previousElementSibling?.matches(".sign") && /more.*→/.test(one.previousElementSibling.innerText)))
+  .map((one) => one.outerHTML.slice(0, 200))"""
 COUNTER = "SET M 0 100 1405 3420 300\nSET P 0 100\n"  # LDN 5, STD 20, UJN 0
 
 
@@ -68,9 +69,10 @@ class Answers(PageCase):
         the question on channel 05; the OAN at 0102 put the question there, and DCN 05 disconnected a full channel."""
         self.browser.open(shown_film("handshake"))
         self.click_line("STEP 1000")
-        rows = "[...document.querySelectorAll('#processors tbody tr')].slice(0, 2).map((row) => row.innerText.split(/\\s+/).slice(-2).join(' '))"
-        self.assertEqual(["06 full", "05 full"], self.value(rows))
-        self.assertEqual([1, 1], self.value("lanes.all.slice(0, 2).map((lane) => lane.kinds[lane.begins.findLastIndex((at) => at <= film.at)])"))
+        rows = "[...document.querySelectorAll('#processors tbody tr')].slice(0, 2)"
+        self.assertEqual(["06 full", "05 full"], self.value(f"{rows}.map((row) => row.innerText.split(/\\s+/).slice(-2).join(' '))"))
+        now = "lane.kinds[lane.begins.findLastIndex((at) => at <= film.at)]"
+        self.assertEqual([1, 1], self.value(f"lanes.all.slice(0, 2).map((lane) => {now})"))
         self.browser.click("#channels button[data-place='H 05']")
         self.browser.key("[")
         self.assertIn("by PP 00, OAN 05 at 0102.", self.value(CHOSEN))
@@ -78,7 +80,8 @@ class Answers(PageCase):
         self.browser.key("]")
         self.assertEqual("PP 00, DCN 05 at 0103", self.value("turnText(film.at)"))
         self.value("scrollTo(0, 0)")
-        self.browser.click_at(*self.value("(() => { const box = byId('picture').getBoundingClientRect(); return [box.x + LABEL + pictureWidth() / 2, box.y + 40]; })()"))
+        self.browser.click_at(*self.value("(() => { const box = byId('picture').getBoundingClientRect();"
+                                          "return [box.x + LABEL + pictureWidth() / 2, box.y + 40]; })()"))
         self.assertTrue(self.value("Math.abs(film.at - film.count / 2) <= 2"), "a click in the middle of a lane")
 
     def test_exercise(self):
@@ -203,7 +206,8 @@ class Controls(PageCase):
     def test_first_change(self):
         """At a place that has not changed yet the next change is offered; that it has none is said."""
         self.browser.open(self.film(script=f"{COUNTER}STEP 1000\n"), "#moment=2&place=M+0+20")
-        buttons = "['previous-change', 'next-change'].map((id) => { const one = byId(id); return one.offsetParent ? [one.innerText, !one.disabled] : null; })"
+        buttons = ("['previous-change', 'next-change'].map(byId)"
+                   ".map((one) => (one.offsetParent ? [one.innerText, !one.disabled] : null))")
         self.assertEqual("M 00 0020 is 0000. First change: turn 13, by PP 00, STD 20 at 0101.", self.value(CHOSEN))
         self.assertEqual([None, ["first change ]", True]], self.value(buttons))
         self.browser.click("#next-change")
@@ -249,7 +253,8 @@ class Controls(PageCase):
         os.mkdir(saved)
         self.browser.save_into(saved)
         self.browser.open(path)
-        self.assertEqual(["save script", "save deck: my deck"], self.value("[...document.querySelectorAll('#files button')].map((one) => one.innerText)"))
+        texts = self.value("[...document.querySelectorAll('#files button')].map((one) => one.innerText)")
+        self.assertEqual(["save script", "save deck: my deck"], texts)
         self.assertEqual("To run it again: pp6600 --deck 'my deck' script", self.value("byId('again').innerText"))
         for at in 1, 2:
             self.browser.click(f"#files button:nth-child({at})")
@@ -322,7 +327,8 @@ class Looks(PageCase):
 
     def test_first_screen(self):
         """Memory is on the first screen, and no number of it below."""
-        for name, address in (("overwritten-loader", "#turn=405&place=M+0+106"), ("handshake", "#turn=31&place=H+5"), ("dead-start-from-cards", "")):
+        for name, address in (("overwritten-loader", "#turn=405&place=M+0+106"), ("handshake", "#turn=31&place=H+5"),
+                              ("dead-start-from-cards", "")):
             with self.subTest(name):
                 self.browser.open(shown_film(name), address)
                 self.assertLessEqual(self.value("byId('memory').getBoundingClientRect().bottom"), 800)
@@ -338,7 +344,8 @@ class Looks(PageCase):
     def test_phone(self):
         """On a phone controls are at least 32 pixels wide and high, and what is cut has a mark."""
         self.browser.look(390, 844)
-        for name, address in (("overwritten-loader", "#turn=405&place=M+0+106"), ("handshake", ""), ("dead-start-from-cards", "#turn=520&place=SYMBOLS")):
+        for name, address in (("overwritten-loader", "#turn=405&place=M+0+106"), ("handshake", ""),
+                              ("dead-start-from-cards", "#turn=520&place=SYMBOLS")):
             self.browser.open(shown_film(name), address)
             with self.subTest(name):
                 self.assertEqual([], self.value(SMALL))

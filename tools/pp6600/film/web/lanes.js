@@ -18,7 +18,8 @@ function stretches(kindAt) {
 
 // The lane of a processor; it is quiet if it only passes, or only waits.
 function processorLane(n) {
-  const lane = stretches((moment) => (film.kinds[moment] === TURN && film.processor[moment] === n ? film.did[moment] : moment ? null : IDLE));
+  const isTurn = (moment) => film.kinds[moment] === TURN && film.processor[moment] === n;
+  const lane = stretches((moment) => (isTurn(moment) ? film.did[moment] : moment ? null : IDLE));
   const waits = lane.kinds.includes(WAITING), passes = lane.kinds.lastIndexOf(IDLE) > 0;
   const isQuiet = lane.kinds.every((kind) => kind < BUSY) && !(waits && passes);
   return { name: `PP ${two(n)}`, ...lane, quiet: isQuiet && (waits ? "only waits" : "only passes") };
@@ -37,7 +38,10 @@ function channelLanes() {
     }
   }
   const firstTurn = film.kinds.indexOf(TURN);
-  for (const lane of lanesOfChannels) lane.quiet = lane.begins[lane.begins.length - 1] < firstTurn && `stays ${STATE_NAMES[lane.kinds[lane.kinds.length - 1]]}`;
+  for (const lane of lanesOfChannels) {
+    const last = lane.kinds.length - 1;
+    lane.quiet = lane.begins[last] < firstTurn && `stays ${STATE_NAMES[lane.kinds[last]]}`;
+  }
   return lanesOfChannels.filter((lane) => lane.kinds.some((kind) => kind > 0));
 }
 
