@@ -139,6 +139,10 @@ class Tool(FilmCase):
         self.assertEqual(["script", "deck", "panel"], [file["kind"] for file in kept["files"]])
         self.assertEqual("pp6600 --central 32 --deck deck --panel 'my panel' script", kept["again"])
         self.assertEqual(([[1, 2]], [*range(1, 13)]), (kept["deck"], kept["panel"]))
+        os.mkdir(os.path.join(room, "other"))
+        os.rename(f"{room}/deck", f"{room}/other/script")
+        same = about(read(self.film("--deck", f"{room}/other/script", f"{room}/script")))
+        self.assertEqual("pp6600 --deck deck-script script", same["again"])
         typed = about(read(self.film(script="STEP\n")))
         self.assertEqual(([{"kind": "script", "name": "script", "bytes": "STEP\n"}], "pp6600 script"), (typed["files"], typed["again"]))
 

@@ -238,7 +238,7 @@ class Controls(PageCase):
         self.browser.key("f")
         self.assertEqual(["PP 01, at work last", "M 01 0202"], self.value(shown))
         self.value("choose(placeNamed('M 3 7000'))")
-        self.assertEqual("PP 03", self.value(shown.split(",")[0][1:]))
+        self.assertEqual(["PP 03", "6740"], self.value("[byId('memory-of').selectedOptions[0].text, byId('memory-at').value]"))
         self.browser.key("Escape")
         self.assertEqual(["PP 01, at work last", "M 01 0202"], self.value(shown))
 
@@ -315,15 +315,18 @@ class Looks(PageCase):
 
     def test_quiet_lanes(self):
         """Lanes that tell nothing are one line, which unfolds."""
-        for name, drawn, text in (("overwritten-loader", ["PP 00", "H 12"], "PP 01 to PP 11: each only passes"),
-                                  ("handshake", ["PP 00", "PP 01", "H 05", "H 06"], "PP 02 to PP 11: each only passes"),
+        for name, drawn, text in (("overwritten-loader", ["PP 00", "H 12"], "PP 01 to PP 11: only passing"),
+                                  ("handshake", ["PP 00", "PP 01", "H 05", "H 06"], "PP 02 to PP 11: only passing"),
                                   ("dead-start-from-cards", ["PP 00", "H 12", "H 13"],
-                                   "PP 01 to PP 11: each only waits; H 01 to H 11: each stays empty")):
+                                   "PP 01 to PP 11: only waiting; H 01 to H 11: always empty")):
             with self.subTest(name):
                 self.browser.open(shown_film(name))
                 self.assertEqual([drawn, f"▸ {text}"], self.value("[lanesShown().map((lane) => lane.name), byId('fold').innerText]"))
                 self.browser.click("#fold")
                 self.assertEqual([True, f"▾ {text}"], self.value("[lanesShown().length === lanes.all.length, byId('fold').innerText]"))
+
+        self.browser.open(self.film("exercises/who-wrote-it/script"))
+        self.assertEqual("▸ PP 00, PP 04 to PP 11: only passing", self.value("byId('fold').innerText"))
 
     def test_first_screen(self):
         """Memory is on the first screen, and no number of it below."""

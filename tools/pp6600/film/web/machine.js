@@ -153,7 +153,8 @@ function followTurns() {
 // Keeps the window at a processor, and moves it so that it has a cell.
 function showCell(processor, address, always) {
   const shownNow = memory.processor === processor && ((address - memory.first + CELLS) % CELLS) < 8 * MEMORY_ROWS;
-  if (!shownNow || always) memory.first = address & 0o7770;
+  if (always) memory.first = address & 0o7770;
+  else if (!shownNow) memory.first = (address - 0o40 + CELLS) & 0o7770;
   Object.assign(memory, { processor, follows: false, from: "at" });
   show();
 }
