@@ -221,12 +221,12 @@ class Controls(PageCase):
         self.assertIn("First change: turn 13, by PP 00, STD 20 at 0101.", self.value(CHOSEN))
 
     def test_memory_follows(self):
-        """Memory is that of the processor that was at work last, until one is chosen; Esc and F let it follow again."""
+        """Memory is that of the processor whose turn it was, unless it passes, until one is chosen; Esc and F let it follow again."""
         script = "SET M 0 100 1405 3420 7001\nSET M 1 200 1406 3421 7001\nSET P 0 100\nSET P 1 200\nSTEP 100\n"
         self.browser.open(self.film(script=script), "#moment=2")
         shown = "[byId('memory-of').selectedOptions[0].text, document.querySelector('#memory .at-p').place.name]"
-        rows = (("#moment=2", "PP 01, at work last"), ("#turn=1", "PP 00, at work last"), ("#turn=2", "PP 01, at work last"),
-                ("#turn=12", "PP 01, at work last"), ("#turn=13", "PP 00, at work last"), ("#turn=100", "PP 01, at work last"))
+        rows = (("#moment=2", "PP 01, follows the turns"), ("#turn=1", "PP 00, follows the turns"), ("#turn=2", "PP 01, follows the turns"),
+                ("#turn=12", "PP 01, follows the turns"), ("#turn=75", "PP 00, follows the turns"), ("#turn=100", "PP 01, follows the turns"))
         for address, wanted in rows:
             self.value(f"location.hash = '{address}'; followAddress()")
             with self.subTest(address):
@@ -236,11 +236,17 @@ class Controls(PageCase):
         self.browser.key("ArrowLeft")
         self.assertEqual(["PP 00", "M 00 0102"], self.value(shown))
         self.browser.key("f")
-        self.assertEqual(["PP 01, at work last", "M 01 0202"], self.value(shown))
+        self.assertEqual(["PP 01, follows the turns", "M 01 0202"], self.value(shown))
         self.value("choose(placeNamed('M 3 7000'))")
         self.assertEqual(["PP 03", "6740"], self.value("[byId('memory-of').selectedOptions[0].text, byId('memory-at').value]"))
         self.browser.key("Escape")
-        self.assertEqual(["PP 01, at work last", "M 01 0202"], self.value(shown))
+        self.assertEqual(["PP 01, follows the turns", "M 01 0202"], self.value(shown))
+
+    def test_memory_of_a_processor_that_only_waits(self):
+        """After a dead start nine processors wait for ever: memory stays at the one that works."""
+        self.browser.open(shown_film("dead-start-from-cards"), "#turn=520")
+        self.assertEqual("PP 05, in the block of IAM 05, waits.", self.value("byId('action').innerText"))
+        self.assertEqual("PP 00, follows the turns", self.value("byId('memory-of').selectedOptions[0].text"))
 
     def test_save(self):
         """The buttons save the script and the deck, byte for byte."""
