@@ -17,8 +17,7 @@ IS_CHECKOUT = os.path.exists(os.path.join(CHECKOUT, "crates.txt"))
 OWN = CHECKOUT if IS_CHECKOUT else INSTALLED  # the folder with install and tools
 sys.path.insert(0, os.path.join(OWN, "tools"))
 
-from pp6600.command_line import Failure
-from pp6600.console import Console
+from pp6600 import Console, Failure
 from pp6600.files import checked_program
 from pp6600.options import BadWord
 

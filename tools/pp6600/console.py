@@ -2,7 +2,7 @@
 
 import re
 
-from .answers import ANSWER, CLOCK, FRAME_WORDS, PROCESSORS, ROW, Place
+from .answers import ANSWER, CLOCK, FRAME_WORDS, ROW, Place
 from .failure import Failure
 from .pipe import Pipe
 

@@ -25,28 +25,26 @@ def discard(stream):
     os.close(nowhere)
 
 
+def unwritten(error):
+    """Returns what a fault of standard output is to the tool; nothing more is written there."""
+    discard(sys.stdout)
+    return error if isinstance(error, BrokenPipeError) else Failure(f"can't write to standard output: {error.strerror}")
+
+
 def flush():
     """Writes what is still to be written to standard output."""
     try:
         sys.stdout.flush()
-    except BrokenPipeError:
-        discard(sys.stdout)
-        raise
     except OSError as error:
-        discard(sys.stdout)
-        raise Failure(f"can't write to standard output: {error.strerror}") from error
+        raise unwritten(error) from None
 
 
 def write(line, at_once=False):
     """Writes a line to standard output; at once, if a reader waits for it."""
     try:
         sys.stdout.write(f"{line}\n")
-    except BrokenPipeError:
-        discard(sys.stdout)
-        raise
     except OSError as error:
-        discard(sys.stdout)
-        raise Failure(f"can't write to standard output: {error.strerror}") from error
+        raise unwritten(error) from None
     if at_once:
         flush()
 

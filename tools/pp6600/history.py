@@ -1,5 +1,6 @@
 """The actions of a session by the answers to its lines: those in effect, and those taken back, which are ahead."""
 
+import collections
 from typing import NamedTuple
 
 from .failure import Failure
@@ -38,7 +39,7 @@ class Actions:
     """A list of actions whose end is used: the newest of those in effect, or the first of those ahead."""
 
     def __init__(self, runs=()):
-        self.runs = []
+        self.runs = collections.deque()
         self.count = self.turns = 0
         for line, times in runs:
             self.push(line, times)
@@ -58,28 +59,21 @@ class Actions:
         """Takes the last actions out, and returns them, the last one first."""
         if count > self.count:
             raise Failure(f"what is run is not the simulator: it went by {count:o} actions, and there are {self.count:o}")
-        taken = []
-        while count:
-            line, times = self.runs.pop()
-            taken.append(Action(line, min(times, count)))
-            self._count(taken[-1], -1)
-            count -= taken[-1].times
-            if times > taken[-1].times:
-                self.runs.append(Action(line, times - taken[-1].times))
-        return taken
+        return self._take(count, self.runs.pop, self.runs.append)
 
-    def pop_oldest(self, room):
-        """Takes the oldest actions out, so that no more are left than there is room for; returns them, the oldest first."""
+    def pop_oldest(self, count):
+        """Takes the first actions out, and returns them."""
+        return self._take(count, self.runs.popleft, self.runs.appendleft)
+
+    def _take(self, count, pop, put_back):
         taken = []
-        while self.count > room:
-            line, times = self.runs[len(taken)]
-            taken.append(Action(line, min(times, self.count - room)))
+        while count > 0:
+            line, times = pop()
+            taken.append(Action(line, min(times, count)))
+            if times > count:
+                put_back(Action(line, times - count))
+            count -= times
             self._count(taken[-1], -1)
-            if times > taken[-1].times:
-                self.runs[len(taken) - 1] = Action(line, times - taken[-1].times)
-                del self.runs[:len(taken) - 1]
-                return taken
-        del self.runs[:len(taken)]
         return taken
 
     def until(self, turns):
@@ -107,7 +101,7 @@ class History:
 
     def in_effect(self):
         """Returns the actions that were not taken back, or were performed again."""
-        return Actions(self.older.runs + self.kept.runs).runs
+        return list(Actions([*self.older.runs, *self.kept.runs]).runs)
 
     def take(self, line, answer):
         """Counts a line by the lines of its answer. Returns whether it changed the machine, the history or the list."""
@@ -126,7 +120,7 @@ class History:
     def add(self, line, times):
         """Counts actions that were performed."""
         self.kept.push(line, times)
-        for action in self.kept.pop_oldest(self.room):
+        for action in self.kept.pop_oldest(self.kept.count - self.room):
             self.older.push(*action)
 
     def perform_anew(self):

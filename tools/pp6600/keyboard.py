@@ -13,10 +13,16 @@ from .text_files import input_lines
 
 PROMPT = "> "
 WRAPPED = "PP6600_WRAPPED"  # set for the tool that rlwrap runs
+FIRST_WORDS = ("help", "?", "quit", "exit")  # what a newcomer may type; the simulator has no such commands
 
 
 def is_terminal():
     return sys.stdin is not None and sys.stdin.isatty() and sys.stdout.isatty()
+
+
+def card():
+    """Returns where the lines of the console are described: in a checkout or a release, and in an installation."""
+    return "docs/CARD.md" if os.path.exists(os.path.join(ABOVE, "docs", "CARD.md")) else "man pp6600"
 
 
 def completions():
@@ -65,7 +71,10 @@ def converse(console):
     """Performs the lines that are typed, or those of standard input."""
     if is_terminal():
         for line in typed_lines():
-            answer(console, line)
+            if line.strip().lower() in FIRST_WORDS:
+                write(f"Ctrl-D ends. Card: {card()}.")
+            else:
+                answer(console, line)
             flush()
         return
     for line in input_lines():

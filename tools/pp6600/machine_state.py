@@ -6,6 +6,9 @@ from .answers import CELLS, CLOCK, FORMS, PROCESSORS, REGISTERS, ROW, Place
 from .failure import Failure
 from .instructions import Processor
 
+ROWS = CELLS // ROW  # of a memory
+COUNTS = {"PP": PROCESSORS, "H": CLOCK + 1, "LP": 1, "CR": 1, "W": None, "C": None}  # of lines, if it is known
+
 
 class Channel(NamedTuple):
     """A channel, or the clock."""
@@ -77,69 +80,32 @@ def questions(central=None):
     return lines + ["DUMP CR"]
 
 
-class Answers:
-    """The lines of answers, taken one after another."""
-
-    def __init__(self, lines):
-        self.lines = lines
-        self.at = 0
-
-    def next_is(self, beginning):
-        return self.at < len(self.lines) and self.lines[self.at].startswith(beginning)
-
-    def take(self, form):
-        """Returns the parts of the next line, which must have this form."""
-        text = self.lines[self.at] if self.at < len(self.lines) else ""
-        found = FORMS[form].fullmatch(text)
-        if not found:
-            raise Failure(f"what is run is not the simulator: it answers {text[:60]!r} to a dump")
-        self.at += 1
-        return found.groups()
-
-    def take_rows(self):
-        """Returns the rows of a whole memory."""
-        rows = self.lines[self.at:self.at + CELLS // ROW]
-        if len(rows) < CELLS // ROW or not FORMS["M"].fullmatch(rows[0]) or not FORMS["M"].fullmatch(rows[-1]):
-            raise Failure("what is run is not the simulator: a dump of a memory is not one")
-        self.at += len(rows)
-        return rows
-
-    def take_paper(self):
-        """Returns the lines of paper. They may be many, and what comes after them is little, so their end is looked for."""
-        first, self.at = self.at, len(self.lines)
-        while self.at > first and not self.lines[self.at - 1].startswith(("|", "/")):
-            self.at -= 1
-        return self.lines[first:self.at]
-
-
 class MachineState:
     """A whole state of the machine: `slot`, `processors`, `memories`, `channels` (the clock is the last), `watches`,
     `printer`, `reader`, and `central`: the central words that were asked for, by their addresses."""
 
     def __init__(self, lines):
         """The lines are the answers to the lines of `questions`."""
-        answers = Answers(lines)
-        self.processors, self.memories = [], []
-        for _ in range(PROCESSORS):
-            self._take_processor(answers)
-        self.channels = [Channel(*answers.take("H")) for _ in range(CLOCK + 1)]
-        self._places = []
-        while answers.next_is("W "):
-            self._places += [Place.parse(place) for place in answers.take("W") if place != "NONE"]
-        self.printer = Printer(*answers.take("LP"), answers.take_paper())
+        rows, paper, others = [], [], []
+        for line in lines:
+            (rows if line[:1].isdigit() else paper if line[:1] in "|/" else others).append(line)
+        found = {form: [parts.groups() for parts in map(FORMS[form].fullmatch, others) if parts] for form in COUNTS}
+        if len(rows) != PROCESSORS * ROWS or any(len(found[form]) != count for form, count in COUNTS.items() if count):
+            raise Failure(f"what is run is not the simulator: its answers to dumps begin with {lines[0][:60]!r}")
+        self.memories = [Memory(rows[ROWS * number:ROWS * (number + 1)]) for number in range(PROCESSORS)]
+        self.processors = [self._processor(*parts) for parts in found["PP"]]
+        self.slot = int(found["PP"][0][-1], 8)
+        self.channels = [Channel(*parts) for parts in found["H"]]
+        self._places = [Place.parse(place) for place, in found["W"] if place != "NONE"]
+        self.printer = Printer(*found["LP"][0], paper)
+        self.reader = Reader(*found["CR"][0])
         self.central = {}
-        while answers.next_is("C "):
-            self.add_central(answers.take("C"))
-        self.reader = Reader(*answers.take("CR"))
+        for line in found["C"]:
+            self.add_central(line)
 
-    def _take_processor(self, answers):
-        _, *registers, slot = answers.take("PP")
-        memory = Memory(answers.take_rows())
-        address = int(registers[0], 8)
-        registers = dict(zip(REGISTERS, registers))
-        self.slot = int(slot, 8)
-        self.memories.append(memory)
-        self.processors.append(Processor(registers, [memory.word(address), memory.word(address + 1)]))
+    def _processor(self, number, *registers):
+        memory, address = self.memories[int(number, 8)], int(registers[0], 8)
+        return Processor(dict(zip(REGISTERS, registers)), [memory.word(address), memory.word(address + 1)])
 
     def add_central(self, line):
         """Adds a central word: its address and its digits."""
@@ -180,11 +146,3 @@ class MachineState:
     def states(self):
         """Returns the states of the channels and the clock."""
         return [channel.state for channel in self.channels]
-
-
-def state_of(console, central):
-    """Returns the state of a simulator; `central` is the first and the last address of the central words that are wanted."""
-    state = MachineState(console.ask_all(questions(central)))
-    for address in state.missing_central():
-        state.add_central(console.central(address, address)[0].split()[1:])
-    return state

@@ -1,19 +1,11 @@
-"""The keys of tools/panel: which lines of the console each one sends, and how it moves the cursor."""
+"""The keys of the panel: which lines of the console each one sends, and what the help says of it."""
 
-import re
 from typing import Callable, NamedTuple
 
-from ..console import CLOCK, MOST_TURNS, PROCESSORS
-from ..failure import Failure
-from ..machine_state import CELLS, ROW
-from .screen import PANES, REGISTERS
+from ..answers import PROCESSORS
+from ..console import MOST_TURNS
 
 ROUND = PROCESSORS  # turns
-MOST_COUNT_DIGITS = 10
-CHANNELS_IN_COLUMN = 7
-
-
-# ---- lines of the console
 
 
 class Facts(NamedTuple):
@@ -22,7 +14,7 @@ class Facts(NamedTuple):
     slot: int
     processor: int  # the chosen one
     place: str  # of the cursor
-    watched: tuple  # the places watched, as DUMP W has them
+    watched: tuple  # places
     history: object
 
 
@@ -96,15 +88,8 @@ def to_newest(facts, count):
     return [counted("FORWARD", facts.history.ahead.count or 1)]
 
 
-def normal(place):
-    """Returns a place without leading zeros, so that places can be compared."""
-    kind, *numbers = place.split()
-    return " ".join([kind] + [f"{int(number, 8):o}" for number in numbers])
-
-
 def toggle_watch(facts, count):
-    is_watched = facts.place in [normal(place) for place in facts.watched]
-    return [f"{'UNWATCH' if is_watched else 'WATCH'} {facts.place}"]
+    return [f"{'UNWATCH' if facts.place in facts.watched else 'WATCH'} {facts.place}"]
 
 
 class Key(NamedTuple):
@@ -161,100 +146,8 @@ def help_lines():
         lines.append(f"{'  '.join('Space' if name == ' ' else name for name in names):17}{text}")
     return lines + [
         "",
-        "A star is beside each number that the last action changed. > is before the",
-        "processor whose turn comes next, and before the cell at P; w is before a watched",
-        "cell. WAITS FOR has a channel, and the state in which the processor would go on.",
+        "A star is beside each number that the last action changed, but not beside P of a",
+        "processor that only passed through words 0000. > is before the processor whose",
+        "turn comes next, and before the cell at P; w is before a watched cell. WAITS FOR",
+        "has a channel, and the state in which the processor would go on.",
         "KEPT and AHEAD: how many actions BACK can undo and FORWARD can perform again."]
-
-
-# ---- the cursor
-
-
-def move_processor(view, key, count, rows):
-    if key in ("Left", "Right"):
-        at = REGISTERS.index(view.register) + (count if key == "Right" else -count)
-        view.register = REGISTERS[at % len(REGISTERS)]
-    else:
-        view.processor = (view.processor + signed(key, count)) % PROCESSORS
-
-
-def move_channel(view, key, count, rows):
-    step_size = CHANNELS_IN_COLUMN if key in ("Left", "Right") else 1
-    channel = view.channel + signed(key, count) * step_size
-    if key in ("Left", "Right"):
-        view.channel = channel if 0 <= channel <= CLOCK else view.channel
-    else:
-        view.channel = channel % (CLOCK + 1)
-
-
-def move_cell(view, key, count, rows):
-    sizes = {"Left": 1, "Right": 1, "Page Up": ROW * rows, "Page Down": ROW * rows}
-    view.cell = (view.cell + signed(key, count) * sizes.get(key, ROW)) % CELLS
-    view.following = False
-
-
-def move_word(view, key, count, rows, size):
-    sizes = {"Left": ROW, "Right": ROW, "Page Up": rows, "Page Down": rows}
-    view.word = max(min(view.word + signed(key, count) * sizes.get(key, 1), size - 1), 0)
-
-
-def signed(key, count):
-    return -count if key in ("Up", "Left", "Page Up") else count
-
-
-MOVES = {"processors": move_processor, "channels": move_channel, "memory": move_cell}
-LETTERS = {"h": "Left", "j": "Down", "k": "Up", "l": "Right"}
-ARROWS = ("Up", "Down", "Left", "Right", "Page Up", "Page Down")
-
-
-def move(view, key, count, rows, size):
-    """Moves the cursor by an arrow; a page has so many rows, and central memory so many words."""
-    if view.pane == "central":
-        move_word(view, key, count, rows, size)
-    else:
-        MOVES[view.pane](view, key, count, rows)
-
-
-def next_pane(view, step_size):
-    view.pane = PANES[(PANES.index(view.pane) + step_size) % len(PANES)]
-
-
-PLACES = {"M": (PROCESSORS - 1, CELLS - 1), "A": (PROCESSORS - 1,), "P": (PROCESSORS - 1,), "Q": (PROCESSORS - 1,),
-          "PP": (PROCESSORS - 1,), "H": (CLOCK,), "C": (None,)}
-
-
-def go_to(view, text, size):
-    """Moves the cursor to an address of the memory that it is in, or to a place."""
-    words = text.upper().split()
-    kind = words.pop(0) if words and words[0] in PLACES else "C" if view.pane == "central" else None
-    if any(not re.fullmatch("[0-7]{1,12}", word) for word in words):
-        raise Failure(f"{text} is neither an octal address nor a place, as M 0 106, A 0, H 12 or C 1000")
-    numbers = [int(word, 8) for word in words]
-    if kind is None:
-        kind, numbers = "M", [view.processor] + numbers
-    most = [size - 1 if one is None else one for one in PLACES[kind]]
-    if len(numbers) != len(most):
-        raise Failure(f"{text} does not name one place")
-    if any(number > one for number, one in zip(numbers, most)):
-        raise Failure(f"there is no place {text}")
-    put_cursor(view, kind, numbers)
-
-
-def put_cursor(view, kind, numbers):
-    if kind == "M":
-        view.pane, view.following, (view.processor, view.cell) = "memory", False, numbers
-    elif kind == "C":
-        view.pane, view.word = "central", numbers[0]
-    elif kind == "H":
-        view.pane, view.channel = "channels", numbers[0]
-    else:
-        view.pane, view.processor = "processors", numbers[0]
-        view.register = kind if kind in REGISTERS else view.register
-
-
-def words_to_find(text, digits):
-    """Returns the words of a search, each with all its digits."""
-    words = text.split()
-    if not words or any(not re.fullmatch("[0-7]+", word) or len(word.lstrip("0")) > digits for word in words):
-        raise Failure(f"{text or 'nothing'} can't be searched: give octal words, as 7512 0100")
-    return [f"{int(word, 8):0{digits}o}" for word in words]

@@ -6,10 +6,10 @@ WORD = re.compile(r"\S*\s*$")
 
 
 class Prompt:
-    """A line being typed, with the lines typed before."""
+    """A line being typed, with the lines typed before. The kind is the key that began it."""
 
-    def __init__(self, asked, history):
-        self.asked = asked
+    def __init__(self, kind, asked, history):
+        self.kind, self.asked = kind, asked
         self.text = ""
         self.place = 0
         self.history = history

@@ -1,59 +1,31 @@
-"""What tools/panel shows: from the machine's state to lines of text with marks. No terminal is needed for it."""
+"""What the panel shows: from the machine's state to lines of text with marks. No terminal is needed for it."""
 
 from dataclasses import dataclass, field
+from functools import lru_cache
 from typing import Optional
 
-from ..machine_state import CELLS, ROW
+from ..answers import CELLS, ROW
+from ..machine_state import MachineState
 from .text import (
     CHANGED, CHOSEN, CURSOR, HEAD, HERE, REFUSED, SLOT, TITLE, WATCHED, Line, beside, in_height, last_in)
+from .view import View, central_top, memory_top
 
 LEAST_COLUMNS, LEAST_ROWS = 80, 24
 WIDE = 120  # columns from which on watches, paper and lines have a part of their own beside the machine
 LEFT = 80  # columns of the machine
-CHANNELS_FROM = 53  # the column
-CENTRAL_FROM = 53
+CHANNELS_FROM, CENTRAL_FROM = 54, 53  # the columns
 COLUMN_FROM = 15  # the column of the device's column
 MACHINE_ROWS = 12  # the ten processors, their head and that of the memory
-PANES = ("processors", "channels", "memory", "central")
-REGISTERS = ("P", "A", "Q")  # those that can be watched
 HINTS = "s step  b back  Tab arrows g cursor  t watch  W who changed it  ? help  q quit"
 HINTS_AHEAD = "Space on  s step  b back  Tab g cursor  t watch  W who changed  ? help  q quit"  # s would discard it
-
-
-@dataclass
-class View:
-    """What is looked at: the part with the cursor, and the place of the cursor in each part."""
-
-    pane: str = "processors"
-    processor: int = 0
-    register: str = "P"
-    channel: int = 0
-    cell: int = 0
-    following: bool = True  # the memory follows P
-    top: int = 0  # the first cell shown
-    word: int = 0  # the central address
-    central_top: int = 0
-
-    def place(self):
-        """Returns the place of the cursor, as the lines of the console have it."""
-        if self.pane == "processors":
-            return f"{self.register} {self.processor:o}"
-        if self.pane == "channels":
-            return f"H {self.channel:o}"
-        if self.pane == "memory":
-            return f"M {self.processor:o} {self.cell:o}"
-        return f"C {self.word:o}"
-
-    def is_at(self, pane):
-        return CURSOR if self.pane == pane else None
 
 
 @dataclass
 class Shown:
     """All that a screen shows. `before` is the state before the last action; the log has lines with their answers."""
 
-    state: object
-    before: object
+    state: MachineState
+    before: MachineState
     view: View
     kept: int = 0
     ahead: int = 0
@@ -61,6 +33,10 @@ class Shown:
     log: list = field(default_factory=list)
     message: str = ""
     prompt: Optional[tuple] = None  # what is asked, the text so far, and the place in it
+
+    def cursor_in(self, pane):
+        """Returns the mark of the cursor, if it is in this part."""
+        return CURSOR if self.view.pane == pane else None
 
 
 @dataclass
@@ -91,61 +67,57 @@ def layout(columns, rows):
     return Layout(False, 5 + memory, 2, 1 + spare - memory - log, 2 + log)
 
 
-def memory_top(top, address, rows):
-    """Returns the first cell of a window of so many rows that has the address in it: the same one, if it has."""
-    distance = (address // ROW - top // ROW) % (CELLS // ROW)
-    if distance < rows:
-        return top
-    if distance == rows:
-        return (top + ROW) % CELLS
-    if distance == CELLS // ROW - 1:
-        return (top - ROW) % CELLS
-    return (address // ROW * ROW - rows // 3 * ROW) % CELLS
-
-
-def central_top(top, address, rows, size):
-    """As `memory_top`, of central memory, which does not begin anew after its end."""
-    if not top <= address < top + rows:
-        top = address - (rows - 1 if address == top + rows else 0 if address == top - 1 else rows // 3)
-    return max(min(top, size - rows), 0)
-
-
 # ---- the parts of the machine
+
+
+@lru_cache(maxsize=16)  # a long way is compared once, not at each drawing
+def is_idle(now, was, number):
+    """Returns whether a processor only passed through words 0000 between two states. The clock grows by 1 in a round, so that
+    it and the slot say how many turns the processor had."""
+    first, last = was.processors[number], now.processors[number]
+    rounds = int(now.clock, 8) - int(was.clock, 8)
+    turns = (rounds + (now.slot > number) - (was.slot > number)) % CELLS
+    start, end = int(first.registers["P"], 8), int(last.registers["P"], 8)
+    if (end - start - turns) % CELLS or first.phase or {**first.registers, "P": ""} != {**last.registers, "P": ""}:
+        return False
+    steps = range(turns + 1) if turns <= CELLS // 2 else range(turns - CELLS, 1)  # on, or back
+    return all(memory.word(start + step) == "0000" for memory in (was.memories[number], now.memories[number]) for step in steps)
 
 
 def processor_line(shown, number):
     """Returns the line of a processor."""
     state, before, view = shown.state, shown.before, shown.view
     now, was = state.processors[number], before.processors[number]
+    memory, memory_before = state.memories[number], before.memories[number]
     chosen = number == view.processor
     line = Line(">" if state.slot == number else " ", SLOT)
     line.add(f"{number:02o}", CHOSEN if chosen else None).add(" ")
+
+    def add_register(name, is_new=True):
+        cursor = shown.cursor_in("processors") if chosen and view.register == name else None
+        line.add_number(now.registers[name], was.registers[name] if is_new else None, cursor)
+
+    add_register("P", not is_idle(state, before, number))
     at = int(now.registers["P"], 8)
-
-    def add_register(name):
-        cursor = view.is_at("processors") if chosen and view.register == name else None
-        line.add_number(now.registers[name], was.registers[name], cursor)
-
-    add_register("P")
     for address in (at,) if now.phase else (at, at + 1):
-        line.add_number(state.memories[number].word(address), before.memories[number].word(address))
+        line.add_number(memory.word(address), memory_before.word(address))
     line.add(f"{'  in ' if now.phase else ''}{now.name} ")
     add_register("A")
     add_register("Q")
     line.add_number(now.registers["PHASE"], was.registers["PHASE"])
-    return line.add(" ").add(now.waits_for(state.states()))
+    return line.add("  ").add(now.waits_for(state.states()))
 
 
 def processor_lines(shown):
     """Returns the ten processors."""
-    head = Line(" PP P    AT P          A      Q    PHASE WAITS FOR", HEAD)
+    head = Line(" PP P    AT P          A      Q    PHASE  WAITS FOR", HEAD)
     return [head] + [processor_line(shown, number) for number in range(len(shown.state.processors))]
 
 
 def channel_part(shown, number):
     """Returns a channel: its number, state and register."""
-    now, was, view = shown.state.channels[number], shown.before.channels[number], shown.view
-    cursor = view.is_at("channels") if number == view.channel else None
+    now, was = shown.state.channels[number], shown.before.channels[number]
+    cursor = shown.cursor_in("channels") if number == shown.view.channel else None
     line = Line(f"{now.number} ").add_number(now.state, was.state)
     return line.add_number(now.register, was.register, cursor)
 
@@ -178,7 +150,7 @@ def memory_row(shown, first):
     watched = shown.state.watched_cells(view.processor)
     line = Line(f"{first:04o}")
     for address in range(first, first + ROW):
-        cursor = view.is_at("memory") if address == view.cell else None
+        cursor = shown.cursor_in("memory") if address == view.cell else None
         is_watched = address in watched
         sign = ">" if address == here else "w" if is_watched else " "
         line.add(sign, HERE if address == here else None)
@@ -205,7 +177,7 @@ def central_line(shown, address):
     was = shown.before.number(f"C {address:06o}")
     changed = CHANGED if now and was and now != was else None
     line = Line(f"{address:06o}").add("*" if changed else "w" if is_watched else " ", changed)
-    cursor = view.is_at("central") if address == view.word else None
+    cursor = shown.cursor_in("central") if address == view.word else None
     return line.add(now or "", changed, cursor, WATCHED if is_watched else None)
 
 
@@ -330,13 +302,17 @@ def cursor_of(lines):
 
 def screen(shown, columns, rows):
     """Returns the screen of a machine's state on a terminal of so many columns and rows."""
-    if columns < LEAST_COLUMNS or rows < LEAST_ROWS:
+    if is_too_small(columns, rows):
         return small_screen(columns, rows)
     parts = layout(columns, rows)
     middle = wide_lines(shown, parts) if parts.wide else narrow_lines(shown, columns, parts)
     bottom, column = bottom_line(shown)
     lines = [line.fit(columns) for line in [title_line(shown, columns)] + middle + [bottom]]
     return Screen(lines, (rows - 1, min(column, columns - 1)) if column is not None else cursor_of(lines))
+
+
+def is_too_small(columns, rows):
+    return columns < LEAST_COLUMNS or rows < LEAST_ROWS
 
 
 def small_screen(columns, rows):
@@ -348,14 +324,3 @@ def small_screen(columns, rows):
             lines.append(Line())
         lines[-1].add(f"{word} ")
     return Screen([line.fit(columns) for line in in_height(lines, rows)], (0, 0))
-
-
-def page_screen(title, lines, first, columns, rows):
-    """Returns a page of text, as the help and all lines typed, from a line on."""
-    if columns < LEAST_COLUMNS or rows < LEAST_ROWS:
-        return small_screen(columns, rows)
-    part = in_height(lines[first:first + rows - 2], rows - 2)
-    more = "arrows and Page Up/Down move; " if len(lines) > rows - 2 else ""
-    bottom = Line(f"{more}q, Escape or Enter closes this page", HEAD)
-    whole = [Line(f" {title}".ljust(columns), TITLE)] + part + [bottom]
-    return Screen([line.fit(columns) for line in whole], (rows - 1, 0))

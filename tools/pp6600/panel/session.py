@@ -1,48 +1,40 @@
-"""The session of tools/panel: lines sent to the simulator, what they answered, and the machine's state after them."""
+"""The session of the panel: lines sent to the simulator, what they answered, and the machine's state after them."""
 
-from ..console import Console
+import os
+from typing import NamedTuple
+
+from ..answers import Place
+from ..console import has_no_answer
 from ..failure import Failure
 from ..machine_state import MachineState, questions
-from .history import MOST_KEPT, History
+from ..run import Run
 
-MOST_LINES = 1000000  # decimal, of one simulator
-LINES_LEFT = 10000  # decimal; with fewer lines left, the session goes on in a fresh simulator
-LONGEST_NOTE = 255
 LOG_LENGTH = 10000  # decimal, lines and answers
 SEARCHED_AT_ONCE = 0o10000  # central words
 ALLOWANCE = 0o100  # central words asked for on either side of those that are shown
 
 
-class Simulator(Console):
-    """A simulator of which a whole state is asked for at once."""
+class Outcome(NamedTuple):
+    """What came of some lines."""
 
-    def state(self, central):
-        """Returns the state; `central` is the first and the last address of the central words that are wanted."""
-        state = MachineState(self.answers(questions(central)))
-        for address in state.missing_central():
-            state.add_central(self.question(f"DUMP C {address:o} {address:o}", [f"C {address:06o} "])[0].split()[1:])
-        return state
-
-    def answers(self, lines):
-        """Returns the answers to lines of which the last one is the mark."""
-        self.send(*lines)
-        answers = []
-        while not answers or not answers[-1].startswith("CR "):
-            answers.append(self.pipe.line())
-            answers += self.pipe.lines  # what else has come, at once: there are thousands
-            self.pipe.lines.clear()
-        return answers
+    answer: list  # to the last one that was sent
+    discarded: int  # how many actions that were ahead are so no longer
+    watched: list  # the places that were watched before
 
 
-def history_room(words):
-    """Returns how many actions the simulator keeps. It has accepted its options."""
-    return int(words[words.index("--history") + 1]) if "--history" in words else MOST_KEPT
+def kind_of(answer):
+    """Returns the first word of an answer, as TURNS; nothing if there is no answer."""
+    return answer[0].split()[0] if answer else ""
+
+
+def hit_of(answer):
+    """Returns the line of an answer that says that a watched number changed, or None."""
+    return next((line for line in answer[1:2] if line.startswith("HIT ")), None)
 
 
 def is_action(line):
     """Returns whether a line may be an action, BACK or FORWARD."""
-    words = line.upper().split()
-    return bool(words) and words[0] not in ("DUMP", "*") and not words[0].startswith("*")
+    return not has_no_answer(line) and line.upper().split()[:1] != ["DUMP"]
 
 
 def never(done, total):
@@ -53,10 +45,9 @@ class Session:
     """A simulator, all lines that it was sent, and its state. The lines that ask for the state are not among them."""
 
     def __init__(self, words):
-        self.words = words
-        self.simulator = Simulator(words)
+        self.simulator = Run(words)
+        self.history = self.simulator.history
         self.size = self.simulator.size_of_central()
-        self.history = History(history_room(words))
         self.sent = []
         self.saved = 0  # how many of the lines are in a file
         self.log = []
@@ -65,13 +56,22 @@ class Session:
         self.state = self.before = self.read()
 
     def read(self):
+        """Returns the machine's state."""
         first, last = self.central
-        return self.simulator.state((max(first - ALLOWANCE, 0), min(last + ALLOWANCE, self.size - 1)))
+        asked = questions((max(first - ALLOWANCE, 0), min(last + ALLOWANCE, self.size - 1)))
+        state = MachineState(self.simulator.ask_all(asked))
+        for address in state.missing_central():
+            state.add_central(self.simulator.central(address, address)[0].split()[1:])
+        return state
 
-    def look_at_central(self, first, last):
-        """Sees that the state has these central words."""
-        self.central = (first, last)
-        if first not in self.state.central or last not in self.state.central:
+    def watched(self):
+        """Returns the watched places."""
+        return [Place.parse(watch.place).short for watch in self.state.watches]
+
+    def look_at_central(self, first, rows):
+        """Sees that the state has so many central words from the first on."""
+        self.central = (first, first + rows - 1)
+        if any(address not in self.state.central for address in self.central):
             self.state = self.read()
 
     def find_central(self, word, first):
@@ -84,25 +84,13 @@ class Session:
                         return int(line.split()[1], 8)
         return None
 
-    def renew(self):
-        """Goes on in a fresh simulator if this one is near its limit of lines."""
-        if self.simulator.lines < MOST_LINES - LINES_LEFT:
-            return
-        if len(self.sent) > MOST_LINES // 2:
-            raise Failure("this session has too many lines to go on")
-        self.simulator.end()
-        self.simulator = Simulator(self.words)
-        self.simulator.perform_all(self.sent)
-
     def send(self, line):
-        """Sends a line. Returns its answer, and whether it changed anything."""
-        self.renew()
-        answer = self.simulator.ask(line)
+        """Sends a line, and returns its answer."""
+        answer = self.simulator.act(line)
         self.sent.append(line)
-        changed = self.history.take(line, answer)
         if line.strip():
             self.log_line(line, answer)
-        return answer, changed
+        return answer
 
     def log_line(self, line, answer):
         """Adds a line with its answer to the log, and drops the oldest of a log that is too long."""
@@ -113,18 +101,19 @@ class Session:
 
     def perform(self, lines, stops=never):
         """Sends lines up to one that is refused, or that ends with a HIT, or until it `stops`: that is asked before each
-        line but the first, with how many are done and how many there are. Then reads the state. Returns the last answer."""
-        old, changed, answer = self.state, False, []
+        line but the first, with how many are done and how many there are. Then reads the state. Returns the outcome."""
+        old, ahead, watched = self.state, self.history.ahead.count, self.watched()
+        kinds, answer = set(), []
         for number, line in enumerate(lines):
             if number and stops(number, len(lines)):
                 break
-            answer, one_changed = self.send(line)
-            changed |= one_changed
-            if len(answer) > 1 and answer[1].startswith("HIT ") or answer and answer[0].startswith("ERR "):
+            answer = self.send(line)
+            kinds.add(kind_of(answer))
+            if kind_of(answer) == "ERR" or hit_of(answer):
                 break
-        if changed:
+        if kinds & {"OK", "TURNS", "BACK", "FORWARD"}:
             self.state, self.before = self.read(), old
-        return answer
+        return Outcome(answer, ahead if kinds & {"OK", "TURNS"} else 0, watched)
 
     def perform_script(self, lines, stops=never):
         """Performs a script, whatever is refused; `stops` is asked before each line. Returns whether all was performed."""
@@ -154,12 +143,14 @@ class Session:
 
     def note(self):
         """Returns a line that says how the session was begun, if a note can say it."""
-        note = " ".join(["* A session of panel. Its options:", *self.words[1:]] if self.words[1:] else ["* A session of panel."])
-        plain = all(" " <= character <= "~" for character in note)
-        return note if plain and len(note) <= LONGEST_NOTE else "* A session of panel."
+        note, options = "* A session of panel.", self.simulator.words[1:]
+        whole = " ".join([note, "Its options:", *options])
+        return whole if options and whole.isascii() and has_no_answer(whole) else note
 
     def save(self, path, over=False):
         """Writes all that was sent into a file, a script that gives the same session again."""
+        if over and os.path.exists(path) and not os.path.isfile(path):  # a FIFO would wait for a reader
+            raise Failure(f"can't write {path}: it is not a file")
         text = "".join(f"{line}\n" for line in [self.note(), *self.sent]).encode("latin-1")
         try:
             with open(path, "wb" if over else "xb") as file:

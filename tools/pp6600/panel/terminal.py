@@ -1,4 +1,4 @@
-"""The terminal of tools/panel: keys in, screens out. All that is shown and all that a key does is decided elsewhere."""
+"""The terminal of the panel: keys in, screens out. All that is shown and all that a key does is decided elsewhere."""
 
 import curses
 import locale
@@ -217,19 +217,19 @@ def has_colours():
     return curses.has_colors() and curses.COLORS >= 8
 
 
-class Shell:
-    """The loop between a terminal and a desk."""
+class Loop:
+    """The loop between a terminal and a panel."""
 
-    def __init__(self, terminal, desk):
-        self.terminal, self.desk = terminal, desk
+    def __init__(self, terminal, panel):
+        self.terminal, self.panel = terminal, panel
         self.pending = []  # keys that were typed while the simulator was busy
         self.drawn = 0.0
-        desk.is_stopped, desk.show = self.is_stopped, self.draw
+        panel.is_stopped, panel.show = self.is_stopped, self.draw
 
     def run(self):
         """Performs keys until one ends the panel. Returns the number of a signal that ended it, else None."""
         self.draw()
-        while not self.desk.is_ended:
+        while not self.panel.is_ended:
             keys = self.pending or self.terminal.keys(None)
             self.pending = []
             if self.terminal.end_signal:
@@ -240,7 +240,7 @@ class Shell:
 
     def press(self, keys):
         """Performs keys. While more of them wait, not every state is drawn."""
-        while keys and not self.desk.is_ended:
+        while keys and not self.panel.is_ended:
             key = keys.pop(0)
             if key == "Ctrl-Z":
                 self.terminal.suspend()
@@ -248,7 +248,7 @@ class Shell:
             elif key == "Ctrl-L":
                 self.terminal.window.clear()
             else:
-                self.desk.press(key)
+                self.panel.press(key)
             keys += self.pending + self.terminal.typed_keys()
             self.pending = []
             if not keys or time.monotonic() - self.drawn > BETWEEN_DRAWINGS:
@@ -260,11 +260,11 @@ class Shell:
         if terminal.is_to_suspend:
             terminal.suspend()
         if terminal.size_may_differ:
-            self.desk.resize(*terminal.take_size())
+            self.panel.resize(*terminal.take_size())
             self.draw()
 
     def draw(self):
-        self.terminal.draw(self.desk.screen())
+        self.terminal.draw(self.panel.screen())
         self.drawn = time.monotonic()
 
     def is_stopped(self):
@@ -276,3 +276,12 @@ class Shell:
             return True
         self.pending += keys
         return self.terminal.end_signal is not None
+
+
+def run(panel, script):
+    """Shows a panel that performs a script, and then keys. Returns the number of a signal that ended it, else None."""
+    with Terminal() as terminal:
+        panel.resize(*terminal.take_size())
+        loop = Loop(terminal, panel)
+        panel.perform_script(script)
+        return loop.run()

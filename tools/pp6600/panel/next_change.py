@@ -1,11 +1,22 @@
-"""Which turn makes a change, in the words of the film. The session's machine is stepped back and forward again for it, so
-that it is as it was."""
+"""Which action makes the change before which a BACK W has stopped, in the words of the film. The session's machine is stepped
+back and forward again for it, so that it is as it was."""
 
 from itertools import islice
 
-from ..console import PROCESSORS
+from ..answers import PROCESSORS
+from ..history import STEP
 
 TURNS_AT_ONCE = 0o100  # of one processor
+
+
+def next_change(session, places):
+    """Returns in words the next action of the redo list, with the first of the places that it changes."""
+    simulator, line = session.simulator, session.history.ahead.runs[-1].line
+    if line != STEP:
+        return f"the change is the next action, {line.strip()}"
+    change = changed_place(simulator, places)
+    text = f"the next turn, {turn_text(simulator, session.state, session.history.kept)},"
+    return f"{text} changes {change[0]} from {change[1]}" if change else f"{text} makes the change"
 
 
 def changed_place(simulator, places):
@@ -46,7 +57,7 @@ def earlier_turns(kept):
     DEADSTART begins the barrel anew."""
     turns = actions = 0
     for run in reversed(kept.runs):
-        if run.line.upper().split()[0] == "DEADSTART":
+        if run.word == "DEADSTART":
             return
         for turn in range(1, run.turns + 1):
             if (turns + turn) % PROCESSORS == 0:

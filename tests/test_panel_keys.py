@@ -1,0 +1,342 @@
+"""What the keys of the panel do, without a terminal: the lines that they send, the cursor, and a session. The expected values
+are those of README.md, docs/TUTORIAL.md, docs/HOWTO.md and docs/CONSOLE.md."""
+
+import os
+import random
+import re
+import sys
+
+from .support import EXAMPLES, TOP, Case, program, read, run
+
+from pp6600.console import Console
+from pp6600.history import History
+from pp6600.panel.app import Panel
+from pp6600.panel.keys import LINE_KEYS, LINES, OTHER_KEYS, Facts, help_lines, step_lines
+from pp6600.panel.session import Session
+
+PROGRAM = program()
+DECK = os.path.join(EXAMPLES, "overwritten-loader", "deck")
+# The loader of README.md up to its first question.
+OVERWRITTEN = """\
+SET M 0 100 7712 1 7412 1477 7112 60 7512 100
+SET M 0 110 60
+SET P 0 100
+STEP 1300
+"""
+FIRST_PROGRAM = "SET M 0 100 1405 3420 300\nSET P 0 100\n"
+CULPRIT = "the next turn, PP 00 in the block of IAM 12 at 0104, changes M 0 106 from 7512"
+
+
+def press(panel, *keys):
+    """Presses keys: names in angles, and characters. Returns the lines of the screen."""
+    for key in re.findall(r"<[A-Z][^>]*>|.", "".join(keys), flags=re.S):
+        panel.press(key[1:-1] if len(key) > 1 else key)
+    return [line.text for line in panel.screen().lines]
+
+
+def bottom(panel, *keys):
+    """Presses keys, and returns the last line of the screen."""
+    return press(panel, *keys)[-1].rstrip()
+
+
+class PanelCase(Case):
+    """A test of panels without a terminal."""
+
+    def panel(self, script="", *options, size=(80, 24)):
+        """Returns a panel that has performed a script."""
+        panel = Panel(Session([PROGRAM, *options]))
+        self.addCleanup(panel.session.close)
+        panel.resize(*size)
+        panel.perform_script(script.splitlines())
+        return panel
+
+    def wide_panel(self, script, *options):
+        """Returns a panel with room for a whole message."""
+        return self.panel(script, *options, size=(160, 24))
+
+
+# ---- the lines that keys send
+
+
+def facts(slot=0, processor=0, place="P 0", watched=(), history=None):
+    return Facts(slot, processor, place, watched, history or History())
+
+
+class Lines(Case):
+    def test_lines(self):
+        """The lines of README.md and docs/HOWTO.md, and turns counted by the barrel's order."""
+        for key, slot, processor, count, wanted in (
+                ("s", 0, 0, 1, ["STEP"]), ("s", 0, 0, 0o12, ["STEP 12"]), ("S", 3, 0, 1, ["STEP 12"]), ("S", 0, 0, 3, ["STEP 36"]),
+                ("n", 0, 3, 1, ["STEP 3"]), ("n", 0, 0, 1, ["STEP 12"]), ("n", 9, 0, 1, ["STEP"]), ("n", 4, 0, 2, ["STEP 20"]),
+                ("W", 0, 0, 1, ["WATCH P 0", "BACK W"]), ("b", 0, 0, 1, ["BACK"]), ("b", 0, 0, 0o675, ["BACK 675"]),
+                ("f", 0, 0, 0o675, ["FORWARD 675"]), (" ", 0, 0, 1, ["STEP"])):
+            with self.subTest(key, slot=slot, processor=processor, count=count):
+                self.assertEqual(wanted, LINES[key](facts(slot, processor), count))
+        self.assertEqual(["STEP 1000000"], step_lines(0o1000000), "as many turns as a line may make")
+        self.assertEqual(["STEP 1000000", "STEP 1000000", "STEP"], step_lines(0o2000001))
+
+    def test_watches(self):
+        watched = facts(place="M 0 106", watched=("M 0 106", "A 0"))
+        self.assertEqual(["UNWATCH M 0 106"], LINES["t"](watched, 1))
+        self.assertEqual(["WATCH M 0 107"], LINES["t"](watched._replace(place="M 0 107"), 1))
+        self.assertEqual(["BACK W"], LINES["W"](watched, 1))
+        self.assertEqual(["WATCH M 0 106", "BACK W"], LINES["W"](watched._replace(watched=()), 1))
+
+    def test_back(self):
+        """Back by turns goes back over the lines that were typed between them."""
+        history = History()
+        for line, answer in (("SET P 0 100", "OK"), ("STEP 25", "TURNS 25 SLOT 01"), ("SET A 0 0", "OK"), ("WATCH A 0", "OK"),
+                             ("STEP 3", "TURNS 3 SLOT 04")):
+            history.take(line, [answer])
+        here = facts(4, 0, history=history)
+        for key, count, wanted in (("b", 1, "BACK"), ("B", 1, "BACK 14"), ("B", 2, "BACK 26"), ("p", 1, "BACK 6"),
+                                   ("p", 2, "BACK 20"), ("B", 3, "BACK 41"), ("<", 1, "BACK 33")):
+            with self.subTest(key, count=count):
+                self.assertEqual([wanted], LINES[key](here, count))
+        self.assertEqual(["BACK 14"], LINES["p"](here._replace(processor=4), 1), "to the slot's own last turn")
+        history.take("BACK 6", ["BACK 6 SLOT 00"])
+        self.assertEqual((0o25, 6), (history.kept.count, history.ahead.count))
+        here = facts(0, 0, history=history)
+        for key, wanted in ((" ", "FORWARD"), ("F", "FORWARD 14"), ("N", "FORWARD 14"), (">", "FORWARD 6")):
+            with self.subTest(key):
+                self.assertEqual([wanted], LINES[key](here, 1))
+        self.assertEqual(["FORWARD 4"], LINES["N"](here._replace(processor=2), 1))
+        history.take("STEP", ["TURNS 1 SLOT 01"])
+        self.assertEqual((0o26, 0), (history.kept.count, history.ahead.count), "a new action discards what is ahead")
+
+    def test_counts_of_history(self):
+        """docs/CONSOLE.md: BACK by all that is kept is performed, by one more it is ERR 07; so with FORWARD and ERR 16."""
+        chance = random.Random(6600)
+        for room in (3, 40, None):
+            console = Console([PROGRAM] + (["--history", str(room)] if room else []))
+            history = History(room) if room else History()
+            for _ in range(60):
+                line = chance.choice(("STEP", "STEP 7", "SET A 0 1", "WATCH H 14", "UNWATCH H 14", "BACK", "BACK 5", "BACK W",
+                                      "FORWARD", "FORWARD 3", "GO", "DUMP W", "STEP 100"))
+                history.take(line, console.ask(line))
+            kept, ahead = history.kept.count, history.ahead.count
+            lines = [f"BACK {kept + 1:o}", f"FORWARD {ahead + 1:o}"]
+            lines += [f"FORWARD {ahead:o}", f"BACK {ahead:o}"] if ahead else []
+            lines += [f"BACK {kept:o}"] if kept else []
+            wanted = ["ERR 07 TOO FEW KEPT", "ERR 16 TOO FEW AHEAD", *lines[2:]]
+            with self.subTest(room=room):
+                self.assertEqual(wanted, [console.ask(line)[0].split(" SLOT")[0] for line in lines])
+                self.assertTrue(kept)
+            console.end()
+
+
+# ---- sessions
+
+
+class Culprits(PanelCase):
+    """Who makes a change, as README.md, docs/TUTORIAL.md and docs/HOWTO.md have the instructions."""
+
+    def test_loader(self):
+        """README.md: the step that overwrote the loader, by keys; then its lines saved, and the saved script performed."""
+        panel = self.panel(OVERWRITTEN, "--deck", DECK)
+        got = press(panel, "g106<Enter>tW")
+        self.assertEqual({"P": "0106", "A": "000051", "Q": "0000", "PHASE": "7112"}, panel.session.state.processors[0].registers)
+        self.assertEqual("0100 0021  0022  0023  0024  0025  0026 >7512* 0100*", got[13][:52])
+        self.assertEqual("> BACK W                BACK 675 SLOT 00", got[22].rstrip())
+        self.assertEqual(CULPRIT, got[23].rstrip())
+        press(panel, "g100<Enter>tW")
+        self.assertEqual("BACK 75 SLOT 00", panel.session.log[-1][1][0])
+        press(panel, ":set a 0 0<Enter>25s")
+        registers = panel.session.state.processors[0].registers
+        self.assertEqual(("0060", "000000"), (registers["P"], registers["A"]))
+        room = self.room()
+        path = os.path.join(room, "saved")
+        press(panel, f"w{path}<Enter>")
+        self.assertTrue(panel.session.is_saved())
+        first, *lines = read(path).splitlines()
+        self.assertTrue(first.startswith("* ") and DECK in first, first)
+        self.assertEqual(OVERWRITTEN.splitlines() + ["WATCH M 0 106", "BACK W", "WATCH M 0 100", "BACK W", "set a 0 0", "STEP 25"], lines)
+        again = self.panel(read(path), "--deck", DECK)
+        self.assertEqual(panel.session.log, [entry for entry in again.session.log if not entry[0].startswith("*")])
+        for keys, wanted in ((f"w{path}", "exists"), (f"w! {path}", "saved"), (f"w{room}/no/such", "can't write")):
+            with self.subTest(keys):
+                self.assertIn(wanted, bottom(panel, f"{keys}<Enter>"))
+
+    def test_the_question_changes_nothing(self):
+        """The machine, what is kept and what is ahead are as they would be without the question who makes the change."""
+        panel = self.wide_panel(OVERWRITTEN, "--deck", DECK)
+        self.assertEqual(f"{CULPRIT}; WATCH M 0 106 is undone too", bottom(panel, "g106<Enter>tW"))
+        session = panel.session
+        plain = self.panel(OVERWRITTEN + "WATCH M 0 106\nBACK W\n", "--deck", DECK).session
+        for dump in "DUMP PP 0", "DUMP M 0 0 7777", "DUMP H", "DUMP W", "DUMP CR", "DUMP LP":
+            with self.subTest(dump):
+                self.assertEqual(plain.simulator.ask(dump), session.simulator.ask(dump))
+        self.assertEqual([["FORWARD 675 SLOT 04"], ["ERR 16 TOO FEW AHEAD"]],
+                         [session.simulator.ask(line) for line in ("FORWARD 675", "FORWARD")])
+        self.assertEqual(OVERWRITTEN.splitlines() + ["WATCH M 0 106", "BACK W"], session.sent)
+
+    def test_number_at_the_cursor(self):
+        panel = self.wide_panel(OVERWRITTEN, "--deck", DECK)
+        got = bottom(panel, "g106<Enter>W")
+        self.assertEqual([("WATCH M 0 106", ["OK"]), ("BACK W", ["BACK 675 SLOT 00"])], panel.session.log[-2:])
+        self.assertEqual(CULPRIT, got)
+        got = bottom(panel, "g100<Enter>W")
+        self.assertTrue(got.endswith(" changes M 0 100 from 7712; the 675 actions ahead are discarded"), got)
+        self.assertEqual(("BACK W", ["BACK 75 SLOT 00"]), panel.session.log[-1])
+        self.assertEqual("Space on  s step  b back", bottom(panel, "<Left>")[:24], "something is ahead")
+        self.assertEqual("s step  b back  Tab ", bottom(panel, "><Left>")[:20], "nothing is ahead")
+
+    def test_instructions(self):
+        for script, wanted in (
+                (FIRST_PROGRAM + "WATCH M 0 20\nWATCH A 0\nSTEP 13\nUNWATCH A 0\nSTEP 13\n", "STD 20 at 0101, changes M 0 20"),
+                ("SET M 0 0 5400 300\nSET A 0 25\nWATCH M 0 300\nSTEP\n", "STM 00 0300 at 0000, changes M 0 300")):
+            with self.subTest(wanted):
+                self.assertEqual(f"the next turn, PP 00 with {wanted} from 0000", bottom(self.wide_panel(script), "W"))
+
+    def test_blocks(self):
+        """A block that no instruction began, one that began before a DEADSTART, and one whose beginning is no longer kept."""
+        panel_file = os.path.join(EXAMPLES, "dead-start", "panel")
+        for before in "", "SET M 1 777 7101 300\nSET P 1 777\nSET H 1 E 0\nSTEP 12\n":
+            script = f"{before}DEADSTART\nSET M 1 0 0\nSET H 1 F 1234\nWATCH M 1 0\nSTEP 12\n"
+            with self.subTest(before):
+                self.assertEqual("the next turn, PP 01 in the block of IAM 01, changes M 1 0 from 0000",
+                                 bottom(self.wide_panel(script, "--panel", panel_file), "W"))
+        for turns, began in ("4704", " at 0000"), ("30000", ""):  # of the 23420 actions that are kept
+            script = f"SET M 0 0 7105 300\nSET A 0 7\nSET H 5 E 0\nSTEP {turns}\nSET H 5 F 1\nWATCH M 0 300\nSTEP 12\n"
+            with self.subTest(turns):
+                self.assertEqual(f"the next turn, PP 00 in the block of IAM 05{began}, changes M 0 300 from 0000",
+                                 bottom(self.wide_panel(script), "W"))
+
+
+class Typed(PanelCase):
+    """Counts and lines."""
+
+    def test_counts(self):
+        panel = self.panel(FIRST_PROGRAM)
+        press(panel, "13s")
+        self.assertEqual(("STEP 13", ["TURNS 13 SLOT 01"]), panel.session.log[-1])
+        self.assertEqual("0005", panel.session.state.number("M 00 0020"), "docs/TUTORIAL.md: the store")
+        press(panel, "1")
+        self.assertIn("8 is not octal", bottom(panel, "8"))
+        press(panel, "s")
+        self.assertEqual("STEP", panel.session.log[-1][0])
+        press(panel, "12<Escape>b")
+        self.assertEqual("BACK", panel.session.log[-1][0], "a count forgotten")
+
+    def test_lines(self):
+        panel = self.panel(FIRST_PROGRAM)
+        self.assertEqual("ERR 15 NOTHING WATCHED; t watches the number at the cursor", bottom(panel, ":BACK W<Enter>"))
+        self.assertEqual("ERR 01 NOT A COMMAND", bottom(panel, ":GO<Enter>"))
+        press(panel, ":dump pp 0<Enter>:<Up><Up><Enter>")
+        self.assertEqual(["GO", "dump pp 0", "GO"], [line for line, _ in panel.session.log[-3:]])
+        press(panel, ":SET A 0<Home><Right><Right><Right><Delete> <End><Backspace>1 77<Ctrl-W>5<Enter>")
+        self.assertEqual(("SET A 1 5", ["OK"]), panel.session.log[-1])
+        got = press(panel, ":DUMP XP<Enter>")
+        self.assertTrue(any(line.startswith("XP 17 0") for line in got), got)
+
+    def test_first_words(self):
+        """Who asks for help or for the end as elsewhere is told the keys; no line is sent."""
+        panel = self.panel(FIRST_PROGRAM)
+        sent = list(panel.session.sent)
+        for word in "help", "HELP", "?", "quit", "Quit", "exit", " EXIT ":
+            with self.subTest(word):
+                got = bottom(panel, f":{word}<Enter>")
+                self.assertTrue("q" in got and "docs/CARD.md" in got, got)
+                self.assertEqual(sent, panel.session.sent)
+        self.assertEqual("ERR 01 NOT A COMMAND", bottom(panel, ":help me<Enter>"))
+
+    def test_search_and_go_to(self):
+        panel = self.panel(FIRST_PROGRAM)
+        press(panel, "/3420<Enter>")
+        self.assertEqual((0o101, "memory"), (panel.view.cell, panel.view.pane))
+        press(panel, "g0<Enter>/1405 3420<Enter>")
+        self.assertEqual(0o100, panel.view.cell)
+        self.assertIn("7777 is not there", bottom(panel, "/7777<Enter>"))
+        self.assertIn("no place", bottom(panel, "g12345<Enter>"))
+        for text, place in ("M 3 17", "M 3 17"), ("C 1000", "C 1000"), ("H 14", "H 14"), ("q 5", "Q 5"), ("PP 11", "Q 11"):
+            with self.subTest(text):
+                press(panel, f"g{text}<Enter>")
+                self.assertEqual(place, panel.view.place())
+        press(panel, ":SET C 123456 7<Enter>gC 0<Enter>/7<Enter>")
+        self.assertEqual("C 123456", panel.view.place())
+
+    def test_save_to_no_file(self):
+        """What is no file is not opened: a FIFO that nobody reads would wait forever."""
+        room = self.room()
+        panel = self.panel("STEP\n")
+        press(panel, "s")
+        os.mkfifo(os.path.join(room, "fifo"))
+        os.symlink("fifo", os.path.join(room, "link"))
+        for name in "fifo", "link", ".":
+            for key in "w", "w! ":
+                with self.subTest(key + name):
+                    self.assertIn("is not a file" if key == "w! " else "exists", bottom(panel, f"{key}{room}/{name}<Enter>"))
+                    self.assertFalse(panel.session.is_saved())
+
+    def test_help(self):
+        """The help and docs/PANEL.md have each key, in the same order."""
+        panel = self.panel()
+        got = "\n".join([*press(panel, "?"), *help_lines()])
+        self.assertEqual([], [key.help for key in LINE_KEYS if key.help not in got])
+        self.assertLessEqual(max(map(len, help_lines())), 80)
+        rows = re.findall(r"^\| (`.*?`) \| (.*) \|$", read("docs", "PANEL.md"), flags=re.M)
+        keys = [(key.names, key.help) for key in LINE_KEYS] + list(OTHER_KEYS)
+        quoted = [(", ".join(f"`{'Space' if name == ' ' else name}`" for name in names), text) for names, text in keys]
+        self.assertEqual(quoted, rows)
+
+    def test_quit(self):
+        panel = self.panel(FIRST_PROGRAM)
+        press(panel, "?s<Escape>sq")
+        self.assertFalse(panel.is_ended, "not saved: one q asks")
+        press(panel, "q")
+        self.assertTrue(panel.is_ended)
+
+
+class Sessions(PanelCase):
+    def test_scripts(self):
+        """What the last action of a script changed is marked; if its last line is refused, nothing is."""
+        lines = press(self.panel(FIRST_PROGRAM + "STEP\nDUMP PP 0\n"))
+        self.assertEqual(" 00 0101*3420 0300 STD 000005*0000 0000", lines[2][:41].rstrip(), "docs/TUTORIAL.md: the first step")
+        lines = press(self.panel(FIRST_PROGRAM + "STEP\nGO\n"))
+        self.assertEqual(" 00 0101 3420 0300 STD 000005 0000 0000", lines[2][:41].rstrip())
+
+    def test_stops(self):
+        """A long run and a script are stopped."""
+        panel = self.panel("STEP\n" * 9)
+        self.assertEqual(9, panel.session.history.kept.count)
+        self.assertTrue(panel.session.is_saved())
+        panel.is_stopped = lambda: True
+        press(panel, "30000000s")
+        self.assertEqual(["STEP", "STEP 1000000"], [line for line, _ in panel.session.log[-2:]])
+        panel = self.panel()
+        panel.is_stopped = lambda: True
+        panel.perform_script(["STEP"] * 5)
+        self.assertEqual(0, panel.session.history.kept.count)
+        self.assertIn("stopped after 0 (decimal) lines", bottom(panel))
+
+    def test_moves(self):
+        """The cursor, by arrows and Tab; a watch of each kind of place at it."""
+        panel = self.panel()
+        for place, keys in {"A 1": "j<Right>", "H 1": "<Tab>j", "M 1 10": "<Tab>gM 1 0<Enter>j", "C 1": "<Tab><Down>"}.items():
+            with self.subTest(place):
+                press(panel, keys, "t")
+                self.assertEqual(f"WATCH {place}", panel.session.log[-1][0])
+        self.assertEqual(["A 01", "H 01", "M 01 0010", "C 000001"], [one.place for one in panel.session.state.watches])
+        press(panel, "t")
+        self.assertEqual("UNWATCH C 1", panel.session.log[-1][0])
+        press(panel, "]][")
+        self.assertEqual(2, panel.view.processor)
+        press(panel, "5sx")
+        self.assertEqual(panel.session.state.slot, panel.view.processor)
+
+    def test_fresh_simulator(self):
+        """Near the limit of lines the session goes on in a fresh simulator, with the same answers."""
+        panel, other = self.panel(FIRST_PROGRAM), self.panel(FIRST_PROGRAM)
+        first = panel.session.simulator.pipe
+        keys = "ssbfSBWt5sWbb"
+        press(panel, keys[:6])
+        panel.session.simulator.lines = 999000
+        press(panel, keys[6:])
+        press(other, keys)
+        self.assertIsNot(first, panel.session.simulator.pipe)
+        self.assertEqual(other.session.log, panel.session.log)
+        self.assertEqual(press(other), press(panel))
+
+    def test_picture(self):
+        """The picture of docs/PANEL.md is what the panel shows; docs/drawings/panel.py draws it anew."""
+        self.assertEqual(("", "", 0), run(sys.executable, os.path.join(TOP, "docs", "drawings", "panel.py"), "--check"))

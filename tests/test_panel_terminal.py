@@ -1,0 +1,227 @@
+"""The whole panel in a terminal, and what talk answers there to a newcomer."""
+
+import os
+import signal
+import subprocess
+import sys
+import time
+
+from .support import PYTHON, TOP, read, run
+from .terminal import Terminal
+from .test_panel_keys import DECK, OVERWRITTEN, PROGRAM, PanelCase, press
+
+from pp6600.console import Console
+
+TOOL = [*PYTHON, os.path.join(TOP, "tools", "panel")]
+UTF8, ASCII = {"LC_ALL": "C.UTF-8"}, {"LC_ALL": "C"}
+
+
+class TerminalCase(PanelCase):
+    def terminal(self, words, **how):
+        """Returns a terminal in which a command runs, to the end of the test at most."""
+        terminal = Terminal(words, **how)
+        self.addCleanup(terminal.close)
+        return terminal
+
+    def started(self, *words, **how):
+        """Returns a terminal with a panel that waits for keys."""
+        terminal = self.terminal([*TOOL, "--program", PROGRAM, *words], **how)
+        self.assert_shows(terminal, "q quit")
+        return terminal
+
+    def loader(self):
+        """Returns the path of a script: the loader of README.md."""
+        path = os.path.join(self.room(), "loader")
+        with open(path, "w", encoding="ascii") as file:
+            file.write(OVERWRITTEN)
+        return path
+
+    def assert_shows(self, terminal, text, seconds=10):
+        self.assertIsNotNone(terminal.shows(text, seconds), f"{text!r} is not shown:\n" + "\n".join(terminal.screen.text()))
+
+    def assert_same_screen(self, terminal, lines):
+        """Waits until the terminal shows these lines."""
+        wanted = [line.rstrip() for line in lines]
+        terminal.wait_until(lambda one: one.screen.text() == wanted, 5)
+        self.assertEqual(wanted, terminal.screen.text())
+
+
+class Screens(TerminalCase):
+    def test_same_screens(self):
+        """What the terminal shows is what the function says, at three sizes, in colours and without."""
+        script = self.loader()
+        typed = {"g106\rW": "g106<Enter>W", "SsbB": "SsbB", "\t\t\x1bOA": "<Tab><Tab><Up>", ":DUMP W\r": ":DUMP W<Enter>",
+                 "gM 0 60\r": "gM 0 60<Enter>"}
+        for kind, columns, rows, environment, mark in (
+                ("xterm-256color", 80, 24, UTF8, "\u2026"), ("vt100", 80, 24, ASCII, ">"), ("xterm", 120, 40, UTF8, "\u2026"),
+                ("xterm", 120, 40, ASCII, ">"), ("xterm", 120, 40, {"LC_ALL": "", "LC_CTYPE": "", "LANG": ""}, ">"),
+                ("screen", 200, 60, UTF8, "\u2026")):
+            with self.subTest(kind, columns=columns, environment=environment):
+                terminal = self.started("--deck", DECK, script, kind=kind, columns=columns, rows=rows, environment=environment)
+                panel = self.panel(OVERWRITTEN, "--deck", DECK, size=(columns, rows))
+                for text, keys in typed.items():
+                    terminal.type(text)
+                    self.assert_same_screen(terminal, [line.replace("\u2026", mark) for line in press(panel, keys)])
+                if columns == 120:
+                    self.assert_shows(terminal, f"7112 6{mark}", 1)
+                self.assertEqual([], terminal.screen.unknown, "sequences that the test's screen does not know")
+                if kind == "vt100":
+                    self.assertEqual(set(), terminal.screen.colours)
+                terminal.type("q")
+                terminal.type("q")
+                self.assertEqual(0, terminal.status())
+
+    def test_resize(self):
+        """A terminal that is made larger, too small, and large again."""
+        terminal, panel = self.started("--deck", DECK, self.loader()), self.panel(OVERWRITTEN, "--deck", DECK)
+        for columns, rows in (120, 40), (79, 24), (20, 5), (100, 30), (80, 24):
+            terminal.resize(columns, rows)
+            panel.resize(columns, rows)
+            with self.subTest(columns=columns, rows=rows):
+                self.assert_same_screen(terminal, press(panel))
+        os.kill(terminal.pid, signal.SIGTERM)
+        self.assertEqual(128 + signal.SIGTERM, terminal.status())
+
+    def test_interrupts(self):
+        """Ctrl-C does not end it; a suspension with fg gives the terminal back as it was."""
+        terminal = self.terminal(["bash", "--norc", "-i"], folder=TOP, environment={"PS1": "ready$ ", "HISTFILE": ""})
+        terminal.shows("ready$")
+        terminal.type(f"{sys.executable} tools/panel --program {PROGRAM} --deck {DECK} {self.loader()}\r")
+        self.assert_shows(terminal, "q quit")
+        terminal.type("12\x03")
+        self.assert_shows(terminal, "s step")
+        terminal.type("s")
+        terminal.shows("> STEP  ")
+        terminal.settle()
+        shown = terminal.screen.text()
+        terminal.type("\x1a")
+        self.assert_shows(terminal, "ready$")
+        terminal.settle()
+        terminal.type("echo $((6 * 7))\r")
+        self.assert_shows(terminal, "42")
+        terminal.type("fg\r")
+        self.assert_shows(terminal, "q quit")
+        terminal.settle()
+        self.assertEqual(shown, terminal.screen.text())
+        terminal.type("b")
+        self.assert_shows(terminal, "> BACK  ")
+        terminal.type("qq")
+        terminal.shows("ready$")
+        terminal.settle()
+        terminal.type("echo status $?\r")
+        self.assert_shows(terminal, "status 0")
+        terminal.type("exit\r")
+        terminal.status()
+
+    def test_plain(self):
+        """LANG=C and NO_COLOR: ASCII alone, and no colours. A hang-up ends it."""
+        terminal = self.started("--deck", DECK, self.loader(), kind="xterm-256color", environment={**ASCII, "LANG": "C", "NO_COLOR": "1"})
+        terminal.type("?")
+        terminal.shows("The keys")
+        terminal.type("q:na\xefve\r")
+        self.assert_shows(terminal, "ERR 06 NOT ASCII")
+        self.assertEqual([], sorted({byte for byte in terminal.written if byte > 126}))
+        self.assertEqual(set(), terminal.screen.colours)
+        self.assertTrue(terminal.hang_up(), "it goes on in a terminal that was closed")
+
+
+class Speeds(TerminalCase):
+    def test_keys(self):
+        """A key is answered in 20 ms: the best of several, for the machine may be busy."""
+        terminal, times = self.started(), []
+        for count in range(1, 13):
+            terminal.type("s")
+            times.append(terminal.shows(f"KEPT {count:o} "))
+        self.assertLess(min(seconds for seconds in times if seconds), 0.02, times)
+
+    def test_long_run(self):
+        """A STEP 1000000 takes the program's time and 50 ms. Keys that come faster than they are performed are not lost."""
+        terminal, console = self.started(), Console([PROGRAM])
+        program_times, panel_times = [], []
+        for turn in range(3):
+            began = time.monotonic()
+            console.ask("STEP 1000000")
+            program_times.append(time.monotonic() - began)
+            terminal.settle(0.05)
+            terminal.type("1000000")
+            terminal.shows("count 1000000")
+            terminal.type("s")
+            slot = f"SLOT {4 * (turn + 1) % 10:02o}"
+            panel_times.append(terminal.wait_until(lambda one: slot in one.screen.text()[0]) or 9)
+        console.end()
+        self.assertLess(min(panel_times), min(program_times) + 0.05, (panel_times, program_times))
+        terminal.type("1\x1b")
+        terminal.settle()
+        terminal.type(":SET Q 0 0\r")
+        terminal.shows("SET Q 0 0")
+        terminal.type("b" * 200)
+        self.assert_shows(terminal, "AHEAD 310 ")
+        terminal.type("qq")
+        self.assertEqual(0, terminal.status())
+
+
+class Failures(TerminalCase):
+    """One line and status 2."""
+
+    def test_killed_simulator(self):
+        room = self.room()
+        wrapper, saved = os.path.join(room, "simulator"), os.path.join(room, "saved")
+        with open(wrapper, "w", encoding="ascii") as file:
+            file.write(f"#!/bin/bash\necho $$ >{room}/pid\nexec {PROGRAM} \"$@\"\n")
+        os.chmod(wrapper, 0o755)
+        terminal = self.terminal([*TOOL, "--program", wrapper])
+        terminal.shows("q quit")
+        terminal.type("s")
+        terminal.shows("> STEP ")
+        os.kill(int(read(room, "pid")), signal.SIGKILL)
+        terminal.type("s")
+        self.assert_shows(terminal, "ended early, by signal 9")
+        terminal.type(f"w{saved}\r")
+        self.assert_shows(terminal, "saved in")
+        self.assertEqual("STEP", read(saved).splitlines()[1])
+        terminal.type("q")
+        self.assertEqual(2, terminal.status())
+        self.assertEqual(1, sum("panel: the simulator ended early, by signal 9" in line for line in terminal.screen.text()))
+
+    def test_one_line(self):
+        without = self.room()
+        with open(os.path.join(without, "curses.py"), "w", encoding="ascii") as file:
+            file.write("raise ImportError\n")
+        for words, environment, wanted in (
+                ([], {"TERM": "dumb"}, "a terminal of the kind dumb can't show a screen"),
+                ([], {"TERM": "no-such"}, "a terminal of the kind no-such can't show a screen"),
+                ([], {"TERM": ""}, "a terminal of the kind (TERM is not set) can't show a screen"),
+                (["no-such-file"], {}, "panel: can't read no-such-file"), (["--deck", "no-such-file"], {}, "CANNOT OPEN DECK"),
+                (["one", "two"], {}, "give one script"), (["--program", "/bin/cat"], {}, "not the simulator"),
+                ([], {"PYTHONPATH": without}, "no module curses")):
+            words = words if "--program" in words else ["--program", PROGRAM, *words]
+            with self.subTest(wanted):
+                terminal = self.terminal([*TOOL, *words], environment=environment, columns=200)
+                self.assertEqual(2, terminal.status())
+                lines = terminal.lines()
+                self.assertTrue(len(lines) == 1 and wanted in lines[0], lines)
+
+    def test_no_terminal(self):
+        for given in b"", None:
+            with self.subTest(given):
+                done = subprocess.run(TOOL, input=given, capture_output=True, timeout=20, check=False)
+                self.assertEqual(2, done.returncode)
+                self.assertIn(b"must be a terminal", done.stderr)
+
+
+class Talk(TerminalCase):
+    def test_first_words(self):
+        """Who asks for help or for the end as elsewhere is told how talk ends; no line is sent."""
+        talk = [*PYTHON, os.path.join(TOP, "tools", "talk"), "--program", PROGRAM]
+        told = "Ctrl-D ends. Card: docs/CARD.md."
+        for typed, answer, status in (("help", told, 0), ("?", told, 0), ("Quit", told, 0), (" EXIT ", told, 0),
+                                      ("help me", "ERR 01 NOT A COMMAND", 1)):
+            with self.subTest(typed):
+                terminal = self.terminal(talk, kind="dumb")
+                for answered, text in enumerate((f"{typed}\r", "STEP\r", "\x04")):
+                    terminal.wait_until(lambda one: one.lines()[2 * answered:] == [">"])
+                    terminal.type(text)
+                self.assertEqual(status, terminal.status())
+                self.assertEqual([f"> {typed}".rstrip(), answer, "> STEP", "TURNS 1 SLOT 01", ">"], terminal.lines())
+        done = run(*talk, script="help\n")
+        self.assertEqual("> help\nERR 01 NOT A COMMAND\n", done.out, "over a pipe it is a line like any other")

@@ -1,0 +1,249 @@
+"""The panel: a session, what is looked at, and what a key does: it sends lines, moves the cursor, begins a count or a line, or
+opens a page."""
+
+import os
+import re
+import time
+
+from ..answers import KINDS
+from ..failure import Failure
+from ..keyboard import FIRST_WORDS, card
+from .keys import LINES, Facts, help_lines
+from .page import Page
+from .prompt import Prompt
+from .remarks import in_width, remarks
+from .screen import LEAST_COLUMNS, LEAST_ROWS, Shown, is_too_small, layout, log_lines, screen
+from .text import Line
+from .view import ARROWS, View
+
+MOST_COUNT_DIGITS = 10
+LONG_ANSWER = 2  # lines; a longer answer is shown on a page
+BETWEEN_REPORTS = 0.2  # seconds
+CANCEL = ("Escape", "Ctrl-C")
+LETTERS = {"h": "Left", "j": "Down", "k": "Up", "l": "Right"}
+PROMPTS = {":": "> ", "g": "go to ", "/": "search ", "w": "w "}
+AFTER_FAULT = ("w", "L", "?", "Tab", "Shift-Tab", *ARROWS)  # keys that need no simulator
+
+
+def words_to_find(text, kind):
+    """Returns the words of a search, each with all digits of a word of this kind of places."""
+    words, digits = text.split(), KINDS[kind].digits
+    if not words or any(not re.fullmatch("[0-7]+", word) or len(word.lstrip("0")) > digits for word in words):
+        raise Failure(f"{text or 'nothing'} can't be searched: give octal words, as 7512 0100")
+    return [f"{int(word, 8):0{digits}o}" for word in words]
+
+
+class Panel:
+    def __init__(self, session):
+        self.session = session
+        self.view = View()
+        self.columns, self.rows = LEAST_COLUMNS, LEAST_ROWS
+        self.count = self.message = ""
+        self.prompt = self.page = None
+        self.typed = {kind: [] for kind in PROMPTS}
+        self.fault = None  # why the simulator is no longer there
+        self.is_asked_to_quit = self.is_ended = False
+        self.show = lambda: None  # draws the screen
+        self.is_stopped = lambda: False  # by the operator
+        self.shown_at = 0.0
+        self.see()
+
+    def perform_script(self, lines):
+        """Performs the lines of a script."""
+        whole = self.guard(self.session.perform_script, lines, self.stops)
+        if self.fault is None:
+            self.message = "" if whole else f"the script was stopped after {len(self.session.sent)} (decimal) lines"
+        self.see()
+
+    def stops(self, done, total):
+        """Shows now and then how many lines are done. Returns whether the operator stops them."""
+        if time.monotonic() - self.shown_at > BETWEEN_REPORTS:
+            self.message = f"{done} of {total} (decimal) lines are done; Ctrl-C stops after the next one"
+            self.show()
+            self.shown_at = time.monotonic()
+        return self.is_stopped()
+
+    # ---- what is shown
+
+    def resize(self, columns, rows):
+        self.columns, self.rows = columns, rows
+        self.see()
+
+    def memory_rows(self):
+        return layout(self.columns, self.rows).memory
+
+    def see(self):
+        """Moves the windows to their cursors, and sees that what they show is read."""
+        if is_too_small(self.columns, self.rows):
+            return
+        session, view, rows = self.session, self.view, self.memory_rows()
+        view.scroll(session.state, rows, session.size)
+        if self.fault is None:
+            self.guard(session.look_at_central, view.central_top, rows)
+
+    def screen(self):
+        """Returns the screen."""
+        if self.page:
+            return self.page.screen(self.columns, self.rows)
+        session = self.session
+        shown = Shown(session.state, session.before, self.view, session.history.kept.count, session.history.ahead.count,
+                      session.size, session.log, self.message, self.prompt and self.prompt.shown())
+        return screen(shown, self.columns, self.rows)
+
+    # ---- keys
+
+    def press(self, key):
+        """Performs a key, by its name."""
+        if self.page:
+            self.page = self.page if self.page.press(key, self.rows) else None
+        elif self.prompt:
+            self.press_in_prompt(key)
+        else:
+            self.press_alone(key)
+        self.see()
+
+    def press_alone(self, key):
+        """Performs a key outside a line and a page."""
+        count, self.count, self.message = self.count, "", ""
+        asked, self.is_asked_to_quit = self.is_asked_to_quit, False
+        key = LETTERS.get(key, key)
+        if key.isdigit() and len(key) == 1:
+            self.add_to_count(count, key)
+        elif key in CANCEL:
+            self.message = "" if count else "q quits, ? shows all keys"
+        elif key == "q":
+            self.quit(asked)
+        elif self.fault and key not in AFTER_FAULT:
+            self.message = self.last_words()
+        elif key in LINES:
+            self.send_key(key, int(count or "1", 8))
+        else:
+            self.press_to_look(key, int(count or "1", 8))
+
+    def add_to_count(self, count, digit):
+        """Adds a digit to the count before a key."""
+        if digit in "89":
+            self.message = f"{digit} is not octal; the count is forgotten"
+        elif len(count) < MOST_COUNT_DIGITS and (count or digit != "0"):
+            self.count = count + digit
+            self.message = f"count {self.count}"
+        else:
+            self.count, self.message = count, f"count {count}" if count else ""
+
+    def press_to_look(self, key, count):
+        """Performs a key that sends nothing."""
+        view = self.view
+        if key in ARROWS:
+            view.move(key, count, self.memory_rows(), self.session.size)
+        elif key in ("Tab", "Shift-Tab"):
+            view.next_pane(1 if key == "Tab" else -1)
+        elif key in ("[", "]"):
+            view.choose_processor(view.processor + (count if key == "]" else -count))
+        elif key == "x":
+            view.choose_processor(self.session.state.slot)
+        elif key == "o":
+            view.following = True
+        elif key in PROMPTS:
+            self.prompt = Prompt(key, PROMPTS[key], self.typed[key])
+        elif key == "L":
+            self.show_log()
+        elif key == "?":
+            self.page = Page("The keys of the panel", [Line(text) for text in help_lines()])
+        elif key not in ("Ctrl-L", "Enter"):
+            self.message = f"no key {key}; ? shows all keys"
+
+    def quit(self, is_asked):
+        """Ends the panel, at the second time if something that was sent is in no file."""
+        self.is_ended = is_asked or self.session.is_saved()
+        self.is_asked_to_quit = True
+        self.message = "the session is not saved: w FILE saves what was sent, q again quits"
+
+    # ---- lines
+
+    def guard(self, function, *words):
+        """Calls a function that needs the simulator, and returns what it returns, or None if the simulator fails."""
+        try:
+            return function(*words)
+        except Failure as failure:
+            self.fault = str(failure)
+            self.message = self.last_words()
+            return None
+
+    def last_words(self):
+        """Returns what can still be done after the simulator failed, and why it did."""
+        return f"w FILE saves what was sent, q quits: {self.fault}"
+
+    def send_key(self, key, count):
+        """Sends the lines of a key."""
+        session, view = self.session, self.view
+        facts = Facts(session.state.slot, view.processor, view.place(), session.watched(), session.history)
+        self.send(LINES[key](facts, count))
+
+    def send(self, lines):
+        """Sends lines, and shows what is to be said about them."""
+        self.shown_at = time.monotonic()
+        outcome = self.guard(self.session.perform, lines, self.stops)
+        said = self.guard(remarks, self.session, outcome, self.view.place()) if outcome else None
+        if said is not None:
+            self.message = in_width(said, self.columns)
+
+    # ---- a line that is typed
+
+    def press_in_prompt(self, key):
+        """Performs a key while a line is typed."""
+        if key == "Enter":
+            prompt, self.prompt = self.prompt, None
+            prompt.keep()
+            self.take_line(prompt.kind, prompt.text.strip())
+        elif key in CANCEL or key == "Backspace" and not self.prompt.text:
+            self.prompt = None
+        else:
+            self.prompt.press(key)
+
+    def take_line(self, kind, text):
+        """Does what a typed line asks for."""
+        try:
+            {":": self.take_console_line, "g": self.go_to, "/": self.search, "w": self.save}[kind](text)
+        except Failure as failure:
+            self.message = str(failure)
+
+    def take_console_line(self, text):
+        if text.lower() in FIRST_WORDS:
+            self.message = f"q quits, ? shows all keys. Card of the console: {card()}."
+        elif text:
+            self.send([text])
+            if self.session.log and len(self.session.log[-1][1]) > LONG_ANSWER:
+                self.show_log()
+
+    def go_to(self, text):
+        if text:
+            self.view.go_to(text, self.session.size)
+
+    def show_log(self):
+        self.page = Page("All lines and answers", log_lines(self.session.log, None), at_end=True)
+
+    def search(self, text):
+        """Moves the cursor to the next words of this kind; without a text, of the kind that was searched before."""
+        text = text or (self.typed["/"] or [""])[-1]
+        view, session = self.view, self.session
+        if view.pane == "central":
+            word, *more = words_to_find(text, "C")
+            if more:
+                raise Failure("in central memory one word is searched at a time")
+            found = self.guard(session.find_central, word, view.word + 1)
+        else:
+            found = session.state.memories[view.processor].find(words_to_find(text, "M"), view.cell + 1)
+        if found is None:
+            self.message = self.message or f"{text} is not there"
+        elif view.pane == "central":
+            view.word = found
+        else:
+            view.go_to_cell(found)
+
+    def save(self, text):
+        over = text.startswith("!")
+        path = text[over:].strip()
+        if not path:
+            raise Failure("w FILE saves what was sent: name a file")
+        self.session.save(os.fsdecode(path.encode("latin-1")), over)
+        self.message = f"{len(self.session.sent)} (decimal) lines are saved in {path}"
