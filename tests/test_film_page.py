@@ -160,7 +160,7 @@ class Controls(PageCase):
         self.open("#moment=0")
         shown = "[film.at, byId('no-turn').innerText, byId('turn').getAttribute('aria-invalid')]"
         for word, wanted in (("13", [2 + 0o13, "", "false"]), ("9", [2 + 0o13, "not an octal number", "true"]),
-                             ("77777", [self.LAST, "the last turn is 1000", "true"]), ("x", [self.LAST, "not an octal number", "true"]),
+                             ("77777", [self.LAST, "no turn 77777: the highest is 1000", "true"]), ("x", [self.LAST, "not an octal number", "true"]),
                              ("1000", [2 + 0o1000, "", "false"])):
             self.browser.key("g")
             self.browser.write(word)
@@ -168,7 +168,7 @@ class Controls(PageCase):
             with self.subTest(word):
                 self.assertEqual(wanted, self.value(shown))
             self.browser.key("Escape")
-        for address, wanted in (("#turn=1001", "the last turn is 1000"), ("#turn=18", "not an octal number"), ("#turn=20", "")):
+        for address, wanted in (("#turn=1001", "no turn 1001: the highest is 1000"), ("#turn=18", "not an octal number"), ("#turn=20", "")):
             self.value(f"location.hash = '{address}'; followAddress()")
             with self.subTest(address):
                 self.assertEqual(wanted, self.value("byId('no-turn').innerText"))
