@@ -254,7 +254,7 @@ class Controls(PageCase):
         deck = os.path.join(room, "my deck")
         with open(deck, "wb") as file:
             file.write(b"* caf\xe9\n0001 0002\n")
-        path = self.film("--deck", deck, script="STEP 3\n* \xff\n")
+        path = self.film("--deck", deck, script="STEP 3\n* \xff\n", status=1)
         saved = os.path.join(room, "saved")
         os.mkdir(saved)
         self.browser.save_into(saved)
@@ -300,7 +300,8 @@ class Opening(PageCase):
                 ("a line that sets", f"{COUNTER}STEP 20\nSET A 0 1\n", [0o20, None]), ("nothing at all", "", [0, None]))
         for name, script, wanted in rows:
             with self.subTest(name):
-                self.browser.open(self.film("--deck", "examples/overwritten-loader/deck", script=script))
+                status = int(name == "a BACK W that is refused")
+                self.browser.open(self.film("--deck", "examples/overwritten-loader/deck", script=script, status=status))
                 self.assertEqual(wanted, self.value(TURN_AND_PLACE))
 
     def test_address(self):
