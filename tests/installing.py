@@ -1,12 +1,12 @@
 """What the tests of the installation, of a release and of a class share."""
 
+import atexit
 import functools
 import os
 import shutil
 import subprocess
 import sys
 import tempfile
-import unittest
 
 from tests.support import TOP, Case, Done, program, run
 
@@ -67,17 +67,17 @@ def checkout(folder):
     return folder
 
 
-def module_room():
-    """Returns a new folder, which is removed when the tests of the module have ended."""
+def lasting_room():
+    """Returns a new folder, which is removed when all tests have ended."""
     folder = tempfile.mkdtemp(prefix="pp6600-test-")
-    unittest.addModuleCleanup(shutil.rmtree, folder)
+    atexit.register(shutil.rmtree, folder)
     return folder
 
 
 @functools.lru_cache(maxsize=None)
 def installation():
     """Returns an installation that no test changes."""
-    prefix = os.path.join(module_room(), "first")
+    prefix = os.path.join(lasting_room(), "first")
     alone(INSTALL, "--program", program(), prefix)
     return prefix
 

@@ -13,7 +13,7 @@ import time
 import unittest
 
 from tests.installing import (
-    LIKE_THE_SIMULATOR, PATH, InstallCase, alone, below, checkout, commit, installation, module_room, text_of, write)
+    LIKE_THE_SIMULATOR, PATH, InstallCase, alone, below, checkout, commit, installation, lasting_room, text_of, write)
 from tests.support import Done, read
 
 from pp6600.installation import OWN, PAGES
@@ -34,7 +34,7 @@ def setUpModule():
 @functools.lru_cache(maxsize=None)
 def original():
     """Returns a checkout that no test changes, but for what git does not see."""
-    return checkout(os.path.join(module_room(), "original"))
+    return checkout(os.path.join(lasting_room(), "original"))
 
 
 @functools.lru_cache(maxsize=None)
@@ -63,11 +63,9 @@ class ReleaseCase(InstallCase):
 class Program(ReleaseCase):
     """The program is the proved one by the checksums of dist/sources, whatever the times of files are."""
 
-    def check_not_run(self, said):
-        """Checks that no program of the checkout is packed, installed, handed out or run."""
-        for words in (("share/release",), ("make", "-s", "release"), ("share/install", self.path("new")), ("make", "-s", "install"),
-                      ("exercises/hand-out", self.path("new")), ("exercises/grade", "exercises"), ("./pp6600", "examples/first-steps/script"),
-                      ("exercises/check-exercise", "exchange", "exercises/exchange/solution"), ("tools/show", "examples/first-steps/script")):
+    def check_not_run(self, said, *commands):
+        """Checks that the program of the checkout is not packed, installed, handed out or run."""
+        for words in commands:
             with self.subTest(words):
                 done = alone(*words, cwd=self.top, env={"PREFIX": self.path("new")})
                 self.assertEqual(("", 2), (done.out, done.status))
@@ -79,20 +77,20 @@ class Program(ReleaseCase):
             file.write("\n")
         os.utime(f"{self.top}/{SOURCE}", (LONG_AGO, LONG_AGO))
         commit(self.top)
-        self.check_not_run("the sources are not those of dist/pp6600")
+        self.check_not_run("the sources are not those of dist/pp6600", ("share/release",), ("make", "-s", "release"),
+                           ("share/install", self.path("new")), ("make", "-s", "install"), ("exercises/hand-out", self.path("new")),
+                           ("exercises/grade", "exercises"), ("exercises/check-exercise", "exchange", "exercises/exchange/solution"),
+                           ("./pp6600", "examples/first-steps/script"), ("tools/show", "examples/first-steps/script"))
 
     def test_planted_program(self):
-        """Another file in the place of dist/pp6600."""
+        """Another file in the place of dist/pp6600, and then no checksums of it."""
         write(f"{self.top}/dist/pp6600", LIKE_THE_SIMULATOR, 0o755)
         commit(self.top)
-        self.check_not_run("dist/pp6600")
-        self.check_refused(alone("share/release", cwd=self.top), "dist/pp6600 is not the program that dist/sources names")
-
-    def test_without_checksums(self):
+        self.check_not_run("dist/pp6600", ("share/install", self.path("new")), ("./pp6600", "examples/first-steps/script"))
+        self.check_not_run("dist/pp6600 is not the program that dist/sources names", ("share/release",))
         os.remove(f"{self.top}/dist/sources")
         commit(self.top)
-        self.check_refused(alone("share/release", cwd=self.top), "dist/sources")
-        self.check_refused(alone("share/install", self.path("new"), cwd=self.top), "./prove")
+        self.check_not_run("dist/sources: No such file", ("share/release",))
 
     def test_planted_build(self):
         """A file in the place of what ./prove builds, newer than all, is neither installed nor packed; nor is one with a stamp packed."""
@@ -137,7 +135,7 @@ class Unpacked(InstallCase):
     @classmethod
     def setUpClass(cls):
         super().setUpClass()
-        folder = module_room()
+        folder = lasting_room()
         alone("tar", "xzf", archive(), "-C", folder)
         cls.top = os.path.join(folder, ARCHIVE.removesuffix(".tar.gz"))
 
@@ -194,8 +192,7 @@ def put_python(root):
     """Copies this Python, its standard library and the C library that it needs, and returns its path."""
     own = os.path.realpath(sys.executable)
     library = sysconfig.get_path("stdlib")
-    without = shutil.ignore_patterns("test", "tests", "site-packages", "dist-packages", "idlelib", "ensurepip", "tkinter", "lib2to3", "config-*",
-                                     "__pycache__")
+    without = shutil.ignore_patterns("test", "tests", "site-packages", "dist-packages", "idlelib", "ensurepip", "tkinter", "lib2to3", "config-*")
     shutil.copytree(library, root + library, ignore=without)
     parts = glob.glob(os.path.join(library, "lib-dynload", "*.so"))
     put_files(root, {own, *libraries(own), *(path for part in parts for path in libraries(part))})
@@ -226,7 +223,7 @@ class EmptyRoot(InstallCase):
             with self.subTest(name):
                 if wanted is None:
                     wanted = alone(asked[0], *asked[1:], cwd=root).out
-                self.assertEqual((wanted, "", 0), alone(*chroot, own, f"/{asked[0]}", *asked[1:]))
+                self.assertEqual((wanted, "", 0), alone(*chroot, own, f"/{asked[0]}", *asked[1:], env={"PYTHONDONTWRITEBYTECODE": ""}))
         shutil.copytree(f"{root}/class", f"{root}/handed-in/ada", symlinks=True)
         done = alone(*chroot, own, "/exercises/grade", "--csv", "/handed-in")
         self.assertEqual(('"ada",.,.,.,.,.,.,.,.', "", 0), (done.out.splitlines()[-1], *done[1:]))
