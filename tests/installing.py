@@ -57,7 +57,7 @@ def commit(folder):
 
 def checkout(folder):
     """Copies this checkout, with the program under test in dist/, and commits it."""
-    shutil.copytree(TOP, folder, ignore=shutil.ignore_patterns("out", ".git", "__pycache__"))
+    shutil.copytree(TOP, folder, ignore=shutil.ignore_patterns("out", ".git", "__pycache__", "must-fail", "tests"))
     shutil.copyfile(program(), os.path.join(folder, "dist", "pp6600"))
     os.chmod(os.path.join(folder, "dist", "pp6600"), 0o755)
     sums = alone("sha256sum", "dist/pp6600", cwd=folder).out[:64], alone("share/which-build", "--checksum", cwd=folder).out

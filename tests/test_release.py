@@ -175,9 +175,9 @@ class Unpacked(InstallCase):
         self.assertFalse(os.path.exists(prefix))
 
 
-def libraries(program):
-    """Returns the files of the C library that a program needs."""
-    return re.findall(r"(/\S+) \(0x", alone("ldd", program).out)
+def libraries(*files):
+    """Returns the files of the C library that programs and modules need."""
+    return set(re.findall(r"(/\S+) \(0x", alone("ldd", *files).out))
 
 
 def put_files(root, paths):
@@ -195,7 +195,7 @@ def put_python(root):
     without = shutil.ignore_patterns("test", "tests", "site-packages", "dist-packages", "idlelib", "ensurepip", "tkinter", "lib2to3", "config-*")
     shutil.copytree(library, root + library, ignore=without)
     parts = glob.glob(os.path.join(library, "lib-dynload", "*.so"))
-    put_files(root, {own, *libraries(own), *(path for part in parts for path in libraries(part))})
+    put_files(root, {own, *libraries(own, *parts)})
     return own
 
 
