@@ -118,6 +118,6 @@ class Answers(InstallCase):
         begun = time.monotonic()
         done = alone(exercise_program("check-exercise"), "--seconds", "1", "exchange", own)
         self.assertEqual(Done("exchange: not solved\n  it takes over 1 (decimal) seconds\n", "", 1), done)
-        self.assertLess(time.monotonic() - begun, 10)
+        self.assertLess(time.monotonic() - begun, 60)  # seconds; all its lines would take an hour
         done = alone(exercise_program("grade"), "--seconds", "1", "--csv", "--why", self.folder)
         self.assertEqual(['"ada",.,.,.,.,-,.,.,.', "", "ada, exchange: it takes over 1 (decimal) seconds"], done.out.splitlines()[1:])
