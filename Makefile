@@ -1,4 +1,5 @@
-# For packagers. The program is in dist/, proved: nothing is built. It must stay as it is, so don't strip it.
+# For packagers. Nothing is built: the program of dist/ is installed as it was proved. Don't strip it, or it is another file than
+# dist/sources names.
 PREFIX = /usr/local
 export PREFIX DESTDIR
 

@@ -10,9 +10,7 @@ import tempfile
 
 from tests.support import TOP, Case, Done, program, run
 
-from pp6600.files import tool_names
-
-TOOLS = tool_names()
+TOOLS = sorted(name for name in os.listdir(os.path.join(TOP, "tools")) if os.path.isfile(os.path.join(TOP, "tools", name)))
 INSTALL = os.path.join(TOP, "share", "install")
 PATH = f"{os.path.dirname(sys.executable)}:/usr/sbin:/usr/bin:/sbin:/bin"  # where the Rattle kit is not
 ALONE = {"PATH": PATH, "PP6600": "", "DESTDIR": "", "PYTHONDONTWRITEBYTECODE": "1"}
