@@ -144,3 +144,13 @@ class Card(InstallCase):
         self.assertEqual(1, len(re.findall(rb"/Type /Page\b(?!s)", data)))
         sizes = {tuple(round(float(size)) for size in found) for found in re.findall(rb"/MediaBox \[0 0 ([\d.]+) ([\d.]+)\]", data)}
         self.assertEqual({(595, 842)}, sizes)
+
+
+class NamesOnPages(InstallCase):
+    """Each tool that a page names, in a block of commands too, is there."""
+
+    def test_tools(self):
+        known = {"NAME", *os.listdir(os.path.join(TOP, "tools"))}
+        for path in [os.path.join(TOP, "README.md"), *sorted(glob.glob(os.path.join(TOP, "docs", "*.md")))]:
+            with self.subTest(os.path.basename(path)):
+                self.assertEqual(set(), set(re.findall(r"\btools/(\w+(?:\.py)?)", read(path))) - known)
