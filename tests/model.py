@@ -1,23 +1,21 @@
 """A second opinion: the machine, the console and the program once more, in plain Python.
 
-Written from docs/MACHINE.md and docs/CONSOLE.md alone, in their terms; tests/test_random.py compares it with the program.
-A machine is a map from places to numbers. A place is a tuple: a kind and its numbers, as they are typed on the console where
-they can be: ('M', n, a), ('A', n), ('C', a), ('H', c), and ('H', 0o14) for the clock.
+Written from docs/MACHINE.md and docs/CONSOLE.md alone, in their terms. tests/test_random.py compares it with the program.
+A machine is a map from places to numbers. A place is a tuple of a kind and its numbers, as they are typed on the console
+where they can be: ('M', n, a), ('A', n), ('C', a), ('H', c), and ('H', 0o14) for the clock.
 """
 import collections
-import os
 import re
-from operator import and_, xor
 
 SLOT, CLOCK, WATCHES = ('slot',), ('H', 0o14), ('watches',)
 CARD, CARD_COLUMN, READER_MODE = ('card',), ('card column',), ('reader mode',)
 PAPER_LENGTH, PAPER_COLUMN, PRINTER_MODE = ('paper length',), ('paper column',), ('printer mode',)
 INACTIVE, EMPTY, FULL, FUNCTION, IS_CLOCK, NO_CHANNEL = range(6)
-D, DM, DIRECT, INDIRECT, MEMORY = range(5)
 IDLE, READING, STATUS, SENT = range(4)
 PRINTING = READING
 COLUMNS, PAPER_WIDTH, PAPER, LINE_END = 80, 136, 65536, 0o100
 SYMBOLS = ':ABCDEFGHIJKLMNOPQRSTUVWXYZ0123456789+-*/()$= ,.#[]%"_!&\'?<>@\\^;'
+TWO_WORDS = {0o01, 0o02, *range(0o20, 0o24), *range(0o50, 0o60), 0o61, 0o63, *range(0o64, 0o70), 0o71, 0o73, 0o77}
 # How often each instruction, case, row of a device, form of a line, error and exit status has occurred.
 seen = collections.Counter()
 
@@ -30,10 +28,6 @@ def add(a, b):
 
 def subtract(a, b):
     return a - b if a >= b else a - b + 0o777777
-
-
-def index(m, x):
-    return m + x if m + x <= 0o7777 else m + x - 0o7777
 
 
 def shift(a, d):
@@ -73,20 +67,21 @@ class Step:
     def to_central(self, address, word):
         return {('C', address): word} if address < self.machine.central else {}
 
-    def find_operand(self, mode):
-        """Sets x, and the address for the modes that have one."""
-        if mode == D:
-            self.x = self.d
-        elif mode == DM:
-            self.x = self.d << 12 | self.m
-        else:
-            indexed = index(self.m, self.cell(self.d)) if self.d else self.m
-            self.address = {DIRECT: self.d, INDIRECT: self.cell(self.d), MEMORY: indexed}[mode]
+    def find_operand(self):
+        """Sets x, and the address for the codes that have one."""
+        if self.code in (0o01, 0o02) or 0o50 <= self.code <= 0o57:
+            indexed = self.m + self.cell(self.d) if self.d else self.m
+            self.address = indexed if indexed <= 0o7777 else indexed - 0o7777
             self.x = self.cell(self.address)
+        elif 0o30 <= self.code <= 0o47:
+            self.address = self.d if self.code <= 0o37 else self.cell(self.d)
+            self.x = self.cell(self.address)
+        else:
+            self.x = self.d << 12 | self.m if 0o20 <= self.code <= 0o23 else self.d
 
 
-# What an instruction writes: functions of the step that return the writes, or None if it waits. P grows by the number of
-# words if it is not among them. Of a cell, a channel register and P only the lower twelve bits are written.
+# What an instruction writes: functions of the step that return the writes, or None if it waits. P grows by the number
+# of words if it is not among them. Of a cell, a channel register and P only the lower twelve bits are written.
 
 def a_becomes(result):
     return lambda s: {s.A: result(s.a, s.x)}
@@ -105,17 +100,12 @@ def jump_if_channel(*states):
 
 
 def in_states(states, new_state, write=lambda s: {}):
-    """Completes in these states; then the channel gets the new state."""
-    return lambda s: {**write(s), s.STATE: new_state} if s.state in states else None
-
-
-def input_a(s):
-    clock = {s.A: s.register}
-    return clock if s.state == IS_CLOCK else {**clock, s.STATE: EMPTY} if s.state == FULL else None
-
-
-def disconnect(s):
-    return {} if s.state == IS_CLOCK else {s.STATE: INACTIVE} if s.state in (EMPTY, FULL, FUNCTION) else None
+    """Completes in these states, and then the channel gets the new one; the clock keeps its own."""
+    def effect(s):
+        if s.state in states:
+            return {**write(s), **({} if s.state == IS_CLOCK else {s.STATE: new_state})}
+        return None
+    return effect
 
 
 def exchange(s):
@@ -133,73 +123,46 @@ def issue(s):
     return {**count, s.M(0): s.p + 1, s.P: s.m, s.PHASE: s.code << 6 | s.d}
 
 
-# Code, name, number of words, how the operand is found, what is written.
-INSTRUCTIONS = (
-    (0o00, 'PSN', 1, D, lambda s: {}),
-    (0o01, 'LJM', 2, MEMORY, lambda s: {s.P: s.address}),
-    (0o02, 'RJM', 2, MEMORY, lambda s: {s.M(s.address): s.p + 2, s.P: s.address + 1}),
-    (0o03, 'UJN', 1, D, jump_if(lambda a: True)),
-    (0o04, 'ZJN', 1, D, jump_if(lambda a: a == 0)),
-    (0o05, 'NJN', 1, D, jump_if(lambda a: a != 0)),
-    (0o06, 'PJN', 1, D, jump_if(lambda a: a < 0o400000)),
-    (0o07, 'MJN', 1, D, jump_if(lambda a: a >= 0o400000)),
-    (0o10, 'SHN', 1, D, a_becomes(shift)),
-    (0o11, 'LMN', 1, D, a_becomes(xor)),
-    (0o12, 'LPN', 1, D, a_becomes(and_)),
-    (0o13, 'SCN', 1, D, a_becomes(lambda a, d: a & ~d)),
-    (0o14, 'LDN', 1, D, a_becomes(lambda a, d: d)),
-    (0o15, 'LCN', 1, D, a_becomes(lambda a, d: 0o777777 - d)),
-    (0o16, 'ADN', 1, D, a_becomes(add)),
-    (0o17, 'SBN', 1, D, a_becomes(subtract)),
-    (0o20, 'LDC', 2, DM, a_becomes(lambda a, dm: dm)),
-    (0o21, 'ADC', 2, DM, a_becomes(add)),
-    (0o22, 'LPC', 2, DM, a_becomes(and_)),
-    (0o23, 'LMC', 2, DM, a_becomes(xor)),
-    (0o24, 'PSN', 1, D, lambda s: {}),
-    (0o25, 'PSN', 1, D, lambda s: {}),
-    (0o26, 'EXN', 1, D, exchange),
-    (0o27, 'RPN', 1, D, lambda s: {s.A: s.machine['frame', 0] >> 36 & 0o777777}),
-    (0o30, 'LDD', 1, DIRECT, a_becomes(lambda a, x: x)),
-    (0o31, 'ADD', 1, DIRECT, a_becomes(add)),
-    (0o32, 'SBD', 1, DIRECT, a_becomes(subtract)),
-    (0o33, 'LMD', 1, DIRECT, a_becomes(xor)),
-    (0o34, 'STD', 1, DIRECT, lambda s: {s.M(s.address): s.a}),
-    (0o35, 'RAD', 1, DIRECT, replace(add)),
-    (0o36, 'AOD', 1, DIRECT, replace(lambda a, x: add(x, 1))),
-    (0o37, 'SOD', 1, DIRECT, replace(lambda a, x: subtract(x, 1))),
-    (0o40, 'LDI', 1, INDIRECT, a_becomes(lambda a, x: x)),
-    (0o41, 'ADI', 1, INDIRECT, a_becomes(add)),
-    (0o42, 'SBI', 1, INDIRECT, a_becomes(subtract)),
-    (0o43, 'LMI', 1, INDIRECT, a_becomes(xor)),
-    (0o44, 'STI', 1, INDIRECT, lambda s: {s.M(s.address): s.a}),
-    (0o45, 'RAI', 1, INDIRECT, replace(add)),
-    (0o46, 'AOI', 1, INDIRECT, replace(lambda a, x: add(x, 1))),
-    (0o47, 'SOI', 1, INDIRECT, replace(lambda a, x: subtract(x, 1))),
-    (0o50, 'LDM', 2, MEMORY, a_becomes(lambda a, x: x)),
-    (0o51, 'ADM', 2, MEMORY, a_becomes(add)),
-    (0o52, 'SBM', 2, MEMORY, a_becomes(subtract)),
-    (0o53, 'LMM', 2, MEMORY, a_becomes(xor)),
-    (0o54, 'STM', 2, MEMORY, lambda s: {s.M(s.address): s.a}),
-    (0o55, 'RAM', 2, MEMORY, replace(add)),
-    (0o56, 'AOM', 2, MEMORY, replace(lambda a, x: add(x, 1))),
-    (0o57, 'SOM', 2, MEMORY, replace(lambda a, x: subtract(x, 1))),
-    (0o60, 'CRD', 1, D, lambda s: s.central_to_cells(s.d)),
-    (0o61, 'CRM', 2, D, issue),
-    (0o62, 'CWD', 1, D, lambda s: s.cells_to_central(s.d)),
-    (0o63, 'CWM', 2, D, issue),
-    (0o64, 'AJM', 2, D, jump_if_channel(EMPTY, FULL, FUNCTION, IS_CLOCK)),
-    (0o65, 'IJM', 2, D, jump_if_channel(INACTIVE, NO_CHANNEL)),
-    (0o66, 'FJM', 2, D, jump_if_channel(FULL, FUNCTION, IS_CLOCK)),
-    (0o67, 'EJM', 2, D, jump_if_channel(INACTIVE, EMPTY, NO_CHANNEL)),
-    (0o70, 'IAN', 1, D, input_a),
-    (0o71, 'IAM', 2, D, issue),
-    (0o72, 'OAN', 1, D, in_states([EMPTY], FULL, lambda s: {s.REGISTER: s.a})),
-    (0o73, 'OAM', 2, D, issue),
-    (0o74, 'ACN', 1, D, in_states([INACTIVE], EMPTY)),
-    (0o75, 'DCN', 1, D, disconnect),
-    (0o76, 'FAN', 1, D, in_states([INACTIVE], FUNCTION, lambda s: {s.REGISTER: s.a})),
-    (0o77, 'FNC', 2, D, in_states([INACTIVE], FUNCTION, lambda s: {s.REGISTER: s.m})),
+# Instructions with one effect: codes, names, what is written. They differ only in how x or the address is found.
+TABLE = (
+    ('00 24 25', 'PSN PSN PSN', lambda s: {}),
+    ('01', 'LJM', lambda s: {s.P: s.address}),
+    ('02', 'RJM', lambda s: {s.M(s.address): s.p + 2, s.P: s.address + 1}),
+    ('03', 'UJN', jump_if(lambda a: True)),
+    ('04', 'ZJN', jump_if(lambda a: a == 0)),
+    ('05', 'NJN', jump_if(lambda a: a != 0)),
+    ('06', 'PJN', jump_if(lambda a: a < 0o400000)),
+    ('07', 'MJN', jump_if(lambda a: a >= 0o400000)),
+    ('10', 'SHN', a_becomes(shift)),
+    ('11 23 33 43 53', 'LMN LMC LMD LMI LMM', a_becomes(lambda a, x: a ^ x)),
+    ('12 22', 'LPN LPC', a_becomes(lambda a, x: a & x)),
+    ('13', 'SCN', a_becomes(lambda a, x: a & ~x)),
+    ('14 20 30 40 50', 'LDN LDC LDD LDI LDM', a_becomes(lambda a, x: x)),
+    ('15', 'LCN', a_becomes(lambda a, x: 0o777777 - x)),
+    ('16 21 31 41 51', 'ADN ADC ADD ADI ADM', a_becomes(add)),
+    ('17 32 42 52', 'SBN SBD SBI SBM', a_becomes(subtract)),
+    ('26', 'EXN', exchange),
+    ('27', 'RPN', lambda s: {s.A: s.machine['frame', 0] >> 36 & 0o777777}),
+    ('34 44 54', 'STD STI STM', lambda s: {s.M(s.address): s.a}),
+    ('35 45 55', 'RAD RAI RAM', replace(add)),
+    ('36 46 56', 'AOD AOI AOM', replace(lambda a, x: add(x, 1))),
+    ('37 47 57', 'SOD SOI SOM', replace(lambda a, x: subtract(x, 1))),
+    ('60', 'CRD', lambda s: s.central_to_cells(s.d)),
+    ('62', 'CWD', lambda s: s.cells_to_central(s.d)),
+    ('61 63 71 73', 'CRM CWM IAM OAM', issue),
+    ('64', 'AJM', jump_if_channel(EMPTY, FULL, FUNCTION, IS_CLOCK)),
+    ('65', 'IJM', jump_if_channel(INACTIVE, NO_CHANNEL)),
+    ('66', 'FJM', jump_if_channel(FULL, FUNCTION, IS_CLOCK)),
+    ('67', 'EJM', jump_if_channel(INACTIVE, EMPTY, NO_CHANNEL)),
+    ('70', 'IAN', in_states([FULL, IS_CLOCK], EMPTY, lambda s: {s.A: s.register})),
+    ('72', 'OAN', in_states([EMPTY], FULL, lambda s: {s.REGISTER: s.a})),
+    ('74', 'ACN', in_states([INACTIVE], EMPTY)),
+    ('75', 'DCN', in_states([EMPTY, FULL, FUNCTION, IS_CLOCK], INACTIVE)),
+    ('76', 'FAN', in_states([INACTIVE], FUNCTION, lambda s: {s.REGISTER: s.a})),
+    ('77', 'FNC', in_states([INACTIVE], FUNCTION, lambda s: {s.REGISTER: s.m})),
 )
+INSTRUCTIONS = {int(code, 8): (f'{code} {name}', writes) for codes, names, writes in TABLE
+                for code, name in zip(codes.split(), names.split())}
 
 
 # The parts of a turn, and the dead start: each returns what it is, to be counted, and what it writes.
@@ -210,11 +173,11 @@ def processor(machine):
         case, writes = block_move(s)
         what = f'block {s.code:o} case {case}'
     else:
-        code, name, words, mode, effect = INSTRUCTIONS[s.code]
-        s.find_operand(mode)
+        s.find_operand()
+        what, effect = INSTRUCTIONS[s.code]
         writes = effect(s)
-        what = f'{code:02o} {name}' + (' waits' if writes is None else '')
-        writes = {} if writes is None else {s.P: s.p + words, **writes}
+        what += ' waits' if writes is None else ''
+        writes = {} if writes is None else {s.P: s.p + (2 if s.code in TWO_WORDS else 1), **writes}
     return what, {place: number & 0o7777 if place[0] in ('M', 'P', 'H') else number for place, number in writes.items()}
 
 
@@ -245,33 +208,35 @@ def block_move(s):
 
 def reader(machine):
     STATE, REGISTER = ('state', machine.reader), ('H', machine.reader)
-    card, column, mode, cards = machine[CARD], machine[CARD_COLUMN], machine[READER_MODE], len(machine.deck)
-    if machine[STATE] == FUNCTION and machine[REGISTER] == 1:
-        card = card + 1 if column > 0 else card
-        mode = READING if card < cards else IDLE
-        return f'reader 0001 mode {mode}', {STATE: INACTIVE, CARD: card, CARD_COLUMN: 0, READER_MODE: mode}
-    if machine[STATE] == FUNCTION and machine[REGISTER] == 2:
+    card, column, mode, left = machine[CARD], machine[CARD_COLUMN], machine[READER_MODE], len(machine.deck) - machine[CARD]
+    function = machine[REGISTER] if machine[STATE] == FUNCTION else None
+    if function == 1:
+        begun = 1 if column > 0 else 0
+        mode = READING if left > begun else IDLE
+        return f'reader 0001 mode {mode}', {STATE: INACTIVE, CARD: card + begun, CARD_COLUMN: 0, READER_MODE: mode}
+    if function == 2:
         return 'reader 0002', {STATE: INACTIVE, READER_MODE: STATUS}
-    if machine[STATE] == EMPTY and mode == READING and column < COLUMNS:
-        return 'reader column', {REGISTER: machine.deck[card][column], STATE: FULL, CARD_COLUMN: column + 1}
-    if machine[STATE] == EMPTY and mode == READING:
+    if machine[STATE] != EMPTY or mode == IDLE:
+        return 'reader nothing', {}
+    if mode == READING and column < COLUMNS:
+        return 'reader column', {REGISTER: (machine.deck[card] + [0] * COLUMNS)[column], STATE: FULL, CARD_COLUMN: column + 1}
+    if mode == READING:
         return 'reader card end', {STATE: INACTIVE, CARD: card + 1, CARD_COLUMN: 0, READER_MODE: IDLE}
-    if machine[STATE] == EMPTY and mode == STATUS:
-        return f'reader status {card < cards}', {REGISTER: 0 if card < cards else 1, STATE: FULL, READER_MODE: SENT}
-    if machine[STATE] == EMPTY and mode == SENT:
-        return 'reader sent', {STATE: INACTIVE, READER_MODE: IDLE}
-    return 'reader nothing', {}
+    if mode == STATUS:
+        return f'reader status {left > 0}', {REGISTER: 0 if left > 0 else 1, STATE: FULL, READER_MODE: SENT}
+    return 'reader sent', {STATE: INACTIVE, READER_MODE: IDLE}
 
 
 def printer(machine):
     STATE, REGISTER = ('state', machine.printer), ('H', machine.printer)
     length, column, mode = machine[PAPER_LENGTH], machine[PAPER_COLUMN], machine[PRINTER_MODE]
     room = PAPER - length
-    if machine[STATE] == FUNCTION and machine[REGISTER] == 1:
+    function = machine[REGISTER] if machine[STATE] == FUNCTION else None
+    if function == 1:
         return 'printer 0001', {STATE: INACTIVE, PRINTER_MODE: PRINTING}
-    if machine[STATE] == FUNCTION and machine[REGISTER] == 2:
+    if function == 2:
         return 'printer 0002', {STATE: INACTIVE, PRINTER_MODE: STATUS}
-    if machine[STATE] == FUNCTION and machine[REGISTER] == 3 and room >= 1:
+    if function == 3 and room >= 1:
         return 'printer 0003', {STATE: INACTIVE, ('paper', length): LINE_END, PAPER_LENGTH: length + 1, PAPER_COLUMN: 0}
     if machine[STATE] == FULL and mode == PRINTING and room >= 2:
         symbols = divmod(machine[REGISTER], 0o100)[:PAPER_WIDTH - column]
@@ -301,7 +266,7 @@ def dead_start(machine):
 
 
 class Machine(dict):
-    """The numbers, the undo history and the redo list. A record has the old and the new number of each place written."""
+    """The map, the undo history and the redo list. A record has the old and the new number of each place written."""
 
     def __init__(self, deck=(), panel=None, central=0o400000, reader=0o12, printer=0o13, history=10000):
         self.deck, self.panel, self.central, self.reader, self.printer = deck, panel, central, reader, printer
@@ -325,30 +290,24 @@ class Machine(dict):
         self.ahead.clear()
         return record
 
-    def turn(self):
-        return self.act(processor, reader, printer, barrel)
-
     def back(self):
-        record = self.history.pop()
-        self.ahead.append(record)
-        self.update({place: was for place, (was, now) in record.items()})
+        self.ahead.append(self.history.pop())
+        self.update({place: was for place, (was, now) in self.ahead[-1].items()})
 
     def forward(self):
-        record = self.ahead.pop()
-        self.history.append(record)
-        self.update({place: now for place, (was, now) in record.items()})
+        self.history.append(self.ahead.pop())
+        self.update({place: now for place, (was, now) in self.history[-1].items()})
 
 
 # The console
 
-ERRORS = {
-    0o01: 'NOT A COMMAND', 0o02: 'WORDS', 0o03: 'NUMBER', 0o04: 'RANGE', 0o05: 'LINE TOO LONG', 0o06: 'NOT ASCII',
-    0o07: 'TOO FEW KEPT', 0o10: 'NO CHANGE KEPT', 0o11: 'WATCHES FULL', 0o12: 'ALREADY WATCHED', 0o13: 'NOT WATCHED',
-    0o14: 'NO PANEL', 0o15: 'NOTHING WATCHED', 0o16: 'TOO FEW AHEAD'}
+ERRORS = (
+    '', 'NOT A COMMAND', 'WORDS', 'NUMBER', 'RANGE', 'LINE TOO LONG', 'NOT ASCII', 'TOO FEW KEPT', 'NO CHANGE KEPT',
+    'WATCHES FULL', 'ALREADY WATCHED', 'NOT WATCHED', 'NO PANEL', 'NOTHING WATCHED', 'TOO FEW AHEAD')
 
 
 class Rejected(Exception):
-    """A rejected line, with the number of the error; or words or files of the program, with the exit status and the text."""
+    """Of a line, with the number of the error; of words or files of the program, with the exit status and the text."""
 
 
 def reject_if(condition, *reason):
@@ -439,7 +398,7 @@ class Console:
 
     def step(self, count=1):
         for turns in range(1, count + 1):
-            record = self.machine.turn()
+            record = self.machine.act(processor, reader, printer, barrel)
             for place in changed(record, self.watches()):
                 width = {'A': 6, 'C': 20}.get(place[0], 4)
                 was, now = (f'{number:0{width}o}' for number in record[place])
@@ -549,21 +508,17 @@ USAGE = 'usage: pp6600 [--history N] [--central K] [--deck F] [--reader C] [--pr
 FILE_BYTES, SCRIPT_BYTES, SCRIPT_LINES = 1048576, 268435456, 1000000
 
 
-def is_option(word):
-    return word.startswith('-') and word != '-'
-
-
 def read_words(words):
     """Returns the words of the command line by their options; the script has the name SCRIPT."""
     given, rest = {}, iter(words)
     for word in rest:
         reject_if(word in ('--help', '-h'), 0, USAGE)
         name, equals, value = word.partition('=')
-        if not is_option(word):
+        if not re.match('-.', word):
             name, value = 'SCRIPT', word
         elif not equals:
             value = next(rest, '--')
-            reject_if(is_option(value), 2, 'BAD ARGUMENTS')
+            reject_if(re.match('-.', value), 2, 'BAD ARGUMENTS')
         reject_if(name not in OPTIONS or name in given, 2, 'BAD ARGUMENTS')
         given[name] = value
     return given
@@ -580,19 +535,15 @@ def read_options(given):
     return {'history': int(history), 'central': int(central) * 1024, 'reader': reader, 'printer': printer}
 
 
-def open_file(path, name):
+def read_lines(file, name, limit):
+    """Returns the lines that end within the limit of bytes, without LF and CR, and whether the file is longer."""
     try:
-        return os.open(path, os.O_RDONLY)
+        with open(file, 'rb') as opened:
+            data = opened.read()
+    except IsADirectoryError:  # which can be opened, but not read
+        raise Rejected(3, 'READ FAILED') from None
     except OSError:
         raise Rejected(2, f'CANNOT OPEN {name}') from None
-
-
-def read_lines(file, limit):
-    """Reads an open file; returns its lines, without LF and CR, that end within the limit of bytes, and whether it goes on."""
-    try:
-        data = b''.join(iter(lambda: os.read(file, 1 << 20), b''))
-    except OSError:
-        raise Rejected(3, 'READ FAILED') from None
     *lines, last = data[:limit].split(b'\n')
     if last and len(data) <= limit:
         lines.append(last)
@@ -601,9 +552,7 @@ def read_lines(file, limit):
 
 def read_rows(path, name, most):
     """Yields the numbers of each line of a deck or panel file; there are at most so many on a line."""
-    file = open_file(path, name)
-    lines, too_long = read_lines(file, FILE_BYTES)
-    os.close(file)
+    lines, too_long = read_lines(path, name, FILE_BYTES)
     for k, line in enumerate(lines, 1):
         reject_if(len(line) > 1023, 2, f'{name} LINE {k} TOO LONG')
         words = words_of(line.decode('latin-1'))
@@ -616,10 +565,6 @@ def read_rows(path, name, most):
     reject_if(too_long, 2, f'{name} FILE TOO LONG')
 
 
-def read_deck(path):
-    return [row + [0] * (COLUMNS - len(row)) for row in read_rows(path, 'DECK', COLUMNS)]
-
-
 def read_panel(path):
     panel = []
     for row in read_rows(path, 'PANEL', FILE_BYTES):
@@ -630,9 +575,9 @@ def read_panel(path):
 
 
 def serve(console, script, write):
-    """Answers the lines of an open file; returns the exit status."""
+    """Answers the lines of a script; returns the exit status."""
     status = 0
-    lines, too_long = read_lines(script, SCRIPT_BYTES)
+    lines, too_long = read_lines(script, 'SCRIPT', SCRIPT_BYTES)
     for line in lines[:SCRIPT_LINES]:
         answer = console.answer(line)
         if answer and answer[0].startswith('ERR'):
@@ -646,17 +591,16 @@ def serve(console, script, write):
 
 
 def run(words, standard_input, write):
-    """Runs the program with an open file as standard input. Returns the exit status and what goes to standard error."""
+    """Runs the program with the file of standard input. Returns the exit status and what goes to standard error."""
     try:
         given = read_words(words)
         options = read_options(given)
-        deck = read_deck(given['--deck']) if '--deck' in given else []
+        deck = list(read_rows(given['--deck'], 'DECK', COLUMNS)) if '--deck' in given else []
         panel = read_panel(given['--panel']) if '--panel' in given else None
         reject_if(options['reader'] == options['printer'], 2, 'SAME CHANNEL')
         reject_if(len(deck) > 2000, 2, 'DECK TOO LONG')
         console = Console(Machine(deck, panel, **options))
-        script = open_file(given['SCRIPT'], 'SCRIPT') if 'SCRIPT' in given else standard_input
-        return serve(console, script, write), ''
+        return serve(console, given.get('SCRIPT', standard_input), write), ''
     except Rejected as rejected:
         status, text = rejected.args
         if text == USAGE:

@@ -1,13 +1,15 @@
-"""The program against a second opinion: random sessions, answered by the program and by tests/model.py, byte for byte.
+"""The program against a second opinion: random sessions are run by the program and by tests/model.py and compared byte for byte.
 
-    PP6600_RANDOM=SEED:COUNT   runs COUNT sessions from the seed SEED on; 0:2000 without it. SEED:1 repeats one session
+    PP6600_RANDOM=SEED:COUNT   runs COUNT sessions from seed SEED on; SEED:1 repeats one. Without it: 0:2000, and the limits
     PP6600_PROGRAM=PATH        the program under test
 
 The first difference ends the run. Its session is made small and printed as commands for the shell. With -v the run ends with
-how often each instruction, case, form of a line, error and fault has occurred; all must occur in the sessions without
-PP6600_RANDOM. Only the limit of the bytes of a script is not tried here.
+how often each instruction, case, form of a line, error and fault has occurred. Without PP6600_RANDOM each must occur. Not
+tried here: the limit of a script in bytes, want of memory, and files that fail after some bytes.
 """
+import collections
 import dataclasses
+import itertools
 import os
 import random
 import shlex
@@ -16,8 +18,7 @@ import sys
 import tempfile
 import unittest
 
-sys.path.insert(0, os.path.dirname(os.path.abspath(__file__)))
-import model  # noqa: E402
+from tests import model
 
 TOP = os.path.dirname(os.path.dirname(os.path.abspath(__file__)))
 DEFAULT = '0:2000'
@@ -25,404 +26,367 @@ DEFAULT = '0:2000'
 
 def program():
     """Returns the path of the program under test."""
-    paths = [os.environ.get('PP6600_PROGRAM', ''), *(os.path.join(TOP, *path) for path in (
-        ('dist', 'pp6600'), ('crates', 'pp6600', 'out', 'pp6600')))]
-    return next(path for path in map(os.path.abspath, filter(None, paths)) if os.path.exists(path))
+    paths = os.path.join(TOP, 'dist', 'pp6600'), os.path.join(TOP, 'crates', 'pp6600', 'out', 'pp6600')
+    return os.path.abspath(os.environ.get('PP6600_PROGRAM') or next(filter(os.path.exists, paths), paths[0]))
 
 
 @dataclasses.dataclass
-class Case:
-    """One run: the words after the program's name, the files, and the lines of the script, which is standard input too."""
+class Session:
+    """The words after the program's name, the files by name, and the lines of the script, which is the standard input too."""
     words: list
     files: dict
     lines: list
     standard_input: str = 'script'
     output_fails: bool = False
 
-    def script(self):
-        return b'\n'.join(self.lines)
+    def all_files(self):
+        return {**self.files, 'script': b'\n'.join(self.lines)}
 
     def commands(self):
-        """Returns commands for the shell that repeat the run."""
+        """Returns commands for the shell that repeat the session."""
         commands = []
-        for name, data in [*self.files.items(), ('script', self.script())]:
-            if name == 'script' or name in self.words:
-                pieces = [f"    '{quoted(line)}' \\\n" for line in data.splitlines(keepends=True)]
-                commands.append(f"printf '%b' \\\n{''.join(pieces)}    >{name}")
+        for name, data in self.all_files().items():
+            if name in self.words + ['script']:
+                lines = [f"    '{quoted(line)}' \\\n" for line in data.splitlines(keepends=True)]
+                commands.append(f"printf '%b' \\\n{''.join(lines)}    >{name}")
         output = ' >/dev/full' if self.output_fails else ''
-        commands.append(f'{program()} {shlex.join(self.words)} <{self.standard_input}{output}')
-        return '\n'.join(commands)
+        return '\n'.join([*commands, f'pp6600 {shlex.join(self.words)} <{self.standard_input}{output}'])
 
 
 def quoted(data):
-    """Returns bytes as printf's %b reads them within single quotes."""
-    return ''.join(r'\n' if byte == 10 else chr(byte) if 32 <= byte < 127 and chr(byte) not in "\\'" else f'\\0{byte:03o}'
+    """Returns bytes as %b of printf reads them between single quotes."""
+    return ''.join('\\n' if byte == 10 else chr(byte) if 32 <= byte < 127 and byte not in b"\\'" else f'\\0{byte:03o}'
                    for byte in data)
 
 
-def shrunk(case, differs):
-    """Returns the case without the lines and words that the difference does not need."""
+def shrunk(session, differs):
+    """Returns the session without the lines and the words that the difference does not need."""
     for name in 'lines', 'words':
-        size = len(getattr(case, name))
+        size = len(getattr(session, name))
         while size > 0:
             start = 0
-            while start < len(getattr(case, name)):
-                items = getattr(case, name)
-                smaller = dataclasses.replace(case, **{name: items[:start] + items[start + size:]})
+            while start < len(getattr(session, name)):
+                items = getattr(session, name)
+                smaller = dataclasses.replace(session, **{name: items[:start] + items[start + size:]})
                 if differs(smaller):
-                    case = smaller
+                    session = smaller
                 else:
                     start += size
             size //= 2
-    return case
+    return session
 
 
 # Random sessions
 
-# Words of programs that use the devices and central memory: c is a channel, a an address, k a small number.
-LIKELY = (
-    '77cc 0001 74cc 14kk 71cc aaaa 75cc',
-    '77cc 0001 74cc 70cc 75cc 77cc 0001 74cc 20kk 7777 71cc aaaa',
-    '77cc 0002 74cc 70cc',
-    '77cc 0001 74cc 14kk 73cc aaaa 75cc 77cc 0003',
-    '77cc 0003 77cc 0001 74cc 72cc 75cc 77cc 0002 74cc 70cc',
-    '14kk 74cc 73cc aaaa 75cc',
-    '14kk 71cc aaaa',
-    '14kk 34kk 61kk aaaa 63kk aaaa',
-    '2600 2700 60kk 62kk',
-    '64cc aaaa 65cc aaaa 66cc aaaa 67cc aaaa',
-)
+# Parts of programs: r is the reader's channel, p the printer's, c any; k is a small number, m an address.
+PARTS = (
+    '77rr 1 74rr 71rr m 75rr', '77rr 1 74rr 2000 124 71rr m', '77rr 2 74rr 70rr', '70rr 77rr 1 74rr 70rr 70rr 75rr 77rr 1 74rr',
+    '77pp 1 74pp 73pp m 75pp 77pp 3', '77pp 1 74pp 2000 105 73pp m', '77pp 2 74pp 70pp', '77pp 1 74pp 72pp 72pp 75pp 77pp 3 77pp 2',
+    '14kk 74cc 73cc m 75cc', '14kk 71cc m', '74cc 72cc 70cc 75cc', '76cc 75cc 77cc m', '71cc m', '73cc m', '7114 m', '14kk 7314 m',
+    '64cc m 65cc m 66cc m 67cc m', '6414 m 6514 m 6614 m 6714 m 7014 7514', '14kk 34kk 61kk m 63kk m', '14kk 3400 6100 m', '60kk 62kk',
+    '2600 2700', '0100 m', '0200 m', '14kk 10kk', '15kk 10kk 16kk 17kk', '2077 m 0777', '0377', '3600 0500 3700', '5000 m 5400 m')
 JUNK = ('8', '9', 'X', 'W', 'M', 'Z', 'PP', '-1', '+1', '1.', '0x1', '7777', '10000', '777777', '1000000', '1000001', '12', '14',
         '15', '400000', '7' * 20, '1' + '0' * 20, '7' * 40, '0' * 30 + '1', '*', 'STEP', 'I', 'E', 'F', '')
+# Words of which the program mostly refuses some.
+WORDS = (
+    *(['--history', number] for number in ('0', '10001', '-1', '+1', '1.5', 'x', '', '9' * 20, '0001', '10000')),
+    *(['--central', number] for number in ('0', '16', '63', '128K', '0x20', '032', '')),
+    *([option, number] for option in ('--reader', '--printer') for number in ('14', '8', '-1', '', '12', '13', '012', 'x', '7' * 12)),
+    *([option, path] for option in ('--deck', '--panel') for path in ('absent', '.', '/dev/null', 'script', 'deck', 'panel', '', '-')),
+    ['absent'], ['.'], ['script'], ['script'], ['-'], ['--tape', 'deck'], ['-d'], ['--deck'], ['--help'], ['-h'],
+    ['--history=7'], ['--central=32'], ['--reader=13'], ['--deck=deck'])
 
 
-class Session:
-    """The making of one random session."""
+class Maker:
+    """Makes one random session."""
 
     def __init__(self, seed):
         self.random = random.Random(seed)
         self.choice, self.below = self.random.choice, self.random.randrange
-        self.channels = [self.below(12), self.below(12)]
-        self.central = 131072
+        self.words, self.lines, self.actions = [], [], 0
         self.base = self.choice((0, 0o20, 0o100, 0o100, 0o7760))
         self.processors = self.random.sample(range(10), self.choice((1, 2, 3, 10)))
-        self.lines, self.actions = [], 0
+        self.channels = [self.below(12), self.below(12)]
 
     def chance(self, percent):
         return self.below(100) < percent
 
+    def session(self):
+        self.choose_options()
+        files = {'deck': self.deck(), 'panel': self.panel()}
+        self.add_machine()
+        for _ in range(self.below(24) + 2):
+            self.add_action()
+        self.add_dumps()
+        session = Session(self.words, files, self.lines + [b''] * self.chance(90))
+        if self.chance(8):
+            session.words = [word for _ in range(self.choice((1, 1, 2, 3))) for word in self.choice(WORDS)]
+        elif self.chance(4):
+            session.standard_input, session.output_fails = self.choice((('.', False), ('script', True)))
+        return session
+
     # Numbers
 
-    def address(self):
-        near = self.base + self.below(48)
-        return self.choice((near, near, near, self.below(0o100), self.below(0o10000), 0o7770 + self.below(8))) % 0o10000
-
-    def central_address(self):
-        return self.choice((0, 0o100, self.central - 0o10, self.below(self.central))) + self.below(0o10)
+    def number(self):
+        """Returns a number that is likely to matter: small, near the programs, near the end of a range, or any."""
+        near = self.base + self.below(40)
+        end = self.choice((0o7777, self.central, 0o377777, 0o777777)) - self.below(6)
+        return self.choice((self.below(4), self.below(0o20), near, near, end, self.below(2 ** self.choice((12, 18, 60)))))
 
     def channel(self):
-        return self.choice((*self.channels * 3, self.below(12), self.choice((0o14, 0o14, 0o15, 0o77))))
-
-    def large(self):
-        beyond = self.choice((0, 0o377770, 0o777760)) + self.below(0o20)
-        return self.choice((self.below(0o10), self.below(0o1000000), self.central_address(), beyond, 0, 0o777777))
-
-    def word(self):
-        return self.choice((self.below(2 ** 60), 0, 2 ** 60 - 1, self.below(0o100), self.large() << 36 | self.large()))
-
-    def operand(self, kind):
-        """Returns an operand of a form of a line, mostly within its range."""
-        number = {
-            'n': lambda: self.choice(self.processors) if self.chance(90) else self.below(11),
-            'a': self.address, 'c': self.central_address, 'h': lambda: self.channel() % 0o20, 'h14': lambda: self.channel() % 0o20,
-            '12': lambda: self.choice((self.below(0o10000), self.instruction()[0], self.below(4))), '18': self.large, '60': self.word,
-            'count': lambda: self.below(0o40) + 1, 'S': lambda: 'IEF'[self.below(3)]}[kind]()
-        if kind == 'S':
-            return number
-        if self.chance(1):
-            number = {'n': 10, 'a': 0o10000, 'c': self.central, 'h': 0o14, 'h14': 0o15, '12': 0o10000, '18': 0o1000000,
-                      '60': 2 ** 60, 'count': self.choice((0, 0o1000001))}[kind]
-        return f'{number:o}'.zfill(self.choice((0, 0, 0, 4, 12, 24)))
+        return self.choice(self.channels * 4 + [self.below(12), 0o14, 0o15, 0o77])
 
     def instruction(self):
-        """Returns the words of a likely instruction."""
+        """Returns the words of an instruction."""
         code, d = self.below(64), self.below(64)
         if 0o03 <= code <= 0o07:
             d = self.choice((0, 1, 2, 3, 0o70, 0o74, 0o75, 0o76, 0o77, d))
         elif code >= 0o64:
             d = self.channel()
-        elif code >= 0o30 and self.chance(70):
-            d %= 0o10
-        second = self.address() if code >= 0o50 or self.chance(50) else self.below(0o10000)
-        return [code << 6 | d, second][:model.INSTRUCTIONS[code][2]]
+        elif code >= 0o30:
+            d = self.choice((d, d % 8))
+        return [code << 6 | d] + [self.number() % 0o10000] * (code in model.TWO_WORDS)
 
-    def likely(self):
-        """Returns the words of a likely part of a program."""
-        text = self.choice(LIKELY)
-        numbers = {'cc': f'{self.channel():02o}', 'kk': f'{self.choice((0, 1, 2, 5, 9, 31)):02o}'}
-        for key, number in numbers.items():
-            text = text.replace(key, number)
-        return [int(word, 8) if word != 'aaaa' else self.address() for word in text.split()]
+    def part(self):
+        """Returns the words of a part of a program."""
+        kk, cc = self.choice((0, 1, 2, 7, 0o37, 0o50, 0o77, self.below(64))), self.channel()
+        numbers = {'kk': kk, 'cc': cc, 'rr': self.channels[-2], 'pp': self.channels[-1]}
+        text = self.choice(PARTS)
+        for letters, number in numbers.items():
+            text = text.replace(letters, f'{number:02o}')
+        return [self.number() % 0o10000 if word == 'm' else int(word, 8) for word in text.split()]
+
+    def operand(self, kind):
+        if kind == 'S':
+            return self.choice('IEF')
+        least, greatest = model.Console(model.Machine(central=self.central)).ranges[kind]
+        number = self.below(40) if kind == 'count' else self.number()
+        if kind == 'n' and self.chance(80):
+            number = self.choice(self.processors)
+        if kind in ('h', 'h14') and self.chance(80):
+            number = self.channel()
+        number = number % (greatest + 1) if self.chance(98) else self.choice((greatest, greatest + 1, 0))
+        return f'{number:o}'.zfill(self.choice((0, 0, 0, 0, 6, 24)))
 
     # Lines
 
     def add(self, *words):
-        self.lines.append(' '.join(map(str, words)).encode())
+        self.lines.append(' '.join(word if isinstance(word, str) else f'{word:o}' for word in words).encode())
 
-    def add_cells(self, n, address, cells):
-        for start in range(0, len(cells), 8):
-            self.add('SET M', f'{n:o}', f'{(address + start) % 0o10000:o}', *(f'{cell:o}' for cell in cells[start:start + 8]))
-
-    def add_programs(self):
+    def add_machine(self):
+        """Adds lines that set programs, which end with a jump to their beginning, and other numbers."""
         for n in self.processors:
-            cells = []
-            for _ in range(self.choice((4, 8, 16))):
-                cells += self.likely() if self.chance(40) else self.instruction()
-            self.add_cells(n, self.base, cells)
-            self.add_cells(n, 0, [self.address() if self.chance(60) else self.below(0o10) for _ in range(8)])
-            self.add('SET P', f'{n:o}', f'{(self.base + self.below(4)) % 0o10000:o}')
-            self.add('SET A', f'{n:o}', f'{self.large():o}')
-        for _ in range(self.below(6)):
-            self.add('SET C', f'{self.central_address() % self.central:o}', f'{self.word():o}')
+            cells, length = [], self.choice((8, 16, 24))
+            while len(cells) < length:
+                cells += self.part() if self.chance(45) else self.instruction()
+            cells += [0o0100, self.base]
+            low = [self.number() % 0o10000 for _ in range(8)]
+            for a, numbers in [(0, low), *((self.base + i, cells[i:i + 8]) for i in range(0, len(cells), 8))]:
+                self.add('SET M', n, a % 0o10000, *numbers)
+            self.add('SET P', n, self.base)
+            self.add('SET A', n, self.number() % 0o1000000)
+        for _ in range(self.below(4)):
+            self.add('SET C', self.number() % self.central, self.number() << self.choice((0, 0, 36)) & 2 ** 60 - 1)
+            self.add('SET H', self.channel() % 12, self.choice('IEF'), self.below(4))
+        for _ in range(self.choice((0, 0, 1, 3, 10))):
+            self.add(*self.form('WATCH'))
 
-    def form(self):
-        """Returns the words of a random line of the console."""
-        form = self.choice(sorted(model.FORMS))
-        kinds, least, method = model.FORMS[form]
+    def form(self, command=''):
+        """Returns the words of a random line."""
+        form = self.choice([form for form in model.FORMS if form.startswith(command)])
+        kinds, least, _ = model.FORMS[form]
         kinds = kinds.split()
         operands = [self.operand(kind) for kind in kinds[:least + self.below(len(kinds) - least + 1)]]
-        if form in ('DUMP M', 'DUMP C') and self.chance(97):
-            operands[-1] = f'{int(operands[-2], 8) + self.below(0o24):o}'
+        if form in ('DUMP M', 'DUMP C') and (form == 'DUMP C' or self.chance(97)):
+            operands[-1] = f'{max(0, int(operands[-2], 8) + self.below(20) - 1):o}'
         return form.split() + operands
 
     def add_spoilt(self):
-        """Adds a line that is unusual or mostly rejected."""
+        """Adds a line that is unusual, and mostly rejected."""
         words = self.form()
-        place = self.below(len(words))
-        words[place:place + self.below(2)] = [self.choice(JUNK)] if self.chance(80) else []
-        if words[:1] == ['STEP'] and len(words) == 2 and len(words[1].lstrip('0')) > 4:
-            words[1] = '0'
+        at = self.below(len(words) + 1)
+        words[at:at + self.below(2)] = [self.choice(JUNK)] if self.chance(80) else []
+        if words[:1] in (['STEP'], ['DUMP']) and any(len(word.lstrip('0')) in (5, 6, 7) for word in words):
+            words = ['BACK', *words[1:]]  # neither a million turns nor words
         line = self.choice((' ', '\t', '  ')).join(words).encode()
         line = self.choice((line, line.lower(), b' ' + line + b'\t', line + b'\r', b'* ' + line, line))
-        if self.chance(30):
-            line = line.ljust(self.choice((254, 255, 256, 257, 1000)), self.choice((b' ', b'0', b'*')))
+        if self.chance(25):
+            line = line.ljust(self.choice((254, 255, 256, 257, 1000)), self.choice((b' ', b'0', b'*'))) + b'\r' * self.below(2)
         if self.chance(20):
             byte = self.choice((b'\r', b'\r\r', b'\0', b'\x7f', b'\x80', b'\xc3\xaf', b'\x1b', b'\x0b', b'\x0c', b'~', b'*'))
             at = self.choice((0, len(line), self.below(len(line) + 1)))
             line = line[:at] + byte + line[at:]
         self.lines.append(line)
 
-    def add_state(self):
-        """Adds dumps of the machine; of all the memory now and then."""
+    def add_dumps(self):
+        """Adds dumps of the machine; of all cells now and then."""
         whole = self.chance(2)
         for n in range(10):
-            self.add('DUMP PP', f'{n:o}')
-            if whole:
-                self.add(f'DUMP M {n:o} 0 7777')
-            elif n in self.processors:
-                self.add(f'DUMP M {n:o} 0 27')
-                self.add(f'DUMP M {n:o} {self.base:o} {min(self.base + 0o77, 0o7777):o}')
-        for a in 0, 0o100, self.central - 0o10:
-            self.add(f'DUMP C {a:o} {a + 7:o}')
-        for what in 'H', 'XP', 'CR', 'LP', 'W':
-            self.add('DUMP', what)
+            self.add('DUMP PP', n)
+            if whole or n in self.processors:
+                for a, b in [(0, 0o7777)] if whole else [(0, 0o27), (self.base, min(self.base + 0o47, 0o7777)), (0o7770, 0o7777)]:
+                    self.add('DUMP M', n, a, b)
+        for a in 0, self.base, self.central - 8:
+            self.add('DUMP C', a, a + 7)
+        for kind in 'H', 'XP', 'CR', 'LP', 'W':
+            self.add('DUMP', kind)
 
     def add_action(self):
-        kind = self.below(100)
-        if kind < 45:
-            turns = self.choice((1, self.below(20) + 1, self.below(300) + 1))
+        watches = [line for line in self.lines if line.startswith(b'WATCH')]
+        what = self.below(100)
+        if what < 45:
+            turns = self.choice((1, 1, self.below(20) + 1, self.below(400) + 1))
             self.actions += turns
-            self.add('STEP', f'{turns:o}')
-        elif kind < 55:
-            self.add(self.choice(('BACK', 'FORWARD')), f'{self.below(self.choice((3, 20, self.actions + 2))) + 1:o}')
-        elif kind < 60:
+            self.add('STEP', turns)
+        elif what < 55:
+            count = self.below(self.choice((3, 20, self.actions + 2)))
+            self.add('BACK', count + 1)
+            for _ in range(self.below(3)):
+                self.add('FORWARD', self.below(count + 2) + 1)
+        elif what < 60:
             self.add('BACK W')
-        elif kind < 65:
+        elif what < 64:
             self.add('DEADSTART')
-        elif kind < 85:
-            self.add(*self.form())
+        elif what < 68 and watches:
+            self.lines.append(self.choice((b'', b'UN')) + self.choice(watches))
+        elif what < 86:
+            self.add(*self.form(self.choice(('', 'SET', 'SET H'))))
         else:
             self.add_spoilt()
         if self.chance(15):
-            self.add_state()
+            self.add_dumps()
 
-    # Words and files
+    # Options and files
 
-    def rows(self, numbers, width):
-        """Returns the text of a deck or a panel with so many numbers on a line, and notes among its lines."""
+    def choose_options(self):
+        reader, printer = self.random.sample(range(12), 2)
+        options = [(35, '--history', self.choice(('1', '2', '3', '10', '0100', '10000'))),
+                   (35, '--central', self.choice(('32', '64', '128'))), (70, '--deck', 'deck'), (60, '--panel', 'panel'),
+                   (35, '--reader', f'{reader:o}', '--printer', f'{printer:o}'), (30, 'script')]
+        chosen = [words for percent, *words in options if self.chance(percent)]
+        self.random.shuffle(chosen)
+        self.words = [word for words in chosen for word in words]
+        given = dict(zip(self.words, self.words[1:]))
+        self.central = int(given.get('--central', 128)) * 1024
+        self.channels += [int(given.get('--reader', '12'), 8), int(given.get('--printer', '13'), 8)]
+
+    def deck(self):
+        cards = [self.below(0o10000) if self.chance(70) else 0 for _ in range(self.choice((0, 3, 80, 100, 240)))]
+        return self.file(cards, self.choice((1, 20, 80, 80, 80)))
+
+    def panel(self):
+        c = self.below(9) + 1
+        panel = [0o1404, 0o7300 + c, 0o11, 0o7500 + c, 0o0300, 0, 0, 0, self.base, 0o1400, 0o7301, 0]
+        while self.chance(50):
+            panel = self.part() + panel
+        return self.file(panel[:12], self.choice((1, 4, 8, 12)))
+
+    def file(self, numbers, width):
+        """Returns the bytes of a deck or panel file; it has notes, and rarely a fault."""
         rows = [' '.join(f'{number:o}' for number in numbers[i:i + width]) for i in range(0, len(numbers), width)]
         for _ in range(self.below(3)):
             rows.insert(self.below(len(rows) + 1), self.choice(('', ' \t', '* na\xefve', ' *', '*' * 1023)))
-        return self.choice(('\n', '\r\n', ' \n')).join(rows) + self.choice(('\n', '\r', ''))
-
-    def spoilt(self, text):
-        """Returns the text of a file with a fault, if fortune wills."""
-        for _ in range(self.below(3)):
+        text = self.choice(('\n', '\r\n', ' \n')).join(rows) + self.choice(('\n', '\r', ''))
+        while self.chance(6):
             at = self.choice((0, len(text), self.below(len(text) + 1)))
-            fault = self.choice(('8', ' 10000 ', ' 7777777777777777777 ', '\f', '\r', '\xe9', ' 0' * 81, '*', ' ' * 1024, '\n0\n', ' 1 '))
+            fault = self.choice(('8', ' 10000 ', ' 77777777 ', '\f', '\r', '\xe9', ' 0' * 81, '*', ' ' * 1024, '\n0\n', ' 1 '))
             text = text[:at] + fault + text[at:]
-        return text
-
-    def files(self):
-        cards = [self.below(0o10000) if self.chance(70) else 0 for _ in range(self.choice((0, 3, 80, 100, 240)))]
-        panel = []
-        while len(panel) < 12:
-            panel += self.likely() if self.chance(50) else self.instruction()
-        if self.chance(50):
-            c, where = self.below(9) + 1, self.base
-            panel = [0o1404, 0o7300 + c, 0o11, 0o7500 + c, 0o0300, 0, 0, 0, where, 0o1400, 0o7301, 0]
-        deck = self.rows(cards, self.choice((1, 20, 80, 80, 80)))
-        panel = self.rows(panel[:12], self.choice((1, 4, 8, 12)))
-        if self.chance(8):
-            deck, panel = self.spoilt(deck), self.spoilt(panel)
-        return {'deck': deck.encode('latin-1'), 'panel': panel.encode('latin-1')}
-
-    def options(self):
-        reader, printer = self.random.sample(range(12), 2)
-        options = [
-            ['--history', self.choice(('1', '2', '3', '10', '0100', '10000'))],
-            ['--central', self.choice(('32', '64', '128'))],
-            ['--deck', 'deck'], ['--deck', 'deck'], ['--panel', 'panel'], ['--panel', 'panel'],
-            ['--reader', f'{reader:o}', '--printer', f'{printer:o}'], ['script']]
-        chosen = [option for i, option in enumerate(options) if self.chance(35) and option not in options[:i]]
-        self.random.shuffle(chosen)
-        words = [word for option in chosen for word in option]
-        given = dict(zip(words, words[1:]))
-        self.central = int(given.get('--central', 128)) * 1024
-        self.channels += [int(given.get('--reader', '12'), 8), int(given.get('--printer', '13'), 8)] * 2
-        return words
-
-    def bad_words(self):
-        """Returns options and words that the program mostly refuses."""
-        words = [word for _ in range(self.below(3) + 1) for word in self.choice((
-            ['--history', self.choice(('0', '10001', '-1', '+1', '1.5', 'x', '', '99999999999999999999', '0001'))],
-            ['--central', self.choice(('0', '16', '63', '128K', '0x20', '032', ''))],
-            ['--reader', self.choice(('14', '8', '-1', '', '13', '012', 'x', '777777777777'))],
-            ['--printer', self.choice(('14', '8', '-1', '', '12', '013', 'x'))],
-            ['--deck', self.choice(('absent', '.', '/dev/null', 'script', 'panel', ''))],
-            ['--panel', self.choice(('absent', '.', '/dev/null', 'script', 'deck', ''))],
-            ['absent'], ['.'], ['script'], ['--deck', 'deck'], ['--panel', 'panel'], ['--tape', 'deck'], ['-d']))]
-        return words[:-1] if self.chance(10) else words
-
-    def case(self):
-        words, files = self.options(), self.files()
-        self.add_programs()
-        for _ in range(self.below(24) + 2):
-            self.add_action()
-        self.add_state()
-        case = Case(words, files, self.lines + [b''] * self.chance(90))
-        if self.chance(6):
-            case.words = self.choice((self.bad_words(), self.bad_words(), ['--help'], ['-h']))
-        elif self.chance(2):
-            case.standard_input = '.'
-        elif self.chance(2):
-            case.output_fails = True
-        return case
+        return text.encode('latin-1')
 
 
 def limits():
-    """Returns sessions that reach the limits of paper, history, files and lines."""
+    """Returns sessions that reach the limits of the paper, the history, the files and the lines."""
     line_ends = [f'SET M {n:o} {a:o} {words}'.encode() for n in range(10) for a, words in (
-        (0, '7713 3 7713 3 7713 3 7713 3'), (0o10, '7713 3 7713 3 7713 3 7713 3'), (0o20, '7713 3 100 0'))]
-    print_word = [b'SET M 0 400 7713 2 7413 7013 7713 1 7413 7213', b'SET P 0 400', b'STEP 1000', b'DUMP LP', b'DUMP PP 0']
-    paper = Case([], {}, [*line_ends, b'STEP 200000', b'STEP 200', b'DUMP LP', *print_word])
-    turns = Case([], {}, [b'STEP 30000', b'BACK 23421', b'BACK 23420', b'DUMP H', b'FORWARD 23421', b'FORWARD 23420', b'DUMP H'])
-    change = Case([], {}, [b'SET A 0 1', b'WATCH A 0', b'STEP 23416', b'BACK W', b'FORWARD 23420', b'STEP', b'BACK W', b''])
-    note = b'*' * 1023 + b'\n'
-    files = [Case(['--deck', 'deck', '--panel', 'panel'], {'deck': deck, 'panel': panel}, [b'DUMP CR', b'DEADSTART', b'DUMP M 0 0 15'])
-             for deck, panel in (
-                 (b'1\n' * 2000, b'1 2 3 4 5 6 7 10 11 12 13 14'), (b'1\n' * 2001, b'1 2 3 4 5 6 7 10 11 12 13 14'),
-                 (b'1\n' * 2001 + b'8', b''), (b'1\n' * 2001, b''), (note * 1024, note * 1023 + b'1 ' * 12),
-                 (note * 1024 + b'0', b''), (note * 1024 + b'8\n', b''), (note * 1023 + b'8\n' + note, b''), (b'0 ' * 600, b''),
-                 (b'1', note * 1024 + b'1'))]
-    same = Case(['--reader', '13', '--deck', 'deck'], {'deck': b'1\n' * 2001}, [])
-    lines = [Case([], {}, [b'DUMP CR', *[b''] * (1000000 - 2), b'DUMP W', *more]) for more in ([], [b''], [b'*'], [b'DUMP W'])]
-    return [paper, turns, change, *files, same, *lines]
+        (0, '7713 3 7713 3 7713 3 7713 3'), (0o10, '7713 3 7713 3 7713 3 7713 3'), (0o20, '100 0'))]
+    elsewhere = [f'SET P {n:o} 1000'.encode() for n in range(10)]
+    program = [b'SET M 0 400 7713 2 7413 7013 7713 3 7713 2', b'SET M 0 410 7413 7013 7713 1 7413 7213', b'SET P 0 400']
+    state = [b'STEP 200', b'DUMP PP 0', b'DUMP H', b'SET H 13 I', b'SET P 0 404']
+    # Two more symbols fit, then one, then none.
+    paper = [*line_ends, b'STEP 217774', *elsewhere, *program, *state, *state, *state, b'DUMP LP']
+    turns = [b'STEP 30000', b'BACK 23421', b'BACK 23420', b'DUMP H', b'FORWARD 23421', b'FORWARD 23420', b'DUMP H']
+    change = [b'SET A 0 1', b'WATCH A 0', b'STEP 23416', b'BACK W', b'FORWARD 23420', b'STEP', b'BACK W', b'']
+    hit = [b'WATCH H 14', b'STEP 1000000', b'BACK 1000000', b'FORWARD 1000000', b'STEP 1000001']
+    note, panel = b'*' * 1023 + b'\n', b'1 2 3 4 5 6 7 10 11 12 13 14'
+    files = [
+        (b'1\n' * 2000, panel), (b'1\n' * 2001, panel), (b'1\n' * 2001 + b'8', b''), (b'1\n' * 2001, b''), (b'0 ' * 600, b''),
+        (note * 1024, note * 1023 + panel), (note * 1024 + b'0', panel), (note * 1023 + note[:-1] + b'80', panel), (b'1', note * 1024 + b'1'),
+        (note * 1023 + b'8\n' + note, panel), (b'1', panel + b' 15\n8'), (b'1', panel[:-3] + b'\n8'), (b'1', panel + b'\n15 8')]
+    lines = [[b'DUMP CR', *[b''] * (1000000 - 2), b'DUMP W', *more] for more in ([b''], [b'*'])]
+    return [
+        *(Session([], {}, lines) for lines in (paper, turns, change, hit, *lines)),
+        *(Session(['--deck', 'deck', '--panel', 'panel'], {'deck': deck, 'panel': panel}, [b'DUMP CR', b'DEADSTART', b'DUMP M 0 0 15'])
+          for deck, panel in files),
+        Session(['--reader', '13', '--deck', 'deck'], {'deck': b'1\n' * 2001}, []),
+        Session(['--reader', '13', '--deck', 'deck', '--panel', 'panel'], {'deck': b'1\n' * 2001, 'panel': b'8'}, [])]
 
 
-def expected():
-    """Returns all that must have been seen."""
-    instructions = [f'{code:02o} {name}' for code, name, *_ in model.INSTRUCTIONS]
-    waits = [f'{name} waits' for name in instructions[0o70:] if name[:2] not in ('71', '73')]
-    cases = [f'block {code} case {case}' for code, cases in (('61', '12'), ('63', '13'), ('71', '14689'), ('73', '1579')) for case in cases]
-    readers = ['reader ' + row for row in ('0001 mode 0', '0001 mode 1', '0002', 'column', 'card end', 'status True', 'status False', 'sent')]
-    printers = ['printer ' + row for row in ('0001', '0002', '0003', 'prints 0', 'prints 1', 'prints 2', 'status True', 'status False', 'sent')]
-    errors = [f'ERR {number:02o}' for number in model.ERRORS]
-    faults = ['BAD ARGUMENTS', 'BAD CHANNEL', 'SAME CHANNEL', 'DECK TOO LONG', 'READ FAILED', 'WRITE FAILED', 'LINE LIMIT',
-              *(f'CANNOT OPEN {name}' for name in ('DECK', 'PANEL', 'SCRIPT')), 'DECK LINE k TOO MANY WORDS', 'PANEL PANEL COUNT',
-              *(f'{name} {fault}' for name in ('DECK', 'PANEL') for fault in (
-                  'FILE TOO LONG', 'LINE k TOO LONG', 'LINE k NOT OCTAL', 'LINE k TOO LARGE'))]
-    statuses = [f'status {status}' for status in range(4)]
-    return [*instructions, *waits, *cases, *readers, *printers, 'dead start', 'dead start in a block', *model.FORMS, *errors, *faults, *statuses]
+EXPECTED = [
+    *(name for name, _ in model.INSTRUCTIONS.values()), *model.FORMS, 'dead start', 'dead start in a block',
+    *(f'{name} waits' for name in ('70 IAN', '72 OAN', '74 ACN', '75 DCN', '76 FAN', '77 FNC')),
+    *(f'block {code} case {case}' for code, cases in (('61', '12'), ('63', '13'), ('71', '14689'), ('73', '1579')) for case in cases),
+    *(f'reader {row}' for row in ('0001 mode 0', '0001 mode 1', '0002', 'column', 'card end', 'status True', 'status False', 'sent')),
+    *(f'printer {row}' for row in ('0001', '0002', '0003', 'prints 0', 'prints 2', 'status True', 'status False', 'sent')),
+    *(f'ERR {number:02o}' for number in range(1, 0o17)), *(f'status {status}' for status in range(4)),
+    'BAD ARGUMENTS', 'BAD CHANNEL', 'SAME CHANNEL', 'DECK TOO LONG', 'CANNOT OPEN DECK', 'CANNOT OPEN PANEL', 'CANNOT OPEN SCRIPT',
+    *(f'{name} {fault}' for name in ('DECK', 'PANEL') for fault in (
+        'FILE TOO LONG', 'LINE k TOO LONG', 'LINE k NOT OCTAL', 'LINE k TOO LARGE')),
+    'DECK LINE k TOO MANY WORDS', 'PANEL PANEL COUNT', 'READ FAILED', 'WRITE FAILED', 'LINE LIMIT']
 
 
 class RandomSessions(unittest.TestCase):
     def setUp(self):
+        self.program = program()
         folder = tempfile.TemporaryDirectory(prefix='pp6600-')
         self.addCleanup(folder.cleanup)
         self.addCleanup(os.chdir, os.getcwd())
-        self.program = program()
         os.chdir(folder.name)
 
-    def outcomes(self, case):
-        """Returns what the program and the model make of a case: exit status, standard error, standard output."""
-        for name, data in [*case.files.items(), ('script', case.script())]:
+    def outcomes(self, session):
+        """Returns the exit status, the text on standard error and that on standard output, of the program and of the model."""
+        for name, data in session.all_files().items():
             with open(name, 'wb') as file:
                 file.write(data)
-        outcomes = []
-        for run in self.run_program, self.run_model:
-            standard_input = os.open(case.standard_input, os.O_RDONLY)
-            outcomes.append(run(case, standard_input))
-            os.close(standard_input)
-        return outcomes
-
-    def run_program(self, case, standard_input):
-        with open('/dev/full', 'wb') as full:
-            run = subprocess.run([self.program, *case.words], stdin=standard_input, stderr=subprocess.PIPE, check=False,
-                                 stdout=full if case.output_fails else subprocess.PIPE)
-        return run.returncode, run.stderr.decode(), (run.stdout or b'').decode()
-
-    def run_model(self, case, standard_input):
+        standard_input = os.open(session.standard_input, os.O_RDONLY)
+        output = os.open('/dev/full', os.O_WRONLY) if session.output_fails else subprocess.PIPE
+        run = subprocess.run([self.program, *session.words], stdin=standard_input, stdout=output, stderr=subprocess.PIPE, check=False)
+        os.close(standard_input)
         answers = []
 
         def write(text):
-            if case.output_fails and text:
+            if session.output_fails and text:
                 raise OSError
             answers.append(text)
-        status, fault = model.run(case.words, standard_input, write)
-        return status, fault, ''.join(answers)
+        status, fault = model.run(session.words, session.standard_input, write)
+        return (run.returncode, run.stderr.decode(), (run.stdout or b'').decode()), (status, fault, ''.join(answers))
 
-    def differs(self, case):
-        of_program, of_model = self.outcomes(case)
+    def differs(self, session):
+        of_program, of_model = self.outcomes(session)
         return of_program != of_model
 
-    def fail_with(self, name, case):
-        case = shrunk(case, self.differs)
-        of_program, of_model = ([f'status {status}', *fault.splitlines(), *answers.splitlines()]
-                                for status, fault, answers in self.outcomes(case))
-        of_program.append('(end)')
-        of_model.append('(end)')
-        at = next(i for i, pair in enumerate(zip(of_program, of_model)) if pair[0] != pair[1])
-        self.fail(f'{name}\n{case.commands()}\nprogram: {of_program[at]}\nmodel:   {of_model[at]}')
+    def fail_with(self, name, session):
+        session = shrunk(session, self.differs)
+        of_program, of_model = (
+            [f'status {status}', *fault.splitlines(), *answers.splitlines(), 'no further line']
+            for status, fault, answers in self.outcomes(session))
+        first = next(pair for pair in zip(of_program, of_model) if pair[0] != pair[1])
+        self.fail(f'{name}\n{session.commands()}\nprogram: {first[0]}\nmodel:   {first[1]}')
 
     def test_sessions(self):
-        setting = os.environ.get('PP6600_RANDOM', DEFAULT)
+        setting = os.environ.get('PP6600_RANDOM') or DEFAULT
         seed, count = map(int, setting.split(':'))
-        cases = [(f'limit {i}', case) for i, case in enumerate(limits())] if setting == DEFAULT else []
-        model.seen.clear()
-        for name, case in [*cases, *((f'seed {i}', None) for i in range(seed, seed + count))]:
-            case = case or Session(int(name.split()[1])).case()
-            of_program, of_model = self.outcomes(case)
-            if of_program != of_model:
-                self.fail_with(name, case)
-            status, fault, answers = of_model
-            model.seen[f'status {status}'] += 1
-            model.seen[' '.join('k' if word.isdigit() else word for word in fault.split()[1:])] += 1
+        model.seen = seen = collections.Counter()
+        sessions = ((f'PP6600_RANDOM={i}:1', Maker(i).session()) for i in range(seed, seed + count))
+        reaching = [(f'limit {i}', session) for i, session in enumerate(limits())] if setting == DEFAULT else []
+        for name, session in itertools.chain(sessions, reaching):
+            of_program, (status, fault, answers) = self.outcomes(session)
+            if of_program != (status, fault, answers):
+                self.fail_with(name, session)
+            seen[f'status {status}'] += 1
+            seen[' '.join('k' if word.isdigit() else word for word in fault.split()[1:])] += 1
         if {'-v', '--verbose'} & set(sys.argv):
-            for name in sorted(model.seen):
-                print(f'{model.seen[name]:10} {name}')
+            print(*(f'{number:9} {name}' for name, number in sorted(seen.items())), sep='\n')
         if setting == DEFAULT:
-            self.assertEqual([name for name in expected() if not model.seen[name]], [])
+            self.assertEqual([name for name in EXPECTED if not seen[name]], [])
 
 
 if __name__ == '__main__':
