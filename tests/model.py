@@ -1,8 +1,8 @@
 """A second opinion: the machine, the console and the program once more, in plain Python.
 
-Written from docs/MACHINE.md and docs/CONSOLE.md alone, in their terms. tests/test_random.py compares it with the program.
-A machine is a map from places to numbers. A place is a tuple of a kind and its numbers, as they are typed on the console
-where they can be: ('M', n, a), ('A', n), ('C', a), ('H', c), and ('H', 0o14) for the clock.
+Written from docs/MACHINE.md and docs/CONSOLE.md alone, in their terms. tests/test_random.py compares it with the
+program. A machine is a map from places to numbers. A place is a tuple of a kind and its numbers, as they are typed on
+the console if they can be: ('M', n, a), ('A', n), ('C', a), ('H', c), and ('H', 0o14) for the clock.
 """
 import collections
 import re
@@ -11,16 +11,14 @@ SLOT, CLOCK, WATCHES = ('slot',), ('H', 0o14), ('watches',)
 CARD, CARD_COLUMN, READER_MODE = ('card',), ('card column',), ('reader mode',)
 PAPER_LENGTH, PAPER_COLUMN, PRINTER_MODE = ('paper length',), ('paper column',), ('printer mode',)
 INACTIVE, EMPTY, FULL, FUNCTION, IS_CLOCK, NO_CHANNEL = range(6)
-IDLE, READING, STATUS, SENT = range(4)
-PRINTING = READING
+IDLE, READING, PRINTING, STATUS, SENT = range(5)
+MODES = ('IDLE', 'READING', 'PRINTING', 'STATUS', 'SENT')
 COLUMNS, PAPER_WIDTH, PAPER, LINE_END = 80, 136, 65536, 0o100
 SYMBOLS = ':ABCDEFGHIJKLMNOPQRSTUVWXYZ0123456789+-*/()$= ,.#[]%"_!&\'?<>@\\^;'
 TWO_WORDS = {0o01, 0o02, *range(0o20, 0o24), *range(0o50, 0o60), 0o61, 0o63, *range(0o64, 0o70), 0o71, 0o73, 0o77}
 # How often each instruction, case, row of a device, form of a line, error and exit status has occurred.
 seen = collections.Counter()
 
-
-# Instructions
 
 def add(a, b):
     return a + b if a + b < 0o777777 else a + b - 0o777777
@@ -43,7 +41,7 @@ class Step:
     def __init__(self, machine, n):
         self.machine, self.n = machine, n
         self.A, self.P, self.Q, self.PHASE = ('A', n), ('P', n), ('Q', n), ('phase', n)
-        self.a, self.p, self.q, self.phase = (machine[place] for place in (self.A, self.P, self.Q, self.PHASE))
+        self.a, self.p, self.q, self.phase = machine[self.A], machine[self.P], machine[self.Q], machine[self.PHASE]
         # In a block transfer the phase is the instruction word.
         self.code, self.d = divmod(self.phase or self.cell(self.p), 0o100)
         self.m = self.cell(self.p + 1)
@@ -99,13 +97,9 @@ def jump_if_channel(*states):
     return lambda s: {s.P: s.m} if s.state in states else {}
 
 
-def in_states(states, new_state, write=lambda s: {}):
+def in_states(states, new, write=lambda s: {}):
     """Completes in these states, and then the channel gets the new one; the clock keeps its own."""
-    def effect(s):
-        if s.state in states:
-            return {**write(s), **({} if s.state == IS_CLOCK else {s.STATE: new_state})}
-        return None
-    return effect
+    return lambda s: {**write(s), **({s.STATE: new} if s.d < 0o14 else {})} if s.state in states else None
 
 
 def exchange(s):
@@ -176,8 +170,9 @@ def processor(machine):
         s.find_operand()
         what, effect = INSTRUCTIONS[s.code]
         writes = effect(s)
-        what += ' waits' if writes is None else ''
-        writes = {} if writes is None else {s.P: s.p + (2 if s.code in TWO_WORDS else 1), **writes}
+        if writes is None:
+            return f'{what} waits', {}
+        writes = {s.P: s.p + (2 if s.code in TWO_WORDS else 1), **writes}
     return what, {place: number & 0o7777 if place[0] in ('M', 'P', 'H') else number for place, number in writes.items()}
 
 
@@ -208,7 +203,8 @@ def block_move(s):
 
 def reader(machine):
     STATE, REGISTER = ('state', machine.reader), ('H', machine.reader)
-    card, column, mode, left = machine[CARD], machine[CARD_COLUMN], machine[READER_MODE], len(machine.deck) - machine[CARD]
+    card, column, mode = machine[CARD], machine[CARD_COLUMN], machine[READER_MODE]
+    left = len(machine.deck) - card
     function = machine[REGISTER] if machine[STATE] == FUNCTION else None
     if function == 1:
         begun = 1 if column > 0 else 0
@@ -219,7 +215,8 @@ def reader(machine):
     if machine[STATE] != EMPTY or mode == IDLE:
         return 'reader nothing', {}
     if mode == READING and column < COLUMNS:
-        return 'reader column', {REGISTER: (machine.deck[card] + [0] * COLUMNS)[column], STATE: FULL, CARD_COLUMN: column + 1}
+        columns = machine.deck[card] + [0] * COLUMNS
+        return 'reader column', {REGISTER: columns[column], STATE: FULL, CARD_COLUMN: column + 1}
     if mode == READING:
         return 'reader card end', {STATE: INACTIVE, CARD: card + 1, CARD_COLUMN: 0, READER_MODE: IDLE}
     if mode == STATUS:
@@ -304,6 +301,8 @@ class Machine(dict):
 ERRORS = (
     '', 'NOT A COMMAND', 'WORDS', 'NUMBER', 'RANGE', 'LINE TOO LONG', 'NOT ASCII', 'TOO FEW KEPT', 'NO CHANGE KEPT',
     'WATCHES FULL', 'ALREADY WATCHED', 'NOT WATCHED', 'NO PANEL', 'NOTHING WATCHED', 'TOO FEW AHEAD')
+words_of = re.compile('[^ \t]+').findall
+is_octal = re.compile('[0-7]+').fullmatch
 
 
 class Rejected(Exception):
@@ -313,14 +312,6 @@ class Rejected(Exception):
 def reject_if(condition, *reason):
     if condition:
         raise Rejected(*reason)
-
-
-def words_of(line):
-    return re.findall('[^ \t]+', line)
-
-
-def is_octal(word):
-    return re.fullmatch('[0-7]+', word) is not None
 
 
 def place_text(kind, *numbers):
@@ -458,12 +449,12 @@ class Console:
         return [f'XP {i:02o} {self.machine["frame", i]:020o}' for i in range(16)]
 
     def dump_reader(self, kind):
-        machine, mode = self.machine, ('IDLE', 'READING', 'STATUS', 'SENT')[self.machine[READER_MODE]]
+        machine, mode = self.machine, MODES[self.machine[READER_MODE]]
         return [f'CR H {machine.reader:02o} CARD {machine[CARD]:04o} OF {len(machine.deck):04o} '
                 f'COLUMN {machine[CARD_COLUMN]:03o} MODE {mode}']
 
     def dump_printer(self, kind):
-        machine, mode = self.machine, ('IDLE', 'PRINTING', 'STATUS', 'SENT')[self.machine[PRINTER_MODE]]
+        machine, mode = self.machine, MODES[self.machine[PRINTER_MODE]]
         paper = ''.join((SYMBOLS + '\n')[machine['paper', i]] for i in range(machine[PAPER_LENGTH]))
         *printed, rest = paper.split('\n')
         return [f'LP H {machine.printer:02o} SYMBOLS {len(paper):06o} COLUMN {machine[PAPER_COLUMN]:03o} MODE {mode}',

@@ -78,13 +78,15 @@ def shrunk(session, differs):
 
 # Random sessions
 
-# Parts of programs: r is the reader's channel, p the printer's, c any; k is a small number, m an address.
+# Parts of programs: r is the reader's channel, p the printer's, c any; k is a small number, m an address, z the central size.
 PARTS = (
     '77rr 1 74rr 71rr m 75rr', '77rr 1 74rr 2000 124 71rr m', '77rr 2 74rr 70rr', '70rr 77rr 1 74rr 70rr 70rr 75rr 77rr 1 74rr',
-    '77pp 1 74pp 73pp m 75pp 77pp 3', '77pp 1 74pp 2000 105 73pp m', '77pp 2 74pp 70pp', '77pp 1 74pp 72pp 72pp 75pp 77pp 3 77pp 2',
-    '14kk 74cc 73cc m 75cc', '14kk 71cc m', '74cc 72cc 70cc 75cc', '76cc 75cc 77cc m', '71cc m', '73cc m', '7114 m', '14kk 7314 m',
-    '64cc m 65cc m 66cc m 67cc m', '6414 m 6514 m 6614 m 6714 m 7014 7514', '14kk 34kk 61kk m 63kk m', '14kk 3400 6100 m', '60kk 62kk',
-    '2600 2700', '0100 m', '0200 m', '14kk 10kk', '15kk 10kk 16kk 17kk', '2077 m 0777', '0377', '3600 0500 3700', '5000 m 5400 m')
+    '77rr 1 74rr 75rr 77rr 1 74rr 70rr', '77pp 1 74pp 73pp m 75pp 77pp 3', '77pp 1 74pp 2000 105 73pp m', '77pp 2 74pp 70pp',
+    '77pp 1 74pp 72pp 72pp 75pp 77pp 3 77pp 2', '14kk 74cc 73cc m 75cc', '14kk 71cc m', '74cc 72cc 70cc 75cc', '76cc 75cc 77cc m',
+    '71cc m', '73cc m', '7114 m', '14kk 7314 m', '64cc m 65cc m 66cc m 67cc m', '6414 m 6514 m 6614 m 6714 m 7014 7514',
+    '14kk 34kk 61kk m 63kk m', '14kk 3400 6100 m', '60kk 62kk', '20zz 0 62kk 60kk', '14kk 34kk 2077 7776 61kk m 63kk m', '2600 2700',
+    '2077 m 2600', '0100 m', '0200 m', '14kk 10kk', '15kk 10kk 16kk 17kk', '2077 m 0777', '2040 0 0603 0702', '2077 7777 0403 0502',
+    '0377', '3600 0500 3700', '5000 m 5400 m')
 JUNK = ('8', '9', 'X', 'W', 'M', 'Z', 'PP', '-1', '+1', '1.', '0x1', '7777', '10000', '777777', '1000000', '1000001', '12', '14',
         '15', '400000', '7' * 20, '1' + '0' * 20, '7' * 40, '0' * 30 + '1', '*', 'STEP', 'I', 'E', 'F', '')
 # Words of which the program mostly refuses some.
@@ -107,6 +109,7 @@ class Maker:
         self.base = self.choice((0, 0o20, 0o100, 0o100, 0o7760))
         self.processors = self.random.sample(range(10), self.choice((1, 2, 3, 10)))
         self.channels = [self.below(12), self.below(12)]
+        self.parts = self.random.sample(PARTS, self.choice((1, 3, 3, len(PARTS))))
 
     def chance(self, percent):
         return self.below(100) < percent
@@ -130,7 +133,7 @@ class Maker:
     def number(self):
         """Returns a number that is likely to matter: small, near the programs, near the end of a range, or any."""
         near = self.base + self.below(40)
-        end = self.choice((0o7777, self.central, 0o377777, 0o777777)) - self.below(6)
+        end = self.choice((0o10000, self.central, 0o400000, 0o1000000)) - self.below(3)
         return self.choice((self.below(4), self.below(0o20), near, near, end, self.below(2 ** self.choice((12, 18, 60)))))
 
     def channel(self):
@@ -138,20 +141,17 @@ class Maker:
 
     def instruction(self):
         """Returns the words of an instruction."""
-        code, d = self.below(64), self.below(64)
-        if 0o03 <= code <= 0o07:
-            d = self.choice((0, 1, 2, 3, 0o70, 0o74, 0o75, 0o76, 0o77, d))
-        elif code >= 0o64:
+        code = self.below(64)
+        d = self.choice((0, 1, 2, 3, 0o37, 0o40, 0o74, 0o75, 0o76, 0o77, self.below(64), self.below(64), self.below(8)))
+        if code >= 0o64:
             d = self.channel()
-        elif code >= 0o30:
-            d = self.choice((d, d % 8))
         return [code << 6 | d] + [self.number() % 0o10000] * (code in model.TWO_WORDS)
 
     def part(self):
         """Returns the words of a part of a program."""
         kk, cc = self.choice((0, 1, 2, 7, 0o37, 0o50, 0o77, self.below(64))), self.channel()
-        numbers = {'kk': kk, 'cc': cc, 'rr': self.channels[-2], 'pp': self.channels[-1]}
-        text = self.choice(PARTS)
+        numbers = {'kk': kk, 'cc': cc, 'rr': self.channels[-2], 'pp': self.channels[-1], 'zz': self.central >> 12}
+        text = self.choice(self.parts)
         for letters, number in numbers.items():
             text = text.replace(letters, f'{number:02o}')
         return [self.number() % 0o10000 if word == 'm' else int(word, 8) for word in text.split()]
@@ -159,7 +159,7 @@ class Maker:
     def operand(self, kind):
         if kind == 'S':
             return self.choice('IEF')
-        least, greatest = model.Console(model.Machine(central=self.central)).ranges[kind]
+        least, greatest = self.ranges[kind]
         number = self.below(40) if kind == 'count' else self.number()
         if kind == 'n' and self.chance(80):
             number = self.choice(self.processors)
@@ -203,7 +203,7 @@ class Maker:
 
     def add_spoilt(self):
         """Adds a line that is unusual, and mostly rejected."""
-        words = self.form()
+        words = self.form(self.choice(('', '', 'SET', 'SET H')))
         at = self.below(len(words) + 1)
         words[at:at + self.below(2)] = [self.choice(JUNK)] if self.chance(80) else []
         if words[:1] in (['STEP'], ['DUMP']) and any(len(word.lstrip('0')) in (5, 6, 7) for word in words):
@@ -235,11 +235,11 @@ class Maker:
         watches = [line for line in self.lines if line.startswith(b'WATCH')]
         what = self.below(100)
         if what < 45:
-            turns = self.choice((1, 1, self.below(20) + 1, self.below(400) + 1))
+            turns = 1 + self.below(self.choice((1, 1, 20, 20, 60, 300, 700)))
             self.actions += turns
             self.add('STEP', turns)
         elif what < 55:
-            count = self.below(self.choice((3, 20, self.actions + 2)))
+            count = self.choice((self.below(3), self.below(20), self.below(self.actions + 2), self.history - self.below(2)))
             self.add('BACK', count + 1)
             for _ in range(self.below(3)):
                 self.add('FORWARD', self.below(count + 2) + 1)
@@ -267,7 +267,9 @@ class Maker:
         self.random.shuffle(chosen)
         self.words = [word for words in chosen for word in words]
         given = dict(zip(self.words, self.words[1:]))
+        self.history = int(given.get('--history', 10000))
         self.central = int(given.get('--central', 128)) * 1024
+        self.ranges = model.Console(model.Machine(central=self.central)).ranges
         self.channels += [int(given.get('--reader', '12'), 8), int(given.get('--printer', '13'), 8)]
 
     def deck(self):
