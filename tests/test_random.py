@@ -1,15 +1,14 @@
-"""The program against a second opinion: random sessions are run by the program and by tests/model.py and compared byte for byte.
+"""The program against a second opinion: random sessions are run by the program and by tests/model.py, and all that is
+written is compared byte for byte.
 
-    PP6600_RANDOM=SEED:COUNT   runs COUNT sessions from seed SEED on; SEED:1 repeats one. Without it: 0:2000, and the limits
+    PP6600_RANDOM=SEED:COUNT   runs COUNT sessions from seed SEED on; SEED:1 repeats one. The default is 0:2000
     PP6600_PROGRAM=PATH        the program under test
 
-The first difference ends the run. Its session is made small and printed as commands for the shell. With -v the run ends with
-how often each instruction, case, form of a line, error and fault has occurred. Without PP6600_RANDOM each must occur. Not
-tried here: the limit of a script in bytes, want of memory, and files that fail after some bytes.
+The first difference ends the run. Its session is made small and printed as commands for the shell. With -v each test ends
+with how often each instruction, case, form of a line, error and fault has occurred; by default each must occur. Not tried
+here: the limit of a script in bytes, no memory, and a read that fails after some bytes.
 """
-import collections
 import dataclasses
-import itertools
 import os
 import random
 import shlex
@@ -21,7 +20,6 @@ import unittest
 from tests import model
 
 TOP = os.path.dirname(os.path.dirname(os.path.abspath(__file__)))
-DEFAULT = '0:2000'
 
 
 def program():
@@ -32,7 +30,7 @@ def program():
 
 @dataclasses.dataclass
 class Session:
-    """The words after the program's name, the files by name, and the lines of the script, which is the standard input too."""
+    """The words after the program's name, the files, and the lines of the script, which is standard input too."""
     words: list
     files: dict
     lines: list
@@ -49,8 +47,8 @@ class Session:
             if name in self.words + ['script']:
                 lines = [f"    '{quoted(line)}' \\\n" for line in data.splitlines(keepends=True)]
                 commands.append(f"printf '%b' \\\n{''.join(lines)}    >{name}")
-        output = ' >/dev/full' if self.output_fails else ''
-        return '\n'.join([*commands, f'pp6600 {shlex.join(self.words)} <{self.standard_input}{output}'])
+        words = shlex.join(['pp6600', *self.words])
+        return '\n'.join([*commands, f'{words} <{self.standard_input}' + ' >/dev/full' * self.output_fails])
 
 
 def quoted(data):
@@ -78,23 +76,29 @@ def shrunk(session, differs):
 
 # Random sessions
 
-# Parts of programs: r is the reader's channel, p the printer's, c any; k is a small number, m an address, z the central size.
+# Parts of programs: r is the reader's channel, p the printer's, c any; k is a small number, m an address, z the
+# upper digits of the central size.
 PARTS = (
-    '77rr 1 74rr 71rr m 75rr', '77rr 1 74rr 2000 124 71rr m', '77rr 2 74rr 70rr', '70rr 77rr 1 74rr 70rr 70rr 75rr 77rr 1 74rr',
-    '77rr 1 74rr 75rr 77rr 1 74rr 70rr', '77pp 1 74pp 73pp m 75pp 77pp 3', '77pp 1 74pp 2000 105 73pp m', '77pp 2 74pp 70pp',
-    '77pp 1 74pp 72pp 72pp 75pp 77pp 3 77pp 2', '14kk 74cc 73cc m 75cc', '14kk 71cc m', '74cc 72cc 70cc 75cc', '76cc 75cc 77cc m',
-    '71cc m', '73cc m', '7114 m', '14kk 7314 m', '64cc m 65cc m 66cc m 67cc m', '6414 m 6514 m 6614 m 6714 m 7014 7514',
-    '14kk 34kk 61kk m 63kk m', '14kk 3400 6100 m', '60kk 62kk', '20zz 0 62kk 60kk', '14kk 34kk 2077 7776 61kk m 63kk m', '2600 2700',
-    '2077 m 2600', '0100 m', '0200 m', '14kk 10kk', '15kk 10kk 16kk 17kk', '2077 m 0777', '2040 0 0603 0702', '2077 7777 0403 0502',
-    '0377', '3600 0500 3700', '5000 m 5400 m')
-JUNK = ('8', '9', 'X', 'W', 'M', 'Z', 'PP', '-1', '+1', '1.', '0x1', '7777', '10000', '777777', '1000000', '1000001', '12', '14',
-        '15', '400000', '7' * 20, '1' + '0' * 20, '7' * 40, '0' * 30 + '1', '*', 'STEP', 'I', 'E', 'F', '')
+    '77rr 1 74rr 71rr m 75rr', '77rr 1 74rr 2000 124 71rr m', '77rr 2 74rr 70rr',
+    '70rr 77rr 1 74rr 70rr 70rr 75rr 77rr 1 74rr', '77rr 1 74rr 75rr 77rr 1 74rr 70rr',
+    '77pp 1 74pp 73pp m 75pp 77pp 3', '77pp 1 74pp 2000 105 73pp m', '77pp 2 74pp 70pp',
+    '77pp 1 74pp 72pp 72pp 75pp 77pp 3 77pp 2', '14kk 74cc 73cc m 75cc', '14kk 71cc m', '74cc 72cc 70cc 75cc',
+    '76cc 75cc 77cc m', '71cc m', '73cc m', '7114 m', '14kk 7314 m', '64cc m 65cc m 66cc m 67cc m',
+    '6414 m 6514 m 6614 m 6714 m 7014 7514', '14kk 34kk 61kk m 63kk m', '14kk 3400 6100 m', '60kk 62kk',
+    '20zz 0 62kk 60kk', '14kk 34kk 2077 7776 61kk m 63kk m', '2600 2700', '2077 m 2600', '0100 m', '0200 m',
+    '14kk 10kk', '15kk 10kk 16kk 17kk', '2077 m 0777', '2040 0 0603 0702', '2077 7777 0403 0502', '0377',
+    '3600 0500 3700', '5000 m 5400 m')
+JUNK = (
+    '8', '9', 'X', 'W', 'M', 'Z', 'PP', '-1', '+1', '1.', '0x1', '7777', '10000', '777777', '1000000', '1000001', '12',
+    '14', '15', '400000', '7' * 20, '1' + '0' * 20, '7' * 40, '0' * 30 + '1', '*', 'STEP', 'I', 'E', 'F', '')
 # Words of which the program mostly refuses some.
 WORDS = (
     *(['--history', number] for number in ('0', '10001', '-1', '+1', '1.5', 'x', '', '9' * 20, '0001', '10000')),
     *(['--central', number] for number in ('0', '16', '63', '128K', '0x20', '032', '')),
-    *([option, number] for option in ('--reader', '--printer') for number in ('14', '8', '-1', '', '12', '13', '012', 'x', '7' * 12)),
-    *([option, path] for option in ('--deck', '--panel') for path in ('absent', '.', '/dev/null', 'script', 'deck', 'panel', '', '-')),
+    *(['--reader', number] for number in ('14', '8', '-1', '', '12', '13', '012', 'x', '7' * 12)),
+    *(['--printer', number] for number in ('14', '8', '-1', '', '12', '13', '012', 'x', '7' * 12)),
+    *(['--deck', path] for path in ('absent', '.', '/dev/null', 'script', 'deck', 'panel', '', '-')),
+    *(['--panel', path] for path in ('absent', '.', '/dev/null', 'script', 'deck', 'panel', '', '-')),
     ['absent'], ['.'], ['script'], ['script'], ['-'], ['--tape', 'deck'], ['-d'], ['--deck'], ['--help'], ['-h'],
     ['--history=7'], ['--central=32'], ['--reader=13'], ['--deck=deck'])
 
@@ -211,9 +215,10 @@ class Maker:
         line = self.choice((' ', '\t', '  ')).join(words).encode()
         line = self.choice((line, line.lower(), b' ' + line + b'\t', line + b'\r', b'* ' + line, line))
         if self.chance(25):
-            line = line.ljust(self.choice((254, 255, 256, 257, 1000)), self.choice((b' ', b'0', b'*'))) + b'\r' * self.below(2)
+            line = line.ljust(self.choice((254, 255, 256, 257, 1000)), self.choice((b' ', b'0', b'*')))
+            line += b'\r' * self.below(2)
         if self.chance(20):
-            byte = self.choice((b'\r', b'\r\r', b'\0', b'\x7f', b'\x80', b'\xc3\xaf', b'\x1b', b'\x0b', b'\x0c', b'~', b'*'))
+            byte = self.choice((b'\r', b'\r\r', b'\0', b'\x1f', b'\x7f', b'\x80', b'\xc3\xaf', b'\x0b', b'\x0c', b'~', b'*'))
             at = self.choice((0, len(line), self.below(len(line) + 1)))
             line = line[:at] + byte + line[at:]
         self.lines.append(line)
@@ -221,10 +226,11 @@ class Maker:
     def add_dumps(self):
         """Adds dumps of the machine; of all cells now and then."""
         whole = self.chance(2)
+        ranges = [(0, 0o27), (self.base, min(self.base + 0o47, 0o7777)), (0o7770, 0o7777)]
         for n in range(10):
             self.add('DUMP PP', n)
             if whole or n in self.processors:
-                for a, b in [(0, 0o7777)] if whole else [(0, 0o27), (self.base, min(self.base + 0o47, 0o7777)), (0o7770, 0o7777)]:
+                for a, b in [(0, 0o7777)] if whole else ranges:
                     self.add('DUMP M', n, a, b)
         for a in 0, self.base, self.central - 8:
             self.add('DUMP C', a, a + 7)
@@ -239,7 +245,7 @@ class Maker:
             self.actions += turns
             self.add('STEP', turns)
         elif what < 55:
-            count = self.choice((self.below(3), self.below(20), self.below(self.actions + 2), self.history - self.below(2)))
+            count = self.choice((self.below(3), self.below(20), self.below(self.actions + 2), self.history - 1, self.history))
             self.add('BACK', count + 1)
             for _ in range(self.below(3)):
                 self.add('FORWARD', self.below(count + 2) + 1)
@@ -291,7 +297,8 @@ class Maker:
         text = self.choice(('\n', '\r\n', ' \n')).join(rows) + self.choice(('\n', '\r', ''))
         while self.chance(6):
             at = self.choice((0, len(text), self.below(len(text) + 1)))
-            fault = self.choice(('8', ' 10000 ', ' 77777777 ', '\f', '\r', '\xe9', ' 0' * 81, '*', ' ' * 1024, '\n0\n', ' 1 '))
+            faults = '8', ' 10000 ', ' 77777777 ', '\f', '\r', '\xe9', ' 0' * 81, '*', ' ' * 1024, '\n0\n', ' 1 '
+            fault = self.choice(faults)
             text = text[:at] + fault + text[at:]
         return text.encode('latin-1')
 
@@ -310,14 +317,15 @@ def limits():
     hit = [b'WATCH H 14', b'STEP 1000000', b'BACK 1000000', b'FORWARD 1000000', b'STEP 1000001']
     note, panel = b'*' * 1023 + b'\n', b'1 2 3 4 5 6 7 10 11 12 13 14'
     files = [
-        (b'1\n' * 2000, panel), (b'1\n' * 2001, panel), (b'1\n' * 2001 + b'8', b''), (b'1\n' * 2001, b''), (b'0 ' * 600, b''),
-        (note * 1024, note * 1023 + panel), (note * 1024 + b'0', panel), (note * 1023 + note[:-1] + b'80', panel), (b'1', note * 1024 + b'1'),
-        (note * 1023 + b'8\n' + note, panel), (b'1', panel + b' 15\n8'), (b'1', panel[:-3] + b'\n8'), (b'1', panel + b'\n15 8')]
+        (b'1\n' * 2000, panel), (b'1\n' * 2001, panel), (b'1\n' * 2001 + b'8', b''), (b'1\n' * 2001, b''),
+        (b'0 ' * 600, b''), (note * 1024, note * 1023 + panel), (note * 1024 + b'0', panel), (b'1', note * 1024 + b'1'),
+        (note * 1023 + note[:-1] + b'80', panel), (note * 1023 + b'8\n' + note, panel), (b'1', panel + b' 15\n8'),
+        (b'1', panel[:-3] + b'\n8'), (b'1', panel + b'\n15 8')]
     lines = [[b'DUMP CR', *[b''] * (1000000 - 2), b'DUMP W', *more] for more in ([b''], [b'*'])]
     return [
         *(Session([], {}, lines) for lines in (paper, turns, change, hit, *lines)),
-        *(Session(['--deck', 'deck', '--panel', 'panel'], {'deck': deck, 'panel': panel}, [b'DUMP CR', b'DEADSTART', b'DUMP M 0 0 15'])
-          for deck, panel in files),
+        *(Session(['--deck', 'deck', '--panel', 'panel'], {'deck': deck, 'panel': panel},
+                  [b'DUMP CR', b'DEADSTART', b'DUMP M 0 0 15']) for deck, panel in files),
         Session(['--reader', '13', '--deck', 'deck'], {'deck': b'1\n' * 2001}, []),
         Session(['--reader', '13', '--deck', 'deck', '--panel', 'panel'], {'deck': b'1\n' * 2001, 'panel': b'8'}, [])]
 
@@ -325,14 +333,16 @@ def limits():
 EXPECTED = [
     *(name for name, _ in model.INSTRUCTIONS.values()), *model.FORMS, 'dead start', 'dead start in a block',
     *(f'{name} waits' for name in ('70 IAN', '72 OAN', '74 ACN', '75 DCN', '76 FAN', '77 FNC')),
-    *(f'block {code} case {case}' for code, cases in (('61', '12'), ('63', '13'), ('71', '14689'), ('73', '1579')) for case in cases),
-    *(f'reader {row}' for row in ('0001 mode 0', '0001 mode 1', '0002', 'column', 'card end', 'status True', 'status False', 'sent')),
-    *(f'printer {row}' for row in ('0001', '0002', '0003', 'prints 0', 'prints 2', 'status True', 'status False', 'sent')),
+    *(f'block 61 case {case}' for case in '12'), *(f'block 63 case {case}' for case in '13'),
+    *(f'block 71 case {case}' for case in '14689'), *(f'block 73 case {case}' for case in '1579'),
+    *(f'reader {row}' for row in ('0001 mode 0', '0001 mode 1', '0002', 'column', 'card end', 'sent')),
+    'reader status True', 'reader status False',
+    *(f'printer {row}' for row in ('0001', '0002', '0003', 'prints 0', 'prints 2', 'status True', 'sent')),
     *(f'ERR {number:02o}' for number in range(1, 0o17)), *(f'status {status}' for status in range(4)),
-    'BAD ARGUMENTS', 'BAD CHANNEL', 'SAME CHANNEL', 'DECK TOO LONG', 'CANNOT OPEN DECK', 'CANNOT OPEN PANEL', 'CANNOT OPEN SCRIPT',
-    *(f'{name} {fault}' for name in ('DECK', 'PANEL') for fault in (
-        'FILE TOO LONG', 'LINE k TOO LONG', 'LINE k NOT OCTAL', 'LINE k TOO LARGE')),
-    'DECK LINE k TOO MANY WORDS', 'PANEL PANEL COUNT', 'READ FAILED', 'WRITE FAILED', 'LINE LIMIT']
+    'BAD ARGUMENTS', 'BAD CHANNEL', 'SAME CHANNEL', 'CANNOT OPEN DECK', 'CANNOT OPEN PANEL', 'CANNOT OPEN SCRIPT',
+    *(f'{name} LINE k {fault}' for name in ('DECK', 'PANEL') for fault in ('TOO LONG', 'NOT OCTAL', 'TOO LARGE')),
+    'DECK LINE k TOO MANY WORDS', 'PANEL PANEL COUNT', 'READ FAILED', 'WRITE FAILED']
+EXPECTED_LIMITS = ['printer status False', 'DECK FILE TOO LONG', 'PANEL FILE TOO LONG', 'DECK TOO LONG', 'LINE LIMIT']
 
 
 class RandomSessions(unittest.TestCase):
@@ -342,16 +352,19 @@ class RandomSessions(unittest.TestCase):
         self.addCleanup(folder.cleanup)
         self.addCleanup(os.chdir, os.getcwd())
         os.chdir(folder.name)
+        model.seen.clear()
 
     def outcomes(self, session):
-        """Returns the exit status, the text on standard error and that on standard output, of the program and of the model."""
+        """Returns of the program and of the model: the exit status, and the texts on standard error and output."""
         for name, data in session.all_files().items():
             with open(name, 'wb') as file:
                 file.write(data)
-        standard_input = os.open(session.standard_input, os.O_RDONLY)
-        output = os.open('/dev/full', os.O_WRONLY) if session.output_fails else subprocess.PIPE
-        run = subprocess.run([self.program, *session.words], stdin=standard_input, stdout=output, stderr=subprocess.PIPE, check=False)
-        os.close(standard_input)
+        with open('/dev/full', 'wb') as full:
+            standard_input = os.open(session.standard_input, os.O_RDONLY)
+            run = subprocess.run(
+                [self.program, *session.words], check=False, stdin=standard_input, stderr=subprocess.PIPE,
+                stdout=full if session.output_fails else subprocess.PIPE)
+            os.close(standard_input)
         answers = []
 
         def write(text):
@@ -365,30 +378,36 @@ class RandomSessions(unittest.TestCase):
         of_program, of_model = self.outcomes(session)
         return of_program != of_model
 
+    def compare(self, name, session):
+        """Runs a session, fails if there is a difference, and counts how it has ended."""
+        of_program, (status, fault, answers) = self.outcomes(session)
+        if of_program != (status, fault, answers):
+            self.fail_with(name, shrunk(session, self.differs))
+        model.seen[f'status {status}'] += 1
+        model.seen[' '.join('k' if word.isdigit() else word for word in fault.split()[1:]) or 'no fault'] += 1
+
     def fail_with(self, name, session):
-        session = shrunk(session, self.differs)
-        of_program, of_model = (
-            [f'status {status}', *fault.splitlines(), *answers.splitlines(), 'no further line']
-            for status, fault, answers in self.outcomes(session))
-        first = next(pair for pair in zip(of_program, of_model) if pair[0] != pair[1])
-        self.fail(f'{name}\n{session.commands()}\nprogram: {first[0]}\nmodel:   {first[1]}')
+        texts = ([f'status {status}', *fault.splitlines(), *answers.splitlines(), 'no further line']
+                 for status, fault, answers in self.outcomes(session))
+        of_program, of_model = next(lines for lines in zip(*texts) if lines[0] != lines[1])
+        self.fail(f'{name}\n{session.commands()}\nprogram: {of_program}\nmodel:   {of_model}')
+
+    def check_seen(self, expected):
+        if {'-v', '--verbose'} & set(sys.argv):
+            print('', *(f'{number:9} {name}' for name, number in sorted(model.seen.items())), sep='\n')
+        self.assertEqual([name for name in expected if not model.seen[name]], [])
 
     def test_sessions(self):
-        setting = os.environ.get('PP6600_RANDOM') or DEFAULT
-        seed, count = map(int, setting.split(':'))
-        model.seen = seen = collections.Counter()
-        sessions = ((f'PP6600_RANDOM={i}:1', Maker(i).session()) for i in range(seed, seed + count))
-        reaching = [(f'limit {i}', session) for i, session in enumerate(limits())] if setting == DEFAULT else []
-        for name, session in itertools.chain(sessions, reaching):
-            of_program, (status, fault, answers) = self.outcomes(session)
-            if of_program != (status, fault, answers):
-                self.fail_with(name, session)
-            seen[f'status {status}'] += 1
-            seen[' '.join('k' if word.isdigit() else word for word in fault.split()[1:])] += 1
-        if {'-v', '--verbose'} & set(sys.argv):
-            print(*(f'{number:9} {name}' for name, number in sorted(seen.items())), sep='\n')
-        if setting == DEFAULT:
-            self.assertEqual([name for name in EXPECTED if not seen[name]], [])
+        seed, count = map(int, os.environ.get('PP6600_RANDOM', '0:2000').split(':'))
+        for number in range(seed, seed + count):
+            self.compare(f'PP6600_RANDOM={number}:1', Maker(number).session())
+        self.check_seen([] if 'PP6600_RANDOM' in os.environ else EXPECTED)
+
+    @unittest.skipIf('PP6600_RANDOM' in os.environ, 'only random sessions are asked for')
+    def test_limits(self):
+        for number, session in enumerate(limits()):
+            self.compare(f'limit {number}', session)
+        self.check_seen(EXPECTED_LIMITS)
 
 
 if __name__ == '__main__':
