@@ -253,13 +253,12 @@ def barrel(machine):
 
 
 def dead_start(machine):
-    within = any(machine['phase', n] for n in range(10))
     writes = {('M', 0, i): number for i, number in enumerate([0, *machine.panel, 0])}
     writes.update({('A', 0): 0, ('P', 0): 1, ('Q', 0): 0, ('phase', 0): 0, SLOT: 0})
     for n in range(1, 10):
         writes.update({('M', n, 0): 0, ('A', n): 0o10000, ('P', n): 0, ('Q', n): 0, ('phase', n): 0o7100 + n})
     writes.update({('state', c): EMPTY if 0o1 <= c <= 0o11 else INACTIVE for c in range(0o14)})
-    return 'dead start in a block' if within else 'dead start', writes
+    return 'dead start' + ' in a block' * any(machine['phase', n] for n in range(10)), writes
 
 
 class Machine(dict):

@@ -4,9 +4,9 @@ written is compared byte for byte.
     PP6600_RANDOM=SEED:COUNT   runs COUNT sessions from seed SEED on; SEED:1 repeats one. The default is 0:2000
     PP6600_PROGRAM=PATH        the program under test
 
-The first difference ends the run. Its session is made small and printed as commands for the shell. With -v each test ends
-with how often each instruction, case, form of a line, error and fault has occurred; by default each must occur. Not tried
-here: the limit of a script in bytes, no memory, and a read that fails after some bytes.
+The first difference ends the run. Its session is made small and printed as commands for the shell. With -v each test
+ends with how often each instruction, case, form of a line, error and fault has occurred; by default each must occur.
+Not tried here: the limit of a script in bytes, no memory, and a read that fails after some bytes.
 """
 import dataclasses
 import os
@@ -138,7 +138,8 @@ class Maker:
         """Returns a number that is likely to matter: small, near the programs, near the end of a range, or any."""
         near = self.base + self.below(40)
         end = self.choice((0o10000, self.central, 0o400000, 0o1000000)) - self.below(3)
-        return self.choice((self.below(4), self.below(0o20), near, near, end, self.below(2 ** self.choice((12, 18, 60)))))
+        any_number = self.below(2 ** self.choice((12, 18, 60)))
+        return self.choice((self.below(4), self.below(0o20), near, near, end, any_number))
 
     def channel(self):
         return self.choice(self.channels * 4 + [self.below(12), 0o14, 0o15, 0o77])
@@ -201,7 +202,7 @@ class Maker:
         kinds, least, _ = model.FORMS[form]
         kinds = kinds.split()
         operands = [self.operand(kind) for kind in kinds[:least + self.below(len(kinds) - least + 1)]]
-        if form in ('DUMP M', 'DUMP C') and (form == 'DUMP C' or self.chance(97)):
+        if form in ('DUMP M', 'DUMP C'):  # few lines, and now and then none
             operands[-1] = f'{max(0, int(operands[-2], 8) + self.below(20) - 1):o}'
         return form.split() + operands
 
@@ -218,9 +219,9 @@ class Maker:
             line = line.ljust(self.choice((254, 255, 256, 257, 1000)), self.choice((b' ', b'0', b'*')))
             line += b'\r' * self.below(2)
         if self.chance(20):
-            byte = self.choice((b'\r', b'\r\r', b'\0', b'\x1f', b'\x7f', b'\x80', b'\xc3\xaf', b'\x0b', b'\x0c', b'~', b'*'))
             at = self.choice((0, len(line), self.below(len(line) + 1)))
-            line = line[:at] + byte + line[at:]
+            odd = b'\r', b'\r\r', b'\0', b'\x1f', b'\x7f', b'\x80', b'\xc3\xaf', b'\x0b', b'\x0c', b'~', b'*'
+            line = line[:at] + self.choice(odd) + line[at:]
         self.lines.append(line)
 
     def add_dumps(self):
@@ -245,7 +246,8 @@ class Maker:
             self.actions += turns
             self.add('STEP', turns)
         elif what < 55:
-            count = self.choice((self.below(3), self.below(20), self.below(self.actions + 2), self.history - 1, self.history))
+            few, kept = self.below(20), self.below(self.actions + 2)
+            count = self.choice((few % 3, few, kept, self.history - 1, self.history))
             self.add('BACK', count + 1)
             for _ in range(self.below(3)):
                 self.add('FORWARD', self.below(count + 2) + 1)
@@ -266,9 +268,10 @@ class Maker:
 
     def choose_options(self):
         reader, printer = self.random.sample(range(12), 2)
-        options = [(35, '--history', self.choice(('1', '2', '3', '10', '0100', '10000'))),
-                   (35, '--central', self.choice(('32', '64', '128'))), (70, '--deck', 'deck'), (60, '--panel', 'panel'),
-                   (35, '--reader', f'{reader:o}', '--printer', f'{printer:o}'), (30, 'script')]
+        options = [
+            (35, '--history', self.choice(('1', '2', '3', '10', '0100', '10000'))),
+            (35, '--central', self.choice(('32', '64', '128'))), (70, '--deck', 'deck'), (60, '--panel', 'panel'),
+            (35, '--reader', f'{reader:o}', '--printer', f'{printer:o}'), (30, 'script')]
         chosen = [words for percent, *words in options if self.chance(percent)]
         self.random.shuffle(chosen)
         self.words = [word for words in chosen for word in words]
@@ -298,8 +301,7 @@ class Maker:
         while self.chance(6):
             at = self.choice((0, len(text), self.below(len(text) + 1)))
             faults = '8', ' 10000 ', ' 77777777 ', '\f', '\r', '\xe9', ' 0' * 81, '*', ' ' * 1024, '\n0\n', ' 1 '
-            fault = self.choice(faults)
-            text = text[:at] + fault + text[at:]
+            text = text[:at] + self.choice(faults) + text[at:]
         return text.encode('latin-1')
 
 
@@ -371,7 +373,10 @@ class RandomSessions(unittest.TestCase):
             if session.output_fails and text:
                 raise OSError
             answers.append(text)
-        status, fault = model.run(session.words, session.standard_input, write)
+        try:
+            status, fault = model.run(session.words, session.standard_input, write)
+        except Exception as error:  # a fault of the model is a difference like any other
+            status, fault = type(error).__name__, str(error)
         return (run.returncode, run.stderr.decode(), (run.stdout or b'').decode()), (status, fault, ''.join(answers))
 
     def differs(self, session):
