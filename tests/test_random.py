@@ -87,7 +87,7 @@ PARTS = (
     '6414 m 6514 m 6614 m 6714 m 7014 7514', '14kk 34kk 61kk m 63kk m', '14kk 3400 6100 m', '60kk 62kk',
     '20zz 0 62kk 60kk', '14kk 34kk 2077 7776 61kk m 63kk m', '2600 2700', '2077 m 2600', '0100 m', '0200 m',
     '14kk 10kk', '15kk 10kk 16kk 17kk', '2077 m 0777', '2040 0 0603 0702', '2077 7777 0403 0502', '0377',
-    '3600 0500 3700', '5000 m 5400 m')
+    '3600 0500 3700', '5000 m 5400 m', '14kk 62kk 60kk')
 JUNK = (
     '8', '9', 'X', 'W', 'M', 'Z', 'PP', '-1', '+1', '1.', '0x1', '7777', '10000', '777777', '1000000', '1000001', '12',
     '14', '15', '400000', '7' * 20, '1' + '0' * 20, '7' * 40, '0' * 30 + '1', '*', 'STEP', 'I', 'E', 'F', '')
@@ -306,7 +306,7 @@ class Maker:
 
 
 def limits():
-    """Returns sessions that reach the limits of the paper, the history, the files and the lines."""
+    """Returns sessions that reach the limits of the paper, the history, the lines, the files and the options."""
     line_ends = [f'SET M {n:o} {a:o} {words}'.encode() for n in range(10) for a, words in (
         (0, '7713 3 7713 3 7713 3 7713 3'), (0o10, '7713 3 7713 3 7713 3 7713 3'), (0o20, '100 0'))]
     elsewhere = [f'SET P {n:o} 1000'.encode() for n in range(10)]
@@ -326,6 +326,7 @@ def limits():
     lines = [[b'DUMP CR', *[b''] * (1000000 - 2), b'DUMP W', *more] for more in ([b''], [b'*'])]
     return [
         *(Session([], {}, lines) for lines in (paper, turns, change, hit, *lines)),
+        *(Session(words, {'deck': b'1', 'panel': panel}, [b'DUMP CR']) for words in WORDS),
         *(Session(['--deck', 'deck', '--panel', 'panel'], {'deck': deck, 'panel': panel},
                   [b'DUMP CR', b'DEADSTART', b'DUMP M 0 0 15']) for deck, panel in files),
         Session(['--reader', '13', '--deck', 'deck'], {'deck': b'1\n' * 2001}, []),
