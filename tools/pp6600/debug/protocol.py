@@ -1,0 +1,105 @@
+"""Messages over standard input and output: JSON, each with its length before it."""
+
+import json
+import os
+import queue
+import sys
+import threading
+
+from ..failure import Failure
+from ..text_files import named
+
+LONGEST_HEADER = 4096  # bytes of a line before a message
+LONGEST_MESSAGE = 1 << 26  # bytes
+
+
+class Refused(Failure):
+    """A request that can't be done; the text says why."""
+
+
+class Wire:
+    """The client at the other end. A thread reads its requests, so that they can be taken between the parts of a run."""
+
+    def __init__(self, log=None):
+        self.seq = 0
+        self.log = opened(log) if log else None
+        self.requests = queue.Queue()
+        self.output = os.fdopen(os.dup(sys.stdout.fileno()), "wb")
+        sys.stdout = sys.stderr  # nothing else may come between the messages
+        threading.Thread(target=self.listen, daemon=True).start()
+
+    def listen(self):
+        """Puts each request into the queue, then None or the failure that ended the input. It does not read on after the last
+        request, for a thread that still reads at the end would abort Python."""
+        try:
+            if sys.stdin is None:
+                raise Failure("standard input is closed or a folder, so no editor can speak")
+            while request := self.read(sys.stdin.buffer):
+                self.requests.put(request)
+                if request["command"] == "disconnect":
+                    return
+            self.requests.put(None)
+        except OSError as error:
+            self.requests.put(Failure(f"can't read {named(None)}: {error.strerror}"))
+        except Failure as failure:
+            self.requests.put(failure)
+
+    def read(self, stream):
+        """Returns the next request, or None at the end of the input."""
+        length = None
+        while line := stream.readline(LONGEST_HEADER):
+            if not line.strip():
+                break
+            name, _, value = line.partition(b":")
+            if name.strip().lower() == b"content-length":
+                length = value.strip()
+        if not line and length is None:
+            return None
+        if length is None or not length.isdigit() or int(length) > LONGEST_MESSAGE:
+            raise Failure("what the editor wrote is no message: it has no Content-Length")
+        data = stream.read(int(length))
+        if len(data) < int(length):
+            raise Failure("what the editor wrote is no message: it ends before its length")
+        return self.parsed(data)
+
+    def parsed(self, data):
+        """Returns a request from its text."""
+        try:
+            message = json.loads(data)
+        except (ValueError, RecursionError) as error:
+            raise Failure("what the editor wrote is no message: it is not JSON") from error
+        if not isinstance(message, dict) or message.get("type", "request") != "request" or not isinstance(message.get("command"), str) \
+                or not isinstance(message.get("seq"), int):
+            raise Failure("what the editor wrote is no message: it is not a request")
+        self.note(">", message)
+        return message
+
+    def write(self, **message):
+        """Writes a message."""
+        self.seq += 1
+        message = {"seq": self.seq, **message}
+        data = json.dumps(message).encode("ascii")
+        try:
+            self.output.write(b"Content-Length: %d\r\n\r\n%s" % (len(data), data))
+            self.output.flush()
+        except BrokenPipeError:  # the client has gone, as its input will say
+            self.requests.put(None)
+        self.note("<", message)
+
+    def event(self, name, **body):
+        self.write(type="event", event=name, **({"body": body} if body else {}))
+
+    def say(self, text, category="console"):
+        """Shows a line to the user."""
+        self.event("output", category=category, output=f"{text}\n")
+
+    def note(self, mark, message):
+        if self.log:
+            print(mark, json.dumps(message), file=self.log, flush=True)
+
+
+def opened(path):
+    try:
+        return open(path, "a", encoding="ascii")
+    except OSError as error:
+        raise Failure(f"can't write {path}: {error.strerror}") from error
