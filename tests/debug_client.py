@@ -23,6 +23,7 @@ class Client:
                                         stdout=subprocess.PIPE, stderr=subprocess.PIPE,
                                         env={**os.environ, "PP6600": program(), **(environment or {})})
         self.seq = 0
+        self.ended = None
         self.messages, self.events = queue.Queue(), []
         threading.Thread(target=self.listen, daemon=True).start()
 
@@ -99,13 +100,16 @@ class Client:
 
     def end(self):
         """Ends the session, and returns the adapter's status and what it wrote to standard error."""
+        if self.ended:
+            return self.ended
         if self.process.poll() is None:
             try:
                 self.send("disconnect")
-            except BrokenPipeError:
+            except (BrokenPipeError, ValueError):  # it has ended, or its input is closed
                 pass
         status = self.process.wait(PATIENCE)
         said = self.said()
         for stream in (self.process.stdin, self.process.stdout, self.process.stderr):
             stream.close()
-        return status, said
+        self.ended = status, said
+        return self.ended

@@ -106,6 +106,11 @@ class Machine:
         """Returns whether an action watches a place for a data breakpoint, or ends that."""
         return action.word in ("WATCH", "UNWATCH") and place_of(action) in self.lent
 
+    def back_over_lending(self):
+        """Goes back over the watches for data breakpoints after the latest action of the user: they are no moments of their own."""
+        while self.history.kept.count and self.is_lending(self.history.kept.runs[-1]):
+            self.move("BACK", 1)
+
     # ---- beyond what is kept
 
     def actions(self):
@@ -131,6 +136,12 @@ class Machine:
         self.go_to(done, [*kept, *ahead])
         return bool(done)
 
+    def see_that_kept(self, turns):
+        """Sees that so many turns are kept, if they were made and so many can be kept."""
+        history = self.history
+        if history.kept.turns < turns and history.older.turns and history.room > 2 * turns:
+            self.go_to(*self.actions())
+
     def close(self):
         """Ends the simulator. What it still had to say no longer matters."""
         try:
@@ -150,20 +161,6 @@ class Machine:
                 return True
             self.move("BACK", latest.times)
         return False
-
-    def over_ahead(self, turns):
-        """Performs the next actions that are ahead, at most so many turns or one other action. Returns how many turns these were,
-        and a HIT or None."""
-        ahead = self.history.ahead
-        line, times = (ahead if ahead.count else self.later).runs[-1]
-        made = min(times, turns) if line == STEP else 0
-        if ahead.count:
-            self.move("FORWARD", made or 1)
-            return made, None
-        if made:
-            return self.new_turns(made)
-        self.perform_later()
-        return 0, None
 
     def perform_later(self):
         """Performs the next action that is beyond the redo list and no turn. A watch may be there already."""

@@ -62,7 +62,9 @@ class Search:
         return trace
 
     def before_latest_turns(self):
-        """Returns P and phase of the processors before their latest turns; None if no such turn is kept. The machine stays."""
+        """Returns P and phase of the processors before their latest turns; None if there is no such turn. The machine stays."""
+        if self.targets:
+            self.machine.see_that_kept(PROCESSORS)
         kept = self.run.history.kept
         count = min(kept.until(PROCESSORS), kept.count)
         turns = are_turns(kept, count)
@@ -75,11 +77,11 @@ class Search:
                     found[trace.slots[at]] = trace.keys[trace.slots[at]][at]
         return found
 
-    def over_ahead(self, is_reported):
+    def over_ahead(self, is_reported, most=math.inf):
         """Performs a part of what is in the redo list. Returns a stop or None; where the machine is now is one too, unless that
         is reported."""
         last = self.before_latest_turns()
-        count = self.at_once(self.run.history.ahead.count)
+        count = min(self.at_once(self.run.history.ahead.count), most)
         turns = are_turns(self.run.history.ahead, count)
         return self.first_stop(self.walk("FORWARD", count), turns, last, is_reported)
 
@@ -321,23 +323,33 @@ class Runner:
             self.machine.lend([])
 
     def step(self, number):
-        """Makes one turn of a processor, and those before it, over what is ahead first. Returns the stop at a change before, or
+        """Makes one turn of a processor, and those before it, over what is ahead first. Returns the stop at a change on the way, or
         None."""
-        machine = self.machine
-        turns = math.inf
+        search, turns = Search(self.machine, {}, self.places()), math.inf
         try:
             while turns:
-                turns = (number - machine.slot) % PROCESSORS + 1
-                if not machine.history.ahead.count:
-                    machine.lend(self.places())
-                slot = machine.slot
-                made, hit = machine.over_ahead(turns) if machine.ahead else machine.new_turns(turns)
-                if hit:
-                    return stop_at_hit(hit, slot + made)
+                turns = (number - self.machine.slot) % PROCESSORS + 1
+                stop, made = self.step_part(search, turns)
+                if stop:
+                    return stop
                 turns -= made
             return None
         finally:
-            machine.lend([])
+            self.machine.lend([])
+
+    def step_part(self, search, turns):
+        """Makes at most so many turns, or performs another action that is ahead. Returns a stop or None, and how many turns."""
+        machine = self.machine
+        ahead = (machine.history.ahead if machine.history.ahead.count else machine.later).runs
+        made = turns if not ahead else min(turns, ahead[-1].times) if ahead[-1].line == STEP else 0
+        if machine.history.ahead.count:
+            return search.over_ahead(True, made or 1), made
+        machine.lend(self.places())
+        if not made:
+            return search.over_setting(), 0
+        slot = machine.slot
+        made, hit = machine.new_turns(made)
+        return stop_at_hit(hit, slot + made) if hit else None, made
 
     def part(self, search, is_reported):
         """Runs on in one of three ways. Returns a stop or None."""
@@ -356,6 +368,7 @@ class Runner:
         """Goes back to the latest stop, or to the beginning. Returns the stop or None."""
         machine = self.machine
         ahead = Actions(machine.actions()[1]).count
+        machine.back_over_lending()
         stop = self.search({}).over_kept(self.goes_on)
         if stop or not self.goes_on() or machine.history.kept.count or not machine.history.older.count:
             return stop
@@ -391,8 +404,8 @@ class Runner:
         total = Actions(actions).count
         try:
             while other.ahead and (stop := runner.forward(shown, only_ahead=True)):
-                if other.ahead:
-                    found = total - other.ahead, stop
+                if other.ahead or stop.place:
+                    found = total - other.ahead - bool(stop.place), stop  # a stop before a change
                 shown = stop.number if stop.number == other.slot else None
         finally:
             other.close()
