@@ -8,7 +8,7 @@ import threading
 
 from .support import PYTHON, TOP, program
 
-PATIENCE = 60  # seconds for a message
+PATIENCE = 20  # seconds for a message
 
 
 class Refusal(Exception):
@@ -88,12 +88,15 @@ class Client:
 
     def stop_after(self, command, **arguments):
         """Sends a request that runs the machine, and returns the body of the next stop."""
-        self.events.clear()
         self.ask(command, **arguments)
         return self.event("stopped")
 
     def typed(self, line, context="repl"):
-        return self.ask("evaluate", expression=line, context=context)["result"]
+        """Performs a line, and returns its answer. If it moves the machine, the stop is awaited."""
+        result = self.ask("evaluate", expression=line, context=context)["result"]
+        if result.rsplit("\n", 1)[-1].startswith(("BACK", "FORWARD", "TURNS", "HIT")) or line.startswith("SET"):
+            self.stop = self.event("stopped")
+        return result
 
     def said(self):
         return self.process.stderr.read().decode()

@@ -98,7 +98,7 @@ class Timeline:
         here = self.where(at, number)
         if (number, here[0]) not in cells or here[1] != "0000":
             return False
-        if at and not self.is_turn(at - 1) and self.slot(at - 1) == number and self.where(at - 1, number) == here:
+        if at and at != self.now and not self.is_turn(at - 1) and self.slot(at - 1) == number and self.where(at - 1, number) == here:
             return False
         for before in reversed(range(at)):
             if self.is_turn(before) and self.slot(before) == number:

@@ -32,7 +32,7 @@ class Adapter(Requests):
         self.machine = self.listings = None
         self.points = Breakpoints()
         self.after = None  # what is done after the answer to a request
-        self.is_ended = self.is_paused = False
+        self.is_ended = self.is_paused = self.is_running = self.is_terminated = False
         self.shown = self.paused = 0  # the processor of the last stop, and the one to be shown at a pause
         self.base = 1  # the first line, as the editor counts
         self.sees_invalidated = False
@@ -45,62 +45,64 @@ class Adapter(Requests):
         while not self.is_ended:
             self.take(self.wire.requests.get())
 
-    def take(self, request, is_running=False):
+    def take(self, request):
         """Takes what has come from the editor."""
         if isinstance(request, Failure):
             raise request
         if request is None:
             self.is_ended = True
         else:
-            self.answer(request, is_running)
+            self.answer(request)
 
     def goes_on(self):
         """Takes the requests that have come. Returns whether a run goes on."""
         while not self.is_ended and not self.wire.requests.empty():
-            self.take(self.wire.requests.get(), is_running=True)
-        return not self.is_paused and not self.is_ended
+            self.take(self.wire.requests.get())
+        return not (self.is_paused or self.is_ended or self.is_terminated)
 
-    def answer(self, request, is_running):
+    def answer(self, request):
         """Answers a request, and then does what it began."""
-        command, answer = request["command"], {"success": True}
-        outer, self.after = self.after, None
+        command, answer, self.after = request["command"], {"success": True}, None
         try:
-            body = self.method(command, is_running)(**(request.get("arguments") or {}))
+            body = self.method(command)(**(request.get("arguments") or {}))
             answer.update({"body": body} if body is not None else {})
         except (Failure, TypeError, KeyError, ValueError, AttributeError, OverflowError) as error:
             text = str(error) if isinstance(error, Failure) else f"{command} has arguments that are none: {error}"
             answer = {"success": False, "message": text,
                       "body": {"error": {"id": 1, "format": text.replace("{", "(").replace("}", ")"), "showUser": True}}}
         self.wire.write(type="response", request_seq=request["seq"], command=command, **answer)
-        after, self.after = self.after, outer
-        if after and answer["success"]:
-            self.do(after)
-        elif self.machine and self.machine.is_ended:
-            self.lose()
+        if not self.is_running:
+            self.do(self.after if answer["success"] else None)
 
     def do(self, after):
         """Does what a request began. If the simulator ends, so does the session."""
+        self.is_running = True
         try:
-            after()
+            if after:
+                after()
         except Failure as failure:
             self.wire.say(failure, "stderr")
+        self.is_running = False
+        if self.is_terminated:
+            self.end_simulator()
+            self.wire.event("exited", exitCode=0)
+        if self.is_terminated or self.machine and self.machine.is_ended:
             self.lose()
 
     def lose(self):
         """The simulator has ended."""
-        if self.machine:
-            self.machine.close()
-            self.machine = None
-            self.wire.event("terminated")
+        self.end_simulator()
+        self.is_terminated = False
+        self.wire.event("terminated")
 
-    def method(self, command, is_running):
+    def method(self, command):
         """Returns what does a request."""
         method = getattr(self, f"do_{command}", None)
         if method is None:
             raise Refused(f"{command[:MOST_SHOWN]} is not supported")
         if self.machine is None and command not in BEFORE_LAUNCH:
             raise Refused("no simulator runs: launch one first")
-        if is_running and command not in WHILE_RUNNING:
+        if self.is_running and command not in WHILE_RUNNING:
             raise Refused("the machine runs: pause it first")
         return method
 
@@ -169,13 +171,7 @@ class Adapter(Requests):
         self.after = self.enter
 
     def do_terminate(self, **_):
-        self.is_paused = True
-        self.end_simulator()
-        self.after = self.say_end
-
-    def say_end(self):
-        self.wire.event("exited", exitCode=0)
-        self.wire.event("terminated")
+        self.is_terminated = True
 
     def do_disconnect(self, **_):
         self.is_ended = True
@@ -246,7 +242,7 @@ class Adapter(Requests):
         """Runs, and reports the stop. If there is none, it is a pause, or another reason with a text."""
         runner = self.runner()
         stop = way(runner)
-        if self.machine is None:
+        if self.is_terminated or self.is_ended:
             return
         if runner.too_many:
             self.wire.say(f"{runner.too_many:o} turns (octal) after this were made too, and taken back")
@@ -254,7 +250,7 @@ class Adapter(Requests):
             self.report(stop)
         elif self.is_paused:
             self.stopped("pause", self.paused)
-        elif not self.is_ended:
+        else:
             self.stopped(otherwise, self.paused, text)
 
     def report(self, stop):

@@ -24,17 +24,17 @@ class Wire:
         self.seq = 0
         self.log = opened(log) if log else None
         self.requests = queue.Queue()
+        if sys.stdin is None:
+            raise Failure("standard input is closed or a folder, so no editor can speak")
+        self.input = os.fdopen(os.dup(sys.stdin.fileno()), "rb")  # not sys.stdin: a thread that reads that at the end would abort Python
         self.output = os.fdopen(os.dup(sys.stdout.fileno()), "wb")
         sys.stdout = sys.stderr  # nothing else may come between the messages
         threading.Thread(target=self.listen, daemon=True).start()
 
     def listen(self):
-        """Puts each request into the queue, then None or the failure that ended the input. It does not read on after the last
-        request, for a thread that still reads at the end would abort Python."""
+        """Puts each request into the queue, then None or the failure that ended the input."""
         try:
-            if sys.stdin is None:
-                raise Failure("standard input is closed or a folder, so no editor can speak")
-            while request := self.read(sys.stdin.buffer):
+            while request := self.read(self.input):
                 self.requests.put(request)
                 if request["command"] == "disconnect":
                     return
@@ -46,14 +46,15 @@ class Wire:
 
     def read(self, stream):
         """Returns the next request, or None at the end of the input."""
-        length = None
+        length, begun = None, False
         while line := stream.readline(LONGEST_HEADER):
             if not line.strip():
                 break
+            begun = True
             name, _, value = line.partition(b":")
             if name.strip().lower() == b"content-length":
                 length = value.strip()
-        if not line and length is None:
+        if not line and not begun:
             return None
         if length is None or not length.isdigit() or int(length) > LONGEST_MESSAGE:
             raise Failure("what the editor wrote is no message: it has no Content-Length")

@@ -311,31 +311,23 @@ class Runner:
     def forward(self, shown, targets=(), only_ahead=False):
         """Runs to the next stop, over what is ahead first. The processor that is shown may be at a breakpoint: that is reported.
         Returns the stop, or None if the client ended it, or if nothing is ahead any more and no new turns are wanted."""
-        is_reported = self.machine.slot == shown
-        try:
-            while self.goes_on() and (self.machine.ahead or not only_ahead):
-                stop = self.part(self.search(dict(targets)), is_reported)
-                if stop:
-                    return stop
-                is_reported = True
-            return None
-        finally:
-            self.machine.lend([])
+        is_reported, stop = self.machine.slot == shown, None
+        while not stop and self.goes_on() and (self.machine.ahead or not only_ahead):
+            stop = self.part(self.search(dict(targets)), is_reported)
+            is_reported = True
+        self.machine.lend([])
+        return stop
 
     def step(self, number):
         """Makes one turn of a processor, and those before it, over what is ahead first. Returns the stop at a change on the way, or
         None."""
-        search, turns = Search(self.machine, {}, self.places()), math.inf
-        try:
-            while turns:
-                turns = (number - self.machine.slot) % PROCESSORS + 1
-                stop, made = self.step_part(search, turns)
-                if stop:
-                    return stop
-                turns -= made
-            return None
-        finally:
-            self.machine.lend([])
+        search, turns, stop = Search(self.machine, {}, self.places()), math.inf, None
+        while turns and not stop:
+            turns = (number - self.machine.slot) % PROCESSORS + 1
+            stop, made = self.step_part(search, turns)
+            turns -= made
+        self.machine.lend([])
+        return stop
 
     def step_part(self, search, turns):
         """Makes at most so many turns, or performs another action that is ahead. Returns a stop or None, and how many turns."""
