@@ -53,25 +53,25 @@ func main() {
 class DebugCase(Case):
     """Sessions, which end with the test. What is in them is written to a log, which go-dap reads where it is there."""
 
-    log = None
-
     @classmethod
     def setUpClass(cls):
         folder = tempfile.TemporaryDirectory(prefix="pp6600-test-")
         cls.addClassCleanup(folder.cleanup)
-        cls.log = os.path.join(folder.name, "log")
+        cls.logs = [os.path.join(folder.name, f"log{number}") for number in range(100)]
 
     @classmethod
     def tearDownClass(cls):
-        with open(cls.log, encoding="ascii") as file:
-            text = file.read()
+        text = ""
+        for path in glob.glob(os.path.join(os.path.dirname(cls.logs[0]), "log*")):
+            with open(path, encoding="ascii") as file:
+                text += file.read()
         messages = [json.loads(line[2:]) for line in text.splitlines() if line.startswith("<")]
         assert all(message["type"] in ("response", "event") for message in messages)
         if os.path.isdir(GO) and shutil.which("go"):
             check_by_go(text, len(messages))
 
     def client(self, *words, **how):
-        client = Client("--log", self.log, *words, **how)
+        client = Client("--log", self.logs.pop(0), *words, **how)
         self.addCleanup(client.end)
         return client
 
