@@ -1,7 +1,6 @@
 """What the panel shows: from the machine's state to lines of text with marks. No terminal is needed for it."""
 
 from dataclasses import dataclass, field
-from functools import lru_cache
 from typing import Optional
 
 from ..answers import CELLS, ROW
@@ -70,7 +69,13 @@ def layout(columns, rows):
 # ---- the parts of the machine
 
 
-@lru_cache(maxsize=16)  # a long way is compared once, not at each drawing
+def are_zero(memory, first, count):
+    """Returns whether so many words from the first cell on are 0000. It looks at rows, for there may be thousands of cells."""
+    last, before = first + count, first % ROW
+    words = "".join(row[4:] for row in (memory.rows * 2)[first // ROW:last // ROW + 1])
+    return not words[5 * before:5 * (before + count)].strip(" 0")
+
+
 def is_idle(now, was, number):
     """Returns whether a processor only passed through words 0000 between two states. The clock grows by 1 in a round, so that
     it and the slot say how many turns the processor had."""
@@ -80,8 +85,8 @@ def is_idle(now, was, number):
     start, end = int(first.registers["P"], 8), int(last.registers["P"], 8)
     if (end - start - turns) % CELLS or first.phase or {**first.registers, "P": ""} != {**last.registers, "P": ""}:
         return False
-    steps = range(turns + 1) if turns <= CELLS // 2 else range(turns - CELLS, 1)  # on, or back
-    return all(memory.word(start + step) == "0000" for memory in (was.memories[number], now.memories[number]) for step in steps)
+    cells = (start, turns + 1) if turns <= CELLS // 2 else (end, CELLS - turns + 1)  # on, or back
+    return are_zero(was.memories[number], *cells) and are_zero(now.memories[number], *cells)
 
 
 def processor_line(shown, number):
