@@ -58,6 +58,10 @@ OTHERWISE = {
 GIVEN = {"deck": b"HELLO.\n", "load": b"1405\n", "words": b"0100 1405\n"}
 
 
+def setUpModule():
+    os.environ.pop("PYTHONDONTWRITEBYTECODE", None)  # a tool that has been compiled starts sooner
+
+
 class HandsCase(Case):
     def setUp(self):
         self.folder = self.room()
