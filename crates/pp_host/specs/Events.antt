@@ -1,9 +1,10 @@
 -- What happens to the files of a program, as its host logs it.
-use Rattle.std.specs.Prelude.{◌≡◌, ℕ, zero, suc, ◌⊎◌, List, [], ◌∷◌, Option, Some, None}
+use Rattle.std.specs.Prelude.{◌≡◌, ℕ, zero, suc, ◌⊎◌, List, [], ◌∷◌}
 use Rattle.std.specs.Coded.{Coded, code_by, coded_ℕ, coded_list, coded×, coded⊎}
 use mathlib.Core.Logic.{inl, inr}
 use mathlib.Core.Path.{refl}
 use Rattle.pp_arguments.specs.CommandLine.{Text}
+use Rattle.pp_host.specs.Known.{Content, Found}
 use Rattle.pp_trouble.specs.declared.trouble.FileKind.{FileKind}
 use Rattle.pp_trouble.specs.declared.trouble.FileKind.TheVariants.{Deck, Panel, Script}
 
@@ -14,19 +15,19 @@ pub data Event : Type 0 where
   Missing : FileKind → Text → Event
   Closed : List ℕ → Event
 
--- A file that the program asked for: its kind and path, and the bytes that were read from it, or none if it could not be opened.
+-- A file that the program asked for: its kind and path, and the bytes that were read from it, unless it could not be opened.
 pub record Reading : Type 0 where
   pub kind : FileKind
   pub path : Text
-  pub bytes : Option (List ℕ)
+  pub read : Found
 
-abbrev pub asked_for : FileKind → Text → Option (List ℕ) → List Event
-asked_for kind path None = Missing kind path ∷ []
-asked_for kind path (Some bytes) = Opened kind path ∷ Closed bytes ∷ []
+abbrev pub asked_for : FileKind → Text → Found → List Event
+asked_for kind path Found.Missing = Event.Missing kind path ∷ []
+asked_for kind path (Content bytes) = Opened kind path ∷ Closed bytes ∷ []
 
 -- the events of a file in the log
 abbrev pub events_of : Reading → List Event
-events_of reading = asked_for reading.kind reading.path reading.bytes
+events_of reading = asked_for reading.kind reading.path reading.read
 
 -- ---- how the logic stores an event
 

@@ -1,6 +1,7 @@
 //! The files of a system in memory, for tests. Their content is known beforehand.
 ghost use Rattle.pp_host.specs.Memory.{file_named};
-ghost use Rattle.std.specs.Prelude.{◌≡◌, Some, option_map};
+ghost use Rattle.pp_host.specs.Known.{Content, Missing};
+ghost use Rattle.std.specs.Prelude.{◌≡◌, MatchOption, Some};
 
 use crate::system::FileSystem;
 use pp_lines::{Calls, Feed, Log};
@@ -27,7 +28,9 @@ pub struct Memory<'a> {
 
 /// Returns the first file with this path.
 fn stored<'a>(files: &'a [StoredFile<'a>], path: &str) -> Option<&'a StoredFile<'a>>
-    ensures { option_map (λ file. file.now.bytes.now) result ≡ file_named files.now path.now }
+    ensures { MatchOption result
+        (file_named files.now path.now ≡ Missing)
+        (λ file. file_named files.now path.now ≡ Content file.now.bytes.now) }
 {
     let (first, others) = files.split_first()?;
     if first.path == path {

@@ -1,6 +1,7 @@
 //! A host over the files of a system.
 ghost use Rattle.pp_arguments.specs.CommandLine.{Text};
 ghost use Rattle.pp_host.specs.Host.{Agrees, IsOpened, words_known};
+ghost use Rattle.pp_host.specs.Known.{Found, Known, Missing};
 ghost use Rattle.std.specs.Prelude.{◌≡◌, [], IfSome, MatchOption, None, Option, ℕ, List};
 
 use crate::file_log::{FileEvent, FileLog};
@@ -14,14 +15,14 @@ pub trait FileSystem {
     /// An open file.
     type File: Source + Drop;
 
-    // For a path, the bytes of the file that it names, if they are known: `Some None` if it can't be opened.
-    ghost known_files: { Self → Text → Option (Option (List ℕ)) };
+    // What a path names, if that is known.
+    ghost known_files: { Self → Text → Known Found };
 
     /// Opens a file, to be read from its start. Returns `None` if the path names no file that can be opened.
     fn open(&mut self, path: &str) -> Option<Self::File>
         ensures files { known_files self.new ≡ known_files self.old }
         ensures content { MatchOption result
-            (Agrees (known_files self.old path.now) None)
+            (Agrees (known_files self.old path.now) Missing)
             (λ file. IsOpened (known_files self.old path.now) (Self.File.rest file)) }
         ensures unread { IfSome result (λ file. (Self.File.given file ≡ []) × (Self.File.failure_count file ≡ 0)) };
 }
