@@ -1,5 +1,5 @@
 -- What happens to the files of a program, as its host logs it.
-use Rattle.std.specs.Prelude.{◌≡◌, ℕ, zero, suc, ◌⊎◌, List, [], ◌∷◌}
+use Rattle.std.specs.Prelude.{◌≡◌, ℕ, zero, suc, Bool, true, false, ◌⊎◌, List, [], ◌∷◌}
 use Rattle.std.specs.Coded.{Coded, code_by, coded_ℕ, coded_list, coded×, coded⊎}
 use mathlib.Core.Logic.{inl, inr}
 use mathlib.Core.Path.{refl}
@@ -14,6 +14,11 @@ pub data Event : Type 0 where
   Opened : FileKind → Text → Event
   Missing : FileKind → Text → Event
   Closed : List ℕ → Event
+
+-- a file was asked for, and it was opened or not
+abbrev pub file_event : Bool → FileKind → Text → Event
+file_event true kind path = Opened kind path
+file_event false kind path = Event.Missing kind path
 
 -- A file that the program asked for: its kind and path, and the bytes that were read from it, unless it could not be opened.
 pub record Reading : Type 0 where
