@@ -47,7 +47,7 @@ prints before after bytes (inr cut) = inr (cut.prefix, cut.failures)
 outputs : (ended : Result ℕ Trouble) (answers : List ℕ) (before after : Output) → IsOutput ended answers before after →
     Outputs ended answers before.text after.text before.failures after.failures
 outputs (Err Help) answers before after p = prints before after (answers ++ line_of Help) p
-outputs ended answers before after p = p
+outputs ended answers before after p = (p.text, p.failures)
 
 errors : (ended : Result ℕ Trouble) (before after : Output) → IsReported ended before after → Errors ended before.text after.text before.failures after.failures
 errors (Ok status) before after p = (p.text, p.failures)

@@ -33,12 +33,6 @@ pub record Output : Type 0 where
   -- the number of failed writes
   pub failures : ℕ
 
--- what the program reads while it performs its script, and where it writes the answers
-pub record Devices : Type 0 where
-  pub files : Files
-  pub input : Input
-  pub output : Output
-
 -- All that is outside of the program, before a run or after it.
 pub record Outside : Type 0 where
   -- the words of the command line, if they are known
@@ -59,10 +53,6 @@ input_of R source = record { left = R.rest source; read = R.given source; failur
 
 abbrev pub output_of : {W : Type 0} → SinkGhosts W → W → Output
 output_of W sink = record { text = W.text sink; failures = W.failure_count sink }
-
-abbrev pub devices_of : {H F R W : Type 0} → HostGhosts H F → SourceGhosts R → SinkGhosts W → H → R → W → Devices
-devices_of H R W host input output =
-    record { files = files_of H host; input = input_of R input; output = output_of W output }
 
 abbrev pub outside_of : {H F R W E : Type 0} → HostGhosts H F → SourceGhosts R → SinkGhosts W → SinkGhosts E → H → R → W → E → Outside
 outside_of H R W E host input output errors = record {

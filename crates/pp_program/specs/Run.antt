@@ -1,19 +1,17 @@
 -- What a run of the program is.
 use Rattle.std.specs.Prelude.{◌≡◌, ℕ, List, Option, Some, None, Result, Ok, Err, ⊤}
 use Rattle.pp_arguments.specs.CommandLine.{Text}
-use Rattle.pp_console.specs.Commands.{Value}
-use Rattle.pp_trouble.specs.declared.trouble.FileKind.TheVariants.{Script}
 use Rattle.pp_trouble.specs.declared.trouble.Trouble.{Trouble}
 use Rattle.pp_trouble.specs.declared.trouble.Trouble.TheVariants.{NoMemory}
 use Rattle.pp_host.specs.Events.{Reading}
 use Rattle.pp_host.specs.Host.{Agrees, IsInput}
-use Rattle.pp_host.specs.Known.{Found, Known, Words}
+use Rattle.pp_host.specs.Known.{Found, Known}
 use Rattle.pp_host.specs.Options.{Asked, Means}
 use Rattle.pp_program.specs.Course.{Course, stops}
-use Rattle.pp_program.specs.Cuts.{FollowsOptions, IsCut}
-use Rattle.pp_program.specs.Outside.{Devices, Outside}
+use Rattle.pp_program.specs.Cuts.{IsCut}
+use Rattle.pp_program.specs.Outside.{Outside}
 use Rattle.pp_program.specs.Program.{Given, exit_of, program}
-use Rattle.pp_program.specs.Traces.{AreRead, HaveContent, IsOutput, IsReported, IsTraced, IsTyped}
+use Rattle.pp_program.specs.Traces.{AreRead, HaveContent, IsOutput, IsReported, IsTyped}
 
 -- ---- the course
 
@@ -88,28 +86,3 @@ pub record IsRun (before after : Outside) (status : ℕ) : Type 0 where
   -- and standard error the line of what ended it early.
   pub errors : IsReported course.ended before.errors after.errors
   pub exit : status ≡ exit_of course.ended
-
--- ---- its parts, before the end is printed
-
--- From the words on: a run that ended so, before its end is printed.
-pub record IsCourse (words : Known Words) (before after : Devices) (ended : Result ℕ Trouble) : Type 0 where
-  pub given : Given
-  pub readings : List Reading
-  pub typed : List ℕ
-  pub course : Course
-  pub known : Agrees words given.words
-  pub follows : Follows before.files.known given readings typed course
-  pub traced : IsTraced before after given readings typed course
-  pub is_end : course.ended ≡ ended
-
--- From the options on: a run with these options, given these words, that ended so.
-pub record CarriesOut (words : Words) (asked : Asked) (before after : Devices) (ended : Result ℕ Trouble) : Type 0 where
-  pub given : Given
-  pub readings : List Reading
-  pub typed : List ℕ
-  pub course : Course
-  pub are_given : given.words ≡ words
-  pub named : AreKnown before.files.known given asked
-  pub follows : FollowsOptions asked given readings typed course
-  pub traced : IsTraced before after given readings typed course
-  pub is_end : course.ended ≡ ended

@@ -3,13 +3,13 @@ use Rattle.std.specs.Prelude.{◌≡◌, ℕ, false, List, [], ◌++◌, ◌⊎�
 use Rattle.std.specs.Io.KnownBytes.{Consumes}
 use Rattle.pp_arguments.specs.CommandLine.{Text}
 use Rattle.pp_host.specs.Events.{Reading}
-use Rattle.pp_host.specs.Host.{IsContent, IsInput, opening_of}
+use Rattle.pp_host.specs.Host.{IsContent, opening_of}
 use Rattle.pp_host.specs.Known.{Found, Known}
 use Rattle.pp_host.specs.Loading.{events}
 use Rattle.pp_lines.specs.Device.{one_more}
 use Rattle.pp_lines.specs.Output.{Appends, AppendsPrefix}
 use Rattle.pp_program.specs.Course.{Course, file_failures, input_failures, writes_by}
-use Rattle.pp_program.specs.Outside.{Devices, Files, Input, Output}
+use Rattle.pp_program.specs.Outside.{Files, Input, Output}
 use Rattle.pp_program.specs.Program.{Given, content_of}
 use Rattle.pp_trouble.specs.Message.{line_of}
 use Rattle.pp_trouble.specs.declared.trouble.Trouble.{Trouble}
@@ -56,33 +56,18 @@ pub record WritesPrefix (before after : Output) (bytes : List ℕ) : Type 0 wher
 abbrev pub Prints : Output → Output → List ℕ → Type 0
 Prints before after bytes = WritesAll before after bytes ⊎ WritesPrefix before after bytes
 
--- The answers of the course were written. No write failed, unless a failed write ended the course.
-pub record WritesAnswers (before after : Output) (course : Course) : Type 0 where
-  pub answers : Appends before.text after.text course.answers
-  pub failures : after.failures ≡ writes_by course.ended before.failures
+-- the answers were written, and no write failed, unless a failed write ended the run
+pub record WritesAnswers (before after : Output) (answers : List ℕ) (ended : Result ℕ Trouble) : Type 0 where
+  pub text : Appends before.text after.text answers
+  pub failures : after.failures ≡ writes_by ended before.failures
 
 -- Standard output has the answers, and after them the usage of the program if that was asked for.
 abbrev pub IsOutput : Result ℕ Trouble → List ℕ → Output → Output → Type 0
 IsOutput (Err Help) answers before after = Prints before after (answers ++ line_of Help)
-IsOutput ended answers before after = Appends before.text after.text answers × (after.failures ≡ writes_by ended before.failures)
-
--- standard output has the usage if that was asked for, and nothing else
-abbrev pub PrintsUsage : Trouble → Output → Output → Type 0
-PrintsUsage Help before after = Prints before after (line_of Help)
-PrintsUsage trouble before after = WritesAll before after []
+IsOutput ended answers before after = WritesAnswers before after answers ended
 
 -- standard error has the line of what ended the run early, other than the usage, and nothing else
 abbrev pub IsReported : Result ℕ Trouble → Output → Output → Type 0
 IsReported (Ok status) before after = WritesAll before after []
 IsReported (Err Help) before after = WritesAll before after []
 IsReported (Err trouble) before after = Prints before after (line_of trouble)
-
--- ---- both, before anything of the end is printed
-
--- What a course read and wrote, given that these files were asked for, and that these bytes of standard input were read.
-pub record IsTraced (before after : Devices) (given : Given) (readings : List Reading) (typed : List ℕ) (course : Course) : Type 0 where
-  pub contents : HaveContent before.files.known given readings
-  pub bytes : IsInput before.input.left typed given.input
-  pub files : AreRead before.files after.files course readings
-  pub input : IsTyped before.input after.input course typed
-  pub output : WritesAnswers before.output after.output course
