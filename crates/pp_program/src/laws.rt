@@ -1,5 +1,4 @@
 //! The theorem to read first, the contract of a function that does nothing.
-ghost use Rattle.pp_program.specs.Earlier.{Statement};
 ghost use Rattle.pp_program.specs.Outside.{Outside};
 ghost use Rattle.pp_program.specs.Run.{IsCutShort, IsRun, IsWhole};
 ghost use Rattle.std.specs.Prelude.{◌≡◌, ◌⊎◌, ◌≤◌, ℕ};
@@ -16,10 +15,4 @@ pub fn only_whole_runs_end_with_0_or_1()
     ensures cut_short { (before after : Outside) (status : ℕ) (run : IsRun before after status) →
         IsCutShort before.files.known run.given run.readings run.typed run.course →
         (status ≡ 2) ⊎ (status ≡ 3) }
-{}
-
-/// Each run has the statement that `run` had before its parts had names.
-#[tactic(auto, using(crate::proofs::Earlier::earlier))]
-fn runs_have_the_earlier_statement()
-    ensures { (before after : Outside) (status : ℕ) → IsRun before after status → Statement before after status }
 {}
