@@ -1,3 +1,4 @@
+pub mod Earlier
 pub mod Events
 pub mod Failures
 pub mod FileEvent

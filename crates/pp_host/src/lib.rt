@@ -3,6 +3,7 @@
 
 mod file_log;
 mod host;
+mod laws;
 mod loading;
 mod memory;
 mod options;
