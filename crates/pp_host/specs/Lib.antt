@@ -1,4 +1,3 @@
-pub mod Earlier
 pub mod Events
 pub mod Failures
 pub mod FileEvent

@@ -3,7 +3,6 @@
 
 mod file_log;
 mod host;
-mod laws;
 mod loading;
 mod memory;
 mod options;
