@@ -27,5 +27,5 @@ pub Means-rejected : (words : List Text) (fault : ArgFault) → IsCauseOf words 
 Means-rejected words argument.NoMemory cause = inl refl
 Means-rejected words argument.Help cause = inr (inr (argument.Help, cause, refl))
 Means-rejected words argument.BadArguments (inl cause) = inr (inr (argument.BadArguments, cause, refl))
-Means-rejected words argument.BadArguments (inr cause) = inr (inl (cause.0, sym (bad-number words cause.1)))
-Means-rejected words argument.BadChannel cause = inr (inl (cause.0, sym (bad-channel words cause.1 cause.2 cause.3)))
+Means-rejected words argument.BadArguments (inr (line, number)) = inr (inl (line, sym (bad-number words number)))
+Means-rejected words argument.BadChannel (line, history, central, channel) = inr (inl (line, sym (bad-channel words history central channel)))

@@ -63,8 +63,8 @@ stored (Missing kind path) = inr (inl (kind, path))
 stored (Closed bytes) = inr (inr bytes)
 
 abbrev restored : Stored → Event
-restored (inl file) = Opened file.0 file.1
-restored (inr (inl file)) = Missing file.0 file.1
+restored (inl (kind, path)) = Opened kind path
+restored (inr (inl (kind, path))) = Missing kind path
 restored (inr (inr bytes)) = Closed bytes
 
 abbrev restored-stored : (event : Event) → restored (stored event) ≡ event

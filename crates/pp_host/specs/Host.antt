@@ -17,13 +17,12 @@ Agrees known value = IfSome known (λ same. same ≡ value)
 abbrev pub IsPrefix : {A : Type 0} → List A → List A → Type 0
 IsPrefix {A} front whole = (rest : List A) × (whole ≡ front ++ rest)
 
--- The bytes of a source, of which these were read: the known bytes, which begin with those. Of an opaque source they are the bytes read.
+-- All bytes of a source, and those that were read of it: all are the known bytes, or those that were read if none are known.
 abbrev pub IsInput : Known (List ℕ) → List ℕ → List ℕ → Type 0
 IsInput None read bytes = bytes ≡ read
 IsInput (Some known) read bytes = (bytes ≡ known) × IsPrefix read bytes
 
--- The content of a file that was asked for, and what was read of it: the known content, which begins with that. If none is known, it is
--- what was read.
+-- What a path names, and what was read of it: the known file, or what was read if none is known.
 abbrev pub IsContent : Known Found → Found → Found → Type 0
 IsContent None read content = content ≡ read
 IsContent (Some known) Missing content = content ≡ known
