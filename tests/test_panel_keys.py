@@ -9,6 +9,7 @@ import sys
 from .support import EXAMPLES, TOP, Case, program, read, run
 
 from pp6600.console import Console
+from pp6600.failure import Failure
 from pp6600.history import History
 from pp6600.panel.app import Panel
 from pp6600.panel.keys import LINE_KEYS, LINES, OTHER_KEYS, Facts, help_lines, step_lines
@@ -69,7 +70,7 @@ class Lines(Case):
                 ("s", 0, 0, 1, ["STEP"]), ("s", 0, 0, 0o12, ["STEP 12"]), ("S", 3, 0, 1, ["STEP 12"]), ("S", 0, 0, 3, ["STEP 36"]),
                 ("n", 0, 3, 1, ["STEP 3"]), ("n", 0, 0, 1, ["STEP 12"]), ("n", 9, 0, 1, ["STEP"]), ("n", 4, 0, 2, ["STEP 20"]),
                 ("W", 0, 0, 1, ["WATCH P 0", "BACK W"]), ("b", 0, 0, 1, ["BACK"]), ("b", 0, 0, 0o675, ["BACK 675"]),
-                ("f", 0, 0, 0o675, ["FORWARD 675"]), (" ", 0, 0, 1, ["STEP"])):
+                (" ", 0, 0, 1, ["STEP"])):
             with self.subTest(key, slot=slot, processor=processor, count=count):
                 self.assertEqual(wanted, LINES[key](facts(slot, processor), count))
         self.assertEqual(["STEP 1000000"], step_lines(0o1000000), "as many turns as a line may make")
@@ -97,10 +98,11 @@ class Lines(Case):
         history.take("BACK 6", ["BACK 6 SLOT 00"])
         self.assertEqual((0o25, 6), (history.kept.count, history.ahead.count))
         here = facts(0, 0, history=history)
-        for key, wanted in ((" ", "FORWARD"), ("F", "FORWARD 14"), ("N", "FORWARD 14"), (">", "FORWARD 6")):
+        for key, wanted in ((" ", ["FORWARD"]), ("s", ["FORWARD"]), (">", ["FORWARD 6"]), ("S", ["FORWARD 6", "STEP 6"]),
+                            ("n", ["FORWARD 6", "STEP 6"])):
             with self.subTest(key):
-                self.assertEqual([wanted], LINES[key](here, 1))
-        self.assertEqual(["FORWARD 4"], LINES["N"](here._replace(processor=2), 1))
+                self.assertEqual(wanted, LINES[key](here, 1), "what is ahead comes first")
+        self.assertEqual(["FORWARD 4"], LINES["n"](here._replace(processor=2), 1), "over the lines that were typed between")
         history.take("STEP", ["TURNS 1 SLOT 01"])
         self.assertEqual((0o26, 0), (history.kept.count, history.ahead.count), "a new action discards what is ahead")
 
@@ -139,9 +141,9 @@ class Culprits(PanelCase):
         self.assertEqual("0100 0021  0022  0023  0024  0025  0026 >7512* 0100*", got[13][:52])
         self.assertEqual("> BACK W                BACK 675 SLOT 00", got[22].rstrip())
         self.assertEqual(CULPRIT, got[23].rstrip())
-        press(panel, "g100<Enter>tW")
+        press(panel, "g100<Enter>tyW")
         self.assertEqual("BACK 75 SLOT 00", panel.session.log[-1][1][0])
-        press(panel, ":set a 0 0<Enter>25s")
+        press(panel, ":set a 0 0<Enter>y25s")
         registers = panel.session.state.processors[0].registers
         self.assertEqual(("0060", "000000"), (registers["P"], registers["A"]))
         room = self.room()
@@ -175,11 +177,25 @@ class Culprits(PanelCase):
         got = bottom(panel, "g106<Enter>W")
         self.assertEqual([("WATCH M 0 106", ["OK"]), ("BACK W", ["BACK 675 SLOT 00"])], panel.session.log[-2:])
         self.assertEqual(CULPRIT, got)
-        got = bottom(panel, "g100<Enter>W")
-        self.assertTrue(got.endswith(" changes M 0 100 from 7712; the 675 actions ahead are discarded"), got)
+        got = bottom(panel, "g100<Enter>Wy")
+        self.assertTrue(got.endswith(" changes M 0 100 from 7712"), got)
         self.assertEqual(("BACK W", ["BACK 75 SLOT 00"]), panel.session.log[-1])
-        self.assertEqual("Space on  s step  b back", bottom(panel, "<Left>")[:24], "something is ahead")
-        self.assertEqual("s step  b back  Tab ", bottom(panel, "><Left>")[:20], "nothing is ahead")
+
+    def test_asks(self):
+        """Stepping keys go over what is ahead. What would discard it is sent only after y, and how much it is is said."""
+        panel = self.wide_panel(FIRST_PROGRAM + "STEP 24\n")
+        press(panel, "12b")
+        sent = list(panel.session.sent)
+        for keys, line in ("t", "WATCH P 0"), (":step 2<Enter>", "step 2"), ("W", "WATCH P 0"), (":SET A 0 0<Enter>", "SET A 0 0"):
+            for answer in ("n", "<Escape>", "s"):
+                with self.subTest(keys, answer=answer):
+                    self.assertEqual(f"{line} discards the 12 actions ahead: y sends it, any other key does not", bottom(panel, keys))
+                    self.assertEqual(f"{line} was not sent", bottom(panel, answer))
+                    self.assertEqual(sent, panel.session.sent)
+        press(panel, "14s")
+        self.assertEqual(["FORWARD 12", "STEP 2"], panel.session.sent[-2:])
+        press(panel, "6b:SET A 0 7<Enter>y")
+        self.assertEqual(("SET A 0 7", ["OK"], 0), (*panel.session.log[-1], panel.session.history.to_redo))
 
     def test_instructions(self):
         for script, wanted in (
@@ -201,6 +217,100 @@ class Culprits(PanelCase):
             with self.subTest(turns):
                 self.assertEqual(f"the next turn, PP 00 in the block of IAM 05{began}, changes M 0 300 from 0000",
                                  bottom(self.wide_panel(script), "W"))
+
+
+class Turns(PanelCase):
+    """The numbers of turns, and back without a limit. The expected states are those of a run up to the turn."""
+
+    def setUp(self):
+        script = ["SET M 0 100 1405 3420 3620 300", "SET P 0 100", "STEP 35", "SET A 1 7", "STEP 3000"]  # of a loop of four words
+        self.long = self.wide_panel("\n".join([*script, "WATCH A 1", "UNWATCH A 1", "STEP 100000"]), "--history", "16")
+        self.script = script
+
+    def assert_at(self, turn, panel, discards=False):
+        """Fails if the machine is not that after so many turns."""
+        made = min(turn, 0o35)
+        lines = [*self.script[:2], *([f"STEP {made:o}"] if made else []), *(self.script[3:4] if turn >= 0o35 else []),
+                 *([f"STEP {turn - made:o}"] if turn > made else [])]
+        other = Session([PROGRAM])
+        other.perform_script(lines)
+        for dump in "DUMP PP 0", "DUMP PP 1", "DUMP M 0 0 7777", "DUMP H":
+            self.assertEqual(other.simulator.ask(dump), panel.session.simulator.ask(dump), f"{dump} after turn {turn:o}")
+        other.close()
+        self.assertIn(f" TURN {turn:o} ", press(panel)[0])
+
+    def test_number(self):
+        """docs/CONSOLE.md: BACK and FORWARD count; the number is of those in effect."""
+        panel = self.panel(FIRST_PROGRAM)
+        for keys, turn in ("", 0), ("s", 1), ("12s", 0o13), ("b", 0o12), (":SET A 0 1<Enter>y", 0o12), ("S", 0o24), ("B", 0o12), ("<Home>", 0):
+            with self.subTest(keys):
+                self.assertIn(f" TURN {turn:o} ", press(panel, keys)[0])
+
+    def test_go_to_turn(self):
+        panel = self.long
+        self.assertIn(" TURN 103035 ", press(panel)[0])
+        for keys, turn in (("405G", 0o405), ("G406<Enter>", 0o406), ("G2000<Enter>", 0o2000), ("34G", 0o34), ("35G", 0o35), ("36G", 0o36),
+                           ("G0<Enter>", 0), ("G1<Enter>", 1), ("G100000<Enter>", 0o100000), ("103035G", 0o103035)):
+            with self.subTest(keys):
+                press(panel, keys)
+                self.assert_at(turn, panel)
+        self.assertEqual("there is no turn 103036 yet: the last one is 103035", bottom(panel, "103036G"))
+        self.assertEqual("9 is no turn: give an octal number, as 405", bottom(panel, "G9<Enter>"))
+        self.assert_at(0o103035, panel)
+
+    def test_marks(self):
+        """What the turn changed has stars: in turn 13 PP 00 stores A in cell 20 (docs/TUTORIAL.md)."""
+        panel = self.panel(FIRST_PROGRAM + "STEP 100\n")
+        lines = press(panel, "13GgM 0 20<Enter>")
+        self.assertIn("0020 0005*", "\n".join(lines))
+        self.assertEqual(" 00 0102*0300 0000 UJN 000005 0000 0000", lines[2][:41].rstrip())
+        self.assertEqual(" 11 0001 0000 0000  PSN 000000 0000 0000".split(), lines[11][:41].split())
+
+    def test_back(self):
+        """ERR 07 of the simulator is answered by a replay, and nothing of what is ahead is lost."""
+        panel = self.long
+        self.assertEqual("replayed in a fresh simulator", bottom(panel, "22b"))
+        self.assert_at(0o103013, panel)
+        self.assertIn(" KEPT 20  AHEAD 22 ", press(panel)[0])
+
+    def test_history_goes_on(self):
+        """After a replay, back and forward by each key, also over a setting; the number of a turn has one state."""
+        panel = self.long
+        press(panel, "2000G")
+        for keys, turn in (("b", 0o1777), ("B", 0o1765), ("s", 0o1766), ("S", 0o2000), ("14B", 0o1610), ("1000G", 0o1000), ("3S", 0o1036),
+                           ("G0<Enter>", 0), ("34s", 0o34), ("S", 0o46), ("3B", 0o10), ("<End>", 0o103035), ("7s", 0o103044), ("b", 0o103043)):
+            with self.subTest(keys):
+                press(panel, keys)
+                self.assert_at(turn, panel)
+
+    def test_saved(self):
+        """The script that is saved gives the same machine; what it does not have is said."""
+        panel, path = self.long, os.path.join(self.room(), "saved")
+        press(panel, "2000G5s")
+        self.assertFalse(panel.session.is_saved())
+        self.assertRegex(bottom(panel, f"w{path}<Enter>"), r"lines are saved in \S+, without the last 101032 actions ahead$")
+        self.assert_at(0o2005, self.panel(read(path)))
+        press(panel, f"<End>w! {path}<Enter>")
+        self.assert_at(0o103035, self.panel(read(path)))
+
+    def test_nothing_before(self):
+        panel = self.panel("STEP\n")
+        self.assertEqual("ERR 07 TOO FEW KEPT; < goes back to the beginning", bottom(panel, "2b"))
+        press(panel, "<Home>")
+        self.assertIn(" TURN 0  SLOT 00  KEPT 0  AHEAD 1 ", press(panel)[0])
+
+    def test_option(self):
+        """Without a script there is no turn 1."""
+        for turn, wanted in (0, None), (0o405, None), (0o1301, "there is no turn 1301 yet: the last one is 1300"):
+            panel = Panel(Session([PROGRAM, "--deck", DECK]))
+            self.addCleanup(panel.session.close)
+            with self.subTest(turn):
+                if wanted:
+                    with self.assertRaisesRegex(Failure, wanted):
+                        panel.perform_script(OVERWRITTEN.splitlines(), turn)
+                else:
+                    panel.perform_script(OVERWRITTEN.splitlines(), turn)
+                    self.assertIn(f" TURN {turn:o} ", press(panel)[0])
 
 
 class Typed(PanelCase):
@@ -319,7 +429,7 @@ class Sessions(PanelCase):
         self.assertEqual(["A 01", "H 01", "M 01 0010", "C 000001"], [one.place for one in panel.session.state.watches])
         press(panel, "t")
         self.assertEqual("UNWATCH C 1", panel.session.log[-1][0])
-        press(panel, "]][")
+        press(panel, "))(")
         self.assertEqual(2, panel.view.processor)
         press(panel, "5sx")
         self.assertEqual(panel.session.state.slot, panel.view.processor)

@@ -5,7 +5,7 @@ from .answers import PROCESSORS
 from .console import MARK, Console
 from .ending import complain, flush
 from .failure import Failure
-from .history import STEP, History, room_of
+from .history import STEP, History, room_of, without_watches
 
 MOST_SHOWN = 60  # characters of a line that was refused
 
@@ -23,8 +23,8 @@ class Script:
 
     @property
     def actions(self):
-        """The actions in effect: neither refused nor taken back. Watches are left out, for a replay stops nowhere."""
-        return [action for action in self.history.in_effect() if action.word not in ("WATCH", "UNWATCH")]
+        """The actions in effect: neither refused nor taken back. Watches are left out."""
+        return without_watches(self.history.in_effect())
 
     def status(self):
         """Says on standard error how many lines were refused, and which was the first. Returns the exit status."""

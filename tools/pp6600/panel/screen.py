@@ -15,8 +15,7 @@ LEFT = 80  # columns of the machine
 CHANNELS_FROM, CENTRAL_FROM = 54, 53  # the columns
 COLUMN_FROM = 15  # the column of the device's column
 MACHINE_ROWS = 12  # the ten processors, their head and that of the memory
-HINTS = "s step  b back  Tab arrows g cursor  t watch  W who changed it  ? help  q quit"
-HINTS_AHEAD = "Space on  s step  b back  Tab g cursor  t watch  W who changed  ? help  q quit"  # s would discard it
+HINTS = "s step  b back  G turn  Tab arrows g cursor  W who changed it  ? help  q quit"
 
 
 @dataclass
@@ -26,6 +25,7 @@ class Shown:
     state: MachineState
     before: MachineState
     view: View
+    turn: int = 0  # how many turns are in effect
     kept: int = 0
     ahead: int = 0
     size: int = 0o400000  # of central memory
@@ -264,8 +264,8 @@ def log_lines(log, rows):
 
 def title_line(shown, width):
     """Returns the line at the top."""
-    left = f" SLOT {shown.state.slot:02o}   KEPT {shown.kept:o}   AHEAD {shown.ahead:o}"
-    right = f"cursor {shown.view.place()}   all numbers octal   ? help "
+    left = f" TURN {shown.turn:o}  SLOT {shown.state.slot:02o}  KEPT {shown.kept:o}  AHEAD {shown.ahead:o}"
+    right = f"cursor {shown.view.place()}  all octal  ? help "
     return Line(left + right.rjust(width - len(left)), TITLE).fit(width)
 
 
@@ -276,7 +276,7 @@ def bottom_line(shown):
         return Line(asked, HEAD).add(text), len(asked) + place
     if shown.message:
         return Line(shown.message, REFUSED if shown.message.startswith("ERR ") else None), None
-    return Line(HINTS_AHEAD if shown.ahead else HINTS), None
+    return Line(HINTS), None
 
 
 def narrow_lines(shown, columns, parts):
