@@ -186,7 +186,8 @@ class Culprits(PanelCase):
         panel = self.wide_panel(FIRST_PROGRAM + "STEP 24\n")
         press(panel, "12b")
         sent = list(panel.session.sent)
-        for keys, line in ("t", "WATCH P 0"), (":step 2<Enter>", "step 2"), ("W", "WATCH P 0"), (":SET A 0 0<Enter>", "SET A 0 0"):
+        for keys, line in (("t", "WATCH P 0"), (":step 2<Enter>", "step 2"), ("W", "WATCH P 0"),
+                           (":SET A 0 0<Enter>", "SET A 0 0")):
             for answer in ("n", "<Escape>", "s"):
                 with self.subTest(keys, answer=answer):
                     self.assertEqual(f"{line} discards the 12 actions ahead: y sends it, any other key does not", bottom(panel, keys))
@@ -223,7 +224,7 @@ class Turns(PanelCase):
     """The numbers of turns, and back without a limit. The expected states are those of a run up to the turn."""
 
     def setUp(self):
-        script = ["SET M 0 100 1405 3420 3620 300", "SET P 0 100", "STEP 35", "SET A 1 7", "STEP 3000"]  # of a loop of four words
+        script = ["SET M 0 100 1405 3420 3620 300", "SET P 0 100", "STEP 35", "SET A 1 7", "STEP 3000"]
         self.long = self.wide_panel("\n".join([*script, "WATCH A 1", "UNWATCH A 1", "STEP 100000"]), "--history", "16")
         self.script = script
 
@@ -242,7 +243,8 @@ class Turns(PanelCase):
     def test_number(self):
         """docs/CONSOLE.md: BACK and FORWARD count; the number is of those in effect."""
         panel = self.panel(FIRST_PROGRAM)
-        for keys, turn in ("", 0), ("s", 1), ("12s", 0o13), ("b", 0o12), (":SET A 0 1<Enter>y", 0o12), ("S", 0o24), ("B", 0o12), ("<Home>", 0):
+        for keys, turn in (("", 0), ("s", 1), ("12s", 0o13), ("b", 0o12), (":SET A 0 1<Enter>y", 0o12), ("S", 0o24), ("B", 0o12),
+                           ("<Home>", 0)):
             with self.subTest(keys):
                 self.assertIn(f" TURN {turn:o} ", press(panel, keys)[0])
 
@@ -278,7 +280,8 @@ class Turns(PanelCase):
         panel = self.long
         press(panel, "2000G")
         for keys, turn in (("b", 0o1777), ("B", 0o1765), ("s", 0o1766), ("S", 0o2000), ("14B", 0o1610), ("1000G", 0o1000), ("3S", 0o1036),
-                           ("G0<Enter>", 0), ("34s", 0o34), ("S", 0o46), ("3B", 0o10), ("<End>", 0o103035), ("7s", 0o103044), ("b", 0o103043)):
+                           ("G0<Enter>", 0), ("34s", 0o34), ("S", 0o46), ("3B", 0o10), ("<End>", 0o103035), ("7s", 0o103044),
+                           ("b", 0o103043)):
             with self.subTest(keys):
                 press(panel, keys)
                 self.assert_at(turn, panel)
@@ -311,6 +314,56 @@ class Turns(PanelCase):
                 else:
                     panel.perform_script(OVERWRITTEN.splitlines(), turn)
                     self.assertIn(f" TURN {turn:o} ", press(panel)[0])
+
+
+class Program(PanelCase):
+    """Memory as instructions: the loader of README.md."""
+
+    def rows(self, panel, *keys):
+        """Presses keys, and returns the rows of memory and the line below them."""
+        lines = press(panel, *keys)
+        return [line[:52].rstrip() for line in lines[12:18]], lines[18].rstrip()
+
+    def test_program(self):
+        panel = self.panel(OVERWRITTEN, "--deck", DECK)
+        rows, below = self.rows(panel, "3Gi")
+        self.assertEqual(["PP 00  INSTRUCTIONS", " 0100 7712 0001  FNC 12 0001", ">0102 7412       ACN 12", " 0103 1477       LDN 77",
+                          " 0104 7112 0060  IAM 12 0060", " 0106 7512       DCN 12"], rows)
+        self.assertEqual("PP 00 ACN 12: activates channel 12", below)
+        rows, below = self.rows(panel, "113G")
+        self.assertEqual("PP 00  INSTRUCTIONS   in a block; returns to 0106", rows[0])
+        self.assertEqual([" 0104 7112 0060  IAM 12 0060", "r0106 7512       DCN 12"], rows[4:])
+        self.assertEqual("PP 00 IAM 12 0060: a word of channel 12 goes to cell 0064; 73 words are left", below)
+        self.assertEqual(" 0104 7112 0060  ?J:# IAM 12 0060", self.rows(panel, "d")[0][4], "docs/MACHINE.md: display code")
+        self.assertIn("0060 0001  0002  0003  0004 >0000  0000  0000  0000", self.rows(panel, "i")[0])
+        self.assertEqual("PP 03 PSN 00: passes", self.rows(panel, "d3)")[1], "the chosen processor")
+
+    def test_cursor(self):
+        """Up and Down go by instructions, Left and Right by cells, over the end of the window and of the memory too."""
+        panel = self.panel(OVERWRITTEN, "--deck", DECK)
+        press(panel, "3Gig100<Enter>")
+        for keys, place in (("j", "M 0 102"), ("2j", "M 0 104"), ("l", "M 0 105"), ("j", "M 0 106"), ("j", "M 0 107"), ("3k", "M 0 103"),
+                            ("3k", "M 0 77"), ("77k", "M 0 0"), ("k", "M 0 7777"), ("j", "M 0 0")):
+            with self.subTest(keys):
+                press(panel, keys)
+                self.assertEqual(place, panel.view.place())
+
+    def test_changed_and_watched(self):
+        panel = self.panel(FIRST_PROGRAM + "WATCH M 0 20\nSTEP 13\n")
+        self.assertEqual("w0020 0005*      PSN 05", self.rows(panel, "ig20<Enter>")[0][2])
+        self.assertEqual(">0102 0300       UJN 00 to 0102", next(row for row in self.rows(panel, "o")[0] if row[0] == ">"))
+
+    def test_sizes(self):
+        """Every size has lines of its width, with the sentence below memory."""
+        panel = self.panel(OVERWRITTEN, "--deck", DECK)
+        press(panel, "113Gi")
+        for columns in (80, 100, 119, 120, 131, 200):
+            for rows in (24, 25, 31, 60):
+                panel.resize(columns, rows)
+                lines = press(panel)
+                with self.subTest(columns=columns, rows=rows):
+                    self.assertEqual([columns] * rows, [len(line) for line in lines])
+                    self.assertEqual(1, sum("73 words are left" in line for line in lines))
 
 
 class Typed(PanelCase):

@@ -45,11 +45,22 @@ def rows_from(word, address, count, heads):
     return found
 
 
+def rows_around(word, address, before, after, heads):
+    """Returns the rows around that which has an address: so many before it, and so many after it."""
+    rows = rows_from(word, address - 2 * before - FROM_BEFORE, 2 * before + FROM_BEFORE + after + 1, heads)
+    at = next(number for number, row in enumerate(rows) if row.has(address))
+    return rows[at - before:at + after + 1]
+
+
 def window(word, top, address, count, heads):
     """Returns so many rows with an address in one of them: from the top on if it is there, else with some rows before it."""
     rows = rows_from(word, top, count, heads)
     if any(row.has(address) for row in rows):
         return rows
-    before = rows_from(word, address - 2 * count - FROM_BEFORE, 2 * count + FROM_BEFORE + 1, heads)
-    at = next(number for number, row in enumerate(before) if row.has(address))
-    return rows_from(word, before[max(at - count // 3, 0)].address, count, heads)
+    before = count // 3
+    return rows_around(word, address, before, count - before - 1, heads)
+
+
+def moved(word, address, steps, heads):
+    """Returns the address of the row that comes so many rows after that which has an address, or before it."""
+    return rows_around(word, address, max(-steps, 0), max(steps, 0), heads)[-1 if steps > 0 else 0].address

@@ -142,6 +142,10 @@ class Processor:
         self.channel = self.instruction & 0o77
 
     @property
+    def p(self):
+        return int(self.registers["P"], 8)
+
+    @property
     def row(self):
         """The row of the table that says what its turn does; in a block transfer that of a turn that goes on."""
         return IN_BLOCK[self.code] if self.phase else INSTRUCTIONS[self.code]

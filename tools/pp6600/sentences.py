@@ -4,14 +4,15 @@ has the same tables."""
 import re
 
 from .answers import CELLS, CLOCK, STATES
-from .instructions import NOT_THERE_IN_BLOCK, TWO_WORDS, WAITS_FOR, target_of
+from .instructions import NOT_THERE_IN_BLOCK, WAITS_FOR, target_of
 
 # Of each code the sentences, each after the condition on which it is the one; a block's later turns have a b before the code.
 #   A=0 A/0 A+ A- Q=0  the number in A or Q     d<40  the shift is to the left     =P  the jump leads to P
 #   clock  d is 14     state LETTERS            channel d is in one of these states    lost  it is inactive, and P is 0000
 # In braces: A Q P d m dm as in the machine; a the lower twelve bits of A; x the address of the operand cell, and X its number; x+1;
 # near the address of a relative jump; n how many places; on the address after the instruction; D the number in cell d; D.. cells d
-# to d+4; P.. cells P to P+4; H the register of channel d; back the address at which a block goes on; A, and Q, words with a verb.
+# to d+4; P.. cells P to P+4; H the register of channel d; back the address at which a block goes on; A# a count of words, A, and Q,
+# with a verb.
 TEXT = """
 00: passes
 01: jumps to {x}
@@ -52,9 +53,9 @@ TEXT = """
 36: replaces cell {x}, {X}, by it plus 1
 37: replaces cell {x}, {X}, by it minus 1
 60: cells {D..} get central word {A}
-61: begins a block: {D} words from central word {A} on go to the cells from {m} on
+61: block of {D} words from central word {A} to cell {m} on
 62: central word {A} gets cells {D..}
-63: begins a block: {D} central words from {A} on get the cells from {m} on
+63: block of {D} words from cell {m} to central word {A} on
 64 state EFX: channel {d} is active: jumps to {m}
 64: channel {d} is inactive: goes on at {on}
 65 state EFX: channel {d} is active: goes on at {on}
@@ -65,30 +66,30 @@ TEXT = """
 67: channel {d} is not full: jumps to {m}
 70 clock: A gets the clock, {H}
 70: A gets {H} from channel {d}, which becomes empty
-71: begins a block: {A,} to go from channel {d} to the cells from {m} on
+71: input of a block: {A#} words of channel {d} to cell {m} on
 72: channel {d} gets {a} from A and becomes full
-73: begins a block: {A,} to go from the cells from {m} on to channel {d}
+73: output of a block: {A#} words from cell {m} on to channel {d}
 74: activates channel {d}
 75 clock: passes
 75: disconnects channel {d}
 76: channel {d} gets function code {a} from A
 77: channel {d} gets function code {m}
 b61 Q=0: the block ends: goes on at {back}
-b61: central word {A} goes to cells {P..}; {Q,} left
+b61: central word {A} to cells {P..}; {Q,} left
 b63 Q=0: the block ends: goes on at {back}
-b63: central word {A} gets cells {P..}; {Q,} left
+b63: central word {A} gets {P..}; {Q,} left
 b71 A=0: the block ends: goes on at {back}
-b71 lost: channel {d} is inactive: cell 0000, the return address, becomes 0000, and the block ends: goes on at 0001
-b71 state I: channel {d} is inactive: cell {P} becomes 0000, and the block ends: goes on at {back}
+b71 lost: channel {d} is inactive: cell 0000 becomes 0000; goes on at 0001
+b71 state I: channel {d} is inactive: cell {P} becomes 0000; goes on at {back}
 b71 clock: the clock, {H}, goes to cell {P}; {A,} left
 b71: a word of channel {d} goes to cell {P}; {A,} left
 b73 A=0: the block ends: goes on at {back}
-b73 state I: channel {d} is inactive: the block ends: goes on at {back}
+b73 state I: channel {d} is inactive: goes on at {back}
 b73: cell {P} goes to channel {d}; {A,} left
 """
-WAITS, WAITS_EVER = "waits until channel {d} is {wanted}; it is {state}", "waits for ever: channel {d} is never {wanted}"
+WAITS, WAITS_EVER = "waits for channel {d} to be {wanted}; it {state}", "waits for ever: channel {d} is never {wanted}"
 SAME = {code + row: code for row in (0o10, 0o20) for code in range(0o30, 0o40)}  # 40 to 57 are as 30 to 37
-STATE_NAMES = dict(zip(STATES, ("inactive", "empty", "full with data", "full with a function code")))
+STATE_NAMES = dict(zip(STATES, ("is inactive", "is empty", "is full", "has a function code")))
 
 
 def rows():
@@ -104,9 +105,13 @@ def rows():
 ROWS = rows()
 
 
+def count_of(digits):
+    return digits.lstrip("0") or "0"
+
+
 def counted(digits):
     """Returns a number of words with a verb."""
-    count = digits.lstrip("0") or "0"
+    count = count_of(digits)
     return f"{count} {'word is' if count == '1' else 'words are'}"
 
 
@@ -143,10 +148,11 @@ class Reading:
 
     def number(self, name):
         """Returns what a name in braces means: digits, and words of a count or a state."""
-        processor, d = self.processor, self.processor.channel
-        texts = {**processor.registers, "d": f"{d:02o}", "n": f"{d if d < 0o40 else 0o77 - d:o}", "m": processor.words[1],
-                 "dm": f"{d:02o}{processor.words[1]}", "a": processor.registers["A"][2:], "A,": counted(processor.registers["A"]),
-                 "Q,": counted(processor.registers["Q"]), "state": STATE_NAMES[self.state()], "wanted": WAITS_FOR.get(processor.code)}
+        processor, d, registers = self.processor, self.processor.channel, self.processor.registers
+        texts = {**registers, "d": f"{d:02o}", "n": f"{d if d < 0o40 else 0o77 - d:o}", "m": processor.words[1],
+                 "dm": f"{d:02o}{processor.words[1]}", "a": registers["A"][2:], "A#": count_of(registers["A"]),
+                 "A,": counted(registers["A"]), "Q,": counted(registers["Q"]),
+                 "state": STATE_NAMES[self.state()], "wanted": WAITS_FOR.get(processor.code)}
         if name in texts:
             return texts[name]
         if name == "H":
@@ -159,7 +165,7 @@ class Reading:
     def address(self, name):
         """Returns the address, or the number in a cell, that a name means."""
         processor = self.processor
-        return {"on": lambda: self.p + (2 if processor.code in TWO_WORDS else 1), "near": lambda: target_of(self.p, processor.channel),
+        return {"on": lambda: self.p + processor.row.words, "near": lambda: target_of(self.p, processor.channel),
                 "x": lambda: processor.operand(self.cell), "x+1": lambda: processor.operand(self.cell) + 1,
                 "X": lambda: self.cell(processor.operand(self.cell)), "D": lambda: self.cell(processor.channel),
                 "back": lambda: self.cell(0) + 1}[name]()

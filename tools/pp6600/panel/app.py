@@ -79,7 +79,7 @@ class Panel:
         self.see()
 
     def memory_rows(self):
-        return layout(self.columns, self.rows).memory
+        return layout(self.columns, self.rows, self.view.as_program).memory
 
     def see(self):
         """Moves the windows to their cursors, and sees that what they show is read."""
@@ -157,6 +157,11 @@ class Panel:
             view.choose_processor(self.session.state.slot)
         elif key == "o":
             view.following = True
+        elif key == "i":
+            view.as_program = not view.as_program
+        elif key == "d":
+            view.has_display_code = not view.has_display_code
+            view.as_program = True
         elif key in PROMPTS:
             self.prompt = Prompt(key, PROMPTS[key], self.typed[key])
         elif key == "L":

@@ -106,6 +106,7 @@ OTHER_KEYS = (
     (("(", ")"), "choose the processor before; the next one"),
     (("x",), "choose the processor whose turn comes next"),
     (("o",), "memory around P again, after the cursor was moved"),
+    (("i", "d"), "memory as instructions, or as numbers again; with display code"),
     (("g",), "go to an address or a place: 106, M 3 106, C 1000, A 0, H 12"),
     (("/",), "search words from the cursor on; / and Enter: the next ones"),
     ((":",), "a line of the console; Up and Down: lines typed before"),
@@ -133,5 +134,7 @@ def help_lines():
         "A star is beside each number that the last action changed, but not beside P of a",
         "processor that only passed through words 0000. > is before the processor whose",
         "turn comes next, and before the cell at P; w is before a watched cell. WAITS FOR",
-        "has a channel, and the state in which the processor would go on.",
-        "KEPT and AHEAD: how many actions BACK can undo and FORWARD can perform again."]
+        "has a channel, and the state in which the processor would go on. Among the",
+        "instructions r is before the cell at which a block transfer goes on.",
+        "TURN: how many turns are in effect. KEPT: how many actions the simulator can",
+        "undo; a step back over more is a replay. AHEAD: how many can be performed again."]
