@@ -384,7 +384,11 @@ class Typed(PanelCase):
     def test_lines(self):
         panel = self.panel(FIRST_PROGRAM)
         self.assertEqual("ERR 15 NOTHING WATCHED; t watches the number at the cursor", bottom(panel, ":BACK W<Enter>"))
-        self.assertEqual("ERR 01 NOT A COMMAND", bottom(panel, ":GO<Enter>"))
+        for line, wanted in (("SET M 0 9 1", "ERR 03 NUMBER; word 4: 9 is not octal"), ("DUMP M 0", "ERR 02 WORDS; the form is DUMP M n a b"),
+                             ("SET C 400000 1", "ERR 04 RANGE; word 3: 400000 is not 0 to 377777"),
+                             ("GO", "ERR 01 NOT A COMMAND; GO is no command: they are SET, STEP, BACK, FORWARD, WATC\u2026")):
+            with self.subTest(line):
+                self.assertEqual(wanted, bottom(panel, f":{line}<Enter>"))
         press(panel, ":dump pp 0<Enter>:<Up><Up><Enter>")
         self.assertEqual(["GO", "dump pp 0", "GO"], [line for line, _ in panel.session.log[-3:]])
         press(panel, ":SET A 0<Home><Right><Right><Right><Delete> <End><Backspace>1 77<Ctrl-W>5<Enter>")
@@ -401,7 +405,7 @@ class Typed(PanelCase):
                 got = bottom(panel, f":{word}<Enter>")
                 self.assertTrue("q" in got and "docs/CARD.md" in got, got)
                 self.assertEqual(sent, panel.session.sent)
-        self.assertEqual("ERR 01 NOT A COMMAND", bottom(panel, ":help me<Enter>"))
+        self.assertIn("ERR 01 NOT A COMMAND", bottom(panel, ":help me<Enter>"))
 
     def test_search_and_go_to(self):
         panel = self.panel(FIRST_PROGRAM)
