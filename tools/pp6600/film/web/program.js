@@ -130,6 +130,7 @@ function showProgram() {
   byId("memory-as").value = memory.as;
   byId("cells").hidden = !asNumbers;
   byId("program").hidden = asNumbers;
+  setText(document.querySelector("#program th:last-child"), memory.as === "text" ? "display code" : "");
   setText(byId("sentence"), asNumbers ? "" : `PP ${two(n)} ${sentenceOf(n)}`);
   const heads = [one.p, one.address, one.back], here = one.address === null ? one.p : one.address;
   const rows = programWindow(n, program.top, memory.from === "P" ? here : memory.at, MEMORY_ROWS, heads);
