@@ -34,7 +34,7 @@ STEP 1300
 FIRST_PROGRAM = "SET M 0 100 1405 3420 300\nSET P 0 100\n"
 # docs/TUTORIAL-2.md: two processors that wait for each other.
 DEADLOCK = "SET M 0 100 1407 7205 300\nSET P 0 100\nSET M 1 100 7005 300\nSET P 1 100\nSTEP 40\n"
-NAMES = ("changed", "changes", "deck", "film", "load", "panel", "show", "state", "talk", "trace", "waits", "words")
+NAMES = ("changed", "changes", "deck", "film", "load", "panel", "show", "state", "talk", "trace", "until", "waits", "words")
 
 
 def random_line(choose):
