@@ -12,14 +12,15 @@ import termios
 import time
 from unittest import mock
 
-from .support import EXAMPLES, TOP, Case, blocks, program, read, run, tool
+from .support import EXAMPLES, PYTHON, TOP, Case, blocks, program, read, run, tool
 
 from pp6600 import Console
-from pp6600.changed import look
+from pp6600.last_turns import look
 from pp6600.changes import place_changes
 from pp6600.answers import ANSWER, CELLS, Place
 from pp6600.history import History
 from pp6600.instructions import END_OF_BLOCK, END_OF_INPUT, IN_BLOCK, Effect, processor_at
+from pp6600.listing import Symbols
 from pp6600.run import Replay, Run, actions_in_effect
 from pp6600.trace import lines_from
 
@@ -34,7 +35,7 @@ STEP 1300
 FIRST_PROGRAM = "SET M 0 100 1405 3420 300\nSET P 0 100\n"
 # docs/TUTORIAL-2.md: two processors that wait for each other.
 DEADLOCK = "SET M 0 100 1407 7205 300\nSET P 0 100\nSET M 1 100 7005 300\nSET P 1 100\nSTEP 40\n"
-NAMES = ("changed", "changes", "deck", "film", "load", "panel", "show", "state", "talk", "trace", "until", "waits", "words")
+NAMES = ("changes", "deck", "film", "load", "panel", "save", "show", "state", "symbols", "talk", "trace", "until", "waits", "words")
 
 
 def random_line(choose):
@@ -86,21 +87,21 @@ class Changes(Case):
         self.assertEqual(["TURN 13 PP 00 P 0101 STD WAS 0000 NOW 0005"], self.changes("M", "0", "20", script=script))
 
 
-class Changed(Case):
+class LastTurns(Case):
     """docs/MACHINE.md on the exchange jump and docs/TUTORIAL.md on a store of the same number."""
 
     def test_exchange(self):
         script = "SET C 0 00001234000005123456\nSET C 10 777\nSET M 0 100 2600\nSET P 0 100\nSTEP\n"
         wanted = ["P 00 0100 -> 0101", f"XP 00 {0:020} -> 00001234000005000000", f"XP 10 {0:020} -> {777:020}",
                   f"C 000000 00001234000005123456 -> {0:020}", f"C 000010 {777:020} -> {0:020}"]
-        self.assertEqual(f"TURN 1 PP 00: {', '.join(wanted)}", lines_of(tool("changed", "1", script=script))[-1])
+        self.assertEqual(f"TURN 1 PP 00: {', '.join(wanted)}", lines_of(tool("changes", "--turns", "1", script=script))[-1])
 
     def test_store_of_the_same_number(self):
         script = "SET M 0 50 5\nSET M 0 100 1405 3450 300\nSET P 0 100\nSTEP 13\n"
-        self.assertEqual("TURN 13 PP 00: P 00 0101 -> 0102\n", tool("changed", "1", script=script).out)
+        self.assertEqual("TURN 13 PP 00: P 00 0101 -> 0102\n", tool("changes", "--turns", "1", script=script).out)
 
     def test_past_the_end_of_central_memory(self):
-        got = tool("changed", "1", "--central", "032", script="SET A 0 100000\nSTEP\n")
+        got = tool("changes", "--turns", "1", "--central", "032", script="SET A 0 100000\nSTEP\n")
         self.assertEqual(("SET A 0 100000\nTURN 1 PP 00: P 00 0000 -> 0001\n", "", 0), got)
 
 
@@ -212,6 +213,41 @@ class Load(Case):
             with self.subTest(option):
                 self.assertEqual([f"{word:04o}" for word in words], console.cells(3, 0o7000, 0o7777) + console.cells(3, 0, 0))
             console.end()
+
+
+class Listings(Case):
+    TEXT = ("\tDRIVER  page 1\n* 100 words\n 0100  1405 \tSTART  LDN 5\n0101B 3420B         STD COUNT\n0102 7112  0200  LOOP: IAM BUF,12\n"
+            "0020 0\tCOUNT\n0200   BUF BSS 60B\n0104 0300   * an end\n1977 December\n")
+
+    def test_labels(self):
+        symbols = Symbols(self.TEXT.splitlines())
+        self.assertEqual({0o100: "START", 0o102: "LOOP", 0o20: "COUNT", 0o200: "BUF"}, symbols.labels)
+        for address, name in ((0o77, "COUNT+57"), (0o100, "START"), (0o101, "START+1"), (0o103, "LOOP+1"), (0o277, "BUF+77"), (0o300, ""), (0, "")):
+            self.assertEqual(name, symbols.name(address))
+        for address, word, text in ((0o100, "1405", "START  LDN 5"), (0o100, "1406", ""), (0o103, "0200", ""), (0o104, "0300", "* an end")):
+            self.assertEqual(text, symbols.text(address, word))
+        again = Symbols(symbols.lines())
+        self.assertEqual(symbols.labels, again.labels)
+
+    def test_loaded_and_saved(self):
+        """What a listing loads is saved in each form, and loaded again."""
+        lines = tool("load", "--listing", "3", script=self.TEXT).out
+        self.assertEqual("SET M 3 20 0000\nSET M 3 100 1405 3420 7112 0200 0300\n", lines)
+        for option in ("", "--packed", "--two-bytes", "--listing", "--set"):
+            saved = subprocess.run([*PYTHON, os.path.join(TOP, "tools", "save"), *option.split(), "3", "100", "104"], input=lines.encode(),
+                                   env={**os.environ, "PP6600": program()}, stdout=subprocess.PIPE, check=True).stdout.decode("latin-1")
+            words = ["--listing", "3"] if option == "--listing" else [*option.split(), "3", "100"]
+            with self.subTest(option):
+                self.assertEqual("SET M 3 100 1405 3420 7112 0200 0300\n", saved if option == "--set" else tool("load", *words, script=saved).out)
+
+    def test_ways_to_name_addresses(self):
+        folder = self.room()
+        path = os.path.join(folder, "listing")
+        with open(path, "w", encoding="ascii") as file:
+            file.write("0100 1407 START LDN 7\n0101 7205 OUT OAN 5\n")
+        symbols = ("--symbols", "0", path)
+        self.assertEqual("PP 00 AT 0101 OUT OAN P 0101 OUT H 05", tool("waits", *symbols, script=DEADLOCK).out[:37])
+        self.assertEqual("TURN 13 PP 00 P 0101 OUT OAN\n", tool("until", "PP 0 waits", *symbols, script=DEADLOCK).out)
 
 
 class Waits(Case):
@@ -388,7 +424,7 @@ class Table(Case):
         return lines + ["STEP 12"] * (trial % 3 if code in IN_BLOCK else 0)
 
     def places(self, effects, processor, cell):
-        """The places that effects write, but for P, as `changed` has them."""
+        """The places that effects write, but for P, as `changes --turns` has them."""
         found = set()
         for place, _, _ in effects:
             some = processor.cells(place, cell)
@@ -443,7 +479,7 @@ class Messages(Case):
     CASES = (
         (("changes", "M", "0", "9"), "", "9 is not octal"), (("changes", "Z", "1"), "", "a place is"),
         (("changes",), "", "a place is"), (("changes", "M", "20", "1"), "STEP\n", "ERR 04 RANGE to WATCH M 20 1"),
-        (("changed", "8"), "", "8 is not octal"), (("changed", "0"), "", "a count is 1 or more"),
+        (("changes", "--turns", "8"), "", "8 is not octal"), (("changes", "--turns", "0"), "", "a count is 1 or more"),
         (("trace", "--processor", "12"), "", "12 is no processor: it is 0 to 11"),
         (("trace", "--channel", "15"), "", "15 is no channel: it is 0 to 14"),
         (("trace", "--last", "1", "--last", "2"), "", "--last is given twice"),
@@ -456,9 +492,19 @@ class Messages(Case):
         (("deck",), "A" * 161, "more than 160"), (("deck",), "A\n" * 2001, "at most 2000"),
         (("load", "0", "100"), "* nothing\n", "no word"), (("load", "0", "100"), "1\n10000\n", "line 2 (decimal): 10000 is no"),
         (("load", "0", "100"), "0 " * 4097, "more than the 10000 cells"), (("load", "12", "0"), "1", "12 is no processor"),
-        (("load", "0"), "1", "required: A"), (("load", "--packed", "0", "0"), "A", "do not end with a word"),
+        (("load", "0"), "1", "give a processor and a cell"), (("load", "--packed", "0", "0"), "A", "do not end with a word"),
         (("load", "--packed", "0", "0"), "AB", "do not end with a word"), (("load", "--two-bytes", "0", "0"), "A", "not two"),
-        (("load", "--two-bytes", "0", "0"), "\0A A", "from byte 2 "), (("show", "--central", "33"), "STEP\n", "BAD ARGUMENTS"))
+        (("load", "--two-bytes", "0", "0"), "\0A A", "from byte 2 "), (("show", "--central", "33"), "STEP\n", "BAD ARGUMENTS"),
+        (("load", "0", "100"), "0100 1405\n0101 3420 LOOP\n", "with --listing"), (("load", "--listing"), "", "give a processor"),
+        (("load", "--listing", "0"), "* none\n", "no word"), (("load", "--listing", "0"), "7777 1 2\n", "line 1 (decimal) goes past cell 7777"),
+        (("load", "--listing", "0"), "0100 1 2\n\n0101 3\n", "line 3 (decimal) fills cell 0101, which line 1 has filled"),
+        (("load", "--listing", "0"), "0100 1\n101 18\n", "line 2 (decimal): 18 is no octal number"),
+        (("load", "--listing", "0"), "10000 1\n", "line 1 (decimal): 10000 is no octal number"),
+        (("load", "--listing", "--packed", "0"), "", "not allowed with"), (("symbols",), "0100 1405\n", "has no label"),
+        (("symbols",), "* none\nA B C\n", "line 2 (decimal) is neither of a listing nor NAME ADDRESS"),
+        (("save", "0", "100"), "", "give a processor, its first and its last cell"), (("save", "0", "7", "6"), "", "cell 6 is before cell 7"),
+        (("changes", "--symbols", "12", "f", "P", "0"), "", "12 is no processor"),
+        (("changes", "--symbols", "0", "/dev/null", "P", "0"), "", "/dev/null has neither"))
 
     def test_words_that_are_not_right(self):
         for (name, *words), script, text in self.CASES:

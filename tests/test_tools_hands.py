@@ -8,11 +8,11 @@ from .support import PYTHON, TOP, Case, program
 from .terminal import Terminal
 
 # Each tool with words that are right.
-WITH_SIMULATOR = {"changed": ["1"], "changes": ["M", "0", "106"], "show": [], "state": [], "talk": [], "trace": [], "until": ["P", "0", "=", "1"],
+WITH_SIMULATOR = {"changes": ["M", "0", "106"], "save": ["0", "0", "1"], "show": [], "state": [], "talk": [], "trace": [], "until": ["P", "0", "=", "1"],
                   "waits": []}
 WITH_SIMULATOR["film"] = ["-o", "FILM"]  # a file in the room of the test
 ON_TERMINAL = {"panel": []}
-WITHOUT = {"deck": [], "load": ["0", "100"], "words": ["--dump", "0"]}
+WITHOUT = {"deck": [], "load": ["0", "100"], "symbols": [], "words": ["--dump", "0"]}
 WITHOUT_TERMINAL = {**WITH_SIMULATOR, **WITHOUT}
 TOOLS = {**WITHOUT_TERMINAL, **ON_TERMINAL}
 
@@ -56,7 +56,7 @@ OTHERWISE = {
     ("film", "limited output"): ('ulimit -f 0; "$0" "$@"', "film.html: File too large"),
     **{("panel", what): (TREATMENTS[what][0], NO_TERMINAL)
        for what in ("full output", "limited output", "no such file", "a folder", "closed input")}}
-GIVEN = {"deck": b"HELLO.\n", "load": b"1405\n", "words": b"0100 1405\n"}
+GIVEN = {"deck": b"HELLO.\n", "load": b"1405\n", "symbols": b"A 5\n", "words": b"0100 1405\n"}
 
 
 class HandsCase(Case):

@@ -63,6 +63,20 @@ def parsed(number, text):
     return Line(number, address, tuple(f"{word:04o}" for word in words), "".join(parts[at:]))
 
 
+def is_listing(lines):
+    """Returns whether lines begin with addresses: half of them at least go on where the words of the line before end."""
+    found = []
+    for number, text in enumerate(lines, 1):
+        try:
+            line = parsed(number, text)
+        except Failure:
+            continue
+        if line and line.words:
+            found.append((line.address, line.address + len(line.words)))
+    steps = [(end, address) for (_, end), (address, _) in zip(found, found[1:])]
+    return bool(steps) and 2 * sum(end == address for end, address in steps) >= len(steps)
+
+
 class Listing:
     """The words, labels and texts of a listing."""
 
@@ -75,7 +89,15 @@ class Listing:
             if line.label:
                 self.labels.setdefault(line.address, line.label)
 
+    @classmethod
+    def of_file(cls, path):
+        try:
+            return cls(read_lines(path))
+        except Failure as failure:
+            raise Failure(f"{named(path)}, {failure}") from failure
+
     def fill(self, line):
+        """Puts the words of a line into their cells."""
         for at, word in enumerate(line.words):
             address = line.address + at
             if address >= CELLS:
@@ -126,9 +148,8 @@ class Symbols:
 
     @classmethod
     def of_file(cls, path):
-        lines = read_lines(path)
         try:
-            symbols = cls(lines)
+            symbols = cls(read_lines(path))
         except Failure as failure:
             raise Failure(f"{named(path)}, {failure}") from failure
         if not symbols.labels and not symbols.listing.cells:
@@ -145,10 +166,10 @@ class Symbols:
             return ""
         return f"{self.labels[self.addresses[at]]}{f'+{distance:o}' if distance else ''}"
 
-    def text(self, address):
-        """Returns the listing's text of the line that begins at a cell; or nothing."""
-        word, line = self.listing.cells.get(address, (None, None))
-        return line.text if line and line.address == address else ""
+    def text(self, address, word):
+        """Returns the listing's text of the line that begins at a cell, if this word is still there; or nothing."""
+        listed, line = self.listing.cells.get(address, (None, None))
+        return line.text if line and line.address == address and word == listed else ""
 
     def lines(self):
         """Returns the lines NAME ADDRESS, by their addresses."""
@@ -167,19 +188,19 @@ class AllSymbols:
                 raise Failure(f"processor {number:o} is given symbols twice")
             self.of[number] = Symbols.of_file(path)
 
-    def name(self, processor, address):
-        """As Symbols.name; the address is a number or its digits."""
+    def name(self, processor, digits):
+        """Returns an address of a processor, of which these are the digits, as START+3; nothing if no label is near."""
         symbols = self.of.get(processor)
-        return symbols.name(address if isinstance(address, int) else int(address, 8)) if symbols else ""
+        return symbols.name(int(digits, 8)) if symbols and digits.isdigit() else ""
 
-    def text(self, processor, address):
+    def text(self, processor, digits, word):
+        """Returns the listing's text beside a cell, if the word is that of the listing; or nothing."""
         symbols = self.of.get(processor)
-        return symbols.text(address if isinstance(address, int) else int(address, 8)) if symbols else ""
+        return symbols.text(int(digits, 8), word) if symbols else ""
 
     def beside(self, processor, digits):
-        """Returns the digits of an address, and its name after them if there is one."""
-        name = self.name(processor, digits) if digits.isdigit() else ""
-        return f"{digits} {name}" if name else digits
+        """Returns the digits of an address, with its name after them if there is one."""
+        return f"{digits} {self.name(processor, digits)}".rstrip()
 
 
 def add_symbols(parser):

@@ -4,6 +4,7 @@ from .answers import CELLS, PROCESSORS, REGISTERS
 from .command_line import add_script, arguments, script_lines, simulator, write_lines
 from .history import STEP, turns_of
 from .instructions import processor_at, states_of
+from .listing import AllSymbols, add_symbols, symbols_of
 from .run import Replay, actions_in_effect
 
 DESCRIPTION = """Shows each processor that waits at the end of a script: the address of its instruction and its name, P,
@@ -84,7 +85,7 @@ def address_of_instruction(console, number, processor):
     return f"{address:04o}" if console.cells(number, address, address)[0] == processor.registers["PHASE"] else "NONE"
 
 
-def waits(words, actions):
+def waits(words, actions, symbols=AllSymbols()):
     """Yields a line for each processor that waits."""
     run = Replay(words)
     run.to_turn(actions, turns_of(actions))
@@ -96,14 +97,16 @@ def waits(words, actions):
             channel = processor.channel
             line = channels[channel] if channel < len(channels) else f"H {channel:02o} NONE"
             since = Waiting(number, processor, words, actions).first_turn()
-            yield f"PP {number:02o} AT {at} {processor.name} P {processor.registers['P']} {line} {since}"
+            at, address = (symbols.beside(number, digits) for digits in (at, processor.registers["P"]))
+            yield f"PP {number:02o} AT {at} {processor.name} P {address} {line} {since}"
     run.end()
 
 
 def main():
     parser = arguments(DESCRIPTION)
+    add_symbols(parser)
     add_script(parser)
     asked = parser.parse()
-    words = simulator(asked)
+    words, symbols = simulator(asked), symbols_of(asked)
     actions = actions_in_effect(words, script_lines(asked.script))
-    write_lines(waits(words, actions), "NO PROCESSOR WAITS", at_once=True)
+    write_lines(waits(words, actions, symbols), "NO PROCESSOR WAITS", at_once=True)
