@@ -105,6 +105,11 @@ class LastTurns(Case):
         self.assertEqual(("SET A 0 100000\nTURN 1 PP 00: P 00 0000 -> 0001\n", "", 0), got)
 
 
+def name_in(line):
+    """The name of the instruction in a line of a trace."""
+    return re.search(" ([A-Z]{3}) A ", line)[1]
+
+
 class Trace(Case):
     def trace(self, *words, script):
         return lines_of(tool("trace", *words, script=script))
@@ -119,7 +124,7 @@ class Trace(Case):
         self.assertEqual(0o100, len(names))
         script = "".join(f"SET M 0 0 {code}17 0\nSET P 0 0\nSET A 0 0\nSTEP 12\n" for code in sorted(names))
         got = self.trace("--processor", "0", script=script)
-        self.assertEqual([names[code] for code in sorted(names)], [line.split()[8] for line in got])
+        self.assertEqual([names[code] for code in sorted(names)], [name_in(line) for line in got])
 
     def test_processors(self):
         got = self.trace("--processor", "3", "--processor", "0", script="STEP 16\n")
@@ -134,14 +139,46 @@ class Trace(Case):
         wanted = [("ACN", "05 I 0000 -> E 0000"), ("OAN", "05 E 0000 -> F 0007"), ("IAN", "05 F 0007 -> E 0007"),
                   ("FJM", "05 E 0007"), ("DCN", "05 E 0007 -> I 0007")]
         got = self.trace("--channel", "5", script=script)
-        self.assertEqual(wanted, [(line.split()[8], line.partition(" H ")[2]) for line in got])
+        self.assertEqual(wanted, [(name_in(line), line.partition(" H ")[2]) for line in got])
         got = self.trace("--channel", "5", "--last", "1", script=script + "STEP 1000\n")
-        self.assertEqual(wanted[-1:], [(line.split()[8], line.partition(" H ")[2]) for line in got])
+        self.assertEqual(wanted[-1:], [(name_in(line), line.partition(" H ")[2]) for line in got])
+        got = self.trace("--channel", "5", "--from", "26", "--to", "37", script=script)
+        self.assertEqual(wanted[2:4], [(name_in(line), line.partition(" H ")[2]) for line in got])
         got = self.trace("--channel", "14", "--last", "1", script="STEP 100\n")
         self.assertEqual(["F 0005 -> F 0006"], [line.partition(" H 14 ")[2] for line in got])
 
 
+    def test_words_that_nobody_reads(self):
+        """docs/MACHINE.md: a word on a channel that is disconnected is lost; an input of a block ends and leaves one."""
+        script = "SET M 0 100 7405 1407 7205 7505 300\nSET P 0 100\nSTEP 100\n"
+        got = self.trace("--channel", "5", script=script)
+        self.assertEqual(["E 0000", "F 0007", "I 0007 WORD LOST"], [line.partition(" -> ")[2] for line in got])
+        script = "SET M 0 100 7105 200\nSET P 0 100\nSET H 5 F 7\nSTEP 12\nSTEP\n"
+        self.assertEqual(["H 05 F 0007", "H 05 F 0007 WORD LEFT"], [line[line.index("H 05"):] for line in self.trace("--channel", "5", script=script)])
+
+    def test_listing(self):
+        path = os.path.join(self.room(), "listing")
+        with open(path, "w", encoding="ascii") as file:
+            file.write("0100 1407 START LDN 7\n0101 7205 OUT OAN 5 . a word\n0102 0301 UJN 1\n")
+        got = self.trace("--symbols", "0", path, "--processor", "0", script=DEADLOCK)[:2]
+        self.assertEqual(["TURN 1 PP 00 P 0100 START 1407      LDN A 000000 Q 0000 PHASE 0000  START LDN 7",
+                          "TURN 13 PP 00 P 0101 OUT 7205      OAN A 000007 Q 0000 PHASE 0000 WAITS  OUT OAN 5 . a word"], got)
+
+
 class State(Case):
+    def test_after_a_turn(self):
+        got = lines_of(tool("state", "--turn", "2", script=DEADLOCK))
+        self.assertEqual([" PP 00 P 0101", " PP 01 P 0100", ">PP 02 P 0000"], [line[:13] for line in got[:3]])
+        self.assertEqual(" TURN 2", got[10][:40].rstrip())
+        self.assertEqual(" TURN 40", lines_of(tool("state", script=DEADLOCK))[10][:40].rstrip())
+
+    def test_labels(self):
+        path = os.path.join(self.room(), "symbols")
+        with open(path, "w", encoding="ascii") as file:
+            file.write("* names\nVERYLONG 0057\n")
+        got = lines_of(tool("state", "--symbols", "0", path, script=DEADLOCK))
+        self.assertEqual(" PP 00 P 0101 A 000007 Q 0000 PHASE 0000  AT VERYLONG+22 OAN WAITS  H 00 I 0000", got[0])
+
     def test_deadlock(self):
         got = lines_of(tool("state", script=DEADLOCK))
         self.assertEqual(" PP 00 P 0101 A 000007 Q 0000 PHASE 0000  AT P 7205 0300 OAN WAITS ", got[0][:67])
@@ -178,7 +215,15 @@ class Show(Case):
             got = tool("show", script=lines)
             answers = "".join(f"{line}\n" for line in got.out.split("\n")[:-1] if not line.startswith(">"))
             with self.subTest(seed=seed):
-                self.assertEqual(direct, (answers, got.err, got.status))
+                self.assertEqual((direct.out, direct.status, direct.status), (answers, got.status, got.err.count("\n")))
+
+    def test_lines_that_lead_to_a_turn(self):
+        got = tool("show", "--turn", "3", script=FIRST_PROGRAM + "STEP 5\nBACK 4\nSTEP 5\n")
+        wanted = tool("show", script=FIRST_PROGRAM + "STEP 3\n")
+        self.assertEqual(wanted, got)
+
+    def test_bytes_that_a_terminal_obeys(self):
+        self.assertEqual("> GO\\x1b[2J\nERR 06 NOT ASCII\n", tool("show", script="GO\033[2J\n").out)
 
 
 class Words(Case):
@@ -323,7 +368,8 @@ class Talk(Case):
         got, status = typed([os.path.join(TOP, "tools", "talk"), self.SCRIPT], [b"STEP 12\n", b"\x03GO\n", b"\x04"], environment)
         # The terminal shows the interrupt, which does nothing, as ^C.
         shown = tool("show", self.SCRIPT).out
-        self.assertEqual((f"{shown}> STEP 12\nTURNS 12 SLOT 01\n> GO\nERR 01 NOT A COMMAND\n> \n", 1), (got.replace("^C", ""), status))
+        before, _, after = got.replace("^C", "").partition("13> STEP")
+        self.assertEqual((shown, " 12\nTURNS 12 SLOT 01\n25> GO\nERR 01 NOT A COMMAND\n25> \n", 1), (before, after, status))
 
     def test_over_a_pipe(self):
         lines = [line[2:] for line in lines_of(tool("show", self.SCRIPT)) if line.startswith("> ")]
@@ -365,7 +411,7 @@ class Replays(Case):
 
     def expected_trace(self, turns):
         """The trace of PP 03 in a machine of zeros, where each instruction passes."""
-        return [f"TURN {turn:o} PP 03 P {at:04o} 0000 0000 PSN A 000000 Q 0000 PHASE 0000"
+        return [f"TURN {turn:o} PP 03 P {at:04o} 0000      PSN A 000000 Q 0000 PHASE 0000"
                 for at, turn in enumerate(range(4, turns + 1, 10))]
 
     def test_long_runs(self):
@@ -475,6 +521,17 @@ class Table(Case):
                 self.assertEqual(f"00{before[source]}", after["A 00"], processor.text)
 
 
+class Refusals(Case):
+    def test_each_tool(self):
+        """No tool is silent about a refused line of its script."""
+        for name, *words in (("changes", "P", "0"), ("changes", "--turns", "1"), ("save", "0", "0", "1"), ("show",), ("state",), ("trace",),
+                             ("until", "P", "0", "=", "1"), ("waits",), ("state", "--turn", "1"), ("show", "--turn", "1")):
+            got = tool(name, *words, script="STEP 2\nDEADSTART\nGO\n")
+            with self.subTest(name, words=words):
+                self.assertEqual(f"{name}: 2 (decimal) lines were refused; the first is line 2, ERR 14 NO PANEL: DEADSTART\n", got.err)
+                self.assertEqual(1, got.status)
+
+
 class Messages(Case):
     CASES = (
         (("changes", "M", "0", "9"), "", "9 is not octal"), (("changes", "Z", "1"), "", "a place is"),
@@ -503,7 +560,8 @@ class Messages(Case):
         (("load", "--listing", "--packed", "0"), "", "not allowed with"), (("symbols",), "0100 1405\n", "has no label"),
         (("symbols",), "* none\nA B C\n", "line 2 (decimal) is neither of a listing nor NAME ADDRESS"),
         (("save", "0", "100"), "", "give a processor, its first and its last cell"), (("save", "0", "7", "6"), "", "cell 6 is before cell 7"),
-        (("changes", "--symbols", "12", "f", "P", "0"), "", "12 is no processor"),
+        (("state", "--turn", "6"), "STEP 5\n", "no turn 6: the run has 5 turns"), (("talk", "--save", "/none/x"), "", "can't write /none/x"),
+        (("talk", "--save", "/dev/null"), "", "/dev/null exists"), (("changes", "--symbols", "12", "f", "P", "0"), "", "12 is no processor"),
         (("changes", "--symbols", "0", "/dev/null", "P", "0"), "", "/dev/null has neither"))
 
     def test_words_that_are_not_right(self):

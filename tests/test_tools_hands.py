@@ -128,7 +128,8 @@ class Hands(HandsCase):
                     self.assert_one_line(name, "is not text in UTF-8", said)
                     self.assertEqual(2, status)
                 else:
-                    self.assertEqual(("", 1 if name in ("show", "talk") else 0), (said, status))
+                    self.assert_one_line(name, "1 (decimal) line was refused; the first is line 1, ERR 06 NOT ASCII: * \\xff", said)
+                    self.assertEqual(1, status)
         said, status = self.treated("words", [b"\xff"], PLAIN, b"", PYTHONIOENCODING="ascii")
         self.assert_one_line("words", "display code has no", said)
         self.assertEqual(2, status)

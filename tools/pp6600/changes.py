@@ -5,13 +5,13 @@ changes that these found, to see what was about to make each, and FORWARD over t
 """
 
 from .answers import CLOCK, PROCESSORS, Place
-from .command_line import arguments, count, script_lines, simulator, words_after, write_lines
+from .command_line import Script, arguments, count, simulator, words_after, write_lines
 from .console import CHANNEL_LINES, MARK, MOST_TURNS
 from .history import STEP
 from .instructions import Processor
 from .last_turns import last_turns
 from .listing import AllSymbols, add_symbols, symbols_of
-from .run import Replay, actions_in_effect
+from .run import Replay
 
 DESCRIPTION = """Shows every change of a place (M 0 106, A 0, C 1000, H 12 ..) over the whole run of a script, however
 long: the turn, counted in octal from 1, the processor whose turn it was, its P before the turn, the name of its
@@ -135,8 +135,9 @@ def main():
     place, rest = (None, asked.words) if asked.turns else Place.first_of(asked.words)
     (script,) = words_after(rest, 1, "give --turns, one script" if asked.turns else "give one place, one script")
     words, symbols = simulator(asked), symbols_of(asked)
-    actions = actions_in_effect(words, script_lines(script))
+    script = Script(words, script)
     if asked.turns:
-        write_lines(last_turns(words, actions, asked.turns))
+        write_lines(last_turns(words, script.actions, asked.turns))
     else:
-        write_lines(place_changes(Replay(words), place, actions, symbols), "NO CHANGE")
+        write_lines(place_changes(Replay(words), place, script.actions, symbols), "NO CHANGE")
+    return script.status

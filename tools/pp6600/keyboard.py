@@ -8,10 +8,10 @@ import sys
 from .ending import flush, write
 from .failure import Failure
 from .options import ABOVE
-from .show import answer, shown
-from .text_files import input_lines
+from .show import answer
+from .text_files import input_lines, shown
 
-PROMPT = "> "
+PROMPT = "> "  # after the number of turns
 WRAPPED = "PP6600_WRAPPED"  # set for the tool that rlwrap runs
 FIRST_WORDS = ("help", "?", "quit", "exit")  # what a newcomer may type; the simulator has no such commands
 
@@ -43,7 +43,7 @@ def edit_lines():
         return
     if shutil.which("rlwrap") and os.environ.get("TERM", "dumb") != "dumb":
         os.environ[WRAPPED] = "yes"
-        wrap = ["rlwrap", "--case-insensitive", "--substitute-prompt", PROMPT, "--command-name", "pp6600", *completions()]
+        wrap = ["rlwrap", "--case-insensitive", "--command-name", "pp6600", *completions()]
         os.execvp("rlwrap", [*wrap, sys.executable, *sys.argv])
     try:
         import readline  # input() then has it
@@ -52,12 +52,12 @@ def edit_lines():
         pass
 
 
-def typed_lines():
-    """Yields the lines of a terminal, each after a prompt."""
+def typed_lines(run):
+    """Yields the lines of a terminal, each after a prompt with the number of turns in effect."""
     while True:
         flush()
         try:
-            line = input(PROMPT)
+            line = input(f"{run.turn:o}{PROMPT}")
         except EOFError:
             if WRAPPED not in os.environ:
                 write("")
@@ -67,17 +67,18 @@ def typed_lines():
         yield line.encode("utf-8", "surrogateescape").decode("latin-1")
 
 
-def converse(console):
-    """Performs the lines that are typed, or those of standard input."""
-    if is_terminal():
-        for line in typed_lines():
-            if line.strip().lower() in FIRST_WORDS:
-                write(f"Ctrl-D ends. Card: {card()}.")
-            else:
-                answer(console, line)
-            flush()
-        return
-    for line in input_lines():
-        write(shown(line))
-        answer(console, line)
+def converse(run, transcript):
+    """Performs the lines that are typed, or those of standard input. Returns the exit status."""
+    status = 0
+    for line in typed_lines(run) if is_terminal() else input_lines():
+        if is_terminal() and line.strip().lower() in FIRST_WORDS:
+            write(f"Ctrl-D ends. Card: {card()}.")
+        else:
+            if not is_terminal():
+                write(f"> {shown(line)}".rstrip())
+            refused = answer(run, line)
+            status |= refused
+            if not refused:
+                transcript.add(line)
         flush()
+    return status

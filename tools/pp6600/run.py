@@ -7,12 +7,15 @@ from .failure import Failure
 from .history import STEP, History, room_of
 
 
-def actions_in_effect(words, lines):
+def actions_in_effect(words, lines, refusals=None):
     """Performs a script, and returns the actions in effect at its end: neither refused nor taken back. Watches are left
-    out, for a replay stops nowhere."""
+    out, for a replay stops nowhere. Refused lines are noted."""
     console, history = Console(words), History(room_of(words))
-    for line in lines:
-        history.take(line, console.ask(line))
+    for number, line in enumerate(lines, 1):
+        answer = console.ask(line)
+        history.take(line, answer)
+        if refusals:
+            refusals.note(number, line, answer)
     console.end()
     return [action for action in history.in_effect() if action.word not in ("WATCH", "UNWATCH")]
 

@@ -2,8 +2,9 @@
 
 from .answers import ROW
 from .cells import in_rows, set_lines
-from .command_line import Failure, arguments, cell, processor, script_lines, simulator, words_after, write_bytes, write_lines
-from .console import Console
+from .command_line import Failure, Script, arguments, cell, processor, simulator, words_after, write_bytes, write_lines
+from .history import turns_of
+from .run import Replay
 
 DESCRIPTION = """Writes cells A to B of processor N at the end of a script, for load: without an option rows of octal words."""
 
@@ -38,13 +39,15 @@ def main():
     number, first, last = processor(asked.words[0]), cell(asked.words[1]), cell(asked.words[2])
     if last < first:
         raise Failure(f"cell {last:o} is before cell {first:o}")
-    console = Console(simulator(asked))
-    console.perform_all(script_lines(script))
-    words = console.cells(number, first, last)
-    console.end()
+    script = Script(simulator(asked), script)
+    run = Replay(simulator(asked))
+    run.to_turn(script.actions, turns_of(script.actions))
+    words = run.cells(number, first, last)
+    run.end()
     if asked.packed or asked.two_bytes:
         write_bytes(packed(words) if asked.packed else two_bytes(words))
     elif asked.set:
         write_lines(set_lines(number, first, words))
     else:
         write_lines(listing(first, words) if asked.listing else map(" ".join, in_rows(words)))
+    return script.status

@@ -1,11 +1,11 @@
 """The processors that wait."""
 
 from .answers import CELLS, PROCESSORS, REGISTERS
-from .command_line import add_script, arguments, script_lines, simulator, write_lines
-from .history import STEP, turns_of
+from .command_line import Script, add_script, add_turn, arguments, simulator, write_lines
+from .history import STEP, turns_of, up_to_turn
 from .instructions import processor_at, states_of
 from .listing import AllSymbols, add_symbols, symbols_of
-from .run import Replay, actions_in_effect
+from .run import Replay
 
 DESCRIPTION = """Shows each processor that waits at the end of a script: the address of its instruction and its name, P,
 the channel that it waits for with its state and register, and the turn since which it waits, counted in octal from 1.
@@ -104,9 +104,12 @@ def waits(words, actions, symbols=AllSymbols()):
 
 def main():
     parser = arguments(DESCRIPTION)
+    add_turn(parser)
     add_symbols(parser)
     add_script(parser)
     asked = parser.parse()
     words, symbols = simulator(asked), symbols_of(asked)
-    actions = actions_in_effect(words, script_lines(asked.script))
+    script = Script(words, asked.script)
+    actions = script.actions if asked.turn is None else up_to_turn(script.actions, asked.turn)
     write_lines(waits(words, actions, symbols), "NO PROCESSOR WAITS", at_once=True)
+    return script.status
