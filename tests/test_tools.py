@@ -35,7 +35,7 @@ STEP 1300
 FIRST_PROGRAM = "SET M 0 100 1405 3420 300\nSET P 0 100\n"
 # docs/TUTORIAL-2.md: two processors that wait for each other.
 DEADLOCK = "SET M 0 100 1407 7205 300\nSET P 0 100\nSET M 1 100 7005 300\nSET P 1 100\nSTEP 40\n"
-NAMES = ("changes", "deck", "film", "load", "panel", "save", "show", "state", "symbols", "talk", "trace", "until", "waits", "words")
+NAMES = ("changes", "compare", "deck", "film", "load", "panel", "save", "show", "state", "symbols", "talk", "trace", "until", "waits", "words")
 
 
 def random_line(choose):
@@ -58,7 +58,7 @@ class Pages(Case):
 
     def test_sessions(self):
         room = self.room()  # ./pp6600 of the page is the program under test
-        for name, path in (("pp6600", program()), ("tools", os.path.join(TOP, "tools")), ("examples", EXAMPLES)):
+        for name, path in (("pp6600", program()), ("tools", os.path.join(TOP, "tools")), ("examples", EXAMPLES), ("exercises", os.path.join(TOP, "exercises"))):
             os.symlink(path, os.path.join(room, name))
         for block in blocks("docs/TOOLS.md", "tools"):
             for session in re.split(r"^\$ ", block.text, flags=re.M)[1:]:
@@ -301,7 +301,8 @@ class Waits(Case):
     CODES = {0o70: "F", 0o72: "E", 0o74: "I", 0o75: "EF", 0o76: "I", 0o77: "I"}  # by the table of docs/MACHINE.md
 
     def waits(self, *words, script):
-        return lines_of(tool("waits", *words, script=script))
+        """The lines of processors, without what comes after the turn."""
+        return [line.partition(",")[0] for line in lines_of(tool("waits", *words, script=script)) if not line.startswith(" ")]
 
     def test_deadlock(self):
         wanted = ["PP 00 AT 0101 OAN P 0101 H 05 I 0000 SINCE TURN 13", "PP 01 AT 0100 IAN P 0100 H 05 I 0000 SINCE TURN 2"]
@@ -318,6 +319,32 @@ class Waits(Case):
         # A phase that changes alone: the block begins at its own address.
         got = self.waits(script="SET M 0 104 7105 104\nSET P 0 104\nSET A 0 3\nSET H 5 E\nSTEP 100\n")
         self.assertEqual(["PP 00 AT 0104 IAM P 0104 H 05 E 0000 SINCE TURN 13"], got)
+
+    def test_partner(self):
+        """docs/EXERCISES.md on hanging-channel: DCN waits on an inactive channel; the processor that comes second waits forever."""
+        wanted = ["PP 01 AT 0103 DCN P 0103 H 03 I 3333 SINCE TURN 110, FOR EVER", "  H 03 I 3333 SINCE TURN 107, BY PP 00 P 0104 DCN"]
+        self.assertEqual(wanted, lines_of(tool("waits", "exercises/hanging-channel/script")))
+        channel = self.channel_lines("SET M 0 100 7005 300\nSET P 0 100\nSTEP 30\nSET H 5 E\nSTEP 10\n")
+        self.assertEqual(["  H 05 E 0000 SINCE TURN 30, BY SET"], channel)
+        self.assertEqual(["  H 05 I 0000 SINCE TURN 0, BY NOBODY"] * 2, self.channel_lines(DEADLOCK))
+        # Where the partner is another: PP 01 reads the first word and asks for a second one. The reader, which has no card, answers a status.
+        channel = self.channel_lines("SET M 0 100 7405 1407 7205 300\nSET P 0 100\nSET M 1 100 7005 7005 300\nSET P 1 100\nSTEP 200\n")
+        self.assertEqual(["  H 05 E 0007 SINCE TURN 26, BY PP 01 P 0100 IAN"], channel)
+        channel = self.channel_lines("SET M 0 100 7712 2 7412 7012 7012 300\nSET P 0 100\nSTEP 200\n")
+        self.assertEqual(["  H 12 I 0001 SINCE TURN 25, BY PP 00 P 0103 IAN"], channel)
+
+    def channel_lines(self, script):
+        return [line for line in lines_of(tool("waits", script=script)) if line.startswith("  ")]
+
+    def test_for_ever(self):
+        """A count of twelve bits goes round for ever; after the other one the channel is activated."""
+        for script, wanted in ((DEADLOCK, [True, True]), ("SET M 0 100 7005 300\nSET P 0 100\nSET M 1 0 7414\nSTEP 30\n", [True, True]),
+                               ("SET M 0 100 7005 300\nSET P 0 100\nSET M 1 0 3620 376\nSTEP 30\n", [True]),
+                               ("SET M 0 100 7005 300\nSET P 0 100\nSET M 1 0 2000 0 3620 0576 7405 1407 7205 300\nSTEP 30\n", [False]),
+                               ("".join(f"SET M {n:o} 0 70{n:02o}\n" for n in range(10)) + "STEP 30\n", [True] * 10)):
+            got = [line.endswith(", FOR EVER") for line in lines_of(tool("waits", script=script)) if not line.startswith(" ")]
+            with self.subTest(script):
+                self.assertEqual(wanted, got)
 
     def test_none(self):
         self.assertEqual(["NO PROCESSOR WAITS"], self.waits(script="STEP 100\n"))
@@ -381,6 +408,71 @@ def machine(console):
     """All that the dumps show, but for the watches."""
     processors = [f"PP {n:o}" for n in range(10)] + [f"M {n:o} 0 7777" for n in range(10)]
     return [console.ask(f"DUMP {what}") for what in (*processors, "H", "XP", "C 0 777", "CR", "LP")]
+
+
+class Compare(Case):
+    def compare(self, *texts, more=(), status=1):
+        """What compare writes of scripts with these texts."""
+        paths = [os.path.join(self.room(), "script") for _ in texts]
+        for path, text in zip(paths, texts):
+            with open(path, "w", encoding="ascii") as file:
+                file.write(text)
+        done = tool("compare", *more, *paths)
+        self.assertEqual(("", status), done[1:])
+        return lines_of(done)
+
+    def test_decks(self):
+        """examples/read-a-deck: the reader puts the second column of the first card, 0102, on channel 12."""
+        folder, script = self.room(), read("examples", "read-a-deck", "script")
+        deck = os.path.join(folder, "deck")
+        with open(deck, "w", encoding="ascii") as file:
+            file.write(read("examples", "read-a-deck", "deck").replace("0101 0102", "0101 7777", 1))
+        words = ("--deck", "examples/read-a-deck/deck", "--other-deck", deck)
+        got = self.compare(script, more=words)
+        turn = int(got[0].split()[2], 8)
+        before = tool("state", "--turn", f"{turn - 1:o}", *words[:2], script=script).out
+        after = [tool("state", "--turn", f"{turn:o}", "--deck", path, script=script).out for path in (words[1], deck)]
+        self.assertEqual("H 12 F 0102 / F 7777", got[1])
+        self.assertEqual(["H 12 F 0101", "H 12 F 0102", "H 12 F 7777"], [re.search("H 12 [A-Z] [0-7]{4}", text)[0] for text in (before, *after)])
+        self.assertEqual([f"TURN {turn:o} PP 00 P 1000 IAM 12"] * 2, got[2:])
+
+    def test_scripts(self):
+        got = self.compare(DEADLOCK, DEADLOCK.replace("1407", "1410"))
+        self.assertEqual(["BEFORE TURN 1", "M 00 0100 1407 / 1410", "AFTER TURN 1", "A 00 000007 / 000010", "TURN 1 PP 00 P 0100 LDN 07",
+                          "TURN 1 PP 00 P 0100 LDN 10"], got)
+        self.assertEqual(["NO DIFFERENCE IN 40 TURNS"], self.compare(DEADLOCK, DEADLOCK, status=0))
+        got = self.compare(DEADLOCK + "SET C 5 1\nSTEP 10\n", DEADLOCK + "STEP 20\n")
+        self.assertEqual(["AFTER TURN 40", f"C 000005 {1:020} / {0:020}", "BY THE SETTINGS AFTER THAT TURN", "THE RUNS HAVE 50 AND 60 TURNS"], got)
+
+    def test_first_turn(self):
+        """Programs that differ in one word, or a word set later; against machines that are looked at after each turn."""
+        for seed in range(4):
+            choose = random.Random(seed)
+            lines = [f"SET M {n} 0 {' '.join(f'{choose.choice((0o14, 0o16, 0o34, 0o36, 0o54, 0o60, 0o62)):02o}{choose.randrange(0o20, 0o100):02o}' for _ in range(8))}"
+                     for n in range(3)] + [f"STEP {choose.randrange(1, 0o40):o}"]
+            others = [*lines, "SET M 1 25 7"] if seed % 2 else [lines[0].replace(lines[0].split()[6], "1477"), *lines[1:]]
+            with self.subTest(seed=seed):
+                got = [line for line in self.compare("\n".join([*lines, "STEP 40", ""]), "\n".join([*others, "STEP 40", ""])) if line.startswith("AFTER")]
+                self.assertEqual(self.oracle(lines, others), got)
+
+    def oracle(self, lines, others):
+        """The first turn after which a line of the dumps differs that did not differ before the first turn."""
+        known = None
+        for turn in range(0o1000):
+            looks = []
+            for some in (lines, others):
+                run = Replay([program()])
+                run.to_turn(actions_in_effect([program()], [*some, "STEP 40"]), turn)
+                looks.append(sum(machine(run), []))
+                is_over = run.turn < turn
+                run.end()
+            different = {at for at, pair in enumerate(zip(*looks)) if pair[0] != pair[1]}
+            if is_over:
+                return []
+            if different - (different if known is None else known):
+                return [f"AFTER TURN {turn:o}"]
+            known = different if known is None else known
+        return None
 
 
 class Replays(Case):
@@ -547,7 +639,8 @@ class Messages(Case):
         (("words", "--dump", "0"), "1405 3420 0300\n7712 0001\n", "line 2 (decimal) is no row of the dump"),
         (("words", "--dump", "0"), "7776 0001 0002 0003\n", "line 1 (decimal) is no row of the dump"),
         (("deck",), "A" * 161, "more than 160"), (("deck",), "A\n" * 2001, "at most 2000"),
-        (("load", "0", "100"), "* nothing\n", "no word"), (("load", "0", "100"), "1\n10000\n", "line 2 (decimal): 10000 is no"),
+        (("compare",), "", "give two scripts"), (("compare", "a"), "", "give two scripts"), (("compare", "a", "b", "c"), "", "give two scripts"),
+        (("compare", "--other-deck", "a", "b", "c", "d"), "", "give two scripts"), (("load", "0", "100"), "* nothing\n", "no word"), (("load", "0", "100"), "1\n10000\n", "line 2 (decimal): 10000 is no"),
         (("load", "0", "100"), "0 " * 4097, "more than the 10000 cells"), (("load", "12", "0"), "1", "12 is no processor"),
         (("load", "0"), "1", "give a processor and a cell"), (("load", "--packed", "0", "0"), "A", "do not end with a word"),
         (("load", "--packed", "0", "0"), "AB", "do not end with a word"), (("load", "--two-bytes", "0", "0"), "A", "not two"),

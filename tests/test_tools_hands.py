@@ -12,6 +12,7 @@ WITH_SIMULATOR = {"changes": ["M", "0", "106"], "save": ["0", "0", "1"], "show":
                   "waits": []}
 WITH_SIMULATOR["film"] = ["-o", "FILM"]  # a file in the room of the test
 ON_TERMINAL = {"panel": []}
+TWO_SCRIPTS = {"compare": ["--other-panel", "examples/dead-start/panel"]}  # or one, as here, that it does not read from standard input
 WITHOUT = {"deck": [], "load": ["0", "100"], "symbols": [], "words": ["--dump", "0"]}
 WITHOUT_TERMINAL = {**WITH_SIMULATOR, **WITHOUT}
 TOOLS = {**WITHOUT_TERMINAL, **ON_TERMINAL}

@@ -36,6 +36,11 @@ class Subject(NamedTuple):
         return cls(f"H {number:02o}", "DUMP H", "H", (group, group), (number,), CLOCK + 1, ALL, watch)
 
     @classmethod
+    def of_channels(cls, numbers):
+        """Returns the subject of the states and the registers of channels."""
+        return cls("H", "DUMP H", "H", (2, 3), tuple(numbers), CLOCK + 1, ALL)
+
+    @classmethod
     def of_cells(cls, number, first, last, watch=None):
         rows = (last - first) // ROW + 1
         return cls(Place("M", (number, first)).text, f"DUMP M {number:o} {first:o} {last:o}", "M", (2, 2), tuple(range(rows)),

@@ -8,6 +8,7 @@ import sys
 from .ending import flush, write
 from .failure import Failure
 from .options import ABOVE
+from .script import Refusals
 from .show import answer
 from .text_files import input_lines, shown
 
@@ -69,16 +70,27 @@ def typed_lines(run):
 
 def converse(run, transcript):
     """Performs the lines that are typed, or those of standard input. Returns the exit status."""
+    return converse_at_terminal(run, transcript) if is_terminal() else perform_input(run, transcript)
+
+
+def converse_at_terminal(run, transcript):
     status = 0
-    for line in typed_lines(run) if is_terminal() else input_lines():
-        if is_terminal() and line.strip().lower() in FIRST_WORDS:
+    for line in typed_lines(run):
+        if line.strip().lower() in FIRST_WORDS:
             write(f"Ctrl-D ends. Card: {card()}.")
+        elif answer(run, line):
+            status = 1
         else:
-            if not is_terminal():
-                write(f"> {shown(line)}".rstrip())
-            refused = answer(run, line)
-            status |= refused
-            if not refused:
-                transcript.add(line)
+            transcript.add(line)
         flush()
     return status
+
+
+def perform_input(run, transcript):
+    refusals = Refusals()
+    for number, line in enumerate(input_lines(), 1):
+        write(f"> {shown(line)}".rstrip())
+        if not answer(run, line, number, refusals):
+            transcript.add(line)
+        flush()
+    return refusals.complain()

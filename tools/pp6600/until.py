@@ -234,7 +234,7 @@ def shown_numbers(subject, lines):
         first = int(subject.name[-4:], 8)
         return [(f"{subject.name[:-4]}{first + at:04o}", word) for at, word in enumerate(subject.value(lines).split())]
     if subject.form == "H" and subject.rows[0] < CLOCK:
-        return [(subject.name, lines[subject.rows[0]][5:])]
+        return [(lines[row][:4], lines[row][5:]) for row in subject.rows]
     return [(subject.name, subject.value(lines))]
 
 
