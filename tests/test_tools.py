@@ -340,7 +340,7 @@ class Waits(Case):
         """A count of twelve bits goes round for ever; after the other one the channel is activated."""
         for script, wanted in ((DEADLOCK, [True, True]), ("SET M 0 100 7005 300\nSET P 0 100\nSET M 1 0 7414\nSTEP 30\n", [True, True]),
                                ("SET M 0 100 7005 300\nSET P 0 100\nSET M 1 0 3620 376\nSTEP 30\n", [True]),
-                               ("SET M 0 100 7005 300\nSET P 0 100\nSET M 1 0 2000 0 3620 0576 7405 1407 7205 300\nSTEP 30\n", [False]),
+                               ("SET M 0 100 7005 300\nSET P 0 100\nSET M 1 0 3620 3020 0575 7405 1407 7205 300\nSTEP 30\n", [False]),
                                ("".join(f"SET M {n:o} 0 70{n:02o}\n" for n in range(10)) + "STEP 30\n", [True] * 10)):
             got = [line.endswith(", FOR EVER") for line in lines_of(tool("waits", script=script)) if not line.startswith(" ")]
             with self.subTest(script):
