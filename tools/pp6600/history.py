@@ -40,6 +40,19 @@ def turns_of(actions):
     return sum(action.turns for action in actions)
 
 
+def up_to_turn(actions, turn):
+    """Returns the actions up to a turn, with the settings before the next one."""
+    if turn > turns_of(actions):
+        raise Failure(f"there is no turn {turn:o}: the run has {turns_of(actions):o} turns, octal")
+    found, left = [], turn
+    for action in actions:
+        if action.turns > left:
+            return found + ([Action(STEP, left)] if left else [])
+        found.append(action)
+        left -= action.turns
+    return found
+
+
 class Actions:
     """A list of actions whose end is used: the newest of those in effect, or the first of those ahead."""
 

@@ -1,6 +1,7 @@
 """The tool that films a script."""
 
 from ..command_line import Failure, add_script, arguments, bytes_of, count, octal, simulator
+from ..script import Refusals
 from ..text_files import lines_of
 from .camera import Film, Transcript, to_film
 from .page import heading, page, text_of, write_page
@@ -29,4 +30,7 @@ def main():
     if asked.around is not None:
         film.opens = transcript.moment_of_turn(asked.around) - skipped
     write_page(asked.output, page(heading(asked.title, asked.script), text_of(film, asked, script)))
-    return transcript.script.status()
+    refusals = Refusals()
+    for number, (line, answer) in enumerate(transcript.lines, 1):
+        refusals.note(number, line, answer)
+    return refusals.complain()
