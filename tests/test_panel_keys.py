@@ -316,6 +316,67 @@ class Turns(PanelCase):
                     self.assertIn(f" TURN {turn:o} ", press(panel)[0])
 
 
+class Until(PanelCase):
+    """Turns at which a condition comes to hold. docs/FILM.md: in turn 405 PP 00 overwrites cell 0106 of the loader of README.md."""
+
+    def assert_goes(self, panel, keys, turn, message):
+        lines = press(panel, keys)
+        with self.subTest(keys):
+            self.assertRegex(lines[0], f"^ TURN {turn} ")
+            self.assertRegex(lines[-1].rstrip(), message)
+
+    def test_changes(self):
+        """The number at the cursor, forward and back; nothing is lost of what is ahead."""
+        panel = self.wide_panel(OVERWRITTEN, "--deck", DECK)
+        change = "^TURN 405 PP 00 P 0106 IAM WAS 7512 NOW 0027$"
+        for keys, turn, message in (("g106<Enter>[", 405, change), ("[", 405, "^NONE: M 0 106 changes, before turn 405$"), ("G3<Enter>", 3, "^s step"),
+                                    ("]", 405, change), ("]", 405, "^NONE: M 0 106 changes, in turns 406 to 10001300$")):
+            self.assert_goes(panel, keys, turn, message)
+        self.assertIn("0100 0021  0022  0023  0024  0025  0026  0027*>0100", "\n".join(press(panel)))
+        self.assertEqual(0o1300 - 0o405, panel.session.history.to_redo)
+        self.assertEqual([], panel.session.watched())
+
+    def test_conditions(self):
+        """docs/TUTORIAL.md: in turn 13 STD stores 5 in cell 20, and in turn 25 UJN jumps to itself. P is 0101 after turn 1."""
+        panel = self.wide_panel(FIRST_PROGRAM + "STEP 100\n")
+        store, one = "^TURN 13 PP 00 P 0101 STD ", "^TURN 1 PP 00 P 0100 LDN "
+        for keys, turn, message in (("UM 0 20 = 5<Enter>", 13, f"{store}WAS 0000 NOW 0005$"), ("F", 13, "^NONE: M 0 20 = 5, before turn 13$"),
+                                    ("UP 0 = 101<Enter>", 1, f"{one}WAS 0100 NOW 0101$"), ("u<Up><Up><Enter>", 13, store),
+                                    ("F", 13, "^NONE: M 0 20 = 5, before"), ("UP 0 outside 100 101 and A 0 = 5<Enter>", 13, "^NONE: P 0 outside"),
+                                    ("G0<Enter>", 0, "^s step"), ("f", 13, store), ("<End>", 100, "^s step"), ("F", 13, store)):
+            self.assert_goes(panel, keys, turn, message)
+
+    def test_new_turns(self):
+        """Where no turn that was made is found, new ones are searched, and made up to the one that is found."""
+        panel = self.wide_panel(FIRST_PROGRAM + "STEP 4\n")
+        press(panel, "2b")
+        sent = list(panel.session.sent)
+        self.assert_goes(panel, "uM 0 20 = 5<Enter>", 13, "^TURN 13 PP 00 P 0101 STD WAS 0000 NOW 0005$")
+        self.assertEqual(sent + ["FORWARD 2", "STEP 6", "STEP 1"], panel.session.sent)
+        self.assert_goes(panel, "uH 14 = 100<Enter>", 1200, "^TURN 1200 PP 11 P 0077 PSN WAS 0077 NOW 0100$")
+
+    def test_faults(self):
+        panel = self.wide_panel(FIRST_PROGRAM)
+        for keys, message in (("f", "^give a condition, as P 0 = 105"), ("uP 0<Enter>", "^a condition is PLACE = 105"), ("uP 0 = 9<Enter>", "^9 is not octal$"),
+                              ("uP 13 = 0<Enter>", "13")):
+            self.assert_goes(panel, keys, 0, message)
+        self.assertIsNone(panel.fault)
+
+    def test_stopped(self):
+        """Ctrl-C ends a search, and the machine is where it was."""
+        panel, shown = self.wide_panel(FIRST_PROGRAM), []
+        panel.show = lambda: shown.append(panel.message)
+        panel.is_stopped = lambda: True
+        self.assert_goes(panel, "uH 13 is X<Enter>", 0, "^the search was stopped$")
+        self.assertRegex(shown[0], r"^searched to turn [0-7]+; Ctrl-C stops$")
+
+    def test_older_changes(self):
+        """Where BACK W finds no change that is kept, [ finds it."""
+        panel = self.wide_panel(FIRST_PROGRAM + "STEP 1000\n", "--history", "5")
+        self.assertEqual("ERR 10 NO CHANGE KEPT; [ goes to older changes", bottom(panel, "gM 0 20<Enter>W"))
+        self.assert_goes(panel, "[", 13, "^TURN 13 PP 00 P 0101 STD WAS 0000 NOW 0005; replayed in a fresh simulator$")
+
+
 class Program(PanelCase):
     """Memory as instructions: the loader of README.md."""
 

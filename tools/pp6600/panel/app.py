@@ -13,6 +13,7 @@ from .keys import LINES, Facts, help_lines
 from .page import Page
 from .prompt import Prompt
 from .remarks import in_width, remarks
+from .search import MOST_NEW, Stopped, last_before, next_found
 from .screen import LEAST_COLUMNS, LEAST_ROWS, Shown, is_too_small, layout, log_lines, screen
 from .text import Line
 from .view import ARROWS, View
@@ -22,7 +23,7 @@ LONG_ANSWER = 2  # lines; a longer answer is shown on a page
 BETWEEN_REPORTS = 0.2  # seconds
 CANCEL = ("Escape", "Ctrl-C")
 LETTERS = {"h": "Left", "j": "Down", "k": "Up", "l": "Right"}
-PROMPTS = {":": "> ", "g": "go to ", "G": "turn ", "/": "search ", "w": "w "}
+PROMPTS = {":": "> ", "g": "go to ", "G": "turn ", "u": "until ", "U": "back until ", "/": "search ", "w": "w "}
 NEW_ACTIONS = ("SET", "STEP", "WATCH", "UNWATCH", "DEADSTART")
 AFTER_FAULT = ("w", "L", "?", "Tab", "Shift-Tab", *ARROWS)  # keys that need no simulator
 
@@ -47,6 +48,7 @@ class Panel:
         self.count = self.message = ""
         self.prompt = self.page = None
         self.typed = {kind: [] for kind in PROMPTS}
+        self.typed["U"] = self.typed["u"]
         self.asked = []  # lines that would discard what is ahead
         self.fault = None  # why the simulator is no longer there
         self.is_asked_to_quit = self.is_ended = False
@@ -131,6 +133,10 @@ class Panel:
             self.send_key(key, int(count or "1", 8))
         elif key == "G" and count:
             self.take_line("G", count)
+        elif key in ("f", "F"):
+            self.take_line("u" if key == "f" else "U", "")
+        elif key in ("]", "["):
+            self.take_line("u" if key == "]" else "U", f"{self.view.place()} changes")
         else:
             self.press_to_look(key, int(count or "1", 8))
 
@@ -239,7 +245,8 @@ class Panel:
     def take_line(self, kind, text):
         """Does what a typed line asks for."""
         try:
-            {":": self.take_console_line, "g": self.go_to, "G": self.go_to_turn, "/": self.search, "w": self.save}[kind](text)
+            {":": self.take_console_line, "g": self.go_to, "G": self.go_to_turn, "u": self.go_until, "U": self.go_back_until,
+             "/": self.search, "w": self.save}[kind](text)
         except Failure as failure:
             self.message = str(failure)
 
@@ -259,12 +266,51 @@ class Panel:
         """Goes to a turn that was made."""
         if not re.fullmatch("[0-7]{1,20}", text):
             raise Failure(f"{text or 'nothing'} is no turn: give an octal number, as 405")
-        turn, last, replays = int(text, 8), self.session.history.last_turn, self.session.simulator.replays
+        turn, last = int(text, 8), self.session.history.last_turn
         if turn > last:
             raise Failure(f"there is no turn {turn:o} yet: the last one is {last:o}")
+        self.show_turn(turn, [])
+
+    def show_turn(self, turn, said):
+        """Goes to a turn, and shows what is to be said of it."""
+        replays = self.session.simulator.replays
         self.guard(self.session.to_turn, turn)
-        if self.fault is None and self.session.simulator.replays > replays:
-            self.message = f"{REPLAYED} in a fresh simulator"
+        if self.fault is None:
+            more = [f"{REPLAYED} in a fresh simulator"] if self.session.simulator.replays > replays else []
+            self.message = in_width(said + more, self.columns)
+
+    def go_until(self, text):
+        """Goes on to the next turn at which a condition comes to hold."""
+        self.go_to_found(next_found, text, f"in turns {self.session.history.turns + 1:o} to {self.session.history.last_turn + MOST_NEW:o}")
+
+    def go_back_until(self, text):
+        """Goes back to the last such turn before the present one."""
+        self.go_to_found(last_before, text, f"before turn {self.session.history.turns:o}")
+
+    def go_to_found(self, find, text, where):
+        """Goes to the turn that is found; without a text, by the condition before."""
+        text = text or (self.typed["u"] or [""])[-1]
+        if not text:
+            raise Failure("give a condition, as P 0 = 105 or M 0 106 changes")
+        self.shown_at = time.monotonic()
+        try:
+            found = find(self.session, text, self.report_search)
+        except Stopped:
+            self.message = "the search was stopped"
+            return
+        if found is None:
+            self.message = f"NONE: {text}, {where}"
+        else:
+            self.show_turn(found.turn, [found.text()])
+
+    def report_search(self, turn):
+        """Shows now and then how far a search is, and ends it if the operator stops it."""
+        if time.monotonic() - self.shown_at > BETWEEN_REPORTS:
+            self.message = f"searched to turn {turn:o}; Ctrl-C stops"
+            self.show()
+            self.shown_at = time.monotonic()
+            if self.is_stopped():
+                raise Stopped
 
     def show_log(self):
         self.page = Page("All lines and answers", log_lines(self.session.log, None), at_end=True)

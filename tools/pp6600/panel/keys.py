@@ -101,6 +101,9 @@ LINE_KEYS = (
 )
 OTHER_KEYS = (
     (("G",), "go to a turn: its number, before the key or after it"),
+    (("u", "U"), "on until a condition comes to hold, as P 0 = 105; and back"),
+    (("f", "F"), "on, and back, until the same condition again"),
+    (("]", "["), "on, and back, to a change of the number at the cursor"),
     (("Tab", "Shift-Tab"), "to the next part of the screen; to the one before"),
     (("arrows", "h j k l"), "move the cursor; Page Up and Page Down too"),
     (("(", ")"), "choose the processor before; the next one"),

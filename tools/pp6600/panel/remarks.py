@@ -6,7 +6,7 @@ from .next_change import next_change
 from .session import hit_of, kind_of
 
 # What a key does about a refusal.
-ADVICE = {"ERR 07": "< goes back to the beginning", "ERR 15": "t watches the number at the cursor",
+ADVICE = {"ERR 07": "< goes back to the beginning", "ERR 10": "[ goes to older changes", "ERR 15": "t watches the number at the cursor",
           "ERR 16": "> goes to the newest state"}
 
 

@@ -4,7 +4,7 @@ import os
 from typing import NamedTuple
 
 from ..answers import Place
-from ..console import has_no_answer
+from ..console import MOST_TURNS, has_no_answer
 from ..failure import Failure
 from ..machine_state import MachineState, questions
 from ..timeline import Timeline
@@ -125,7 +125,7 @@ class Session:
         return Outcome(answer, discarded, watched)
 
     def to_turn(self, turn):
-        """Goes to where so many turns are in effect, one of those that were made. What the turn changed is marked."""
+        """Goes to where so many turns are in effect. What the last of them changed is marked."""
         if turn:
             self.go(turn - 1)
         before = self.read() if turn else None
@@ -134,14 +134,17 @@ class Session:
         self.before = before or self.state
 
     def go(self, turn):
-        """Goes back or on to where so many turns are in effect: after the settings that follow the last of them."""
+        """Goes back or on to where so many turns are in effect: after the settings that follow the last of them. New turns do
+        not end where a watched number changes."""
         history = self.history
         if turn < history.turns:
             self.send(f"BACK {history.back_over(history.turns - turn):o}")
-        elif turn == history.last_turn and history.to_redo:
+        elif turn >= history.last_turn and history.to_redo:
             self.send(f"FORWARD {history.to_redo:o}")
-        elif turn > history.turns:
+        elif history.turns < turn < history.last_turn:
             self.send(f"FORWARD {history.forward_over(turn - history.turns + 1) - 1:o}")
+        while turn > self.history.turns:
+            self.send(f"STEP {min(turn - self.history.turns, MOST_TURNS):o}")
 
     def perform_script(self, lines, stops=never):
         """Performs a script, whatever is refused; `stops` is asked before each line. Returns whether all was performed."""
