@@ -13,7 +13,7 @@ import time
 import unittest
 
 from tests.debug_client import Client, Refusal
-from tests.support import EXAMPLES, TOP, Case, program
+from tests.support import EXAMPLES, Case, program
 
 from pp6600.debug.breakpoints import Breakpoints, Cell
 from pp6600.debug.machine import Machine

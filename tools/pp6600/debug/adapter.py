@@ -1,10 +1,10 @@
 """The requests of an editor: those that begin, run and end a session, and those that set breakpoints."""
 
-from ..answers import CELLS, PROCESSORS, Place
+from ..answers import CELLS, PROCESSORS
 from ..failure import Failure
-from ..options import OPTIONS, default_program
-from ..run import MOST_SHOWN
-from ..text_files import script_lines
+from ..options import OPTIONS, default_program, processor
+from ..script import MOST_SHOWN
+from ..text_files import script_lines, shown
 from .breakpoints import DATA_ID, INSTRUCTION_ID, LINE_ID, Breakpoints, Cell, places_of
 from .listings import Listings
 from .machine import Machine
@@ -135,16 +135,15 @@ class Adapter(Requests):
         for name in OPTIONS:
             value = arguments.get(name)
             words += [f"--{name}", str(value)] if value not in (None, "") else []
-        shown = arguments.get("processor")
-        if shown not in (None, "") and not (str(shown) in {f"{one:o}" for one in range(PROCESSORS)} | {f"{one:02o}" for one in range(PROCESSORS)}):
-            raise Refused(f"{shown} is no processor: it is 0 to 11, octal")
+        number = arguments.get("processor")
+        number = processor(str(number)) if number not in (None, "") else None
         script = arguments.get("script")
         lines = script_lines(str(script)) if script else []
         self.machine = Machine(words)
         self.listings = self.listings or Listings()
         self.perform_script(lines)
         self.look()
-        self.shown = int(str(shown), 8) if shown not in (None, "") else self.machine.slot
+        self.shown = self.machine.slot if number is None else number
         self.after = lambda: self.wire.event("initialized")
 
     def perform_script(self, lines):
@@ -152,8 +151,7 @@ class Adapter(Requests):
         for number, line in enumerate(lines, 1):
             answer = self.machine.act(line)
             if answer and answer[0].startswith("ERR "):
-                shown = "".join(filter(str.isprintable, line[:MOST_SHOWN]))
-                self.wire.say(f"line {number} (decimal) of the script was refused, {answer[0]}: {shown}", "stderr")
+                self.wire.say(f"line {number} (decimal) of the script was refused, {answer[0]}: {shown(line[:MOST_SHOWN])}", "stderr")
 
     def do_configurationDone(self, **_):
         self.after = self.enter

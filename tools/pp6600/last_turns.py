@@ -1,0 +1,57 @@
+"""What each of the last turns changed: the registers of the processor whose turn it is and all its cells, the channels and the
+clock, the frame, both devices, and the central words from A to A+17, for a turn changes no others."""
+
+from .answers import CENTRAL_ADDRESSES, FRAME_WORDS, REGISTERS
+from .history import turns_of
+from .run import Replay
+
+
+def central_words(run, registers, size):
+    """Returns the central words that a turn may change, by their addresses, which go round: as many as the frame has."""
+    first = int(registers["A"], 8)
+    last = first + FRAME_WORDS - 1
+    lines = []
+    if first < size:
+        lines += run.central(first, min(last, size - 1))
+    if last >= CENTRAL_ADDRESSES:
+        lines += run.central(0, last - CENTRAL_ADDRESSES)
+    return {f"C {address}": word for _, address, word in (line.split() for line in lines)}
+
+
+def device(line, names):
+    """Returns the fields of a reader's or a printer's line."""
+    words = line.split()
+    return {f"{words[0]} {name}": words[words.index(name) + 1] for name in names}
+
+
+def look(run, slot, size, old_registers=None):
+    """Returns all numbers that a turn of the processor in the slot may change, by their places; after the turn it is the
+    old registers that say which central words these are."""
+    registers = run.registers(slot)
+    numbers = {f"{name} {slot:02o}": registers[name] for name in REGISTERS}
+    numbers |= {f"M {slot:02o} {at:04o}": word for at, word in enumerate(run.cells(slot, 0, 0o7777))}
+    numbers |= {line[:4]: line[5:] for line in run.channels()}
+    numbers |= {line[:5]: line[6:] for line in run.frame()}
+    numbers |= device(run.reader(), ("CARD", "COLUMN", "MODE"))
+    printer, *paper = run.printer()
+    numbers |= device(printer, ("SYMBOLS", "COLUMN", "MODE")) | {"PAPER": paper[-1] if paper else "EMPTY"}
+    return numbers | central_words(run, old_registers or registers, size)
+
+
+def changed_by_turn(run, slot, size):
+    """Makes a turn of the processor in the slot, and returns the line of what it changed."""
+    registers = run.registers(slot)
+    before = look(run, slot, size)
+    run.advance(1)
+    after = look(run, slot, size, registers)
+    changes = [f"{place} {before[place]} -> {after[place]}" for place in before if before[place] != after[place]]
+    return f"TURN {run.turn:o} PP {slot:02o}: {', '.join(changes) or 'NOTHING'}"
+
+
+def last_turns(words, actions, count):
+    """Yields a line for each of the last turns, and for each action between them."""
+    run = Replay(words)
+    size = run.size_of_central()
+    for slot, line in run.looks(actions, max(turns_of(actions) - count, 0)):
+        yield line if slot is None else changed_by_turn(run, slot, size)
+    run.end()
