@@ -195,7 +195,7 @@ class Beginning(DebugCase):
 
 class Listing(DebugCase):
     def lines(self, client, number=0):
-        with open(self.path(client, number), encoding="ascii") as file:
+        with open(self.path(client, number), encoding="utf-8") as file:
             return file.read().split("\n")[:-1]
 
     def test_files(self):
@@ -223,6 +223,29 @@ class Listing(DebugCase):
         self.assertEqual("7777  0100  LJM 00 0105", lines[0o7777].rstrip())  # cell 0000 has where the block goes on
         after = os.stat(path)
         self.assertEqual((before.st_ino, before.st_size), (after.st_ino, after.st_size))
+
+    def test_symbols(self):
+        """Labels, and texts of a listing of one's own as long as the word is there, on their lines."""
+        own = self.script(["0100 1401 COUNT LDN 1   one", "0101 3520       RAD 20", "0102 0375       UJN COUNT \xe9"])
+        self.utf8(own)
+        client = self.session(LOOPS, symbols={"0": own}, processor="0")
+        lines = self.lines(client)
+        self.assertEqual(["0100  1401  LDN 01       COUNT  COUNT LDN 1   one", "0101  3520  RAD 20              RAD 20",
+                          "0102  0375  UJN 75              UJN COUNT \u00e9"], [line.rstrip() for line in lines[0o100:0o103]])
+        self.assertEqual({len(line.encode()) for line in lines}, {len(lines[0])})
+        self.assertEqual("0100  1401  LDN 01", client.ask("evaluate", expression="COUNT", context="hover")["result"])
+        client.typed("SET M 0 101 0")
+        self.assertEqual("0101  0000  PSN 00", self.lines(client)[0o101].rstrip())
+        with self.assertRaisesRegex(Refusal, "can't read /none"):
+            self.client().ask("launch", symbols={"0": "/none"})
+
+    @staticmethod
+    def utf8(path):
+        """Turns a file into UTF-8."""
+        with open(path, encoding="latin-1") as file:
+            text = file.read()
+        with open(path, "w", encoding="utf-8") as file:
+            file.write(text)
 
     def test_two_sessions(self):
         first, second = self.loader(), self.loader()

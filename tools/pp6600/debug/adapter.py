@@ -2,6 +2,7 @@
 
 from ..answers import CELLS, PROCESSORS
 from ..failure import Failure
+from ..listing import Symbols
 from ..options import OPTIONS, default_program, processor
 from ..script import MOST_SHOWN
 from ..text_files import script_lines, shown
@@ -139,8 +140,10 @@ class Adapter(Requests):
         number = processor(str(number)) if number not in (None, "") else None
         script = arguments.get("script")
         lines = script_lines(str(script)) if script else []
+        symbols = {processor(str(one)): Symbols.of_file(str(path)) for one, path in (arguments.get("symbols") or {}).items()}
         self.machine = Machine(words)
-        self.listings = self.listings or Listings()
+        if self.listings is None:
+            self.listings = Listings(symbols)
         self.perform_script(lines)
         self.look()
         self.shown = self.machine.slot if number is None else number

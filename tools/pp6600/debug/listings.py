@@ -30,12 +30,35 @@ def instruction(memory, cell):
 
 
 WIDTH = len("0000  0000  LJM 00 0000")
+MOST_TEXT = 60  # characters of a restorer's own listing beside an instruction
+
+
+class Beside:
+    """What stands beside the instructions of a processor: the label of a cell, and the text of the restorer's own listing as long as
+    the word is the one that it lists. All are of one width, in bytes."""
+
+    def __init__(self, symbols=None):
+        """The symbols are those of `pp6600.listing`."""
+        self.symbols = symbols
+        self.labels = symbols.labels if symbols else {}
+        texts = [line.text for _, line in symbols.listing.cells.values()] if symbols else []
+        self.label_width = max((len(label) for label in self.labels.values()), default=0)
+        self.text_width = min(max((len(text.encode()) for text in texts), default=0), MOST_TEXT)
+        self.width = sum(2 + width for width in (self.label_width, self.text_width) if width)
+
+    def at(self, cell, word):
+        """Returns the bytes beside a cell that has this word."""
+        label = f"  {self.labels.get(cell, ''):{self.label_width}}".encode() if self.label_width else b""
+        text = self.symbols.text(cell, word).encode()[:self.text_width].decode(errors="ignore").encode() if self.text_width else b""
+        return label + (b"  " + text.ljust(self.text_width) if self.text_width else b"")
 
 
 class Listings:
     """The files of a session, in a folder of their own."""
 
-    def __init__(self):
+    def __init__(self, symbols):
+        """The symbols of some processors, by their numbers."""
+        self.beside = [Beside(symbols.get(number)) for number in range(PROCESSORS)]
         self.folder = tempfile.mkdtemp(prefix="pp6600-")
         self.files, self.rows = {}, {}
         for number in range(PROCESSORS):
@@ -53,15 +76,22 @@ class Listings:
             NAME.fullmatch(os.path.basename(path))
         return int(found[1], 8) if found else None
 
+    def address(self, number, label):
+        """Returns the address of a label; None if there is no such label."""
+        return next((at for at, name in self.beside[number].labels.items() if name == label), None)
+
     def source(self, number):
         return {"name": f"PP{number:02o}.pplist", "path": self.path(number)}
 
-    def lines(self, memory, cells):
-        """Returns the lines of some cells, each as long as any other."""
-        return "".join(f"{instruction(memory, cell):{WIDTH}}\n" for cell in cells).encode("ascii")
+    def lines(self, number, memory, cells):
+        """Returns the lines of some cells of a processor, each as long as any other."""
+        beside = self.beside[number]
+        if not beside.width:
+            return "".join(f"{instruction(memory, cell):{WIDTH}}\n" for cell in cells).encode("ascii")
+        return b"".join(f"{instruction(memory, cell):{WIDTH}}".encode("ascii") + beside.at(cell, memory.word(cell)) + b"\n" for cell in cells)
 
-    def text(self, memory):
-        return self.lines(memory, range(CELLS)).decode("ascii")
+    def text(self, number, memory):
+        return self.lines(number, memory, range(CELLS)).decode()
 
     def follow(self, number, memory):
         """Writes what has changed of a processor's cells."""
@@ -70,10 +100,14 @@ class Listings:
             return
         for row in [at for at, (was, now) in enumerate(zip(old, memory.rows)) if was != now]:
             first = max(ROW * row - 1, 0)  # the word before may be the first one of an instruction of two words
-            os.pwrite(self.files[number], self.lines(memory, range(first, ROW * row + ROW)), first * (WIDTH + 1))
+            self.write(number, memory, range(first, ROW * row + ROW))
         if old[0] != memory.rows[0]:  # after cell 7777 comes cell 0000
-            os.pwrite(self.files[number], self.lines(memory, [CELLS - 1]), (CELLS - 1) * (WIDTH + 1))
+            self.write(number, memory, range(CELLS - 1, CELLS))
         self.rows[number] = memory.rows
+
+    def write(self, number, memory, cells):
+        """Writes the lines of some cells in their place."""
+        os.pwrite(self.files[number], self.lines(number, memory, cells), cells[0] * (WIDTH + self.beside[number].width + 1))
 
     def remove(self):
         for file in self.files.values():

@@ -22,12 +22,12 @@ class Wire:
 
     def __init__(self, log=None):
         self.seq = 0
-        self.log = opened(log) if log else None
+        self.log, self.lock = opened(log) if log else None, threading.Lock()  # both threads write it
         self.requests = queue.Queue()
         if sys.stdin is None:
             raise Failure("standard input is closed or a folder, so no editor can speak")
         self.input = os.fdopen(os.dup(sys.stdin.fileno()), "rb")  # not sys.stdin: a thread that reads that at the end would abort Python
-        self.output = os.fdopen(os.dup(sys.stdout.fileno()), "wb")
+        self.output = os.fdopen(os.dup(sys.stdout.fileno()), "wb", buffering=0)
         sys.stdout = sys.stderr  # nothing else may come between the messages
         threading.Thread(target=self.listen, daemon=True).start()
 
@@ -82,9 +82,10 @@ class Wire:
         data = json.dumps(message).encode("ascii")
         try:
             self.output.write(b"Content-Length: %d\r\n\r\n%s" % (len(data), data))
-            self.output.flush()
-        except BrokenPipeError:  # the client has gone, as its input will say
+        except BrokenPipeError:  # the client has gone
             self.requests.put(None)
+        except OSError as error:
+            self.requests.put(Failure(f"can't write to standard output: {error.strerror}"))
         self.note("<", message)
 
     def event(self, name, **body):
@@ -96,7 +97,8 @@ class Wire:
 
     def note(self, mark, message):
         if self.log:
-            print(mark, json.dumps(message), file=self.log, flush=True)
+            with self.lock:
+                print(mark, json.dumps(message), file=self.log, flush=True)
 
 
 def opened(path):

@@ -48,7 +48,7 @@ class Requests:
             number = sourceReference - 1
         if number is None:
             raise Refused("no listing of this session")
-        return {"content": self.listings.text(self.machine.state.memories[number]), "mimeType": "text/plain"}
+        return {"content": self.listings.text(number, self.machine.state.memories[number]), "mimeType": "text/plain"}
 
     def do_gotoTargets(self, source, line, **_):
         number, address = self.listings.number_of(source), line - self.base
@@ -97,13 +97,20 @@ class Requests:
         if context == "watch" and text.startswith(PREFIX):
             acts, text = True, text[len(PREFIX):].strip()
         try:
-            return {"result": value_of(self.machine, place_of(text, number)), "variablesReference": 0}
+            return {"result": self.value(text, number), "variablesReference": 0}
         except Refused:
             if not acts:
                 raise
         lines = text.split("\n")
         answers = [self.typed(line.encode("utf-8", "replace").decode("latin-1"), number) for line in lines]
         return {"result": "\n".join(line for answer in answers for line in answer), "variablesReference": 0}
+
+    def value(self, text, number):
+        """Returns the number at a place, or the cell that a label of the processor's symbols names."""
+        address = self.listings.address(number, text)
+        if address is None:
+            return value_of(self.machine, place_of(text, number))
+        return instruction(self.machine.state.memories[number], address)
 
     def typed(self, line, number):
         """Performs a line that was typed. Returns the lines of its answer; after one that moves the machine a stop follows."""
