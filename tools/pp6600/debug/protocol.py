@@ -27,7 +27,7 @@ class Wire:
         if sys.stdin is None:
             raise Failure("standard input is closed or a folder, so no editor can speak")
         self.input = os.fdopen(os.dup(sys.stdin.fileno()), "rb")  # not sys.stdin: a thread that reads that at the end would abort Python
-        self.output = os.fdopen(os.dup(sys.stdout.fileno()), "wb", buffering=0)
+        self.output = os.dup(sys.stdout.fileno())
         sys.stdout = sys.stderr  # nothing else may come between the messages
         threading.Thread(target=self.listen, daemon=True).start()
 
@@ -81,7 +81,9 @@ class Wire:
         message = {"seq": self.seq, **message}
         data = json.dumps(message).encode("ascii")
         try:
-            self.output.write(b"Content-Length: %d\r\n\r\n%s" % (len(data), data))
+            rest = b"Content-Length: %d\r\n\r\n%s" % (len(data), data)
+            while rest:
+                rest = rest[os.write(self.output, rest):]
         except BrokenPipeError:  # the client has gone
             self.requests.put(None)
         except OSError as error:
