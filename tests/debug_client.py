@@ -8,6 +8,7 @@ import threading
 
 from .support import PYTHON, TOP, program
 
+ADAPTER = os.path.join(TOP, "tools", "debug-adapter")
 PATIENCE = 20  # seconds for a message
 
 
@@ -19,7 +20,7 @@ class Client:
     """An adapter at the other end of pipes."""
 
     def __init__(self, *words, environment=None):
-        self.process = subprocess.Popen([*PYTHON, os.path.join(TOP, "tools", "debug-adapter"), *words], stdin=subprocess.PIPE,
+        self.process = subprocess.Popen([*PYTHON, ADAPTER, *words], stdin=subprocess.PIPE,
                                         stdout=subprocess.PIPE, stderr=subprocess.PIPE,
                                         env={**os.environ, "PP6600": program(), **(environment or {})})
         self.seq = 0

@@ -12,8 +12,8 @@ import tempfile
 import time
 import unittest
 
-from tests.debug_client import Client, Refusal
-from tests.support import EXAMPLES, Case, program
+from tests.debug_client import ADAPTER, Client, Refusal
+from tests.support import EXAMPLES, PYTHON, Case, program
 
 from pp6600.debug.breakpoints import Breakpoints, Cell
 from pp6600.debug.machine import Machine
@@ -660,6 +660,16 @@ class BadHands(DebugCase):
             client = Client(*words)
             self.assertEqual(2, client.process.wait(20))
             self.assertIn(said, client.end()[1])
+
+    def test_streams(self):
+        """Closed and full ones: one line, and status 2."""
+        request = b'Content-Length: 48\r\n\r\n{"seq":1,"type":"request","command":"initialize"}'
+        for how, said in ((">&-", "standard output is closed, so there is nowhere to write to"), (">/dev/full", "can't write to standard output: No space left on device"),
+                          ("<&-", "standard input is closed or a folder, so no editor can speak")):
+            with self.subTest(how):
+                done = subprocess.run(["bash", "-c", f'"$0" "$@" {how}', *PYTHON, ADAPTER], input=request, stdout=subprocess.DEVNULL,
+                                      stderr=subprocess.PIPE, check=False)
+                self.assertEqual((f"debug-adapter: {said}\n", 2), (done.stderr.decode(), done.returncode))
 
     def test_nothing_is_left(self):
         before = set(glob.glob(os.path.join(tempfile.gettempdir(), "pp6600-*")))

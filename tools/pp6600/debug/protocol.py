@@ -87,7 +87,7 @@ class Wire:
         except BrokenPipeError:  # the client has gone
             self.requests.put(None)
         except OSError as error:
-            self.requests.put(Failure(f"can't write to standard output: {error.strerror}"))
+            raise Failure(f"can't write to standard output: {error.strerror}") from None
         self.note("<", message)
 
     def event(self, name, **body):
