@@ -203,7 +203,7 @@ class Show(Case):
         self.assertEqual((wanted, "", 0), tool("show", *LOADER, os.path.join(EXAMPLES, "overwritten-loader", "script")))
 
     def test_simulator_that_ends_early(self):
-        ended = "show: the simulator ended early, with status 2: pp6600: CANNOT OPEN DECK\n"
+        ended = "show: the simulator ended early, with status 2: pp6600: CANNOT OPEN DECK (no-such-file)\n"
         for script in ("", "STEP\n"):
             self.assertEqual(("", ended, 2), tool("show", "--deck", "no-such-file", script=script))
 
