@@ -121,7 +121,7 @@ def faults_of_mutants(promises):
     for crate, mutant, pairs in mutants():
         for promise, call in pairs or [("", "")]:
             if (promise, call) not in named:
-                yield f"{crate}/{mutant}.edit: no promise of docs/promises.txt is named {promise!r} and has the call {call!r}"
+                yield f"{crate}/{mutant}.edit: docs/promises.txt has no promise for its lines '# promise: {promise}' and '# call: {call}'"
             elif not call.startswith(crate + "::"):
                 yield f"{crate}/{mutant}.edit: the call {call} is of another crate, which no check of this mutant reads"
     met = {promise for *_, pairs in mutants() for promise, _ in pairs}

@@ -21,23 +21,22 @@ CONTRACTS = PROOFS["contracts"]()
 CRATES = [line.split(":")[0].split()[0] for line in read("crates.txt").splitlines()]
 
 # What the repository does not define: words of the kit and of the system, keys, what is installed, and what recipes invent.
-OTHERS = set("""crate doc lemma logic plant specs proofs ghost prove inline auto using unfolding clause Display Read Write File cd echo
-    cp gz tar --anew --allow-holes --fix-imports --start Ctrl Shift Tab End Home WORD FILE FILE.html word /usr/local ~/.local
-    ~/.pp6600_history PREFIX/bin PREFIX/libexec/pp6600/tools share/doc/pp6600/exercises pp6600-VERSION-x86_64-linux.tar.gz work.html
+OTHERS = set("""crate doc lemma logic plant version specs proofs ghost prove inline auto using unfolding clause functions proof failed
+    --anew --allow-holes --fix-imports --only --start Display Read Write File cd echo cp gz tar Ctrl Shift Tab End Home WORD FILE FILE.html
+    FUNCTION word /usr/local ~/.local ~/.pp6600_history PREFIX/bin PREFIX/libexec/pp6600/tools share/doc/pp6600/exercises pp6600-VERSION-x86_64-linux.tar.gz work.html
     WHO Who slot_text kept_text must-fail/who_shows_p.edit pp_console/who_shows_p""".split())
 COMMENT_OR_TEXT = re.compile(r'//[^\n]*|--[^\n]*|b?("(?:\\.|[^"\\])*")')
 OF_A_PROGRAM = re.compile(r"--?[a-z][a-z-]*|\b[A-Z][A-Z\d_]*\b|(?<=[\"'])\w+(?=[\"'])|(?<=def )\w+|(?<=class )\w+")
 PATH = re.compile(r"(?=.*\w)[~\w.*-]*/[\w./*-]*|[\w*-]+\.(?:antt|edit|html|md|py|rt|txt)")
 WORD = re.compile(r"(?<!\w)[A-Za-z_]\w*(?:-\w+)*(?:::\w+)*")
-# What stands for a number, as n or aaaa; a key with a number, as g106; the name of a kit, and its sum.
-PLAIN = re.compile(r"([A-Za-z])\1*|[a-z]\d+|rattle-kit-\w+|[a-f][\da-f]{15}")
+PLAIN = re.compile(r"([A-Za-z])\1*|[a-z]\d+|rattle-kit-\w+|[a-f][\da-f]{15}")  # n or aaaa for a number, a key as g106, a kit, its sum
 LINK = re.compile(r"\]\(([^)#:\s]*)(?:#([^)\s]+))?[^)]*\)")
 CONTRACT = re.compile(r"^- ((?:`[\w:]+`(?:, | and )?)+)(?: \(([^)]*)\))?:", re.M)
 KINDS = {"clause": "clauses", "clauses": "clauses", "against": "clauses", "mutant": "mutants", "mutants": "mutants",
          "crate": "crates", "crates": "crates", "ghost words": "ghosts"}
 KIND = re.compile(r"\b(" + "|".join(KINDS) + r")\s+\(?((?:`\w+`(?:,\s+|\s+and\s+)?)+)")
-COUNT = re.compile(r"\b(?:\d[\d,]+|ten|eleven|twelve|\w+teen|twenty)(?:\s+(?:of\s+)?[\w`-]+){0,2}?\s+"
-                   r"(?:mutants|crates|theorems|clauses|tests|lines\s+of\s+(?:code|Python|Rattle))\b")
+COUNT = re.compile(r"\b(?:\d[\d,]*|two|three|four|five|six|seven|eight|nine|ten|eleven|twelve|\w+teen|twenty)(?:\s+(?:of\s+)?[\w`-]+){0,2}?\s+"
+                   r"(?:mutants|crates|theorems|functions|tests|lines\s+of\s+(?:code|Python|Rattle))\b")
 
 
 
@@ -65,8 +64,8 @@ class Known:
         self.calls = {(owner, call) for contracts in CONTRACTS.values() for *owners, call, _ in contracts for owner in owners}
         self.mutants = {os.path.basename(path)[:-len(".edit")] for path in self.files if path.endswith(".edit")}
         self.crates = set(re.findall(r"\w+", read("crates.txt")))
-        names = {os.path.basename(path) for path in self.files}
-        self.words |= self.mutants | names | {"pp6600-" + name for name in names} | set().union(*self.code.values())
+        names = {name for path in self.files for name in (os.path.basename(path), "pp6600-" + os.path.basename(path), path[len("tests/"):-3])}
+        self.words |= self.mutants | names | set().union(*self.code.values())
 
     def add_source(self, crate, text):
         bare = COMMENT_OR_TEXT.sub(" ", text)
@@ -130,14 +129,17 @@ def anchors(text):
 
 def faults(page, text):
     """Returns what is wrong with the names, links and counts of a page."""
-    found = [f"no {word} for `{name}`" for name in re.findall(r"`([^`]+)`", prose(text)) for word in unknown(name, page)]
-    found += [f"{name} is none of the {KINDS[kind]}" for kind, names in KIND.findall(prose(text)) for name in re.findall(r"`(\w+)`", names)
+    now = "" if page == "CHANGELOG.md" else prose(text)  # the history names and counts what was
+    found = [f"no {word} for `{name}`" for name in re.findall(r"`([^`]+)`", now) for word in unknown(name, page)]
+    found += [f"'{said}' is a count, which goes stale" for said in COUNT.findall(now)]
+    found += [f"{name} is none of the {KINDS[kind]}" for kind, names in KIND.findall(now) for name in re.findall(r"`(\w+)`", names)
               if not PLAIN.fullmatch(name) and name not in getattr(KNOWN, KINDS[kind])]
     for path, anchor in LINK.findall(text) if not page.startswith("share/") else ():  # those of share/ are of an installation
         to = os.path.normpath(os.path.join(os.path.dirname(page), path)) if path else page
-        if to not in KNOWN.files | {page, "."} or anchor and anchor not in anchors(read(to) if path else text):
+        is_there = to in KNOWN.files | {page, "."}
+        if not is_there or to.endswith(".md") and anchor and anchor not in anchors(read(to) if path else text):
             found.append(f"no {path}{'#' if anchor else ''}{anchor}")
-    return found + ([f"'{said}' is a count, which goes stale" for said in COUNT.findall(prose(text))] if page != "CHANGELOG.md" else [])
+    return found
 
 
 class Pages(Case):
@@ -188,8 +190,7 @@ class Pages(Case):
                 ("A word of the console: `STEPZ 3`.", ["no STEPZ for `STEPZ 3`"]),
                 ("Not of its kind: the clause `add18`, the mutant `fits`.", ["add18 is none of the clauses", "fits is none of the mutants"]),
                 ("# A page: `add18`\n\nTo [itself](#a-page-add18), a [file](VERSION), a [heading](docs/CONSOLE.md#the-program).", []),
-                ("To [itself](#no-such-heading).", ["no #no-such-heading"]),
-                ("To a [file](docs/NO-PAGE.md#speed).", ["no docs/NO-PAGE.md#speed"]),
+                ("To [itself](#no-heading), to a [file](docs/NO-PAGE.md#speed).", ["no #no-heading", "no docs/NO-PAGE.md#speed"]),
                 ("To a [heading](docs/CONSOLE.md#no-such-heading).", ["no docs/CONSOLE.md#no-such-heading"]),
                 ("A block has names of its own:\n\n```\n`no_such_call`\n```\n\n    `no_such_call`\n", []),
                 ("There are 17 crates.", ["'17 crates' is a count, which goes stale"]),

@@ -1,7 +1,6 @@
 """The tool that films a script."""
 
 from ..command_line import add_script, arguments, bytes_of, count, simulator
-from ..script import Refusals
 from ..text_files import lines_of
 from .camera import Film, Transcript, to_skip
 from .page import heading, page, text_of, write_page
@@ -23,7 +22,4 @@ def main():
     film = Film(words, transcript, int(asked.reader or "12", 8), int(asked.printer or "13", 8))
     film.shoot(to_skip(transcript, asked.last))
     write_page(asked.output, page(heading(asked.title, asked.script), text_of(film, asked, script)))
-    refusals = Refusals()
-    for number, (line, answer) in enumerate(transcript.lines, 1):
-        refusals.note(number, line, answer)
-    return refusals.complain()
+    return transcript.script.status()
