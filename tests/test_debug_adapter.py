@@ -663,7 +663,7 @@ class BadHands(DebugCase):
 
     def test_streams(self):
         """Closed and full ones: one line, and status 2."""
-        request = b'Content-Length: 48\r\n\r\n{"seq":1,"type":"request","command":"initialize"}'
+        request = b'Content-Length: 49\r\n\r\n{"seq":1,"type":"request","command":"initialize"}'
         for how, said in ((">&-", "standard output is closed, so there is nowhere to write to"), (">/dev/full", "can't write to standard output: No space left on device"),
                           ("<&-", "standard input is closed or a folder, so no editor can speak")):
             with self.subTest(how):

@@ -4,7 +4,6 @@ from ..answers import CELLS, PROCESSORS
 from ..failure import Failure
 from ..listing import Symbols
 from ..options import OPTIONS, default_program, processor
-from ..script import MOST_SHOWN
 from ..text_files import script_lines, shown
 from .breakpoints import DATA_ID, INSTRUCTION_ID, LINE_ID, Breakpoints, Cell, places_of
 from .listings import Listings
@@ -22,6 +21,7 @@ BEFORE_LAUNCH = ("initialize", "launch", "disconnect", "terminate")
 WHILE_RUNNING = ("pause", "disconnect", "terminate", "threads", "source", "setBreakpoints", "setInstructionBreakpoints",
                  "setDataBreakpoints", "setExceptionBreakpoints", "dataBreakpointInfo")
 OUTSIDE_BLOCKS = {f"{cell:04o}0000" for cell in range(CELLS)}
+MOST_SHOWN = 60  # characters of a line that was refused
 BEGINNING = "the beginning: no action comes before this"
 
 
