@@ -26,6 +26,7 @@ class Client:
         self.seq = 0
         self.ended = None
         self.messages, self.events = queue.Queue(), []
+        self.shown = []  # to the user, so far
         threading.Thread(target=self.listen, daemon=True).start()
 
     def listen(self):
@@ -40,6 +41,7 @@ class Client:
         message = self.messages.get(timeout=PATIENCE)
         if message and message["type"] == "event":
             self.events.append(message)
+            self.shown += [message["body"]["output"]] if message["event"] == "output" else []
         return message
 
     def send(self, command, **arguments):
@@ -74,10 +76,6 @@ class Client:
                     return event.get("body", {})
             if self.message() is None:
                 raise EOFError(self.said())
-
-    def outputs(self):
-        """Returns what was shown to the user, of the events that have come and are not dropped."""
-        return [event["body"]["output"] for event in self.events if event["event"] == "output"]
 
     def launch(self, **arguments):
         """Begins a session. Returns the body of the first stop."""

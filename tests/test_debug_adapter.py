@@ -160,7 +160,7 @@ class Beginning(DebugCase):
         client.ask("initialize")
         client.ask("launch", script=self.script(["STEP 12", "BACK 13", "GO"]))
         self.assertEqual(["line 2 (decimal) of the script was refused, ERR 07 TOO FEW KEPT: BACK 13\n",
-                          "line 3 (decimal) of the script was refused, ERR 01 NOT A COMMAND: GO\n"], client.outputs())
+                          "line 3 (decimal) of the script was refused, ERR 01 NOT A COMMAND: GO\n"], client.shown)
 
     def test_faults_of_options(self):
         for arguments, said in (({"deck": "/none"}, "status 2: pp6600: CANNOT OPEN DECK"), ({"history": "x"}, "status 2"), ({"script": "/none"}, "can't read /none"),
@@ -497,6 +497,13 @@ class Typed(DebugCase):
         self.assertEqual("", client.typed("* a note"))
         self.assertEqual("ERR 06 NOT ASCII", client.typed("* na\u00efve \ud800"))
         self.assertEqual("OK\nOK\nTURNS 25 SLOT 01", client.typed("SET A 0 0\nSET M 0 100 1\nSTEP 25"))
+
+    def test_what_is_no_longer_ahead(self):
+        client = self.loader()
+        client.typed("BACK 12")
+        client.typed("SET A 0 0")
+        self.assertIn("12 actions (octal) that were ahead are so no longer\n", client.shown)
+        self.assertEqual("0", self.values(client, HISTORY)["ahead"])
 
     def test_a_hit(self):
         client = self.session(["SET M 0 100 1405 3420", "SET P 0 100", "WATCH A 0"])

@@ -74,9 +74,16 @@ class Requests:
         found = variables(self.machine, scope, number, dict.fromkeys([*self.machine.own, *self.points.places()]))
         return {"variables": found[start:start + count] if count else found}
 
+    def act(self, line):
+        """Performs a line, and returns its answer. What was ahead may be lost by it: that is said."""
+        ahead, answer = self.machine.ahead, self.machine.act(line)
+        if ahead and answer and answer[0].split()[0] in ("OK", "TURNS"):
+            self.wire.say(f"{ahead:o} actions (octal) that were ahead are so no longer")
+        return answer
+
     def set_number(self, line):
         """Performs a line that sets numbers."""
-        answer = self.machine.act(line)
+        answer = self.act(line)
         if answer != ["OK"]:
             raise Refused(f"{answer[0] if answer else 'nothing'}: {line}")
         self.look()
@@ -114,7 +121,7 @@ class Requests:
 
     def typed(self, line, number):
         """Performs a line that was typed. Returns the lines of its answer; after one that moves the machine a stop follows."""
-        answer = self.machine.act(line)
+        answer = self.act(line)
         kind = answer[0].split()[0] if answer else ""
         word = line.upper().split()[:1]
         if kind == "OK" and word in (["WATCH"], ["UNWATCH"]):
