@@ -345,6 +345,15 @@ class DataBreakpoint(DebugCase):
         self.assertEqual(["step", "data breakpoint"], [client.stop_after("stepIn", threadId=4)["reason"] for _ in range(2)])
         self.assertEqual("W NONE", client.typed("DUMP W"))
 
+    def test_a_step_that_is_typed(self):
+        """A watch of a data breakpoint, left by going back, does not stop it."""
+        client = self.session(LOOPS)
+        self.set_data(client, "M 3 21")
+        client.stop_after("continue", threadId=1)
+        client.stop_after("stepBack", threadId=4)
+        self.set_data(client)
+        self.assertEqual("TURNS 100 SLOT 07", client.typed("STEP 100"))
+
     def test_own_watches_stay(self):
         client = self.session([*LOOPS, "WATCH M 0 20"])
         self.assertEqual({"M 0 20": "0000"}, self.values(client, WATCHES))
@@ -413,7 +422,8 @@ class Back(DebugCase):
         client = self.session([*LOOPS, "SET M 5 0 1", "STEP 10000", "SET M 0 50 7", "STEP 10000"], history=100)
         self.assertEqual("144", self.values(client, HISTORY)["kept"])
         client.ask("setDataBreakpoints", breakpoints=[{"dataId": "M 0 50"}])
-        self.assertEqual("data breakpoint", client.stop_after("reverseContinue", threadId=1)["reason"])
+        stop = client.stop_after("reverseContinue", threadId=1)
+        self.assertEqual(("data breakpoint", "M 00 0050 is 0000, and will be 0007"), (stop["reason"], stop["text"]))
         self.assertEqual((0o10000, "0000"), (self.turns(client), client.typed("M 0 50")))
         client.ask("setDataBreakpoints", breakpoints=[{"dataId": "M 5 0"}])
         self.assertEqual("data breakpoint", client.stop_after("reverseContinue", threadId=1)["reason"])

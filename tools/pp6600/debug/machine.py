@@ -65,7 +65,9 @@ class Machine:
         self.own = [place for place in self.watched if place not in self.lent]
 
     def act(self, line):
-        """Performs a line, and returns its answer. An action discards what is ahead."""
+        """Performs a line of the user, and returns its answer. An action discards what is ahead."""
+        if self.lent and line.upper().split()[:1] == [STEP]:
+            self.lend([])  # going back may have left a watch that is not the user's
         answer = self.run.act(line)
         if answer and answer[0].split()[0] in ("OK", "TURNS"):
             self.later = Actions()

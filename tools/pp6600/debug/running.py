@@ -16,11 +16,17 @@ FIRST_SPAN = 0o20000  # turns before what is kept that are searched first
 
 
 class Stop(NamedTuple):
-    """Why a run has stopped: a processor has come to a breakpoint, or a place has changed (going back: is about to)."""
+    """Why a run has stopped: a processor has come to a breakpoint, or a place changes, in the action before or in the next one."""
 
     number: int
     place: Optional[Place] = None
-    text: str = ""
+    was: str = ""
+    now: str = ""
+    is_next: bool = False
+
+    @property
+    def text(self):
+        return f"{self.place.text} is {self.was}, and will be {self.now}" if self.is_next else f"{self.place.text} was {self.was} and is {self.now}"
 
 
 def are_turns(actions, count):
@@ -101,9 +107,8 @@ class Search:
 
     def first_stop(self, trace, turns, last, is_reported):
         """Returns the first stop of a trace to now, and goes back there; or None."""
-        changes = ((at + 1, 0, Stop(trace.slots[at], place, f"{place.text} was {was} and is {now}"))
-                   for at, place, was, now in trace.changes(self.places))
-        arrivals = ((at, 1, Stop(slot)) for at, slot in trace.arrivals(self.targets, turns, last) if at or not is_reported)
+        changes = [(at + 1, 0, Stop(trace.slots[at], place, was, now)) for at, place, was, now in trace.changes(self.places)]
+        arrivals = [(at, 1, Stop(slot)) for at, slot in trace.arrivals(self.targets, turns, last) if at or not is_reported]
         found = min((*changes, *arrivals), default=None, key=lambda one: one[:2])
         if found and found[0] < len(turns):
             self.machine.move("BACK", len(turns) - found[0])
@@ -127,8 +132,7 @@ class Search:
     def latest_stop(self, trace, turns, is_beginning):
         """Returns the latest stop of a trace from now on, but for its end, and goes there; or None."""
         last = dict.fromkeys(self.targets) if is_beginning else {}
-        changes = [(at, 1, Stop(trace.slots[at], place, f"{place.text} is {was}, and will be {now}"))
-                   for at, place, was, now in trace.changes(self.places)]
+        changes = [(at, 1, Stop(trace.slots[at], place, was, now, True)) for at, place, was, now in trace.changes(self.places)]
         arrivals = [(at, 0, Stop(slot)) for at, slot in trace.arrivals(self.targets, turns, last) if at < len(turns)]
         found = max((*changes, *arrivals), default=None, key=lambda one: one[:2])
         if found:
@@ -230,9 +234,8 @@ class Part:
 
 def stop_at_hit(hit, slot):
     """Returns the stop at a HIT; the slot is the one after the turn that made the change."""
-    place = Place.parse(" ".join(hit.split()[1:-2]))
-    was, now = hit.split()[-2:]
-    return Stop((slot - 1) % PROCESSORS, place, f"{place.text} was {was} and is {now}")
+    _, *place, was, now = hit.split()
+    return Stop((slot - 1) % PROCESSORS, Place.parse(" ".join(place)), was, now)
 
 
 def joined(trace, more):
@@ -253,20 +256,8 @@ def shortened(trace, turns):
                  [column[first:] for column in trace.values]), turns[first:]
 
 
-def about_a_round(actions):
-    """Returns how many of the first actions have the turns of all processors; all, if these have fewer."""
-    count = turns = 0
-    for line, times in actions:
-        if turns == PROCESSORS:
-            break
-        part = min(times, PROCESSORS - turns) if line == STEP else times
-        turns += part if line == STEP else 0
-        count += part
-    return count
-
-
-def split_at_turn(actions, turn):
-    """Returns the first actions, up to so many turns, and the others."""
+def count_to(actions, turn):
+    """Returns how many of the first actions have so many turns; all, if these have fewer."""
     count = turns = 0
     for line, times in actions:
         if turns == turn:
@@ -274,7 +265,7 @@ def split_at_turn(actions, turn):
         part = min(times, turn - turns) if line == STEP else times
         turns += part if line == STEP else 0
         count += part
-    return split(actions, count)
+    return count
 
 
 def split(actions, count):
@@ -371,7 +362,7 @@ class Runner:
         many actions were ahead before it went back there."""
         machine = self.machine
         done, ahead = machine.actions()
-        passed, rest = split(ahead, min(Actions(ahead).count - were_ahead, about_a_round(ahead)))
+        passed, rest = split(ahead, min(Actions(ahead).count - were_ahead, count_to(ahead, PROCESSORS)))
         some = [*done, *passed]
         turns, span = turns_of(some), FIRST_SPAN
         found = None
@@ -389,7 +380,7 @@ class Runner:
 
     def last_stop_of(self, actions, first):
         """Returns how many actions come before the last stop of some, from a turn on, and the stop; or None. Its end is none."""
-        other = Machine(self.machine.words, *split_at_turn(actions, first))
+        other = Machine(self.machine.words, *split(actions, count_to(actions, first)))
         other.own = self.machine.own
         found, shown = None, None
         runner = Runner(other, self.points, self.goes_on)
@@ -397,7 +388,7 @@ class Runner:
         try:
             while other.ahead and (stop := runner.forward(shown, only_ahead=True)):
                 if other.ahead or stop.place:
-                    found = total - other.ahead - bool(stop.place), stop  # a stop before a change
+                    found = total - other.ahead - bool(stop.place), stop._replace(is_next=True)  # before the change
                 shown = stop.number if stop.number == other.slot else None
         finally:
             other.close()
