@@ -3,6 +3,7 @@
 import json
 import os
 import shutil
+import signal
 import subprocess
 import time
 import unittest
@@ -13,6 +14,19 @@ MODES = "/usr/share/emacs/site-lisp/elpa"
 INIT = """(setq inhibit-startup-screen t make-backup-files nil)
 (load "{top}/share/editors/emacs/pp6600-debug.el")
 (setq pp6600-debug-adapter '("{top}/tools/debug-adapter"))
+"""
+KATE_SESSION = """[Kate Plugins]
+kategdbplugin=true
+
+[MainWindow0]
+Kate-MDI-ToolView-Debug View-Visible=true
+
+[Plugin:kategdbplugin:MainWindow:0]
+alwaysFocusOnInput=true
+lastTarget=0
+targetCount=1
+target_0={}
+version=5
 """
 
 
@@ -87,6 +101,94 @@ class Emacs(EditorCase):
         self.assertTrue(self.shows("P: 0105"), self.screen())
         self.command("pp6600-reverse-continue")
         self.assertTrue(self.shows("PHASE: 0000"), self.screen())
+
+
+@unittest.skipUnless(all(map(shutil.which, ("kate", "Xvfb", "xdotool", "dbus-run-session"))), "there is no kate, Xvfb, xdotool or dbus-run-session")
+class Kate(EditorCase):
+    """Kate on a screen of its own, by keys. What it asks and is told is read in the adapter's log."""
+
+    def setUp(self):
+        super().setUp()
+        self.log = os.path.join(self.folder, "log")
+        settings = json.loads(read("share", "editors", "kate", "dap.json"))
+        settings["dap"]["pp6600"]["run"]["command"] = [os.path.join(TOP, "tools", "debug-adapter"), "--log", self.log]
+        self.write(".config/kate/gdbplugin/dap.json", json.dumps(settings))
+        variables = {"file": os.path.join(self.folder, "loader"), "args": os.path.join(self.folder, "deck")}
+        target = {"debuggerKey": "pp6600", "debuggerProfile": "launch", "target": "Target 1", "variables": variables}
+        self.write(".local/share/kate/anonymous.katesession", KATE_SESSION.format(json.dumps(target)))
+        os.mkdir(os.path.join(self.folder, "run"), 0o700)
+        self.environment |= {"DISPLAY": self.display(), "XDG_RUNTIME_DIR": os.path.join(self.folder, "run"), "LANG": "C.UTF-8"}
+        self.start("dbus-run-session", "--", "kate", "--startanon", "loader")
+        self.wait_for(lambda: self.xdotool("search", "--onlyvisible", "--class", "kate"))
+        time.sleep(2)  # until it takes keys
+
+    def write(self, path, text):
+        path = os.path.join(self.folder, path)
+        os.makedirs(os.path.dirname(path), exist_ok=True)
+        with open(path, "w", encoding="ascii") as file:
+            file.write(text)
+
+    def display(self):
+        """Starts a screen, and returns its name."""
+        reading, writing = os.pipe()
+        self.start("Xvfb", "-displayfd", str(writing), "-screen", "0", "1000x640x24", pass_fds=[writing])
+        os.close(writing)
+        with open(reading, encoding="ascii") as file:
+            return f":{file.readline().strip()}"
+
+    def start(self, *words, **how):
+        """Starts a program, which ends with the test, as does what it has started."""
+        process = subprocess.Popen(words, env=self.environment, cwd=self.folder, stdin=subprocess.DEVNULL, stdout=subprocess.DEVNULL,
+                                   stderr=subprocess.DEVNULL, start_new_session=True, **how)
+        self.addCleanup(self.end, process)
+
+    @staticmethod
+    def end(process):
+        """Ends a program and what it has started, and waits until all have ended."""
+        deadline = time.monotonic() + 20
+        os.killpg(process.pid, signal.SIGTERM)
+        process.wait(20)
+        try:
+            while time.monotonic() < deadline:
+                os.killpg(process.pid, 0)
+                time.sleep(0.1)
+            os.killpg(process.pid, signal.SIGKILL)
+        except ProcessLookupError:
+            pass
+
+    def xdotool(self, *words):
+        return subprocess.run(["xdotool", *words], env=self.environment, stdout=subprocess.PIPE, stderr=subprocess.DEVNULL, text=True,
+                              check=False).stdout
+
+    def type(self, line):
+        self.xdotool("type", "--delay", "30", line)
+        self.xdotool("key", "Return")
+
+    def wait_for(self, is_so, seconds=40):
+        deadline = time.monotonic() + seconds
+        while not is_so():
+            self.assertLess(time.monotonic(), deadline, self.logged())
+            time.sleep(0.3)
+
+    def logged(self):
+        if not os.path.exists(self.log):
+            return ""
+        with open(self.log, encoding="ascii") as file:
+            return file.read()
+
+    def test_the_culprit(self):
+        self.xdotool("key", "alt+d")
+        self.xdotool("key", "s")  # Start Debugging
+        self.wait_for(lambda: '"event": "initialized"' in self.logged())
+        time.sleep(1)
+        self.xdotool("key", "alt+d")
+        self.xdotool("key", "c")  # Continue
+        self.wait_for(lambda: "P 0111 PSN 32" in self.logged())
+        time.sleep(1)
+        self.type("p :WATCH M 0 106")
+        self.wait_for(lambda: '"result": "OK"' in self.logged())
+        self.type("p :BACK W")
+        self.wait_for(lambda: "P 0106 in IAM 12" in self.logged())
 
 
 class Files(Case):
