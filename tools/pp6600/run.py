@@ -5,7 +5,7 @@ from .answers import PROCESSORS
 from .console import MARK, Console
 from .ending import complain, flush
 from .failure import Failure
-from .history import STEP, History, room_of
+from .history import STEP, History, room_of, without_watches
 from .text_files import shown
 
 MOST_SHOWN = 60  # characters of a line that was refused
@@ -47,7 +47,7 @@ class Script:
     @property
     def actions(self):
         """The actions in effect: neither refused nor taken back. Watches are left out, for a replay stops nowhere."""
-        return [action for action in self.history.in_effect() if action.word not in ("WATCH", "UNWATCH")]
+        return without_watches(self.history.in_effect())
 
     def status(self):
         return self.refusals.status()
