@@ -396,11 +396,11 @@ class Talk(Case):
 
     def test_at_a_terminal(self):
         environment = {**os.environ, "TERM": "dumb", "PP6600": program()}
-        got, status = typed([os.path.join(TOP, "tools", "talk"), self.SCRIPT], [b"STEP 12\n", b"\x03GO\n", b"\x04"], environment)
+        got, status = typed([os.path.join(TOP, "tools", "talk"), self.SCRIPT], [b"STEP 12\n", b"\x03SET M 0 9 1\n", b"\x04"], environment)
         # The terminal shows the interrupt, which does nothing, as ^C.
         shown = tool("show", self.SCRIPT).out
         before, _, after = got.replace("^C", "").partition("13> STEP")
-        self.assertEqual((shown, " 12\nTURNS 12 SLOT 01\n25> GO\nERR 01 NOT A COMMAND\n25> \n", 1), (before, after, status))
+        self.assertEqual((shown, " 12\nTURNS 12 SLOT 01\n25> SET M 0 9 1\nERR 03 NUMBER\n  word 4: 9 is not octal\n25> \n", 1), (before, after, status))
 
     def test_over_a_pipe(self):
         lines = [line[2:] for line in lines_of(tool("show", self.SCRIPT)) if line.startswith("> ")]
