@@ -11,8 +11,8 @@ from .run import Refusals, Run, performed
 from .text_files import shown
 
 DESCRIPTION = """Shows each line of a script after '> ', and below it the answer. The exit status is 0 if no line was refused, else
-1. At a terminal a line below says why a line was refused. With --turn N it shows the lines that lead to turn N: those of the actions that are in effect at the end of the script, up to
-there, with the last STEP cut short. A DUMP CR of the tool's own is written first and after each DUMP, and once something is
+1. At a terminal a line below says why a line was refused. With --turn N it shows the lines that lead to turn N: those of the
+actions that are in effect at the end of the script, up to there, with the last STEP cut short. A DUMP CR of the tool's own is written first and after each DUMP, and once something is
 watched, after each STEP."""
 
 
