@@ -62,7 +62,7 @@ class Pages(Case):
 
     def test_sessions(self):
         room = self.room()  # ./pp6600 of the page is the program under test
-        for name, path in (("pp6600", program()), ("tools", os.path.join(TOP, "tools")), ("examples", EXAMPLES), ("exercises", os.path.join(TOP, "exercises"))):
+        for name, path in (("pp6600", program()), *((name, os.path.join(TOP, name)) for name in ("tools", "examples", "exercises"))):
             os.symlink(path, os.path.join(room, name))
         for block in blocks("docs/TOOLS.md", "tools"):
             for session in re.split(r"^\$ ", block.text, flags=re.M)[1:]:
@@ -158,7 +158,8 @@ class Trace(Case):
         got = self.trace("--channel", "5", script=script)
         self.assertEqual(["E 0000", "F 0007", "I 0007 WORD LOST"], [line.partition(" -> ")[2] for line in got])
         script = "SET M 0 100 7105 200\nSET P 0 100\nSET H 5 F 7\nSTEP 12\nSTEP\n"
-        self.assertEqual(["H 05 F 0007", "H 05 F 0007 WORD LEFT"], [line[line.index("H 05"):] for line in self.trace("--channel", "5", script=script)])
+        got = [line[line.index("H 05"):] for line in self.trace("--channel", "5", script=script)]
+        self.assertEqual(["H 05 F 0007", "H 05 F 0007 WORD LEFT"], got)
 
     def test_listing(self):
         path = os.path.join(self.room(), "listing")
@@ -396,11 +397,12 @@ class Talk(Case):
 
     def test_at_a_terminal(self):
         environment = {**os.environ, "TERM": "dumb", "PP6600": program()}
-        got, status = typed([os.path.join(TOP, "tools", "talk"), self.SCRIPT], [b"STEP 12\n", b"\x03GO\n", b"\x04"], environment)
+        got, status = typed([os.path.join(TOP, "tools", "talk"), self.SCRIPT], [b"STEP 12\n", b"\x03SET M 0 9 1\n", b"\x04"], environment)
         # The terminal shows the interrupt, which does nothing, as ^C.
         shown = tool("show", self.SCRIPT).out
         before, _, after = got.replace("^C", "").partition("13> STEP")
-        self.assertEqual((shown, " 12\nTURNS 12 SLOT 01\n25> GO\nERR 01 NOT A COMMAND\n25> \n", 1), (before, after, status))
+        wanted = " 12\nTURNS 12 SLOT 01\n25> SET M 0 9 1\nERR 03 NUMBER\n  word 4: 9 is not octal\n25> \n"
+        self.assertEqual((shown, wanted, 1), (before, after, status))
 
     def test_over_a_pipe(self):
         lines = [line[2:] for line in lines_of(tool("show", self.SCRIPT)) if line.startswith("> ")]
@@ -452,12 +454,13 @@ class Compare(Case):
         """Programs that differ in one word, or a word set later; against machines that are looked at after each turn."""
         for seed in range(4):
             choose = random.Random(seed)
-            lines = [f"SET M {n} 0 {' '.join(f'{choose.choice((0o14, 0o16, 0o34, 0o36, 0o54, 0o60, 0o62)):02o}{choose.randrange(0o20, 0o100):02o}' for _ in range(8))}"
-                     for n in range(3)] + [f"STEP {choose.randrange(1, 0o40):o}"]
+            codes = (0o14, 0o16, 0o34, 0o36, 0o54, 0o60, 0o62)
+            words = [[f"{choose.choice(codes):02o}{choose.randrange(0o20, 0o100):02o}" for _ in range(8)] for _ in range(3)]
+            lines = [f"SET M {n} 0 {' '.join(part)}" for n, part in enumerate(words)] + [f"STEP {choose.randrange(1, 0o40):o}"]
             others = [*lines, "SET M 1 25 7"] if seed % 2 else [lines[0].replace(lines[0].split()[6], "1477"), *lines[1:]]
             with self.subTest(seed=seed):
-                got = [line for line in self.compare("\n".join([*lines, "STEP 40", ""]), "\n".join([*others, "STEP 40", ""])) if line.startswith("AFTER")]
-                self.assertEqual(self.oracle(lines, others), got)
+                got = self.compare(*("\n".join([*some, "STEP 40", ""]) for some in (lines, others)))
+                self.assertEqual(self.oracle(lines, others), [line for line in got if line.startswith("AFTER")])
 
     def oracle(self, lines, others):
         """The first turn after which a line of the dumps differs that did not differ before the first turn."""
@@ -495,7 +498,7 @@ class Replays(Case):
         long.most_lines = 100
         for line in lines:
             self.assertEqual(plain.ask(line)[:1], long.act(line)[:1], line)
-        for slot, _ in anew.looks(actions_in_effect(words, lines), choose.randrange(100), choose.choice(((3,), range(10)))):
+        for slot, _ in anew.looks(performed(words, lines).actions, choose.randrange(100), choose.choice(((3,), range(10)))):
             if slot is not None:
                 self.assertEqual(anew.slot(), slot)
                 anew.advance(1)
@@ -513,7 +516,7 @@ class Replays(Case):
     def test_long_runs(self):
         """Runs that need more lines than one simulator reads: here its limit is lowered."""
         words = [program(), "--history", "1"]
-        actions = actions_in_effect(words, ["SET M 3 7000 1", "STEP 3000", "SET M 4 7000 1", "STEP 1750"])
+        actions = performed(words, ["SET M 3 7000 1", "STEP 3000", "SET M 4 7000 1", "STEP 1750"]).actions
         turns = 0o4750
         with mock.patch.object(Run, "most_lines", 300), mock.patch.object(Run, "start", autospec=True, side_effect=Run.start) as start:
             self.assertEqual(self.expected_trace(turns), list(lines_from(words, actions, [3], None, 0)))
@@ -644,7 +647,8 @@ class Messages(Case):
         (("words", "--dump", "0"), "7776 0001 0002 0003\n", "line 1 (decimal) is no row of the dump"),
         (("deck",), "A" * 161, "more than 160"), (("deck",), "A\n" * 2001, "at most 2000"),
         (("compare",), "", "give two scripts"), (("compare", "a"), "", "give two scripts"), (("compare", "a", "b", "c"), "", "give two scripts"),
-        (("compare", "--other-deck", "a", "b", "c", "d"), "", "give two scripts"), (("load", "0", "100"), "* nothing\n", "no word"), (("load", "0", "100"), "1\n10000\n", "line 2 (decimal): 10000 is no"),
+        (("compare", "--other-deck", "a", "b", "c", "d"), "", "give two scripts"),
+        (("load", "0", "100"), "* nothing\n", "no word"), (("load", "0", "100"), "1\n10000\n", "line 2 (decimal): 10000 is no"),
         (("load", "0", "100"), "0 " * 4097, "more than the 10000 cells"), (("load", "12", "0"), "1", "12 is no processor"),
         (("load", "0"), "1", "give a processor and a cell"), (("load", "--packed", "0", "0"), "A", "do not end with a word"),
         (("load", "--packed", "0", "0"), "AB", "do not end with a word"), (("load", "--two-bytes", "0", "0"), "A", "not two"),

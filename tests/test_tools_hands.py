@@ -146,7 +146,10 @@ class Hands(HandsCase):
         """An interrupt ends the simulator too, which here waits for a writer of its deck; its message names a file without escapes."""
         deck = os.path.join(self.folder, "fifo")
         os.mkfifo(deck)
-        tool = subprocess.Popen([*PYTHON, os.path.join(TOP, "tools", "state"), "--deck", deck], stdin=subprocess.PIPE, env={**self.environment, "PP6600_PATIENCE": "30"})
+        tool = subprocess.Popen([*PYTHON, os.path.join(TOP, "tools", "state"), "--deck", deck], stdin=subprocess.PIPE,
+                                env={**self.environment, "PP6600_PATIENCE": "30"},
+                                preexec_fn=lambda: signal.signal(signal.SIGINT, signal.SIG_DFL))  # ignored in the background
+        self.addCleanup(tool.kill)
         time.sleep(1)
         self.assertEqual([deck], self.decks_of_processes(deck))
         tool.send_signal(signal.SIGINT)

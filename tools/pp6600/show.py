@@ -1,14 +1,18 @@
 """Lines with their answers, as a session is shown."""
 
+import sys
+
 from .command_line import Failure, add_script, add_turn, arguments, complain, script_lines, simulator, write
 from .console import MOST_TURNS
+from .ending import shown_text
 from .history import STEP, up_to_turn
+from .reasons import reason
 from .run import Refusals, Run, performed
 from .text_files import shown
 
 DESCRIPTION = """Shows each line of a script after '> ', and below it the answer. The exit status is 0 if no line was refused, else
-1. With --turn N it shows the lines that lead to turn N: those of the actions that are in effect at the end of the script, up to
-there, with the last STEP cut short. A DUMP CR of the tool's own is written first and after each DUMP, and once something is
+1. At a terminal a line below says why a line was refused. With --turn N it shows the lines that lead to turn N: those of the
+actions that are in effect at the end of the script, up to there, with the last STEP cut short. A DUMP CR of the tool's own is written first and after each DUMP, and once something is
 watched, after each STEP."""
 
 
@@ -17,7 +21,10 @@ def answer(run, line, number=0, refusals=None):
     lines = run.act(line)
     for text in lines:
         write(text)
-    return (refusals or Refusals()).note(number, line, lines)
+    is_refused = (refusals or Refusals()).note(number, line, lines)
+    if is_refused and sys.stdout.isatty():
+        write(f"  {shown_text(reason(line, lines[0], run.size_of_central()))}".rstrip())
+    return is_refused
 
 
 def show_lines(run, lines, stop=False):
