@@ -1,8 +1,11 @@
 """The tools in bad hands: whatever is done to one, it writes one line to standard error and ends with status 2."""
 
 import concurrent.futures
+import glob
 import os
+import signal
 import subprocess
+import time
 
 from .support import PYTHON, TOP, Case, program
 from .terminal import Terminal
@@ -58,6 +61,10 @@ OTHERWISE = {
     **{("panel", what): (TREATMENTS[what][0], NO_TERMINAL)
        for what in ("full output", "limited output", "no such file", "a folder", "closed input")}}
 GIVEN = {"deck": b"HELLO.\n", "load": b"1405\n", "symbols": b"A 5\n", "words": b"0100 1405\n"}
+
+
+def setUpModule():
+    os.environ.pop("PYTHONDONTWRITEBYTECODE", None)  # a tool that has been compiled starts sooner
 
 
 class HandsCase(Case):
@@ -134,6 +141,33 @@ class Hands(HandsCase):
         said, status = self.treated("words", [b"\xff"], PLAIN, b"", PYTHONIOENCODING="ascii")
         self.assert_one_line("words", "display code has no", said)
         self.assertEqual(2, status)
+
+    def test_simulator_that_is_left(self):
+        """An interrupt ends the simulator too, which here waits for a writer of its deck; its message names a file without escapes."""
+        deck = os.path.join(self.folder, "fifo")
+        os.mkfifo(deck)
+        tool = subprocess.Popen([*PYTHON, os.path.join(TOP, "tools", "state"), "--deck", deck], stdin=subprocess.PIPE, env={**self.environment, "PP6600_PATIENCE": "30"})
+        time.sleep(1)
+        self.assertEqual([deck], self.decks_of_processes(deck))
+        tool.send_signal(signal.SIGINT)
+        self.assertEqual(-signal.SIGINT, tool.wait(10))
+        tool.stdin.close()
+        self.assertEqual([], self.decks_of_processes(deck))
+        said, _ = self.treated("state", ["--deck", "no\033[2Jne"], PLAIN, STEP)
+        self.assert_one_line("state", "CANNOT OPEN DECK (no\\x1b[2Jne)", said)
+
+    @staticmethod
+    def decks_of_processes(deck):
+        """The deck for each simulator that runs with it."""
+        found = []
+        for path in glob.glob("/proc/[0-9]*/cmdline"):
+            try:
+                with open(path, "rb") as file:
+                    words = file.read().decode("latin-1").split("\0")
+            except OSError:
+                continue
+            found += [deck] if deck in words and "tools/state" not in " ".join(words) else []
+        return found
 
     def test_error_output_that_cannot_be_written(self):
         for name in TOOLS:

@@ -1,9 +1,9 @@
 """Two runs: the first turn after which the machines differ."""
 
-from .command_line import Failure, Script, arguments, simulator, write
+from .command_line import Failure, arguments, script_lines, simulator, write
 from .history import STEP, turns_of, up_to_turn
 from .instructions import processor_at
-from .run import Replay
+from .run import Replay, performed
 from .whole import differences, differences_of_paper, look, look_at_central
 
 DESCRIPTION = """Compares two runs: those of two scripts, or of one script with another deck or panel. Shows the first turn, octal from
@@ -20,8 +20,8 @@ class Side:
     """One of the two runs."""
 
     def __init__(self, words, path):
-        script = Script(words, path)
-        self.words, self.actions, self.status = words, script.actions, script.status
+        script = performed(words, script_lines(path))
+        self.words, self.actions, self.status = words, script.actions, script.status()
         self.turns = turns_of(self.actions)
 
     def at(self, turn, asked, has_settings=True):

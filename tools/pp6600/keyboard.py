@@ -9,7 +9,7 @@ import sys
 from .ending import flush, write
 from .failure import Failure
 from .options import ABOVE
-from .script import Refusals
+from .run import Refusals
 from .show import answer, show_answer
 from .text_files import input_lines, shown
 
@@ -120,4 +120,4 @@ def perform_input(run, transcript):
         if not answer(run, line, number, refusals):
             transcript.add(line)
         flush()
-    return refusals.complain()
+    return refusals.status()

@@ -7,7 +7,7 @@ from ..answers import CELLS, PROCESSORS
 from ..console import MARK, MOST_TURNS, Console
 from ..failure import Failure
 from ..history import History, room_of
-from ..run import Run
+from ..run import Run, Script
 from .footprint import Footprint
 from .machine import Machine
 from .places import LAYOUT
@@ -38,8 +38,7 @@ class Transcript:
 
     def __init__(self, words, lines):
         console = Recorder(words)
-        for line in lines:
-            console.ask(line)
+        self.script = Script(console, lines)
         self.lines = list(zip(lines, console.answers))
         self.turns = {}  # of each line that did something: how many turns are in effect before and after it
         self._count_turns(History(room_of(words)))
