@@ -396,11 +396,11 @@ class Talk(Case):
 
     def test_at_a_terminal(self):
         environment = {**os.environ, "TERM": "dumb", "PP6600": program()}
-        got, status = typed([os.path.join(TOP, "tools", "talk"), self.SCRIPT], [b"STEP 12\n", b"\x03GO\n", b"\x04"], environment)
+        got, status = typed([os.path.join(TOP, "tools", "talk"), self.SCRIPT], [b"STEP 12\n", b"\x03SET M 0 9 1\n", b"\x04"], environment)
         # The terminal shows the interrupt, which does nothing, as ^C.
         shown = tool("show", self.SCRIPT).out
         before, _, after = got.replace("^C", "").partition("13> STEP")
-        self.assertEqual((shown, " 12\nTURNS 12 SLOT 01\n25> GO\nERR 01 NOT A COMMAND\n25> \n", 1), (before, after, status))
+        self.assertEqual((shown, " 12\nTURNS 12 SLOT 01\n25> SET M 0 9 1\nERR 03 NUMBER\n  word 4: 9 is not octal\n25> \n", 1), (before, after, status))
 
     def test_over_a_pipe(self):
         lines = [line[2:] for line in lines_of(tool("show", self.SCRIPT)) if line.startswith("> ")]
@@ -495,7 +495,7 @@ class Replays(Case):
         long.most_lines = 100
         for line in lines:
             self.assertEqual(plain.ask(line)[:1], long.act(line)[:1], line)
-        for slot, _ in anew.looks(actions_in_effect(words, lines), choose.randrange(100), choose.choice(((3,), range(10)))):
+        for slot, _ in anew.looks(performed(words, lines).actions, choose.randrange(100), choose.choice(((3,), range(10)))):
             if slot is not None:
                 self.assertEqual(anew.slot(), slot)
                 anew.advance(1)
@@ -513,7 +513,7 @@ class Replays(Case):
     def test_long_runs(self):
         """Runs that need more lines than one simulator reads: here its limit is lowered."""
         words = [program(), "--history", "1"]
-        actions = actions_in_effect(words, ["SET M 3 7000 1", "STEP 3000", "SET M 4 7000 1", "STEP 1750"])
+        actions = performed(words, ["SET M 3 7000 1", "STEP 3000", "SET M 4 7000 1", "STEP 1750"]).actions
         turns = 0o4750
         with mock.patch.object(Run, "most_lines", 300), mock.patch.object(Run, "start", autospec=True, side_effect=Run.start) as start:
             self.assertEqual(self.expected_trace(turns), list(lines_from(words, actions, [3], None, 0)))

@@ -11,11 +11,11 @@ from .support import PYTHON, TOP, Case, program
 from .terminal import Terminal
 
 # Each tool with words that are right.
-WITH_SIMULATOR = {"changes": ["M", "0", "106"], "save": ["0", "0", "1"], "show": [], "state": [], "talk": [], "trace": [], "until": ["P", "0", "=", "1"],
+WITH_SIMULATOR = {"changes": ["M", "0", "106"], "save": ["0", "0", "1"], "compare": ["--other-panel", "examples/dead-start/panel"],
+                  "show": [], "state": [], "talk": [], "trace": [], "until": ["P", "0", "=", "1"],
                   "waits": []}
 WITH_SIMULATOR["film"] = ["-o", "FILM"]  # a file in the room of the test
 ON_TERMINAL = {"panel": []}
-TWO_SCRIPTS = {"compare": ["--other-panel", "examples/dead-start/panel"]}  # or one, as here, that it does not read from standard input
 WITHOUT = {"deck": [], "load": ["0", "100"], "symbols": [], "words": ["--dump", "0"]}
 WITHOUT_TERMINAL = {**WITH_SIMULATOR, **WITHOUT}
 TOOLS = {**WITHOUT_TERMINAL, **ON_TERMINAL}
@@ -48,7 +48,7 @@ TREATMENTS = {
     "help into full output": ('"$0" "$1" "$2" --help >/dev/full', "can't write to standard output"),
     "version into closed output": ('"$0" "$1" "$2" --version >&-', "standard output is closed"),
     "unknown option": ('"$0" "$@" --nonsense', "--help shows what may be given"),
-    "too many words": ('"$0" "$@" A B C', "not also B C|unrecognized arguments|takes one file"),
+    "too many words": ('"$0" "$@" A B C', "not also B C|not also C|unrecognized arguments|takes one file"),
     "no such file": ('"$0" "$@" no-such-file', "can't read no-such-file"),
     "a folder": ('"$0" "$@" /', "can't read /: Is a directory"),
     "closed input": ('"$0" "$@" <&-', "standard input is closed"),

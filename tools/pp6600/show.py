@@ -4,6 +4,7 @@ import sys
 
 from .command_line import Failure, add_script, add_turn, arguments, complain, script_lines, simulator, write
 from .console import MOST_TURNS
+from .ending import shown_text
 from .history import STEP, up_to_turn
 from .reasons import reason, size_of_central
 from .run import Refusals, Run, performed
@@ -30,7 +31,7 @@ def show_answer(run, line, lines):
     if is_refused and sys.stdout is not None and sys.stdout.isatty():
         why = reason(line, lines[0], size_of_central(run.words))
         if why:
-            write(f"  {why}")
+            write(f"  {shown_text(why)}")
 
 
 def show_lines(run, lines, stop=False):

@@ -19,7 +19,7 @@ from .run import Replay, performed
 
 DESCRIPTION = """Shows the first turn at whose end a condition holds and at whose beginning it did not. A condition is PLACE = 105,
 also != < > <= >= (in quotation marks, for the shell), PLACE outside 100 117 or inside, PLACE changes, M 0 100 117 changes,
-H 12 is F, PP 3 waits, PP 3 in a block; conditions are joined by and. A place is M n a, A n, P n, Q n, C a or H c. All numbers
+H 12 is F, H 12 changes state, PP 3 waits, PP 3 in a block or not in a block; conditions are joined by and. A place is M n a, A n, P n, Q n, C a or H c. All numbers
 are octal. A line has the turn, counted from 1, the processor whose turn it was, its P before the turn, the name of its
 instruction, and the numbers before and after. A processor waits if its latest turn was a wait. If there is no such turn, the
 tool writes NONE and ends with 1."""
