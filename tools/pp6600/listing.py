@@ -193,6 +193,13 @@ class AllSymbols:
         symbols = self.of.get(processor)
         return symbols.name(int(digits, 8)) if symbols and digits.isdigit() else ""
 
+    def tables(self):
+        """Returns for each processor with symbols the names of its addresses, and the texts of the listing with their words."""
+        return {number: {"names": {address: name for address in range(CELLS) if (name := symbols.name(address))},
+                         "texts": {line.address: (int(word, 8), line.text) for word, line in symbols.listing.cells.values()
+                                   if line.text and symbols.text(line.address, word)}}
+                for number, symbols in self.of.items()}
+
     def address(self, processor, text):
         """Returns the address of a label of a processor, as START or START+3; None if there is no such label."""
         label, _, more = text.partition("+")

@@ -8,6 +8,7 @@ from .text import CURSOR, HEAD, HERE, WATCHED, Line
 
 TEXT_FROM, LABEL_FROM = 17, 33  # the columns of an instruction and of its label
 DISPLAY_WIDTH = 5
+WIDTH = 52
 
 
 def cell_of(memory):
@@ -76,7 +77,8 @@ def program_lines(shown, count):
     at = shown.symbols.name(view.processor, processor.registers["P"])
     head.add(f"   P is {at}" if at and back is None else "")
     head.add("" if back is None else f"   in a block; returns to {back:04o}")
-    return [head] + [row_line(shown, row, sign_of(row, here, back, watched)) for row in rows_of(state, view, count)]
+    rows = [(row, sign_of(row, here, back, watched)) for row in rows_of(state, view, count)]
+    return [head] + [row_line(shown, row, sign).fit(WIDTH) for row, sign in rows]
 
 
 def sentence_line(shown):
