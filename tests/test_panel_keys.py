@@ -11,6 +11,7 @@ from .support import EXAMPLES, TOP, Case, program, read, run
 from pp6600.console import Console
 from pp6600.failure import Failure
 from pp6600.history import History
+from pp6600.listing import AllSymbols
 from pp6600.panel.app import Panel
 from pp6600.panel.keys import LINE_KEYS, LINES, OTHER_KEYS, Facts, help_lines, step_lines
 from pp6600.panel.session import Session
@@ -413,6 +414,23 @@ class Program(PanelCase):
         panel = self.panel(FIRST_PROGRAM + "WATCH M 0 20\nSTEP 13\n")
         self.assertEqual("w0020 0005*      PSN 05", self.rows(panel, "ig20<Enter>")[0][2])
         self.assertEqual(">0102 0300       UJN 00 to 0102", next(row for row in self.rows(panel, "o")[0] if row[0] == ">"))
+
+    def test_symbols(self):
+        """Labels and the listing's own text, and g with a label."""
+        path = os.path.join(self.room(), "listing")
+        with open(path, "w", encoding="ascii") as file:
+            file.write("0100 7712 0001 START FNC 12 1\n0102 7412 ACN 12\n0103 1477 LDN 77\n0104 7112 0060 INPUT IAM 12 60\n")
+        panel = Panel(Session([PROGRAM, "--deck", DECK]), AllSymbols([(0, path)]))
+        self.addCleanup(panel.session.close)
+        panel.resize(160, 24)
+        panel.perform_script(OVERWRITTEN.splitlines(), 3)
+        rows, _ = self.rows(panel, "i")
+        self.assertEqual("PP 00  INSTRUCTIONS   P is START+2", rows[0])
+        self.assertEqual([" 0100 7712 0001  FNC 12 0001     START FNC 12 1", ">0102 7412       ACN 12          ACN 12"], rows[3:5])
+        self.assertIn(" 0106 7512       DCN 12          INPUT+2", [line[:52].rstrip() for line in press(panel, "ginput+2<Enter>")])
+        self.assertEqual("M 0 106", panel.view.place())
+        self.assertEqual("TURN 405 PP 00 P 0106 INPUT+2 IAM WAS 7512 NOW 0027", bottom(panel, "]"))
+        self.assertIn("neither an octal address nor a place", bottom(panel, "gNOWHERE<Enter>"))
 
     def test_sizes(self):
         """Every size has lines of its width, with the sentence below memory."""

@@ -10,6 +10,7 @@ from ..display_code import SYMBOLS
 from ..failure import Failure
 from ..instructions import (
     BLOCK_GOES_ON, COMPLETES, IN_BLOCK, NAMES, NOT_THERE, NOT_THERE_IN_BLOCK, RELATIVE_JUMPS, TWO_WORDS, WAITS_FOR)
+from ..listing import symbols_of
 from ..options import OPTIONS
 from ..sentences import ROWS, STATE_NAMES, WAITS, WAITS_EVER
 from ..text_files import bytes_of, lines_of
@@ -73,7 +74,8 @@ def replace_file(path, data):
 def text_of(film, asked, script):
     """Returns the text of a film of the script, which is given as bytes, with the options that were asked for."""
     given = carried(asked, script)
-    return encode({**tables(), **given, **setup(given["files"]), **of_machine(film), **of_script(film)}, film.moments)
+    named = {"labels": symbols_of(asked).tables()}
+    return encode({**tables(), **named, **given, **setup(given["files"]), **of_machine(film), **of_script(film)}, film.moments)
 
 
 def tables():

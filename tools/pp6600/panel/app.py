@@ -9,6 +9,7 @@ from ..answers import KINDS
 from ..failure import Failure
 from ..keyboard import FIRST_WORDS, card
 from ..timeline import REPLAYED
+from ..listing import AllSymbols
 from .keys import LINES, Facts, help_lines
 from .page import Page
 from .prompt import Prompt
@@ -41,8 +42,9 @@ def first_word(line):
 
 
 class Panel:
-    def __init__(self, session):
-        self.session = session
+    def __init__(self, session, symbols=AllSymbols()):
+        """The symbols are the labels and the texts of listings, for each processor."""
+        self.session, self.symbols = session, symbols
         self.view = View()
         self.columns, self.rows = LEAST_COLUMNS, LEAST_ROWS
         self.count = self.message = ""
@@ -99,7 +101,7 @@ class Panel:
         session = self.session
         shown = Shown(session.state, session.before, self.view, session.history.turns,
                       session.history.kept.count, session.history.to_redo, session.size, session.log, self.message,
-                      self.prompt and self.prompt.shown())
+                      self.prompt and self.prompt.shown(), self.symbols)
         return screen(shown, self.columns, self.rows)
 
     # ---- keys
@@ -259,7 +261,10 @@ class Panel:
                 self.show_log()
 
     def go_to(self, text):
-        if text:
+        address = self.symbols.address(self.view.processor, text)
+        if address is not None:
+            self.view.go_to_cell(address)
+        elif text:
             self.view.go_to(text, self.session.size)
 
     def go_to_turn(self, text):
@@ -301,7 +306,7 @@ class Panel:
         if found is None:
             self.message = f"NONE: {text}, {where}"
         else:
-            self.show_turn(found.turn, [found.text()])
+            self.show_turn(found.turn, [found.text(self.symbols)])
 
     def report_search(self, turn):
         """Shows now and then how far a search is, and ends it if the operator stops it."""

@@ -110,7 +110,7 @@ OTHER_KEYS = (
     (("x",), "choose the processor whose turn comes next"),
     (("o",), "memory around P again, after the cursor was moved"),
     (("i", "d"), "memory as instructions, or as numbers again; with display code"),
-    (("g",), "go to an address or a place: 106, M 3 106, C 1000, A 0, H 12"),
+    (("g",), "go to an address, a label or a place: 106, M 3 106, C 1000, A 0"),
     (("/",), "search words from the cursor on; / and Enter: the next ones"),
     ((":",), "a line of the console; Up and Down: lines typed before"),
     (("w",), "w FILE saves what was sent as a script; w! FILE writes over it"),
