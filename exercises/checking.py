@@ -11,14 +11,11 @@ import sys
 import tempfile
 
 HERE = os.path.dirname(os.path.realpath(__file__))
-CHECKOUT = os.path.dirname(HERE)
-INSTALLED = os.path.join(os.path.normpath(os.path.join(HERE, *[os.pardir] * 4)), "libexec", "pp6600")
-IS_CHECKOUT = os.path.exists(os.path.join(CHECKOUT, "crates.txt"))
-OWN = CHECKOUT if IS_CHECKOUT else INSTALLED  # the folder with install and tools
-sys.path.insert(0, os.path.join(OWN, "tools"))
+sys.path.insert(0, os.path.realpath(os.path.join(HERE, os.pardir, "tools")))  # in an installation this is a link
 
 from pp6600 import Console, Failure
 from pp6600.files import checked_program
+from pp6600.installation import chosen_program
 from pp6600.options import BadWord
 
 ANSWERS = ("script", "panel")  # the files of an exercise that a student changes
@@ -34,19 +31,10 @@ def names():
         return re.findall(r"^\| \d+ \| `([a-z-]+)` \|", page.read(), flags=re.M)
 
 
-def built_program():
-    """Returns the program of the checkout or of the installation, or None."""
-    path = os.path.join(OWN, "crates", "pp6600", "out", "pp6600") if IS_CHECKOUT else os.path.join(OWN, "pp6600")
-    return path if os.access(path, os.X_OK) else None
-
-
 @functools.lru_cache(maxsize=None)
 def program():
-    """Returns the simulator: $PP6600, else that of the checkout or of the installation, else one on the path."""
-    found = os.environ.get("PP6600") or built_program() or shutil.which("pp6600")
-    if not found:
-        raise Failure("there is no simulator: run ./pp6600 in the repository, which builds it, or put pp6600 on the path")
-    return checked_program(found)
+    """Returns the simulator: $PP6600, or else that of the checkout or of the installation."""
+    return checked_program(os.environ.get("PP6600") or chosen_program())
 
 
 def read(folder, name):

@@ -8,9 +8,10 @@ import select
 import shutil
 import subprocess
 import tempfile
+import time
 
 NAMES = ("chromium", "chromium-browser", "google-chrome", "google-chrome-stable")
-PATIENCE = 30  # seconds for one answer
+PATIENCE = 120  # seconds for one answer
 
 
 def found():
@@ -89,11 +90,11 @@ class Browser:
         """Opens a film from its file, and waits until it is shown."""
         self.ask("Page.navigate", url="about:blank")
         self.ask("Page.navigate", url=f"file://{os.path.abspath(path)}{address}")
-        for _ in range(600):
-            if self.evaluate("document.body && document.body.dataset.open") == "yes":
-                return
-            select.select([], [], [], 0.05)
-        raise TimeoutError(f"{path} does not open")
+        end = time.monotonic() + PATIENCE
+        while self.evaluate("document.body && document.body.dataset.open") != "yes":
+            if time.monotonic() > end:
+                raise TimeoutError(f"{path} does not open")
+            time.sleep(0.02)
 
     def key(self, key, shift=False):
         """Presses a key."""

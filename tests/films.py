@@ -65,10 +65,11 @@ def about(page):
 class FilmCase(Case):
     """Tests of films."""
 
-    def film(self, *words, script="", name="film.html"):
-        """Makes a film, and returns the path of its page."""
-        path = os.path.join(self.room(), name)
-        self.assertEqual(("", "", 0), tool("film", *words, "-o", path, script=script))
+    def film(self, *words, script="", status=0):
+        """Makes a film, and returns the path of its page. The status is 1 if a line of the script is refused."""
+        path = os.path.join(self.room(), "film.html")
+        done = tool("film", *words, "-o", path, script=script)
+        self.assertEqual((status, status != 0), (done.status, done.err != ""), done.err)
         return path
 
 

@@ -1,5 +1,6 @@
 """What the tests share: the program under test, the pages, and ways to run things."""
 
+import functools
 import os
 import re
 import subprocess
@@ -17,6 +18,7 @@ sys.dont_write_bytecode = True
 sys.path.insert(0, os.path.join(TOP, "tools"))  # so that tests can import the tools' package, pp6600
 
 
+@functools.lru_cache(maxsize=None)
 def program():
     """Returns the path of the program under test: $PP6600, or else the one that ./pp6600 runs."""
     named = os.environ.get("PP6600")

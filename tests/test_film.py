@@ -68,6 +68,14 @@ class Tool(FilmCase):
                 self.assertEqual((2, 1, False), (done.status, done.err.count("\n"), "Traceback" in done.err))
         self.assertEqual([], os.listdir(room))
 
+    def test_refused_lines(self):
+        """The film is made, with the answers; what was refused is said, and the status is 1."""
+        path = os.path.join(self.room(), "film.html")
+        self.assertEqual(("", "film: 2 lines (decimal) were refused, the first is line 2 (decimal), ERR 01 NOT A COMMAND: GO\n", 1),
+                         tool("film", "-o", path, script="STEP\nGO\nSTEP\nBACK W\n"))
+        self.assertEqual([["TURNS 1 SLOT 01"], ["ERR 01 NOT A COMMAND"], ["TURNS 1 SLOT 02"], ["ERR 15 NOTHING WATCHED"]],
+                         [line["answer"] for line in about(read(path))["lines"]])
+
     def test_pipe(self):
         """A page goes through a pipe, which stays one."""
         pipe = os.path.join(self.room(), "pipe")
@@ -111,8 +119,8 @@ class Tool(FilmCase):
         for path in script, odd:
             with open(path, "w", encoding="ascii") as file:
                 file.write("STEP\n")
-        for words, wanted in (((script,), "a &lt;script&gt;"), ((odd,), "b\ufffd"), (("--title", f"c{BYTE}", script), "c\ufffd"), ((), "standard input"),
-                              (("--title", "/*--script--*/<!--film-->"), "/*--script--*/&lt;!--film--&gt;")):
+        for words, wanted in (((script,), "a &lt;script&gt;"), ((odd,), "b\ufffd"), (("--title", f"c{BYTE}", script), "c\ufffd"),
+                              ((), "standard input"), (("--title", "/*--script--*/<!--film-->"), "/*--script--*/&lt;!--film--&gt;")):
             with self.subTest(words=words):
                 made = read(self.film(*words, script="STEP\n"))
                 self.assertEqual([wanted] * 2, re.findall(r"<(?:title|h1)>(.*?)</", made))
@@ -134,11 +142,15 @@ class Tool(FilmCase):
             with open(os.path.join(room, name), "wb") as file:
                 file.write(data)
         words = ("--deck", f"{room}/deck", "--panel", f"{room}/my panel", "--central", "32")
-        kept = about(read(self.film(*words, f"{room}/script")))
+        kept = about(read(self.film(*words, f"{room}/script", status=1)))
         self.assertEqual(contents, {file["name"]: file["bytes"].encode("latin-1") for file in kept["files"]})
         self.assertEqual(["script", "deck", "panel"], [file["kind"] for file in kept["files"]])
         self.assertEqual("pp6600 --central 32 --deck deck --panel 'my panel' script", kept["again"])
         self.assertEqual(([[1, 2]], [*range(1, 13)]), (kept["deck"], kept["panel"]))
+        os.mkdir(os.path.join(room, "other"))
+        os.rename(f"{room}/deck", f"{room}/other/script")
+        same = about(read(self.film("--deck", f"{room}/other/script", f"{room}/script", status=1)))
+        self.assertEqual("pp6600 --deck deck-script script", same["again"])
         typed = about(read(self.film(script="STEP\n")))
         self.assertEqual(([{"kind": "script", "name": "script", "bytes": "STEP\n"}], "pp6600 script"), (typed["files"], typed["again"]))
 

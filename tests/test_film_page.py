@@ -27,7 +27,8 @@ SMALL = """[...document.querySelectorAll("button, select, input")].filter((one) 
 # In the page: what is wider than its room and neither wraps, ends with a mark, nor has a line that says so.
 CUT = """[...document.querySelectorAll("body *")].filter((one) => one.offsetParent && one.scrollWidth > one.clientWidth + 1
   && getComputedStyle(one).overflowX !== "visible" && getComputedStyle(one).textOverflow !== "ellipsis"
-  && !(one.previousElementSibling?.matches(".sign") && /more.*→/.test(one.previousElementSibling.innerText))).map((one) => one.outerHTML.slice(0, 200))"""
+  && !(one.previousElementSibling?.matches(".sign") && /more.*→/.test(one.previousElementSibling.innerText)))
+  .map((one) => one.outerHTML.slice(0, 200))"""
 COUNTER = "SET M 0 100 1405 3420 300\nSET P 0 100\n"  # LDN 5, STD 20, UJN 0
 
 
@@ -68,9 +69,10 @@ class Answers(PageCase):
         the question on channel 05; the OAN at 0102 put the question there, and DCN 05 disconnected a full channel."""
         self.browser.open(shown_film("handshake"))
         self.click_line("STEP 1000")
-        rows = "[...document.querySelectorAll('#processors tbody tr')].slice(0, 2).map((row) => row.innerText.split(/\\s+/).slice(-2).join(' '))"
-        self.assertEqual(["06 full", "05 full"], self.value(rows))
-        self.assertEqual([1, 1], self.value("lanes.all.slice(0, 2).map((lane) => lane.kinds[lane.begins.findLastIndex((at) => at <= film.at)])"))
+        rows = "[...document.querySelectorAll('#processors tbody tr')].slice(0, 2)"
+        self.assertEqual(["06 full", "05 full"], self.value(f"{rows}.map((row) => row.innerText.split(/\\s+/).slice(-2).join(' '))"))
+        now = "lane.kinds[lane.begins.findLastIndex((at) => at <= film.at)]"
+        self.assertEqual([1, 1], self.value(f"lanes.all.slice(0, 2).map((lane) => {now})"))
         self.browser.click("#channels button[data-place='H 05']")
         self.browser.key("[")
         self.assertIn("by PP 00, OAN 05 at 0102.", self.value(CHOSEN))
@@ -78,7 +80,8 @@ class Answers(PageCase):
         self.browser.key("]")
         self.assertEqual("PP 00, DCN 05 at 0103", self.value("turnText(film.at)"))
         self.value("scrollTo(0, 0)")
-        self.browser.click_at(*self.value("(() => { const box = byId('picture').getBoundingClientRect(); return [box.x + LABEL + pictureWidth() / 2, box.y + 40]; })()"))
+        self.browser.click_at(*self.value("(() => { const box = byId('picture').getBoundingClientRect();"
+                                          "return [box.x + LABEL + pictureWidth() / 2, box.y + 40]; })()"))
         self.assertTrue(self.value("Math.abs(film.at - film.count / 2) <= 2"), "a click in the middle of a lane")
 
     def test_exercise(self):
@@ -157,7 +160,7 @@ class Controls(PageCase):
         self.open("#moment=0")
         shown = "[film.at, byId('no-turn').innerText, byId('turn').getAttribute('aria-invalid')]"
         for word, wanted in (("13", [2 + 0o13, "", "false"]), ("9", [2 + 0o13, "not an octal number", "true"]),
-                             ("77777", [self.LAST, "the last turn is 1000", "true"]), ("x", [self.LAST, "not an octal number", "true"]),
+                             ("77777", [self.LAST, "no turn 77777: the highest is 1000", "true"]), ("x", [self.LAST, "not an octal number", "true"]),
                              ("1000", [2 + 0o1000, "", "false"])):
             self.browser.key("g")
             self.browser.write(word)
@@ -165,7 +168,7 @@ class Controls(PageCase):
             with self.subTest(word):
                 self.assertEqual(wanted, self.value(shown))
             self.browser.key("Escape")
-        for address, wanted in (("#turn=1001", "the last turn is 1000"), ("#turn=18", "not an octal number"), ("#turn=20", "")):
+        for address, wanted in (("#turn=1001", "no turn 1001: the highest is 1000"), ("#turn=18", "not an octal number"), ("#turn=20", "")):
             self.value(f"location.hash = '{address}'; followAddress()")
             with self.subTest(address):
                 self.assertEqual(wanted, self.value("byId('no-turn').innerText"))
@@ -203,7 +206,8 @@ class Controls(PageCase):
     def test_first_change(self):
         """At a place that has not changed yet the next change is offered; that it has none is said."""
         self.browser.open(self.film(script=f"{COUNTER}STEP 1000\n"), "#moment=2&place=M+0+20")
-        buttons = "['previous-change', 'next-change'].map((id) => { const one = byId(id); return one.offsetParent ? [one.innerText, !one.disabled] : null; })"
+        buttons = ("['previous-change', 'next-change'].map(byId)"
+                   ".map((one) => (one.offsetParent ? [one.innerText, !one.disabled] : null))")
         self.assertEqual("M 00 0020 is 0000. First change: turn 13, by PP 00, STD 20 at 0101.", self.value(CHOSEN))
         self.assertEqual([None, ["first change ]", True]], self.value(buttons))
         self.browser.click("#next-change")
@@ -217,12 +221,12 @@ class Controls(PageCase):
         self.assertIn("First change: turn 13, by PP 00, STD 20 at 0101.", self.value(CHOSEN))
 
     def test_memory_follows(self):
-        """Memory is that of the processor that was at work last, until one is chosen; Esc and F let it follow again."""
+        """Memory is that of the processor whose turn it was, unless it passes, until one is chosen; Esc and F let it follow again."""
         script = "SET M 0 100 1405 3420 7001\nSET M 1 200 1406 3421 7001\nSET P 0 100\nSET P 1 200\nSTEP 100\n"
         self.browser.open(self.film(script=script), "#moment=2")
         shown = "[byId('memory-of').selectedOptions[0].text, document.querySelector('#memory .at-p').place.name]"
-        rows = (("#moment=2", "PP 01, at work last"), ("#turn=1", "PP 00, at work last"), ("#turn=2", "PP 01, at work last"),
-                ("#turn=12", "PP 01, at work last"), ("#turn=13", "PP 00, at work last"), ("#turn=100", "PP 01, at work last"))
+        rows = (("#moment=2", "PP 01, follows the turns"), ("#turn=1", "PP 00, follows the turns"), ("#turn=2", "PP 01, follows the turns"),
+                ("#turn=12", "PP 01, follows the turns"), ("#turn=75", "PP 00, follows the turns"), ("#turn=100", "PP 01, follows the turns"))
         for address, wanted in rows:
             self.value(f"location.hash = '{address}'; followAddress()")
             with self.subTest(address):
@@ -232,11 +236,17 @@ class Controls(PageCase):
         self.browser.key("ArrowLeft")
         self.assertEqual(["PP 00", "M 00 0102"], self.value(shown))
         self.browser.key("f")
-        self.assertEqual(["PP 01, at work last", "M 01 0202"], self.value(shown))
+        self.assertEqual(["PP 01, follows the turns", "M 01 0202"], self.value(shown))
         self.value("choose(placeNamed('M 3 7000'))")
-        self.assertEqual("PP 03", self.value(shown.split(",")[0][1:]))
+        self.assertEqual(["PP 03", "6740"], self.value("[byId('memory-of').selectedOptions[0].text, byId('memory-at').value]"))
         self.browser.key("Escape")
-        self.assertEqual(["PP 01, at work last", "M 01 0202"], self.value(shown))
+        self.assertEqual(["PP 01, follows the turns", "M 01 0202"], self.value(shown))
+
+    def test_memory_of_a_processor_that_only_waits(self):
+        """After a dead start nine processors wait for ever: memory stays at the one that works."""
+        self.browser.open(shown_film("dead-start-from-cards"), "#turn=520")
+        self.assertEqual("PP 05, in the block of IAM 05, waits.", self.value("byId('action').innerText"))
+        self.assertEqual("PP 00, follows the turns", self.value("byId('memory-of').selectedOptions[0].text"))
 
     def test_save(self):
         """The buttons save the script and the deck, byte for byte."""
@@ -244,12 +254,13 @@ class Controls(PageCase):
         deck = os.path.join(room, "my deck")
         with open(deck, "wb") as file:
             file.write(b"* caf\xe9\n0001 0002\n")
-        path = self.film("--deck", deck, script="STEP 3\n* \xff\n")
+        path = self.film("--deck", deck, script="STEP 3\n* \xff\n", status=1)
         saved = os.path.join(room, "saved")
         os.mkdir(saved)
         self.browser.save_into(saved)
         self.browser.open(path)
-        self.assertEqual(["save script", "save deck: my deck"], self.value("[...document.querySelectorAll('#files button')].map((one) => one.innerText)"))
+        texts = self.value("[...document.querySelectorAll('#files button')].map((one) => one.innerText)")
+        self.assertEqual(["save script", "save deck: my deck"], texts)
         self.assertEqual("To run it again: pp6600 --deck 'my deck' script", self.value("byId('again').innerText"))
         for at in 1, 2:
             self.browser.click(f"#files button:nth-child({at})")
@@ -289,7 +300,8 @@ class Opening(PageCase):
                 ("a line that sets", f"{COUNTER}STEP 20\nSET A 0 1\n", [0o20, None]), ("nothing at all", "", [0, None]))
         for name, script, wanted in rows:
             with self.subTest(name):
-                self.browser.open(self.film("--deck", "examples/overwritten-loader/deck", script=script))
+                status = int(name == "a BACK W that is refused")
+                self.browser.open(self.film("--deck", "examples/overwritten-loader/deck", script=script, status=status))
                 self.assertEqual(wanted, self.value(TURN_AND_PLACE))
 
     def test_address(self):
@@ -310,19 +322,23 @@ class Looks(PageCase):
 
     def test_quiet_lanes(self):
         """Lanes that tell nothing are one line, which unfolds."""
-        for name, drawn, text in (("overwritten-loader", ["PP 00", "H 12"], "PP 01 to PP 11: each only passes"),
-                                  ("handshake", ["PP 00", "PP 01", "H 05", "H 06"], "PP 02 to PP 11: each only passes"),
+        for name, drawn, text in (("overwritten-loader", ["PP 00", "H 12"], "PP 01 to PP 11: only passing"),
+                                  ("handshake", ["PP 00", "PP 01", "H 05", "H 06"], "PP 02 to PP 11: only passing"),
                                   ("dead-start-from-cards", ["PP 00", "H 12", "H 13"],
-                                   "PP 01 to PP 11: each only waits; H 01 to H 11: each stays empty")):
+                                   "PP 01 to PP 11: only waiting; H 01 to H 11: always empty")):
             with self.subTest(name):
                 self.browser.open(shown_film(name))
                 self.assertEqual([drawn, f"▸ {text}"], self.value("[lanesShown().map((lane) => lane.name), byId('fold').innerText]"))
                 self.browser.click("#fold")
                 self.assertEqual([True, f"▾ {text}"], self.value("[lanesShown().length === lanes.all.length, byId('fold').innerText]"))
 
+        self.browser.open(self.film("exercises/who-wrote-it/script"))
+        self.assertEqual("▸ PP 00, PP 04 to PP 11: only passing", self.value("byId('fold').innerText"))
+
     def test_first_screen(self):
         """Memory is on the first screen, and no number of it below."""
-        for name, address in (("overwritten-loader", "#turn=405&place=M+0+106"), ("handshake", "#turn=31&place=H+5"), ("dead-start-from-cards", "")):
+        for name, address in (("overwritten-loader", "#turn=405&place=M+0+106"), ("handshake", "#turn=31&place=H+5"),
+                              ("dead-start-from-cards", "")):
             with self.subTest(name):
                 self.browser.open(shown_film(name), address)
                 self.assertLessEqual(self.value("byId('memory').getBoundingClientRect().bottom"), 800)
@@ -338,7 +354,8 @@ class Looks(PageCase):
     def test_phone(self):
         """On a phone controls are at least 32 pixels wide and high, and what is cut has a mark."""
         self.browser.look(390, 844)
-        for name, address in (("overwritten-loader", "#turn=405&place=M+0+106"), ("handshake", ""), ("dead-start-from-cards", "#turn=520&place=SYMBOLS")):
+        for name, address in (("overwritten-loader", "#turn=405&place=M+0+106"), ("handshake", ""),
+                              ("dead-start-from-cards", "#turn=520&place=SYMBOLS")):
             self.browser.open(shown_film(name), address)
             with self.subTest(name):
                 self.assertEqual([], self.value(SMALL))

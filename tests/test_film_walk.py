@@ -104,23 +104,30 @@ def dumped(console, last_word, window):
             "central": [[int(address, 8), word] for address, word in words]}
 
 
-def moments_in(words, lines):
-    """How many moments a script has."""
+def first_words(words, lines):
+    """The words of the first line of each answer."""
     console = Console(words)
     answers = [(console.ask(line) or ["NOTE"])[0].split() for line in lines]
     console.end()
+    return answers
+
+
+def moments_in(answers):
+    """How many moments a script has."""
     return 1 + sum(int(answer[1], 8) if answer[0] == "TURNS" else answer[0] in ("OK", "BACK", "FORWARD") for answer in answers)
 
 
 def chosen_moments(choose, words, lines):
-    """Chooses moments, and returns the dumps at each, with the window of memory that is compared."""
-    total = moments_in(words, lines)
+    """Chooses moments, and returns the dumps at each, with the window of memory that is compared; how many there are; and the
+    status of the tool."""
+    answers = first_words(words, lines)
+    total = moments_in(answers)
     wanted = {total - 1, *(choose.randrange(total) for _ in range(MOMENTS - 1))}
     windows = {moment: (choose.randrange(10), choose.choice((0, 0o60, 0o100, 0o7770))) for moment in wanted}
     last_words = {total - 1: 0o77777}  # all of 32K at the end, else the first ones
     states = {moment: dumped(console, last_words.get(moment, 0o777), windows[moment])
               for moment, console in enumerate(moments_of(words, lines)) if moment in wanted}
-    return windows, states, total
+    return windows, states, total, int(any(answer[0] == "ERR" for answer in answers))
 
 
 def numbers_at(page, moments):
@@ -143,8 +150,8 @@ class Walk(PageCase):
         """Compares the film of a run, and its page where there is a browser, with the dumps."""
         choose = random.Random(name)
         words = [program(), *(os.path.join(TOP, word) if "/" in word else word for word in options)]
-        windows, states, total = chosen_moments(choose, words, lines)
-        path = self.film(*options, script="".join(f"{line}\n" for line in lines))
+        windows, states, total, status = chosen_moments(choose, words, lines)
+        path = self.film(*options, script="".join(f"{line}\n" for line in lines), status=status)
         with open(path, encoding="utf-8") as file:
             self.compare_numbers(file.read(), states, total)
         if self.browser:

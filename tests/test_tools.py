@@ -20,7 +20,7 @@ from pp6600.changes import place_changes
 from pp6600.answers import ANSWER, CELLS, Place
 from pp6600.history import History
 from pp6600.instructions import END_OF_BLOCK, END_OF_INPUT, IN_BLOCK, Effect, processor_at
-from pp6600.run import Replay, Run, actions_in_effect
+from pp6600.run import Replay, Run, performed
 from pp6600.trace import lines_from
 
 LOADER = ("--deck", os.path.join(EXAMPLES, "overwritten-loader", "deck"))
@@ -317,7 +317,7 @@ class Replays(Case):
         long.most_lines = 100
         for line in lines:
             self.assertEqual(plain.ask(line)[:1], long.act(line)[:1], line)
-        for slot, _ in anew.looks(actions_in_effect(words, lines), choose.randrange(100), choose.choice(((3,), range(10)))):
+        for slot, _ in anew.looks(performed(words, lines).actions, choose.randrange(100), choose.choice(((3,), range(10)))):
             if slot is not None:
                 self.assertEqual(anew.slot(), slot)
                 anew.advance(1)
@@ -335,7 +335,7 @@ class Replays(Case):
     def test_long_runs(self):
         """Runs that need more lines than one simulator reads: here its limit is lowered."""
         words = [program(), "--history", "1"]
-        actions = actions_in_effect(words, ["SET M 3 7000 1", "STEP 3000", "SET M 4 7000 1", "STEP 1750"])
+        actions = performed(words, ["SET M 3 7000 1", "STEP 3000", "SET M 4 7000 1", "STEP 1750"]).actions
         turns = 0o4750
         with mock.patch.object(Run, "most_lines", 300), mock.patch.object(Run, "start", autospec=True, side_effect=Run.start) as start:
             self.assertEqual(self.expected_trace(turns), list(lines_from(words, actions, [3], None, 0)))
@@ -466,6 +466,18 @@ class Messages(Case):
             with self.subTest(name, words=words):
                 self.assertEqual((2, 1), (got.status, got.err.count("\n")))
                 self.assertTrue(got.err.startswith(f"{name}: ") and text in got.err, got.err)
+
+    def test_lines_that_are_refused(self):
+        """One line on standard error has the first of them, and the status is 1; the others are performed."""
+        wanted = "line 2 (decimal), ERR 14 NO PANEL: DEADSTART\n"
+        for name, words in {"changed": ["1"], "changes": ["M", "0", "0"], "state": [], "trace": [], "waits": []}.items():
+            with self.subTest(name):
+                plain = tool(name, *words, script="STEP 5\nSTEP 2\n")
+                got = tool(name, *words, script="STEP 5\nDEADSTART\nSTEP 2\n")
+                self.assertEqual((plain.out, f"{name}: one line was refused: {wanted}", 1), got)
+                got = tool(name, *words, script="STEP 5\nDEADSTART\nGO\x1b[0m\nSTEP 2\n")
+                self.assertEqual((plain.out, f"{name}: 2 lines (decimal) were refused, the first is {wanted}", 1), got)
+        self.assertEqual("state: one line was refused: line 1 (decimal), ERR 06 NOT ASCII: [0mGO\n", tool("state", script="\x1b[0mGO\n").err)
 
     def test_help_and_version(self):
         for name in NAMES:

@@ -126,8 +126,11 @@ class Hands(HandsCase):
                 if name in WITHOUT:
                     self.assert_one_line(name, "is not text in UTF-8", said)
                     self.assertEqual(2, status)
+                elif name in ("film", "show", "talk"):
+                    self.assertEqual(("", 0 if name == "film" else 1), (said, status))
                 else:
-                    self.assertEqual(("", 1 if name in ("show", "talk") else 0), (said, status))
+                    self.assert_one_line(name, "one line was refused: line 1 (decimal), ERR 06 NOT ASCII: * ", said)
+                    self.assertEqual(1, status)
         said, status = self.treated("words", [b"\xff"], PLAIN, b"", PYTHONIOENCODING="ascii")
         self.assert_one_line("words", "display code has no", said)
         self.assertEqual(2, status)

@@ -2,8 +2,7 @@
 
 from .answers import CENTRAL_ADDRESSES, FRAME_WORDS, REGISTERS
 from .command_line import arguments, count, script_lines, simulator, words_after, write
-from .history import turns_of
-from .run import Replay, actions_in_effect
+from .run import Replay, performed
 
 DESCRIPTION = """Shows what each of the last COUNT (octal) turns of a script changed: the turn, counted in octal from 1,
 the processor, and each number with what it was and is. The script is performed anew up to there, so COUNT may be more
@@ -61,10 +60,11 @@ def main():
     parser.add_argument("count", metavar="COUNT", type=count)
     parser.add_argument("script", metavar="SCRIPT", nargs="*", help="without it, standard input is the script")
     asked = parser.parse()
-    (script,) = words_after(asked.script, 1, "give one count, one script")
+    (path,) = words_after(asked.script, 1, "give one count, one script")
     words = simulator(asked)
-    actions = actions_in_effect(words, script_lines(script))
+    script = performed(words, script_lines(path))
     run = Replay(words)
     size = run.size_of_central()
-    for slot, line in run.looks(actions, max(turns_of(actions) - asked.count, 0)):
+    for slot, line in run.looks(script.actions, max(script.history.turns - asked.count, 0)):
         write(line if slot is None else changed_by_turn(run, slot, size))
+    return script.status()

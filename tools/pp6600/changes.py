@@ -9,7 +9,7 @@ from .command_line import arguments, script_lines, simulator, words_after, write
 from .console import CHANNEL_LINES, MARK, MOST_TURNS
 from .history import STEP
 from .instructions import Processor
-from .run import Replay, actions_in_effect
+from .run import Replay, performed
 
 DESCRIPTION = """Shows every change of a place (M 0 106, A 0, C 1000, H 12 ..) over the whole run of a script, however
 long: the turn, counted in octal from 1, the processor whose turn it was, its P before the turn, the name of its
@@ -126,7 +126,8 @@ def main():
     parser.add_argument("words", nargs="*", metavar="PLACE [SCRIPT]", help="without a script, standard input is it")
     asked = parser.parse()
     place, rest = Place.first_of(asked.words)
-    (script,) = words_after(rest, 1, "give one place, one script")
+    (path,) = words_after(rest, 1, "give one place, one script")
     words = simulator(asked)
-    actions = actions_in_effect(words, script_lines(script))
-    write_lines(place_changes(Replay(words), place, actions), "NO CHANGE")
+    script = performed(words, script_lines(path))
+    write_lines(place_changes(Replay(words), place, script.actions), "NO CHANGE")
+    return script.status()

@@ -24,7 +24,7 @@ def tool_files():
 def checked_program(path):
     """Returns the whole path of a program that answers as the simulator does, and fails if it does not."""
     try:
-        done = subprocess.run([path], input=b"STEP 12\n", stdout=subprocess.PIPE, stderr=subprocess.PIPE, timeout=60, check=False)
+        done = subprocess.run(["pp6600"], executable=path, input=b"STEP 12\n", capture_output=True, timeout=60, check=False)
     except (OSError, ValueError, subprocess.TimeoutExpired):
         done = None
     if not done or done.stdout != b"TURNS 12 SLOT 00\n":

@@ -4,6 +4,7 @@ from .answers import PROCESSORS, REGISTERS
 from .command_line import add_script, arguments, script_lines, simulator, write_lines
 from .console import Console
 from .instructions import processor_at, states_of
+from .run import Script
 
 DESCRIPTION = """Shows the machine at the end of a script on one screen: the ten processors with the two words from P
 on, the name of the instruction, and WAITS if it waits as the channels are; the channels and the clock beside them, the
@@ -43,6 +44,7 @@ def main():
     add_script(parser)
     asked = parser.parse()
     console = Console(simulator(asked))
-    console.perform_all(script_lines(asked.script))
+    script = Script(console, script_lines(asked.script))
     write_lines(screen(console))
     console.end()
+    return script.status()

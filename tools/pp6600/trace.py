@@ -4,7 +4,7 @@ from .answers import PROCESSORS, REGISTERS
 from .command_line import add_script, arguments, channel, count, processor, script_lines, simulator, write_lines
 from .history import turns_of
 from .instructions import Processor
-from .run import Replay, actions_in_effect
+from .run import Replay, performed
 
 DESCRIPTION = """Shows each turn of a script, as the processor stood before it: the turn, counted in octal from 1, the
 processor, P and the two words from P on, the name of the instruction, A, Q and the phase; and WAITS if the turn was a
@@ -106,5 +106,6 @@ def main():
     add_script(parser)
     asked = parser.parse()
     words = simulator(asked)
-    actions = actions_in_effect(words, script_lines(asked.script))
-    write_lines(trace(words, actions, asked.processor, asked.channel, asked.last))
+    script = performed(words, script_lines(asked.script))
+    write_lines(trace(words, script.actions, asked.processor, asked.channel, asked.last))
+    return script.status()

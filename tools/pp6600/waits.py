@@ -4,7 +4,7 @@ from .answers import CELLS, PROCESSORS, REGISTERS
 from .command_line import add_script, arguments, script_lines, simulator, write_lines
 from .history import STEP, turns_of
 from .instructions import processor_at, states_of
-from .run import Replay, actions_in_effect
+from .run import Replay, performed
 
 DESCRIPTION = """Shows each processor that waits at the end of a script: the address of its instruction and its name, P,
 the channel that it waits for with its state and register, and the turn since which it waits, counted in octal from 1.
@@ -105,5 +105,6 @@ def main():
     add_script(parser)
     asked = parser.parse()
     words = simulator(asked)
-    actions = actions_in_effect(words, script_lines(asked.script))
-    write_lines(waits(words, actions), "NO PROCESSOR WAITS", at_once=True)
+    script = performed(words, script_lines(asked.script))
+    write_lines(waits(words, script.actions), "NO PROCESSOR WAITS", at_once=True)
+    return script.status()

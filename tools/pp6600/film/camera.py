@@ -7,7 +7,7 @@ from ..answers import CELLS, PROCESSORS
 from ..console import MARK, MOST_TURNS, Console
 from ..failure import Failure
 from ..history import History, room_of
-from ..run import Run
+from ..run import Run, Script
 from .footprint import Footprint
 from .machine import Machine
 from .places import LAYOUT
@@ -20,21 +20,36 @@ END_DUMPS = [*REGISTER_DUMPS, "DUMP H", "DUMP XP", "DUMP LP", "DUMP W"]  # what 
 CELL_DUMPS = [f"DUMP M {n:o} 0 7777" for n in range(PROCESSORS)]
 
 
+class Recorder(Console):
+    """A console that keeps the answers."""
+
+    def start(self):
+        self.answers = []
+        super().start()
+
+    def ask(self, line):
+        self.answers.append(super().ask(line))
+        return self.answers[-1]
+
+
 class Transcript:
     """The lines of a script with their answers."""
 
     def __init__(self, words, lines):
-        console, history = Console(words), History(room_of(words))
-        self.lines = []
+        console = Recorder(words)
+        self.script = Script(console, lines)
+        self.lines = list(zip(lines, console.answers))
         self.turns = {}  # of each line that did something: how many turns are in effect before and after it
-        for number, line in enumerate(lines):
-            before, answer = history.turns, console.ask(line)
-            self.lines.append((line, answer))
-            if history.take(line, answer):
-                self.turns[number] = before, history.turns
+        self._count_turns(History(room_of(words)))
         self.end = [console.ask(dump) for dump in END_DUMPS]
         self.size = console.size_of_central()
         console.end()
+
+    def _count_turns(self, history):
+        for number, (line, answer) in enumerate(self.lines):
+            before = history.turns
+            if history.take(line, answer):
+                self.turns[number] = before, history.turns
 
     def actions(self):
         """Yields for each line that did something its number, its kind, and how many actions it made, took back or

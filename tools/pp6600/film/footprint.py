@@ -52,7 +52,8 @@ class Footprint:
         """Returns whether the printer may do something in the state of its channel."""
         numbers = self.machine.numbers
         mode = MODES["printer"][numbers[LAYOUT["printer"] + 2]]
-        return {"I": False, "E": mode in ("STATUS", "SENT"), "F": mode == "PRINTING", "X": True}[STATES[numbers[LAYOUT["states"] + printer]]]
+        state = STATES[numbers[LAYOUT["states"] + printer]]
+        return {"I": False, "E": mode in ("STATUS", "SENT"), "F": mode == "PRINTING", "X": True}[state]
 
     def dumps(self, size):
         """The lines that show it; the size is that of central memory."""

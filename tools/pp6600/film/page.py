@@ -8,11 +8,11 @@ import shlex
 
 from ..display_code import SYMBOLS
 from ..failure import Failure
-from .data import encode
-from .places import LAYOUT, MODES
 from ..instructions import BLOCK_GOES_ON, COMPLETES, IN_BLOCK, NAMES, NOT_THERE, NOT_THERE_IN_BLOCK, TWO_WORDS, WAITS_FOR
 from ..options import OPTIONS
 from ..text_files import bytes_of, lines_of
+from .data import encode
+from .places import LAYOUT, MODES
 
 WEB = os.path.join(os.path.dirname(os.path.abspath(__file__)), "web")
 SCRIPTS = ("state", "places", "machine", "lanes", "controls")  # the page's script, in the order in which it is joined
@@ -89,8 +89,10 @@ def carried(asked, script):
     for option in OPTIONS:
         value = getattr(asked, option)
         if value is not None and option in ("deck", "panel"):
-            files.append({"kind": option, "name": name_of(value, option), "bytes": bytes_of(value).decode("latin-1")})
-            value = files[-1]["name"]
+            name = name_of(value, option)
+            name = f"{option}-{name}" if name in [file["name"] for file in files] else name
+            files.append({"kind": option, "name": name, "bytes": bytes_of(value).decode("latin-1")})
+            value = name
         words += [] if value is None else [f"--{option}", value]
     return {"files": files, "again": " ".join(map(shlex.quote, [*words, files[0]["name"]]))}
 

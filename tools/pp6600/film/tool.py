@@ -22,3 +22,4 @@ def main():
     film = Film(words, transcript, int(asked.reader or "12", 8), int(asked.printer or "13", 8))
     film.shoot(to_skip(transcript, asked.last))
     write_page(asked.output, page(heading(asked.title, asked.script), text_of(film, asked, script)))
+    return transcript.script.status()

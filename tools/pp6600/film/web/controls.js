@@ -157,7 +157,7 @@ function wrongTurn(text) {
   if (!/^[0-7]+$/.test(text)) return "not an octal number";
   const turn = parseInt(text, 8);
   if (film.turn.includes(turn)) return "";
-  return turn < film.turn[0] ? `the film begins at turn ${octal(film.turn[0])}` : `the last turn is ${octal(film.lastTurn)}`;
+  return turn < film.turn[0] ? `the film begins at turn ${octal(film.turn[0])}` : `no turn ${text}: the highest is ${octal(film.highestTurn)}`;
 }
 
 // ---- playing
@@ -288,7 +288,7 @@ async function openFilm() {
   fillRows(heads, places, growths);
   film.at = film.count - 1;
   film.lineAt = linesOfMoments();
-  film.lastTurn = film.turn.reduce((one, other) => Math.max(one, other), 0);
+  film.highestTurn = film.turn.reduce((one, other) => Math.max(one, other), 0);
   build();
   setView();
   drawLegend();

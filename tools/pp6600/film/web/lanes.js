@@ -18,10 +18,11 @@ function stretches(kindAt) {
 
 // The lane of a processor; it is quiet if it only passes, or only waits.
 function processorLane(n) {
-  const lane = stretches((moment) => (film.kinds[moment] === TURN && film.processor[moment] === n ? film.did[moment] : moment ? null : IDLE));
+  const isTurn = (moment) => film.kinds[moment] === TURN && film.processor[moment] === n;
+  const lane = stretches((moment) => (isTurn(moment) ? film.did[moment] : moment ? null : IDLE));
   const waits = lane.kinds.includes(WAITING), passes = lane.kinds.lastIndexOf(IDLE) > 0;
   const isQuiet = lane.kinds.every((kind) => kind < BUSY) && !(waits && passes);
-  return { name: `PP ${two(n)}`, ...lane, quiet: isQuiet && (waits ? "only waits" : "only passes") };
+  return { name: `PP ${two(n)}`, ...lane, quiet: isQuiet && (waits ? "only waiting" : "only passing") };
 }
 
 // The state of each channel after each moment; no lane for a channel that is always inactive. It is quiet if no turn changes it.
@@ -37,7 +38,10 @@ function channelLanes() {
     }
   }
   const firstTurn = film.kinds.indexOf(TURN);
-  for (const lane of lanesOfChannels) lane.quiet = lane.begins[lane.begins.length - 1] < firstTurn && `stays ${STATE_NAMES[lane.kinds[lane.kinds.length - 1]]}`;
+  for (const lane of lanesOfChannels) {
+    const last = lane.kinds.length - 1;
+    lane.quiet = lane.begins[last] < firstTurn && `always ${STATE_NAMES[lane.kinds[last]]}`;
+  }
   return lanesOfChannels.filter((lane) => lane.kinds.some((kind) => kind > 0));
 }
 
@@ -79,18 +83,23 @@ const lanesShown = () => lanes.all.filter((lane) => !lane.quiet || !lanes.folded
 
 // The line that stands for the quiet lanes, and unfolds them.
 function showFold() {
-  const quiet = lanes.all.filter((lane) => lane.quiet), fold = byId("fold"), texts = [];
-  for (const lane of quiet) {
-    const last = texts[texts.length - 1];
-    if (last && last.quiet === lane.quiet && lanes.all[lanes.all.indexOf(lane) - 1] === last.to) last.to = lane;
-    else texts.push({ quiet: lane.quiet, from: lane, to: lane });
-  }
+  const quiet = lanes.all.filter((lane) => lane.quiet), kinds = [...new Set(quiet.map((lane) => lane.quiet))], fold = byId("fold");
+  const texts = kinds.map((kind) => `${inRanges(quiet.filter((lane) => lane.quiet === kind))}: ${kind}`);
   fold.hidden = !quiet.length;
   fold.setAttribute("aria-expanded", !lanes.folded);
-  setText(fold, `${lanes.folded ? "▸" : "▾"} ${texts.map(foldText).join("; ")}`);
+  setText(fold, `${lanes.folded ? "▸" : "▾"} ${texts.join("; ")}`);
 }
 
-const foldText = ({ quiet, from, to }) => (from === to ? `${from.name} ${quiet}` : `${from.name} to ${to.name}: each ${quiet}`);
+// The names of lanes, as PP 00, PP 04 to PP 11.
+function inRanges(some) {
+  const ranges = [];
+  for (const lane of some) {
+    const range = ranges[ranges.length - 1];
+    if (range && range.last === lanes.all[lanes.all.indexOf(lane) - 1]) range.last = lane;
+    else ranges.push({ first: lane, last: lane });
+  }
+  return ranges.map(({ first, last }) => (first === last ? first.name : `${first.name} to ${last.name}`)).join(", ");
+}
 
 // Draws a mark of one of the four heights: a line, a hollow box, a half box, a whole box.
 function drawMark(context, colours, kind, x, y, width) {

@@ -153,16 +153,17 @@ function followTurns() {
 // Keeps the window at a processor, and moves it so that it has a cell.
 function showCell(processor, address, always) {
   const shownNow = memory.processor === processor && ((address - memory.first + CELLS) % CELLS) < 8 * MEMORY_ROWS;
-  if (!shownNow || always) memory.first = address & 0o7770;
+  if (always) memory.first = address & 0o7770;
+  else if (!shownNow) memory.first = (address - 0o40 + CELLS) & 0o7770;
   Object.assign(memory, { processor, follows: false, from: "at" });
   show();
 }
 
-// The processor that was at work last: that of the latest turn which neither passed nor waited, or of a line that set it.
-function lastAtWork() {
+// The processor of the latest turn, but for one that passed or whose lane is quiet; or one that a line has set since.
+function processorOfTurn() {
   for (let at = resolve(film.at); at > 0; at = resolve(at - 1)) {
-    const processor = film.kinds[at] === TURN ? film.processor[at] : processorSet(at);
-    if (film.did[at] >= BUSY || (film.kinds[at] === LINE && processor >= 0)) return processor;
+    const isTurn = film.kinds[at] === TURN, processor = isTurn ? film.processor[at] : processorSet(at);
+    if (isTurn ? film.did[at] !== IDLE && !lanes.all[processor].quiet : processor >= 0) return processor;
   }
   return 0;
 }
@@ -175,14 +176,14 @@ function processorSet(moment) {
 }
 
 function showMemory() {
-  if (memory.follows) memory.processor = lastAtWork();
+  if (memory.follows) memory.processor = processorOfTurn();
   const n = memory.processor, p = film.numbers[register(n, 0)];
   if (memory.from === "P") memory.first = (p - 0o40 + CELLS) & 0o7740;
   byId("memory-of").value = memory.follows ? "" : n;
   byId("memory-from").value = memory.from;
   if (document.activeElement !== byId("memory-at")) byId("memory-at").value = four(memory.first);
   setText(document.querySelector("#memory .on-paper"), ` of PP ${two(n)}`);
-  setText(byId("memory-of").options[0], memory.follows ? `PP ${two(n)}, at work last` : "at work last");
+  setText(byId("memory-of").options[0], memory.follows ? `PP ${two(n)}, follows the turns` : "follow the turns");
   memory.rows.forEach(({ row, buttons }, at) => {
     const first = (memory.first + 8 * at) % CELLS;
     setText(row.cells[0], four(first));

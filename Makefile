@@ -1,0 +1,16 @@
+# For packagers. Nothing is built: the program of dist/ is installed as it was proved. Don't strip it, or it is another file than
+# dist/sources names.
+PREFIX = /usr/local
+export PREFIX DESTDIR
+
+all: # shows the program that is installed
+	@share/which-build
+install:
+	@share/install "$$PREFIX"
+uninstall:
+	@share/install --uninstall "$$PREFIX"
+release:
+	@share/release
+check: # all that needs only a program
+	@./check --program
+.PHONY: all install uninstall release check

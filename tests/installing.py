@@ -1,0 +1,95 @@
+"""What the tests of the installation, of a release and of a class share."""
+
+import atexit
+import functools
+import os
+import shutil
+import subprocess
+import sys
+import tempfile
+
+from tests.support import TOP, Case, Done, program, run
+
+TOOLS = sorted(name for name in os.listdir(os.path.join(TOP, "tools")) if os.path.isfile(os.path.join(TOP, "tools", name)))
+INSTALL = os.path.join(TOP, "share", "install")
+PATH = f"{os.path.dirname(sys.executable)}:/usr/sbin:/usr/bin:/sbin:/bin"  # where the Rattle kit is not
+ALONE = {"PATH": PATH, "PP6600": "", "DESTDIR": "", "PYTHONDONTWRITEBYTECODE": "1"}
+ANSWERED = Done("TURNS 12 SLOT 00\n", "", 0)  # by the simulator, to STEP 12
+LIKE_THE_SIMULATOR = "#!/bin/sh\ncat >/dev/null; echo TURNS 12 SLOT 00\n"
+
+
+def alone(*words, env=None, **how):
+    """Runs a command without the kit, and without the variables that choose the program or another folder."""
+    return run(*words, env={**ALONE, **(env or {})}, **how)
+
+
+def write(path, text="", mode=0o644):
+    os.makedirs(os.path.dirname(path), exist_ok=True)
+    with open(path, "w", encoding="utf-8") as file:
+        file.write(text)
+    os.chmod(path, mode)
+
+
+def text_of(*names):
+    with open(os.path.join(*names), encoding="utf-8") as file:
+        return file.read()
+
+
+def below(folder):
+    """Returns each path below a folder, with its mode, or the target of a link."""
+    found = {}
+    for root, folders, names in os.walk(folder):
+        for name in folders + names:
+            path = os.path.join(root, name)
+            is_link = os.path.islink(path)
+            found[os.path.relpath(path, folder)] = os.readlink(path) if is_link else oct(os.stat(path).st_mode & 0o7777)
+    return found
+
+
+def commit(folder):
+    """Commits all of a checkout, at a fixed time."""
+    fixed = {"GIT_COMMITTER_DATE": "2026-01-02T03:04:05Z", "GIT_AUTHOR_DATE": "2026-01-02T03:04:05Z"}
+    for words in (("add", "-A"), ("-c", "user.name=tests", "-c", "user.email=tests@localhost", "commit", "-q", "-m", "tests")):
+        subprocess.run(["git", *words], cwd=folder, env={**os.environ, **fixed}, check=True)
+
+
+def checkout(folder):
+    """Copies this checkout, with the program under test in dist/, and commits it."""
+    shutil.copytree(TOP, folder, ignore=shutil.ignore_patterns("out", ".git", "__pycache__", "must-fail", "tests"))
+    shutil.copyfile(program(), os.path.join(folder, "dist", "pp6600"))
+    os.chmod(os.path.join(folder, "dist", "pp6600"), 0o755)
+    sums = alone("sha256sum", "dist/pp6600", cwd=folder).out[:64], alone("share/which-build", "--checksum", cwd=folder).out
+    write(os.path.join(folder, "dist", "sources"), "program {}\nsources {}kit of these tests\n".format(*sums))
+    subprocess.run(["git", "init", "-q"], cwd=folder, check=True)
+    commit(folder)
+    return folder
+
+
+def lasting_room():
+    """Returns a new folder, which is removed when all tests have ended."""
+    folder = tempfile.mkdtemp(prefix="pp6600-test-")
+    atexit.register(shutil.rmtree, folder)
+    return folder
+
+
+@functools.lru_cache(maxsize=None)
+def installation():
+    """Returns an installation that no test changes."""
+    prefix = os.path.join(lasting_room(), "first")
+    alone(INSTALL, "--program", program(), prefix)
+    return prefix
+
+
+class InstallCase(Case):
+    """A test that has a folder of its own."""
+
+    def setUp(self):
+        self.folder = self.room()
+
+    def path(self, *names):
+        """Returns a path in the folder."""
+        return os.path.join(self.folder, *names)
+
+    def check_refused(self, done, said=""):
+        """Checks that a command was refused: status 2 and one line, which says so."""
+        self.assertEqual((2, 1, True, ""), (done.status, len(done.err.splitlines()), said in done.err, done.out), done.err)

@@ -1,0 +1,156 @@
+"""Tests the manual pages and the card. Expected values are those of docs/CONSOLE.md and docs/MACHINE.md."""
+
+import glob
+import os
+import re
+import shutil
+import sys
+import unittest
+
+from tests.installing import TOOLS, InstallCase, alone
+from tests.support import TOP, program, read
+
+BROWSERS = ("chromium", "chromium-browser", "google-chrome", "google-chrome-stable")
+LINES = "| Line | What it does | Answer |"
+
+
+def rows(page, header):
+    """Returns the cells of a table of a page."""
+    text = read("docs", page).split(f"\n{header}\n", 1)[1].split("\n\n", 1)[0]
+    return [[cell.strip() for cell in row.strip("|").split("|")] for row in text.splitlines()[1:]]
+
+
+def codes():
+    """Returns the name of each code in the table of docs/MACHINE.md."""
+    names = {}
+    for numbers, called, _ in rows("MACHINE.md", "| Code | Name | Effect |"):
+        numbers, called = numbers.split(", "), called.split(", ")
+        names.update(zip(numbers, called * len(numbers) if len(called) == 1 else called))
+    return [names[f"{code:02o}"] for code in range(64)]
+
+
+def display_rows(page):
+    """Returns the rows of the table of display code, from its digit on."""
+    return [row.rstrip() for row in re.findall(r"^([0-7]  \S(?: .){7})$", read("docs", page), flags=re.M)]
+
+
+def options_in(text):
+    return set(re.findall(r"--[a-z][a-z-]*", text))
+
+
+class ManualPages(InstallCase):
+    """The pages have what the pages of docs/ have, and each option of each tool; man has nothing to say against them."""
+
+    @classmethod
+    def setUpClass(cls):
+        super().setUpClass()
+        if not shutil.which("man"):
+            raise unittest.SkipTest("there is no man here")
+
+    def setUp(self):
+        super().setUp()
+        self.assertEqual(("", "", 0), alone(os.path.join(TOP, "share", "manual"), self.folder))
+
+    def shown(self, name):
+        """Returns a page as man shows it."""
+        env = {"MANWIDTH": "500", "LC_ALL": "C.UTF-8", "MAN_KEEP_FORMATTING": ""}
+        done = alone("man", "--warnings", "-l", self.path(f"{name}.1"), env=env)
+        self.assertEqual(("", 0), done[1:])
+        return re.sub(".\b", "", done.out)
+
+    def test_of_the_program(self):
+        page = self.shown("pp6600")
+        plain = " ".join(page.split())
+        for head in ("| Answer | Cause |", "| Text | Status | Cause |", LINES, "| Word | Meaning | Without it |"):
+            for first, *_ in rows("CONSOLE.md", head):
+                with self.subTest(first):
+                    self.assertIn(re.sub(r"\[([^]]*)\]\(#[^)]*\)|`", r"\1", first), plain)
+        for called in codes():
+            with self.subTest(called):
+                self.assertRegex(page, rf"(?m)^ +[0-7, ]+ [A-Z, ]*{called}")
+        for row in display_rows("MACHINE.md"):
+            with self.subTest(row):
+                self.assertIn(row, page)
+        for name in TOOLS:
+            with self.subTest(name):
+                self.assertIn(f"pp6600-{name}\n", page)
+
+    def test_session(self):
+        page = self.shown("pp6600")
+        lines = [line.strip() for line in page[page.index("EXAMPLE\n"):page.index("TOOLS\n")].splitlines()]
+        lines = [line for line in lines[next(at for at, line in enumerate(lines) if line.startswith("> ")):] if line]
+        script = "".join(f"{line[2:]}\n" for line in lines if line.startswith("> "))
+        answers = "".join(f"{line}\n" for line in lines if not line.startswith("> "))
+        self.assertEqual(answers, alone(program(), script=script).out)
+
+    def test_of_each_tool(self):
+        pages = sorted(os.path.basename(path) for path in glob.glob(self.path("*.1")))
+        self.assertEqual(sorted(["pp6600.1", *(f"pp6600-{name}.1" for name in TOOLS)]), pages)
+        for name in TOOLS:
+            with self.subTest(name):
+                options = options_in(alone(os.path.join(TOP, "tools", name), "--help").out)
+                self.assertEqual(set(), options - options_in(self.shown(f"pp6600-{name}")))
+
+
+class Version(InstallCase):
+    """VERSION moves with CHANGELOG.md, and is on the manual pages."""
+
+    def test_newest(self):
+        version, date = re.search(r"^## (\S+) - (\d{4}-\d\d-\d\d)$", read("CHANGELOG.md"), flags=re.M).groups()
+        self.assertEqual(f"{version}\n", read("VERSION"))
+        first = alone(os.path.join(TOP, "share", "manual"), "--print").out.splitlines()[0]
+        self.assertEqual(f'.TH PP6600 1 "{date}" "pp6600 {version}" "User Commands"', first)
+
+
+class Card(InstallCase):
+    """The card says what the other pages say, and its forms are apart."""
+
+    def test_lines(self):
+        lines = {form for row in rows("CONSOLE.md", LINES) for form in re.findall("`([^`]*)`", row[0])}
+        self.assertEqual(lines, {form for row in rows("CARD.md", LINES) for form in re.findall("`([^`]*)`", row[0])})
+
+    def test_errors(self):
+        own = {f"ERR {number} {what}" for number, what in re.findall(r"\| `(\d\d)` \| `([A-Z ]+)`", read("docs", "CARD.md"))}
+        for row in rows("CARD.md", "| `ERR` | | `ERR` | | `ERR` | |"):
+            cells = [cell.strip("`") for cell in row]
+            own |= {f"ERR {number} {what}" for number, what in zip(cells[::2], cells[1::2]) if number}
+        self.assertEqual({row[0].strip("`") for row in rows("CONSOLE.md", "| Answer | Cause |")}, own)
+
+    def test_codes(self):
+        grid = re.findall(r"^[0-7]  ((?:[A-Z]{3}[+ ] ?){8})", read("docs", "CARD.md"), flags=re.M)
+        self.assertEqual(codes(), [word.strip("+") for row in grid for word in row.split()])
+
+    def test_display_code(self):
+        symbols = re.findall(r"^[0-3]  (.{15})     [4-7]  (.{15})$", read("docs", "CARD.md"), flags=re.M)
+        wanted = [row[3:] for row in display_rows("MACHINE.md")]
+        self.assertEqual(wanted, [left for left, _ in symbols] + [right for _, right in symbols])
+
+    def test_forms_are_apart(self):
+        self.assertEqual([], re.findall("`[^`|]*`  +`[^`|]*`", read("docs", "CARD.md")))
+
+    def test_page(self):
+        self.assertEqual(("", 0), alone(sys.executable, os.path.join(TOP, "docs", "card.py"), "--check")[1:])
+
+    def test_printed(self):
+        """It is one sheet of A4 on a printer."""
+        browser = next(filter(None, map(shutil.which, BROWSERS)), None)
+        if not browser:
+            self.skipTest("there is no browser here")
+        paper = self.path("card.pdf")
+        alone(browser, "--headless", "--no-sandbox", "--disable-gpu", f"--user-data-dir={self.path('profile')}", "--no-pdf-header-footer",
+              f"--print-to-pdf={paper}", f"file://{os.path.join(TOP, 'docs', 'card.html')}")
+        with open(paper, "rb") as file:
+            data = file.read()
+        self.assertEqual(1, len(re.findall(rb"/Type /Page\b(?!s)", data)))
+        sizes = {tuple(round(float(size)) for size in found) for found in re.findall(rb"/MediaBox \[0 0 ([\d.]+) ([\d.]+)\]", data)}
+        self.assertEqual({(595, 842)}, sizes)
+
+
+class NamesOnPages(InstallCase):
+    """Each tool that a page names, in a block of commands too, is there."""
+
+    def test_tools(self):
+        known = {"NAME", *os.listdir(os.path.join(TOP, "tools"))}
+        for path in [os.path.join(TOP, "README.md"), *sorted(glob.glob(os.path.join(TOP, "docs", "*.md")))]:
+            with self.subTest(os.path.basename(path)):
+                self.assertEqual(set(), set(re.findall(r"\btools/(\w+(?:\.py)?)", read(path))) - known)
