@@ -197,6 +197,7 @@ class Writes(TableCase):
         """Checks the number of a write that is no computation."""
         now = number_of(write.place, after)
         if write.place.kind == "S":
+            self.assertTrue(write.place.exists, self.told)
             return
         if write.is_joined:
             wanted = 0
@@ -212,6 +213,12 @@ class Writes(TableCase):
             wanted &= (1 << 3 * write.place.digits) - 1
         elif write.is_moved:
             wanted = self.constant(turn, *write.constants)
+        elif write.place.kind == "P" and turn.processor.phase:  # the end of a block
+            wanted = (number_of(write.sources[0].place, before) + 1) % CELLS if write.sources else 1
+        elif write.sources and write.sources[0].parts:  # P of the central processor
+            (place, parts), = write.sources
+            self.assertEqual(tuple(range(len(parts))), parts)
+            wanted = number_of(place, before) >> 12 * (5 - len(parts)) & 0o777777
         else:
             return
         self.assertEqual(wanted, now, f"{self.told} {write}")

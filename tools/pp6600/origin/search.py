@@ -12,6 +12,8 @@ FIRST_SIZE, MOST_TURNS_READ, MOST_TURNS_PASSED = 64, 60000, 600000  # of a windo
 CLOCK_PLACE = Place("H", (CLOCK,))
 OF_A_PROCESSOR = ("A", "P", "Q", "PHASE", "M")
 
+LINE_END = "LINE END"
+
 # What wrote a number.
 TURN, SET, DEADSTART, READER, PRINTER, PAPER, TICK, START = range(8)
 
@@ -297,8 +299,9 @@ def symbols_of(line):
 
 
 def symbol_of(answer, index):
-    """Returns a symbol of the paper from the answer to DUMP LP; a line end is a line end."""
-    return "".join(line[1:] + "\n" * (line[0] == "|") for line in answer[1:])[index]
+    """Returns a symbol of the paper as text, from the answer to DUMP LP."""
+    symbol = "".join(line[1:] + "\n" * (line[0] == "|") for line in answer[1:])[index]
+    return LINE_END if symbol == "\n" else f'"{symbol}"'
 
 
 def number_at(console, place):

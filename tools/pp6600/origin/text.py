@@ -1,12 +1,12 @@
 """The steps of an origin as text: a line each. A chain of single sources stays at one depth; of several sources the one at the same
-place goes on at that depth, after the others, which are set in."""
+place goes on at that depth, after the others and the addresses, which are set in."""
 
 import re
 
 from ..instructions import IN_BLOCK, TWO_WORDS
 from ..text_files import bytes_of
 from ..writes import AT_END_OF_BLOCK, AT_END_OF_INPUT, NO_WORD, RETURN, ZERO
-from .search import DEADSTART, PAPER, PRINTER, READER, SET, START, TICK, TURN
+from .search import DEADSTART, LINE_END, PAPER, PRINTER, READER, SET, START, TICK, TURN
 
 INDENT = "  "
 NOTE = re.compile(r"[ \t]*([*].*)?\r?")
@@ -66,9 +66,8 @@ class Writer:
         """What follows a line, the last one first."""
         same = links if len(links) == 1 else [link for link in links if link.place == step.place][-1:]
         others = [link for link in links if link not in same]
-        return [*((link.step, link.place, depth + 1, None) for link in reversed(step.addresses)),
-                *((link.step, link.place, depth, link.parts) for link in same),
-                *((link.step, link.place, depth + 1, link.parts) for link in reversed(others))]
+        return [*((link.step, link.place, depth, link.parts) for link in same),
+                *((link.step, link.place, depth + 1, link.parts) for link in reversed([*others, *step.addresses]))]
 
     def turn_of(self, step):
         if step.cause == START:
@@ -101,9 +100,8 @@ class Writer:
         return [f"CR CARD {card:04o} COLUMN {column:03o} DECK LINE {number} {where}"]
 
     def by_printing(self, step):
-        if step.number == "\n":
-            return [f"LP LINE END OF {step.links[0].place.text}"]
-        return [f"LP FROM {step.links[0].place.text} {'LOWER' if step.detail else 'UPPER'} SIX BITS"]
+        half = "" if step.number == LINE_END else f" {'LOWER' if step.detail else 'UPPER'} SIX BITS"
+        return [f"LP FROM {step.links[0].place.text}{half}"]
 
     @staticmethod
     def instruction(step):

@@ -45,24 +45,29 @@ def place_of(words):
     return place, rest
 
 
-def origin_lines(asked, place, script):
-    """Yields the lines of the origin."""
-    words = simulator(asked)
+def value_of(words, option):
+    """Returns the value of an option of the simulator, or None."""
+    return words[words.index(option) + 1] if option in words else None
+
+
+def origin_lines(words, script, place, at=None, most_steps=MOST_STEPS, with_addresses=False):
+    """Yields the lines of the origin of the number at a place after so many turns, or at the end of a script. The words are the
+    program and its options."""
     timeline = Timeline(words, script)
     if timeline.refused:
         complain(f"{timeline.refused} (decimal) lines of the script were refused and count for nothing")
     if place.kind == "C" and place.numbers[0] >= timeline.size:
         raise Failure(f"there is no {place.short}: central memory has {timeline.size:o} words (octal)")
-    position = timeline.end if asked.at is None else timeline.after_turn(asked.at)
+    position = timeline.end if at is None else timeline.after_turn(at)
     replayer, progress = Replayer(words, timeline), Progress(timeline)
-    step = Search(replayer, None if asked.all else asked.depth, asked.addresses, progress.show).origin(place, position)
+    step = Search(replayer, most_steps, with_addresses, progress.show).origin(place, position)
     now = None
     if place.kind == "P":
         replayer.goto(position)
         now = number_at(replayer, place)
     replayer.end()
     progress.end()
-    yield from Writer(timeline, asked.deck, asked.panel).lines(step, now)
+    yield from Writer(timeline, value_of(words, "--deck"), value_of(words, "--panel")).lines(step, now)
 
 
 def main():
@@ -76,4 +81,5 @@ def main():
     asked = parser.parse()
     place, rest = place_of(asked.words)
     (script,) = words_after(rest, 1, "give one place, one script")
-    write_lines(origin_lines(asked, place, script_lines(script)))
+    most_steps = None if asked.all else asked.depth
+    write_lines(origin_lines(simulator(asked), script_lines(script), place, asked.at, most_steps, asked.addresses))
