@@ -30,6 +30,7 @@ CUT = """[...document.querySelectorAll("body *")].filter((one) => one.offsetPare
   && !(one.previousElementSibling?.matches(".sign") && /more.*→/.test(one.previousElementSibling.innerText)))
   .map((one) => one.outerHTML.slice(0, 200))"""
 COUNTER = "SET M 0 100 1405 3420 300\nSET P 0 100\n"  # LDN 5, STD 20, UJN 0
+EXCHANGE = "SET C 1 12345670123456701234\nSET M 0 100 1400 2600 300\nSET P 0 100\nSTEP 40\n"  # LDN 0, EXN, UJN 0
 
 
 def processor_line(n):
@@ -354,13 +355,17 @@ class Looks(PageCase):
     def test_phone(self):
         """On a phone controls are at least 32 pixels wide and high, and what is cut has a mark."""
         self.browser.look(390, 844)
-        for name, address in (("overwritten-loader", "#turn=405&place=M+0+106"), ("handshake", ""),
-                              ("dead-start-from-cards", "#turn=520&place=SYMBOLS")):
-            self.browser.open(shown_film(name), address)
+        exchange = self.film(script=EXCHANGE)
+        for name, path, address in (("loader", shown_film("overwritten-loader"), "#turn=405&place=M+0+106"),
+                                    ("handshake", shown_film("handshake"), ""), ("exchange", exchange, "#place=C+0"),
+                                    ("cards", shown_film("dead-start-from-cards"), "#turn=520&place=SYMBOLS")):
+            self.browser.open(path, address)
+            self.value("showHelp(true)")
             with self.subTest(name):
                 self.assertEqual([], self.value(SMALL))
                 self.assertEqual([], self.value(CUT))
                 self.assertEqual("more →", self.value("document.querySelector('#memory .sign').innerText"))
+                self.assertEqual(name != "exchange", self.value("byId('frame').hidden"))
                 self.assertTrue(self.value("document.documentElement.scrollWidth <= innerWidth"))
 
     def test_cut_text(self):

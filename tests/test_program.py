@@ -22,7 +22,7 @@ from tests.support import EXAMPLES, PATIENCE, TOP, Case, add_tests, program, rea
 PLAIN = ("args", "stdin", "stdout", "stderr", "status", "how")
 # The functions of a turn that stand in the loops over many turns, and so have no name of their own in the built program.
 OF_A_TURN = (b"pp_rig::rig::RigReversible::perform", b"pp_rig::rig::Rig::perform_turn", b"pp_rig::rig::Rig::turn_short",
-             b"pp_rig::rig::Rig::finish_turn", b"pp_rig::rig::Rig::undo_turn_short", b"pp_step::stepping::step_short", b"pp_step::effect::effect")
+             b"pp_rig::rig::Rig::finish_turn", b"pp_rig::rig::Rig::undo_turn", b"pp_step::stepping::step_short", b"pp_step::effect::effect")
 
 
 def cases(root):
@@ -189,7 +189,7 @@ class System(Case):
         """It drops inline(always) from a function that would grow very large, and says nothing; then STEP is 1.5 times as slow."""
         with open(program(), "rb") as file:
             names = file.read()
-        self.assertIn(b"\0pp_history::log::Log::repeat", names)
+        self.assertIn(b"\0pp_history::session::Session::repeat", names)
         self.assertEqual([], [name for name in OF_A_TURN if b"\0" + name + b"\0" in names])
 
 

@@ -37,6 +37,10 @@ DEADLOCK = "SET M 0 100 1407 7205 300\nSET P 0 100\nSET M 1 100 7005 300\nSET P 
 NAMES = ("changed", "changes", "deck", "film", "load", "panel", "show", "state", "talk", "trace", "waits", "words")
 
 
+def setUpModule():
+    os.environ.pop("PYTHONDONTWRITEBYTECODE", None)  # a tool that has been compiled starts sooner
+
+
 def random_line(choose):
     """A line of a script: a number set, turns, watches, steps back and forward, a note or a refused line."""
     number = choose.randrange(10)
@@ -406,7 +410,7 @@ class Table(Case):
     def test_each_changed_place_is_in_it(self):
         console, choose = Console([program(), "--reader", "0", "--printer", "1"]), random.Random(7)
         for code in range(0o100):
-            for trial in range(24 if code in IN_BLOCK else 8 if code >= 0o64 else 3):
+            for trial in range(12 if code in IN_BLOCK else 8 if code >= 0o64 else 2):
                 lines = self.random_state(code, trial, choose)
                 console.perform_all(lines)
                 console.advance(-console.slot() % 10)

@@ -10,7 +10,7 @@ import sys
 import time
 
 from .support import TOP, program, read, run
-from .test_tools_hands import STEP, TOOLS, HandsCase
+from .test_tools_hands import STEP, TOOLS, HandsCase, setUpModule
 
 from pp6600.files import tool_names
 

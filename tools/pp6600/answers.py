@@ -93,9 +93,9 @@ class Place(NamedTuple):
         return all(number < size for number, size in zip(self.numbers, ALL_KINDS[self.kind].sizes))
 
 
-# Of each answer's lines the form: n is an octal digit, a capital letter stands for itself.
+# Of each answer's lines the form, a regular expression; here each n is an octal digit.
 PLACES = "|".join(f"{kind} {' '.join('n' * width for width in form.widths)}" for kind, form in KINDS.items())
-FORMS = {name: re.compile(re.sub("n+", lambda digits: f"[0-7]{{{len(digits[0])}}}", form)) for name, form in {
+FORMS = {name: re.sub("n+", lambda digits: f"[0-7]{{{len(digits[0])}}}", form) for name, form in {
     "OK": "OK",
     "ERR": "ERR (nn) ([A-Z ]+)",
     "TURNS": "(TURNS|BACK|FORWARD) ([1-7][0-7]{0,6}) SLOT (nn)",
@@ -110,4 +110,4 @@ FORMS = {name: re.compile(re.sub("n+", lambda digits: f"[0-7]{{{len(digits[0])}}
     "PAPER": "[|/].*",
     "W": f"W (NONE|{PLACES})",
 }.items()}
-ANSWER = re.compile("|".join(f"(?:{form.pattern})" for form in FORMS.values()))
+ANSWER = re.compile("|".join(FORMS.values()))

@@ -49,11 +49,11 @@ class Actions:
             return
         before = self.runs.pop().times if self.runs and line == STEP == self.runs[-1].line else 0
         self.runs.append(Action(line, before + times))
-        self._count(Action(line, times))
+        self._count(line, times)
 
-    def _count(self, action, sign=1):
-        self.count += sign * action.times
-        self.turns += sign * action.turns
+    def _count(self, line, times):
+        self.count += times
+        self.turns += times if line == STEP else 0
 
     def pop(self, count):
         """Takes the last actions out, and returns them, the last one first."""
@@ -73,7 +73,7 @@ class Actions:
             if times > count:
                 put_back(Action(line, times - count))
             count -= times
-            self._count(taken[-1], -1)
+            self._count(line, -taken[-1].times)
         return taken
 
     def until(self, turns):
@@ -107,7 +107,7 @@ class History:
         """Counts a line by the lines of its answer. Returns whether it changed the machine, the history or the list."""
         kind, *rest = answer[0].split() if answer else ["NOTE"]
         if kind in ("OK", "TURNS"):
-            self.ahead = Actions()
+            self.ahead = Actions() if self.ahead.count else self.ahead
             self.add(line if kind == "OK" else STEP, int(rest[0], 8) if rest else 1)
         elif kind in ("BACK", "FORWARD"):
             source, target = (self.kept, self.ahead) if kind == "BACK" else (self.ahead, self.kept)

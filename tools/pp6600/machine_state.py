@@ -1,5 +1,6 @@
 """The machine's state, read from the answers to one batch of dumps. Every number stays the octal digits of its answer."""
 
+import re
 from typing import NamedTuple
 
 from .answers import CELLS, CLOCK, FORMS, PROCESSORS, REGISTERS, ROW, Place
@@ -95,7 +96,7 @@ class MachineState:
         rows, paper, others = [], [], []
         for line in lines:
             (rows if line[:1].isdigit() else paper if line[:1] in "|/" else others).append(line)
-        found = {form: [parts.groups() for parts in map(FORMS[form].fullmatch, others) if parts] for form in COUNTS}
+        found = {form: [parts.groups() for parts in map(re.compile(FORMS[form]).fullmatch, others) if parts] for form in COUNTS}
         if len(rows) != PROCESSORS * ROWS or any(len(found[form]) != count for form, count in COUNTS.items() if count):
             raise Failure(f"what is run is not the simulator: its answers to dumps begin with {lines[0][:60]!r}")
         self.memories = [Memory(rows[ROWS * number:ROWS * (number + 1)]) for number in range(PROCESSORS)]

@@ -1,5 +1,7 @@
 """Text as words of display code, and dumped cells as SET lines."""
 
+import re
+
 from .answers import CELLS, FORMS, ROW
 from .cells import in_rows, set_lines, word_of
 from .command_line import Failure, Parser, cell, processor, read_lines, words_after, write_lines
@@ -15,7 +17,7 @@ def set_lines_of_dump(processor, lines):
     """Returns the SET lines of the answer to a DUMP M. Rows that do not continue one another are words without addresses."""
     result, following = [], None
     for number, line in enumerate(lines, 1):
-        if not FORMS["M"].fullmatch(line):
+        if not re.fullmatch(FORMS["M"], line):
             raise Failure(f"line {number} (decimal) is no row of a DUMP M")
         address, *words = line.split()
         first = int(address, 8)

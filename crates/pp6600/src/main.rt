@@ -3,8 +3,9 @@
 
 ghost use Rattle.std.specs.Prelude.{None};
 
-use pp_lines::Counted;
-use pp_program::{FileSystem, System, run, words_of};
+use pp_lines::{Counted, Source};
+use pp_program::{FileLog, FileSystem, System, run, words_of};
+use pp_trouble::FileKind;
 use std::env;
 use std::fs::File;
 use std::process::ExitCode;
@@ -13,6 +14,7 @@ use std::process::ExitCode;
 #[derive(Drop)]
 struct SystemFiles<'a> {
     rt: &'a HostRuntime,
+    log: FileLog,
 }
 
 impl FileSystem for SystemFiles<'_> {
@@ -20,16 +22,28 @@ impl FileSystem for SystemFiles<'_> {
 
     ghost known_files = { λ _ _. None };
 
-    fn open(&mut self, path: &str) -> Option<Counted<File>> {
-        File::open(self.rt, path).ok().map(Counted::new)
+    ghost asked = { λ files. files.log.events };
+
+    fn open(&mut self, kind: FileKind, path: &str) -> Option<Counted<File>> {
+        let file = File::open(self.rt, path).ok().map(Counted::new);
+        self.log = FileLog::with_file(&self.log, kind, path, file.is_some());
+        file
+    }
+
+    fn close(&mut self, file: Counted<File>) {
+        self.log = FileLog::with_end(&self.log, file.log());
     }
 }
 
 fn main(rt: HostRuntime) -> ExitCode {
     let words = words_of(rt.alloc(), env::args(&rt));
+    let files = SystemFiles {
+        rt: &rt,
+        log: FileLog::new(),
+    };
     ExitCode::from(run(
         rt.alloc(),
-        &mut System::new(words, SystemFiles { rt: &rt }),
+        &mut System::new(words, files),
         &mut Counted::new(rt.stdin()),
         &mut Counted::new(rt.stdout()),
         &mut Counted::new(rt.stderr()),

@@ -14,6 +14,7 @@ pub use denote.Triple.Entry.{on_entry}
 pub use denote.Triple.Walked.{says, ends_at, Stays, stay_ref, Goes-ref}
 pub use Rattle.std.proofs.raw_atomic.Walks.{proved}
 pub use Prim.Native.Nat.{◌+◌}
+pub use Rattle.std.specs.Prelude.{true, false}
 pub use mir.Syntax.{named}
 pub use base.Fml.{ftrue, flft}
 pub use denote.RattleType.{owns}

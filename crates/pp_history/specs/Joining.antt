@@ -1,5 +1,5 @@
--- How slots and rings hold the actions of a session. There is a head for each action. A head may hold what belongs to its
--- action; what belongs to the others is in a ring, in the same order.
+-- How rings hold the actions of a session. The first ring has a head for each action. A head may hold what belongs to its
+-- action; what belongs to the others is in a second ring, in the same order.
 use Rattle.std.specs.Prelude.{◌≡◌, ℕ, ◌+◌, ◌≤◌, List, [], ◌∷◌, Option, Some, None, length, take, drop, reverse}
 use Rattle.circular_buffer.specs.Buffer.{Buffer}
 use Rattle.pp_history.specs.LogValue.{LogValue, log_of}
@@ -44,21 +44,20 @@ module _ {A R H : Type 0} (unpacked : H → A × R) where
   IsNext (Some head) action old new = new ≡ old
   IsNext None action old new = new ≡ pushed action old
 
-  -- the first heads are those of the undone actions, the next to perform again first, and the last are those of the kept
-  -- actions, the newest last
-  abbrev pub log_value : List (Option H) → Buffer (Tail A R) → Buffer A → ℕ → ℕ → LogValue A R
-  log_value heads tails undone kept ahead =
-      log_of (kept_in (take kept (reverse heads)) tails.items) (ahead_in (take ahead heads) undone.items) (length heads)
+  -- the first n heads are those of undone actions, and the n-th one is that of the next action to perform again
+  abbrev pub log_value : Buffer (Option H) → Buffer (Tail A R) → Buffer A → ℕ → LogValue A R
+  log_value heads tails undone n =
+      log_of (kept_in (drop n heads.items) tails.items) (ahead_in (reverse (take n heads.items)) undone.items) heads.capacity
 
-  -- holds of the parts of every log with n kept actions and m undone ones: nothing is missing
-  pub record IsLog (heads : List (Option H)) (tails : Buffer (Tail A R)) (undone : Buffer A) (n m : ℕ) : Type 0 where
-    pub some_room : 1 ≤ length heads
-    pub bounded : length heads ≤ 10000
-    pub room_for_tails : tails.capacity ≡ length heads
-    pub room_for_undone : undone.capacity ≡ length heads
-    pub full : n + m ≤ length heads
-    pub ahead : length (ahead_in (take m heads) undone.items) ≡ m
-    pub kept : length (kept_in (take n (reverse heads)) tails.items) ≡ n
+  -- holds of the parts of every log: nothing is missing
+  pub record IsLog (heads : Buffer (Option H)) (tails : Buffer (Tail A R)) (undone : Buffer A) (n : ℕ) : Type 0 where
+    pub some_room : 1 ≤ heads.capacity
+    pub bounded : heads.capacity ≤ 10000
+    pub room_for_tails : tails.capacity ≡ heads.capacity
+    pub room_for_undone : undone.capacity ≡ heads.capacity
+    pub full : length heads.items ≤ heads.capacity
+    pub ahead : length (ahead_in (reverse (take n heads.items)) undone.items) ≡ n
+    pub kept : n + length (kept_in (drop n heads.items) tails.items) ≡ length heads.items
 
 -- the action was performed, and is kept with a record that leads back
 abbrev pub IsActed : {M A R P H : Type 0} → Ghosts M A R P H → M → M → A → Option H → Tails A R → Tails A R → Type 0

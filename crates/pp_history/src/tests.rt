@@ -18,5 +18,8 @@ fn session_of<T: Reversible>(alloc: Global, machine: T, capacity: u32) -> Result
 
 /// Returns the number that a place had before the newest action.
 fn before_newest<T: Reversible>(session: &Session<T>, place: &T::Place) -> Option<u64> {
-    session.newest()?.was(place)
+    match session.newest()? {
+        UndoRecord::Head(head) => T::was(&T::unpack(head).1, place),
+        UndoRecord::Tail(back) => T::was(back, place),
+    }
 }

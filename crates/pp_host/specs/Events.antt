@@ -1,9 +1,10 @@
 -- What happens to the files of a program, as its host logs it.
-use Rattle.std.specs.Prelude.{◌≡◌, ℕ, zero, suc, ◌⊎◌, List, [], ◌∷◌, Option, Some, None}
+use Rattle.std.specs.Prelude.{◌≡◌, ℕ, zero, suc, Bool, true, false, ◌⊎◌, List, [], ◌∷◌}
 use Rattle.std.specs.Coded.{Coded, code_by, coded_ℕ, coded_list, coded×, coded⊎}
 use mathlib.Core.Logic.{inl, inr}
 use mathlib.Core.Path.{refl}
 use Rattle.pp_arguments.specs.CommandLine.{Text}
+use Rattle.pp_host.specs.Known.{Content, Found}
 use Rattle.pp_trouble.specs.declared.trouble.FileKind.{FileKind}
 use Rattle.pp_trouble.specs.declared.trouble.FileKind.TheVariants.{Deck, Panel, Script}
 
@@ -14,19 +15,24 @@ pub data Event : Type 0 where
   Missing : FileKind → Text → Event
   Closed : List ℕ → Event
 
--- A file that the program asked for: its kind and path, and the bytes that were read from it, or none if it could not be opened.
+-- a file was asked for, and it was opened or not
+abbrev pub file_event : Bool → FileKind → Text → Event
+file_event true kind path = Opened kind path
+file_event false kind path = Event.Missing kind path
+
+-- A file that the program asked for: its kind and path, and the bytes that were read from it, unless it could not be opened.
 pub record Reading : Type 0 where
   pub kind : FileKind
   pub path : Text
-  pub bytes : Option (List ℕ)
+  pub read : Found
 
-abbrev pub asked_for : FileKind → Text → Option (List ℕ) → List Event
-asked_for kind path None = Missing kind path ∷ []
-asked_for kind path (Some bytes) = Opened kind path ∷ Closed bytes ∷ []
+abbrev pub asked_for : FileKind → Text → Found → List Event
+asked_for kind path Found.Missing = Event.Missing kind path ∷ []
+asked_for kind path (Content bytes) = Opened kind path ∷ Closed bytes ∷ []
 
 -- the events of a file in the log
 abbrev pub events_of : Reading → List Event
-events_of reading = asked_for reading.kind reading.path reading.bytes
+events_of reading = asked_for reading.kind reading.path reading.read
 
 -- ---- how the logic stores an event
 
@@ -57,8 +63,8 @@ stored (Missing kind path) = inr (inl (kind, path))
 stored (Closed bytes) = inr (inr bytes)
 
 abbrev restored : Stored → Event
-restored (inl file) = Opened file.0 file.1
-restored (inr (inl file)) = Missing file.0 file.1
+restored (inl (kind, path)) = Opened kind path
+restored (inr (inl (kind, path))) = Missing kind path
 restored (inr (inr bytes)) = Closed bytes
 
 abbrev restored-stored : (event : Event) → restored (stored event) ≡ event

@@ -7,6 +7,8 @@ use Rattle.pp_arguments.specs.declared.options.ArgFault.{ArgFault}
 use Rattle.pp_arguments.specs.declared.options.ArgFault.TheVariants as argument
 use Rattle.pp_arguments.specs.declared.options.Options.{Options}
 use Rattle.pp_machine.specs.declared.central.CentralSize.{CentralSize}
+use Rattle.pp_host.specs.Host.{Agrees}
+use Rattle.pp_host.specs.Known.{Known, NotText, Texts, Words}
 use Rattle.pp_trouble.specs.Trouble.{of_arguments}
 use Rattle.pp_trouble.specs.declared.trouble.Trouble.{Trouble}
 use Rattle.pp_trouble.specs.declared.trouble.Trouble.TheVariants.{BadArguments, BadChannel}
@@ -61,8 +63,15 @@ IsRejection words argument.NoMemory = ⊥
 IsRejection words fault = IsFaultOf (faults_of words) fault
 
 -- What the words mean: what they ask for, or a fault. If the command line has several errors, any one may be reported.
-abbrev pub Means : Option (List Text) → Result Asked Trouble → Type 0
-Means None meaning = meaning ≡ Err BadArguments
-Means (Some words) meaning =
+abbrev pub Means : Words → Result Asked Trouble → Type 0
+Means NotText meaning = meaning ≡ Err BadArguments
+Means (Texts words) meaning =
     ((faults_of words ≡ []) × (meaning ≡ asked_by words))
     ⊎ ((fault : ArgFault) × IsRejection words fault × (meaning ≡ Err (of_arguments fault)))
+
+-- The words of the command line were read, or memory ran out: what they are, and what follows from them.
+pub record ReadsWords (words_known : Known Words) (Follows : Words → Type 0) : Type 0 where
+  pub words : Words
+  -- they are the known ones, if any are known
+  pub known : Agrees words_known words
+  pub follows : Follows words

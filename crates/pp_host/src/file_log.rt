@@ -1,5 +1,5 @@
 //! What happened to the files of a program, as contracts see it.
-ghost use Rattle.pp_host.specs.Events.{Event, coded_event};
+ghost use Rattle.pp_host.specs.Events.{Closed, Event, coded_event, file_event};
 ghost use Rattle.pp_host.specs.FileEvent.{event_of};
 ghost use Rattle.std.specs.Borrow.{ftrue};
 ghost use Rattle.std.specs.Coded.{coded_list};
@@ -48,5 +48,25 @@ impl FileLog {
         ensures { result.events ≡ _before.now.events ++ event_of _event.now ∷ [] }
     {
         FileLog {}
+    }
+
+    /// Returns the log with one more file that was asked for, opened or not.
+    pub fn with_file(before: &FileLog, kind: FileKind, path: &str, is_opened: bool) -> FileLog
+        ensures { result.events ≡ before.now.events ++ file_event is_opened kind path.now ∷ [] }
+    {
+        let mut path_log = Log::new();
+        path_log.note(path.as_bytes());
+        let event = match is_opened {
+            true => FileEvent::Opened(kind, path_log),
+            false => FileEvent::Missing(kind, path_log),
+        };
+        FileLog::with(before, &event)
+    }
+
+    /// Returns the log with the end of the file that was opened last, of which these bytes were read.
+    pub fn with_end(before: &FileLog, bytes: &Log) -> FileLog
+        ensures { result.events ≡ before.now.events ++ Closed bytes.now.bytes ∷ [] }
+    {
+        FileLog::with(before, &FileEvent::Closed(bytes.copied()))
     }
 }

@@ -2,6 +2,7 @@
 ghost use Rattle.pp_arguments.specs.CommandLine.{Text};
 ghost use Rattle.pp_host.specs.Events.{Closed, Event, Missing, Opened};
 ghost use Rattle.pp_host.specs.Host.{Agrees, IsOpened, counted};
+ghost use Rattle.pp_host.specs.Known.{Found, Known, Texts, Words};
 ghost use Rattle.std.specs.Prelude.{◌≡◌, ◌∷◌, ◌++◌, [], IfSome, List, MatchOption, None, Option, Some, MatchResult, map, ℕ};
 ghost use Rattle.std.specs.String.{string_bytes};
 
@@ -25,11 +26,11 @@ pub trait Host {
     /// An open file.
     type File: Source + Drop;
 
-    // The words of the command line, if they are known: `Some None` if a word is not text.
-    ghost known_words: { Self → Option (Option (List Text)) };
+    // The words of the command line, if they are known.
+    ghost known_words: { Self → Known Words };
 
-    // For a path, the bytes of the file that it names, if they are known: `Some None` if it can't be opened.
-    ghost known_files: { Self → Text → Option (Option (List ℕ)) };
+    // What a path names, if that is known.
+    ghost known_files: { Self → Text → Known Found };
 
     // What happened to the files that the program asked for so far.
     ghost log: { Self → List Event };
@@ -46,8 +47,8 @@ pub trait Host {
         ensures log { log self.new ≡ log self.old }
         ensures failures { failure_count self.new ≡ failure_count self.old }
         ensures words { MatchResult result
-            (λ words. Agrees (known_words self.old) (Some (map string_bytes words.items)))
-            (λ fault. fault ≡ WordsFault.NotText → Agrees (known_words self.old) None) };
+            (λ words. Agrees (known_words self.old) (Texts (map string_bytes words.items)))
+            (λ fault. fault ≡ WordsFault.NotText → Agrees (known_words self.old) Words.NotText) };
 
     /// Opens a file, to be read from its start, and logs that. Returns `None` if the path names no file that can be opened.
     fn open(&mut self, kind: FileKind, path: &str) -> Option<Self::File>
@@ -57,7 +58,7 @@ pub trait Host {
             (log self.new ≡ log self.old ++ Missing kind path.now ∷ [])
             (λ _. log self.new ≡ log self.old ++ Opened kind path.now ∷ []) }
         ensures content { MatchOption result
-            (Agrees (known_files self.old path.now) None)
+            (Agrees (known_files self.old path.now) Found.Missing)
             (λ file. IsOpened (known_files self.old path.now) (Self.File.rest file)) }
         ensures unread { IfSome result (λ file. (Self.File.given file ≡ []) × (Self.File.failure_count file ≡ 0)) };
 

@@ -3,9 +3,10 @@ ghost use Rattle.pp_files.specs.Files.{card_rule, panel_rule};
 ghost use Rattle.pp_host.specs.Events.{Missing, Opened};
 ghost use Rattle.pp_host.specs.Failures.{IsEarly, reads_by};
 ghost use Rattle.pp_host.specs.Host.{Agrees, IsOpened};
-ghost use Rattle.pp_host.specs.Loading.{IsLost, IsNamed, deck_at, events, panel_at, readings};
+ghost use Rattle.pp_host.specs.Known.{Found};
+ghost use Rattle.pp_host.specs.Loading.{IsLost, Loads, deck_at, panel_at};
 ghost use Rattle.pp_trouble.specs.declared.trouble.Trouble.TheVariants.{CannotOpen, ReadFailed};
-ghost use Rattle.std.specs.Prelude.{◌≡◌, ◌⊎◌, ◌<◌, ◌≤◌, ◌++◌, ◌∷◌, [], All, Err, IfErr, IfOk, IfSome, List, MatchResult, None, Ok, Option, ℕ, option_map};
+ghost use Rattle.std.specs.Prelude.{◌≡◌, ◌⊎◌, ◌<◌, ◌≤◌, ◌++◌, ◌∷◌, [], All, Err, IfErr, IfOk, IfSome, MatchResult, Ok, option_map};
 ghost use Rattle.std.specs.String.{string_bytes};
 
 use crate::host::Host;
@@ -25,7 +26,7 @@ pub fn open<H: Host>(host: &mut H, kind: FileKind, path: &str) -> Result<H::File
         (λ _. H.log host.new ≡ H.log host.old ++ Missing kind path.now ∷ []) }
     ensures content { MatchResult result
         (λ file. IsOpened (H.known_files host.old path.now) (H.File.rest file))
-        (λ trouble. (trouble ≡ CannotOpen kind) × Agrees (H.known_files host.old path.now) None) }
+        (λ trouble. (trouble ≡ CannotOpen kind) × Agrees (H.known_files host.old path.now) Found.Missing) }
     ensures unread { IfOk result (λ file. (H.File.given file ≡ []) × (H.File.failure_count file ≡ 0)) }
 {
     host.open(kind, path).ok_or(Trouble::CannotOpen(kind))
@@ -41,12 +42,10 @@ pub fn deck<H: Host>(
     path: &Option<String>,
 ) -> Result<Vec<[u16; 80]>, Trouble>
     ensures files { H.known_files host.new ≡ H.known_files host.old }
-    ensures deck { (taken : Option (List ℕ)) × (content : Option (List ℕ))
-        × (H.log host.new ≡ H.log host.old ++ events (readings FileKind.Deck (option_map string_bytes path.now) taken))
-        × IsNamed (H.known_files host.old) (option_map string_bytes path.now) taken content
-        × MatchResult result
+    ensures deck { Loads (H.known_files host.old) (H.log host.old) (H.log host.new) FileKind.Deck (option_map string_bytes path.now)
+        (λ read content. MatchResult result
         (λ deck. deck_at (option_map string_bytes path.now) content ≡ Ok deck.items)
-        (λ trouble. (deck_at (option_map string_bytes path.now) content ≡ Err trouble) ⊎ IsLost card_rule taken content trouble) }
+        (λ trouble. (deck_at (option_map string_bytes path.now) content ≡ Err trouble) ⊎ IsLost card_rule read content trouble)) }
     ensures reads { H.failure_count host.new ≡ reads_by result (H.failure_count host.old) }
     ensures early { IfErr result IsEarly }
     ensures within { IfOk result (λ deck. All (All (λ word. word < 0o10000)) deck.items) }
@@ -66,13 +65,11 @@ pub fn deck<H: Host>(
 /// `CannotOpen`, `Load` and `ReadFailed`.
 pub fn panel<H: Host>(host: &mut H, path: &Option<String>) -> Result<Option<[u16; 12]>, Trouble>
     ensures files { H.known_files host.new ≡ H.known_files host.old }
-    ensures panel { (taken : Option (List ℕ)) × (content : Option (List ℕ))
-        × (H.log host.new ≡ H.log host.old ++ events (readings FileKind.Panel (option_map string_bytes path.now) taken))
-        × IsNamed (H.known_files host.old) (option_map string_bytes path.now) taken content
-        × MatchResult result
+    ensures panel { Loads (H.known_files host.old) (H.log host.old) (H.log host.new) FileKind.Panel (option_map string_bytes path.now)
+        (λ read content. MatchResult result
         (λ panel. panel_at (option_map string_bytes path.now) content ≡ Ok panel)
         (λ trouble. (panel_at (option_map string_bytes path.now) content ≡ Err trouble)
-        ⊎ ((trouble ≡ ReadFailed) × IsLost panel_rule taken content ReadFailed)) }
+        ⊎ ((trouble ≡ ReadFailed) × IsLost panel_rule read content ReadFailed))) }
     ensures reads { H.failure_count host.new ≡ reads_by result (H.failure_count host.old) }
     ensures early { IfErr result IsEarly }
     ensures within { IfOk result (λ panel. IfSome panel (All (λ word. word ≤ 0o7777))) }

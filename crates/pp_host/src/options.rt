@@ -1,11 +1,9 @@
 //! Reads the options from the words of the host.
-ghost use Rattle.pp_arguments.specs.CommandLine.{Text};
 ghost use Rattle.pp_arguments.specs.Options.{AreInRange};
 ghost use Rattle.pp_host.specs.Failures.{IsEarly, reads_of};
-ghost use Rattle.pp_host.specs.Host.{Agrees};
-ghost use Rattle.pp_host.specs.Options.{Means, asked_of};
+ghost use Rattle.pp_host.specs.Options.{Means, ReadsWords, asked_of};
 ghost use Rattle.pp_trouble.specs.declared.trouble.Trouble.TheVariants.{NoMemory};
-ghost use Rattle.std.specs.Prelude.{◌≡◌, ◌⊎◌, Err, IfErr, IfOk, List, MatchResult, Ok, Option, ℕ};
+ghost use Rattle.std.specs.Prelude.{◌≡◌, ◌⊎◌, Err, IfErr, IfOk, MatchResult, Ok, ℕ};
 
 use crate::host::{Host, WordsFault};
 use pp_arguments::{Options, read_arguments};
@@ -23,9 +21,9 @@ pub fn options_of<H: Host>(alloc: Global, host: &mut H) -> Result<Options, Troub
     ensures early { IfErr result IsEarly }
     ensures reads { IfErr result (λ trouble. (count : ℕ) → reads_of trouble count ≡ count) }
     ensures in_range { IfOk result AreInRange }
-    ensures meaning { (words : Option (List Text)) × Agrees (H.known_words host.old) words × MatchResult result
+    ensures meaning { ReadsWords (H.known_words host.old) (λ words. MatchResult result
         (λ options. Means words (Ok (asked_of options)))
-        (λ trouble. (trouble ≡ NoMemory) ⊎ Means words (Err trouble)) }
+        (λ trouble. (trouble ≡ NoMemory) ⊎ Means words (Err trouble))) }
 {
     let words = match host.words() {
         Ok(words) => words,

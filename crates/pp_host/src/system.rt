@@ -1,54 +1,65 @@
 //! A host over the files of a system.
 ghost use Rattle.pp_arguments.specs.CommandLine.{Text};
+ghost use Rattle.pp_host.specs.Events.{Closed, Event, Opened};
 ghost use Rattle.pp_host.specs.Host.{Agrees, IsOpened, words_known};
-ghost use Rattle.std.specs.Prelude.{◌≡◌, [], IfSome, MatchOption, None, Option, ℕ, List};
+ghost use Rattle.pp_host.specs.Known.{Found, Known, Missing};
+ghost use Rattle.std.specs.Prelude.{◌≡◌, ◌∷◌, ◌++◌, [], IfSome, MatchOption, ℕ, List};
 
-use crate::file_log::{FileEvent, FileLog};
 use crate::host::{Host, WordsFault};
-use pp_lines::{Log, Source};
+use pp_lines::Source;
 use pp_trouble::FileKind;
 use std::mem;
 
-/// The files of a system, by their paths.
+/// The files of a system, by their paths. It logs what happens to them.
 pub trait FileSystem {
     /// An open file.
     type File: Source + Drop;
 
-    // For a path, the bytes of the file that it names, if they are known: `Some None` if it can't be opened.
-    ghost known_files: { Self → Text → Option (Option (List ℕ)) };
+    // What a path names, if that is known.
+    ghost known_files: { Self → Text → Known Found };
 
-    /// Opens a file, to be read from its start. Returns `None` if the path names no file that can be opened.
-    fn open(&mut self, path: &str) -> Option<Self::File>
+    // What happened to the files that were asked for so far.
+    ghost asked: { Self → List Event };
+
+    /// Opens a file, to be read from its start, and logs that. Returns `None` if the path names no file that can be opened.
+    /// The kind is for the log.
+    fn open(&mut self, kind: FileKind, path: &str) -> Option<Self::File>
         ensures files { known_files self.new ≡ known_files self.old }
+        ensures asked { MatchOption result
+            (asked self.new ≡ asked self.old ++ Event.Missing kind path.now ∷ [])
+            (λ _. asked self.new ≡ asked self.old ++ Opened kind path.now ∷ []) }
         ensures content { MatchOption result
-            (Agrees (known_files self.old path.now) None)
+            (Agrees (known_files self.old path.now) Missing)
             (λ file. IsOpened (known_files self.old path.now) (Self.File.rest file)) }
         ensures unread { IfSome result (λ file. (Self.File.given file ≡ []) × (Self.File.failure_count file ≡ 0)) };
+
+    /// Closes a file, and logs the bytes that were read from it.
+    fn close(&mut self, file: Self::File)
+        ensures files { known_files self.new ≡ known_files self.old }
+        ensures asked { asked self.new ≡ asked self.old ++ Closed (Self.File.given file) ∷ [] };
 }
 
-/// A host over the files of a system. It logs each file that the program asks for, and counts the files with a failed read.
+/// A host over the files of a system. Its log is theirs: it asks them for each file that the program asks for, and for no other.
+/// It counts the files with a failed read.
 #[derive(Drop)]
 pub struct System<F> {
     /// The words of the command line, until the program asks for them.
     pub words: Result<Vec<String>, WordsFault>,
     pub files: F,
-    pub log: FileLog,
     /// The number of files with a failed read.
     pub failures: u64,
 }
 
 impl<F> System<F> {
-    /// Returns a host whose files were not asked for yet.
+    /// Returns a host over these files, of which no read has failed.
     pub fn new(words: Result<Vec<String>, WordsFault>, files: F) -> Self
         ensures words { result.words ≡ words }
         ensures files { result.files ≡ files }
-        ensures log { result.log.events ≡ [] }
         ensures failures { result.failures ≡ 0 }
     {
         System {
             words,
             files,
-            log: FileLog::new(),
             failures: 0,
         }
     }
@@ -61,7 +72,7 @@ impl<F: FileSystem> Host for System<F> {
 
     ghost known_files = { λ system. F.known_files system.files };
 
-    ghost log = { λ system. system.log.events };
+    ghost log = { λ system. F.asked system.files };
 
     ghost failure_count = { λ system. system.failures };
 
@@ -70,21 +81,13 @@ impl<F: FileSystem> Host for System<F> {
     }
 
     fn open(&mut self, kind: FileKind, path: &str) -> Option<F::File> {
-        let mut path_log = Log::new();
-        path_log.note(path.as_bytes());
-        let file = self.files.open(path);
-        let event = match file {
-            Some(_) => FileEvent::Opened(kind, path_log),
-            None => FileEvent::Missing(kind, path_log),
-        };
-        self.log = FileLog::with(&self.log, &event);
-        file
+        self.files.open(kind, path)
     }
 
     fn close(&mut self, file: F::File) {
         if file.failures() != 0 {
             self.failures = self.failures.saturating_add(1);
         }
-        self.log = FileLog::with(&self.log, &FileEvent::Closed(file.log().copied()));
+        self.files.close(file);
     }
 }

@@ -31,13 +31,7 @@ const FILES: [StoredFile<'static>; 4] = [
 
 /// Returns a host with these words over the files above.
 fn host(words: Result<Vec<String>, WordsFault>) -> System<Memory<'static>> {
-    System::new(
-        words,
-        Memory {
-            files: &FILES,
-            asked: 0,
-        },
-    )
+    System::new(words, Memory::new(&FILES))
 }
 
 /// Returns the words of a line. No word contains a blank.

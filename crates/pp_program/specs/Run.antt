@@ -1,40 +1,88 @@
--- A run over a host: what it was given, and which course it took.
-use Rattle.std.specs.Prelude.{◌≡◌, ℕ, ◌⊎◌, false, List, [], map, All, Option, Some, None, Result, Ok, Err, ⊤}
+-- What a run of the program is.
+use Rattle.std.specs.Prelude.{◌≡◌, ℕ, List, Option, Some, None, Result, Ok, Err, ⊤}
 use Rattle.pp_arguments.specs.CommandLine.{Text}
 use Rattle.pp_trouble.specs.declared.trouble.Trouble.{Trouble}
 use Rattle.pp_trouble.specs.declared.trouble.Trouble.TheVariants.{NoMemory}
 use Rattle.pp_host.specs.Events.{Reading}
-use Rattle.pp_host.specs.Host.{Agrees, IsContent, IsInput, opening_of}
+use Rattle.pp_host.specs.Host.{Agrees, IsInput}
+use Rattle.pp_host.specs.Known.{Found, Known}
 use Rattle.pp_host.specs.Options.{Asked, Means}
 use Rattle.pp_program.specs.Course.{Course, stops}
-use Rattle.pp_program.specs.Cuts.{Follows}
-use Rattle.pp_program.specs.Program.{Given, content_of, program}
+use Rattle.pp_program.specs.Cuts.{IsCut}
+use Rattle.pp_program.specs.Outside.{Outside}
+use Rattle.pp_program.specs.Program.{Given, exit_of, program}
+use Rattle.pp_program.specs.Traces.{AreRead, HaveContent, IsOutput, IsReported, IsTyped}
 
--- a named file has the content that the host knows, if it knows one
-abbrev pub IsKnown : (Text → Option (Option (List ℕ))) → Option Text → Option (List ℕ) → Type 0
+-- ---- the course
+
+-- a named file is the known one, if one is known
+abbrev pub IsKnown : (Text → Known Found) → Option Text → Found → Type 0
 IsKnown files None content = ⊤
 IsKnown files (Some path) content = Agrees (files path) content
 
-abbrev pub AreKnown : (Text → Option (Option (List ℕ))) → Given → Asked → Type 0
-AreKnown files given asked =
-    IsKnown files asked.deck given.deck × IsKnown files asked.panel given.panel × IsKnown files asked.script given.script
+-- each named file is the known one, also if it was not asked for
+pub record AreKnown (files : Text → Known Found) (given : Given) (asked : Asked) : Type 0 where
+  pub deck : IsKnown files asked.deck given.deck
+  pub panel : IsKnown files asked.panel given.panel
+  pub script : IsKnown files asked.script given.script
 
--- the course of rejected words is that of the program; that of accepted words may be cut short
-abbrev pub Takes : (Text → Option (Option (List ℕ))) → Given → Result Asked Trouble → List Reading → List ℕ → Course → Type 0
-Takes files given (Err trouble) all typed course = course ≡ program given (Err trouble)
-Takes files given (Ok asked) all typed course = AreKnown files given asked × Follows given asked all typed course
+abbrev pub AreNamed : (Text → Known Found) → Given → Result Asked Trouble → Type 0
+AreNamed files given (Err trouble) = ⊤
+AreNamed files given (Ok asked) = AreKnown files given asked
 
--- memory ran out while the words were read, before anything was opened; or the words have a meaning, and the course is that of the program
-abbrev pub Runs : (Text → Option (Option (List ℕ))) → Given → List Reading → List ℕ → Course → Type 0
-Runs files given all typed course =
-    (course ≡ stops NoMemory) ⊎ ((meaning : Result Asked Trouble) × Means given.words meaning × Takes files given meaning all typed course)
+-- the course is the whole one that the program has for what the words mean
+pub record IsWhole (files : Text → Known Found) (given : Given) (course : Course) : Type 0 where
+  pub meaning : Result Asked Trouble
+  pub means : Means given.words meaning
+  pub named : AreNamed files given meaning
+  pub whole : course ≡ program given meaning
 
--- A run over a host. It was given what the host knows. If the host does not know some bytes, it was given the bytes that were read.
-pub record IsRun (words : Option (Option (List Text))) (files : Text → Option (Option (List ℕ))) (input : Option (List ℕ)) (readings : List Reading) (typed : List ℕ) (given : Given) (course : Course) : Type 0 where
-  pub known_words : Agrees words given.words
-  pub content : All (λ reading. IsContent (files reading.path) reading.bytes (content_of given reading.kind)) readings
-  pub known_input : IsInput input typed given.input
-  pub opened : map opening_of readings ≡ course.opened
-  -- standard input is read only if it is performed
-  pub unread : course.reads_input ≡ false → typed ≡ []
-  pub runs : Runs files given readings typed course
+-- the words ask for these options, and the run was cut short after that
+pub record IsCutAfterWords (files : Text → Known Found) (given : Given) (readings : List Reading) (typed : List ℕ) (course : Course) : Type 0 where
+  pub asked : Asked
+  pub means : Means given.words (Ok asked)
+  pub named : AreKnown files given asked
+  pub cut : IsCut asked given readings typed course
+
+-- the run was cut short: memory ran out while the words were read, before anything was opened, or it was cut short after that
+pub data IsCutShort (files : Text → Known Found) (given : Given) (readings : List Reading) (typed : List ℕ) (course : Course) : Type 0 where
+  InWords : course ≡ stops NoMemory → IsCutShort files given readings typed course
+  AfterWords : IsCutAfterWords files given readings typed course → IsCutShort files given readings typed course
+
+-- the course is whole, or the run was cut short
+pub data Follows (files : Text → Known Found) (given : Given) (readings : List Reading) (typed : List ℕ) (course : Course) : Type 0 where
+  Whole : IsWhole files given course → Follows files given readings typed course
+  CutShort : IsCutShort files given readings typed course → Follows files given readings typed course
+
+-- ---- the whole run
+
+-- The program was given what is known beforehand. If the bytes of a file or of standard input are not known, it was given those that it
+-- read.
+pub record IsGiven (before : Outside) (given : Given) (readings : List Reading) (typed : List ℕ) : Type 0 where
+  pub words : Agrees before.words given.words
+  pub files : HaveContent before.files.known given readings
+  pub input : IsInput before.input.left typed given.input
+
+-- A run leads from what is outside before it to what is outside after it, and ends with an exit status.
+pub record IsRun (before after : Outside) (status : ℕ) : Type 0 where
+  -- There is what the program was given,
+  pub given : Given
+  -- the files that it asked for, with the bytes that it read of each,
+  pub readings : List Reading
+  -- the bytes that it read of standard input,
+  pub typed : List ℕ
+  -- and the course that it took.
+  pub course : Course
+  -- It was given what is known beforehand, or else what it read.
+  pub matches : IsGiven before given readings typed
+  -- The course is the one that the program has for what the words mean, unless the run was cut short.
+  pub follows : Follows before.files.known given readings typed course
+  -- It asked for the files of the course, in this order, and read these bytes of each.
+  pub files : AreRead before.files after.files course readings
+  -- It read these bytes of standard input, and none if the course does not perform it.
+  pub input : IsTyped before.input after.input course typed
+  -- Standard output has the answers of the course, or the usage,
+  pub output : IsOutput course.ended course.answers before.output after.output
+  -- and standard error the line of what ended it early.
+  pub errors : IsReported course.ended before.errors after.errors
+  pub exit : status ≡ exit_of course.ended

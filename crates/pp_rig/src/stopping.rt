@@ -4,7 +4,8 @@ ghost use Rattle.pp_history.specs.Marks.{AreCovered};
 ghost use Rattle.pp_history.specs.SessionValue.{SessionValue, IsAt, Moves, after_act, replay};
 ghost use Rattle.pp_history.specs.UndoRecord.{whole_record};
 ghost use Rattle.pp_machine.specs.Machine.{Machine};
-ghost use Rattle.pp_rig.specs.Action.{FitsRecord, before};
+ghost use Rattle.pp_machine.specs.Prelude.{lookup};
+ghost use Rattle.pp_rig.specs.Action.{FitsRecord, before, record_pairs};
 ghost use Rattle.pp_rig.specs.Marks.{marks_of};
 ghost use Rattle.pp_rig.specs.Rules.{rules};
 ghost use Rattle.pp_rig.specs.Short.{unpacked};
@@ -14,6 +15,7 @@ ghost use Rattle.pp_actions.specs.Watches.{watched_place, watches_of};
 use crate::rig::Rig;
 use pp_actions::{Action, Watched};
 use pp_history::{Marks, Reversible, Session, UndoRecord};
+use pp_machine::Place;
 
 /// A change of a watched number in one turn.
 #[derive(Clone, Copy, Debug, PartialEq, Eq, Drop)]
@@ -35,6 +37,17 @@ pub struct Stopped {
     pub hit: Option<Hit>,
 }
 
+/// Returns the old number of a place, or `None` if the undo record does not have that place.
+#[inline(always)]
+fn old_value(back: &UndoRecord<Rig>, place: &Place) -> Option<u64>
+    ensures { result ≡ lookup (record_pairs (whole_record unpacked back.now)) place.now }
+{
+    match back {
+        UndoRecord::Head(turn) => turn.was(place),
+        UndoRecord::Tail(record) => Rig::was(record, place),
+    }
+}
+
 /// Returns the first watched place, in watch order, whose number an action with this undo record changed.
 #[inline(always)]
 #[tactic(auto, using(crate::proofs::Runs::changes))]
@@ -45,7 +58,7 @@ fn first_changed(machine: &Rig, back: &UndoRecord<Rig>) -> Option<Hit>
     let watches = machine.watches();
     for i in 0..watches.len() {
         let place = watches[i].place();
-        if let Some(was) = back.was(&place) {
+        if let Some(was) = old_value(back, &place) {
             let now = machine.value(&place);
             if now != was {
                 return Some(Hit {
@@ -69,8 +82,8 @@ fn newest_change(session: &Session<Rig>) -> Option<Hit>
     first_changed(session.machine(), &back)
 }
 
-/// Performs turns, 1 to n, and returns what a run of at most so many turns returns: the last turn is the first that may
-/// have changed the number of a watched place, or the session had no more room without a gap.
+/// Performs turns, 1 to n, and returns what a run of at most so many turns returns. The last turn is the first that may
+/// have changed the number of a watched place, or the n-th.
 #[tactic(auto, unfolding(pp_actions::specs::Admitting::first_fault), using(crate::proofs::Runs::runs))]
 fn run_part(session: &mut Session<Rig>, n: u32, marks: &Marks) -> Stopped
     requires some { 1 ≤ n }

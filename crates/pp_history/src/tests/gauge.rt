@@ -1,5 +1,4 @@
-//! Sessions of a gauge: a machine with short and long undo records. It overwrites a record in place, and undoes by a
-//! record without moving it.
+//! Sessions of a gauge: a machine with short and long undo records. It overwrites a record in place.
 
 ghost use Rattle.std.specs.Prelude.{◌≤◌};
 
@@ -87,16 +86,6 @@ impl Reversible for Gauge {
 
     fn undo_head(&mut self, head: &Bytes) {
         self.number = u64::from(head.old);
-    }
-
-    fn undo_tail(&mut self, back: &mut Option<u64>) {
-        if let Some(old) = back {
-            self.number = *old;
-        }
-    }
-
-    fn was_head(head: &Bytes, _place: &()) -> Option<u64> {
-        Some(u64::from(head.old))
     }
 
     fn value(&self, _place: &()) -> u64 {

@@ -73,7 +73,7 @@ impl ShortTurn {
     /// Returns `false` only if the record has none of the places that the marks cover.
     #[inline(always)]
     #[tactic(auto, using(crate::proofs::Marks::not_in_turn, crate::proofs::Marks::step_unmarked))]
-    pub(super) fn may_have(&self, marks: &Marks) -> bool
+    pub(super) fn may_be_marked(&self, marks: &Marks) -> bool
         ensures { result ≡ false → (p : Place) → covers marks_of marks.now p ≡ true → lookup (turn_pairs (whole_turn self.now)) p ≡ None }
     {
         self.rest.must_search(marks) || is_target_marked(self.rest.slot, &self.pp, marks)
@@ -84,7 +84,7 @@ impl TurnRecord {
     /// Returns `false` only if the record has none of the places that the marks cover. Here it is the record of an
     /// exchange: any other turn has a short one.
     #[inline(always)]
-    pub(super) fn may_have(&self, marks: &Marks) -> bool
+    pub(super) fn may_be_marked(&self, marks: &Marks) -> bool
         ensures { result ≡ false → (p : Place) → covers marks_of marks.now p ≡ true → lookup (turn_pairs self.now) p ≡ None }
     {
         match &self.pp {

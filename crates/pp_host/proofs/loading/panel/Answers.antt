@@ -1,10 +1,17 @@
-use Rattle.std.proofs.Common.{arith, Some}
+use Rattle.std.proofs.Common.{arith}
 use Rattle.std.proofs.lemmas.Grind.{common_steps}
 use Rattle.pp_lines.specs.Device.{all_bytes}
+use Rattle.pp_host.specs.Known.{Content}
 use Rattle.pp_host.proofs.loading.panel.Goals as goal
 
 pub returns-clause-panel : goal.returns-clause-panel
 returns-clause-panel g c =
     let file = c.load_panel-read.ensures.file in
     let all = all_bytes (g.H.File.Source.rest c.in_ok-file.file) file.0 in
-    (Some file.0, Some all, grind (arith, common_steps), grind (arith, common_steps), grind (arith, common_steps))
+    record {
+      read = Content file.0;
+      content = Content all;
+      logged = grind (arith, common_steps);
+      known = grind (arith, common_steps);
+      follows = grind (arith, common_steps);
+    }

@@ -109,7 +109,7 @@ pub fn is_short_true_of(
 ) -> bool {
     for i in 0..places.len().min(before.len()).min(after.len()) {
         let old = before[i];
-        if Rig::was_head(record, &places[i]).unwrap_or(after[i]) != old {
+        if record.was(&places[i]).unwrap_or(after[i]) != old {
             return false;
         }
     }

@@ -1,23 +1,25 @@
-use Rattle.std.proofs.Common.{◌≡◌, ◌+◌, ◌-◌, arith, refl}
-use Rattle.pp_history.proofs.Steps.{after_forward-more}
-use Rattle.pp_history.proofs.Turns.{has_moved}
+use Rattle.std.proofs.Common.{◌-◌, ◌∙◌, ap, sym}
+use Rattle.std.specs.Option.{option_copied_mut}
+use Rattle.pp_history.proofs.Joins.{next-at, again_value, again_log}
 use Rattle.pp_history.proofs.log.Log.perform_again.Goals as goal
 
-pub perform_span-left-requires-clause-session : goal.perform_span-left-requires-clause-session
-perform_span-left-requires-clause-session g c = has_moved _ (λ v. refl) c.requires.session c.loop-left.invariant.moves
+pub perform_next-requires-clause-admitted : goal.perform_next-requires-clause-admitted
+perform_next-requires-clause-admitted g c =
+    let found = sym c.get_mut.ensures.value ∙ ap option_copied_mut c.unwrap-head.ensures in
+    let next = next-at g.T.Reversible.unpacked c.self.inside.ahead c.self.inside.heads.items c.self.inside.undone.items c.unwrap-head.result.now c.self.invariant.ahead (rw (← c.self.view_is) at c.requires.some) found in
+    let admitted = rw (← c.self.view_is) at c.requires.admitted in
+    rw next.is (admitted next.action next.first)
 
-pub loop-left-preserved : goal.loop-left-preserved
-loop-left-preserved g c =
-    let did : c.args.n - (c.loop-left.left - c.perform_span-left.result) ≡ c.args.n - c.loop-left.left + c.perform_span-left.result =
-    omega (arith, c.loop-left.invariant.at_most, c.perform_span-left.ensures.some) in
-    record {
-      at_most = omega (arith, c.loop-left.invariant.at_most);
-      some = omega (arith, c.loop-left.invariant.some, c.perform_span-left.ensures.ahead);
-      moves = λ v at. rw (did, ← after_forward-more v (c.args.n - c.loop-left.left) c.perform_span-left.result)
-          (c.perform_span-left.ensures.moves _ (c.loop-left.invariant.moves v at));
-    }
+pub invariant_of-self : goal.invariant_of-self
+invariant_of-self g c =
+    let found = sym c.get_mut.ensures.value ∙ ap option_copied_mut c.unwrap-head.ensures in
+    let next = next-at g.T.Reversible.unpacked c.self.inside.ahead c.self.inside.heads.items c.self.inside.undone.items c.unwrap-head.result.now c.self.invariant.ahead (rw (← c.self.view_is) at c.requires.some) found in
+    let acted = rw next.is at c.perform_next.ensures.kept in
+    again_log g.T.Reversible.unpacked c.self.inside.heads c.self.inside.tails c.perform_next.new.tails c.self.inside.undone c.perform_next.new.undone c.self.inside.ahead (c.self.inside.ahead - 1) next.more c.unwrap-head.result.now c.perform_next.new.head next.action acted.1.0 c.self.invariant found c.perform_next.ensures.undone acted.1.3
 
 pub returns : goal.returns
-returns g c = λ v at.
-    let done : c.args.n - c.loop-left.left ≡ c.args.n = omega (arith, c.loop-left-test.false) in
-    rw (← done) (c.loop-left.invariant.moves v at)
+returns g c =
+    let found = sym c.get_mut.ensures.value ∙ ap option_copied_mut c.unwrap-head.ensures in
+    let next = next-at g.T.Reversible.unpacked c.self.inside.ahead c.self.inside.heads.items c.self.inside.undone.items c.unwrap-head.result.now c.self.invariant.ahead (rw (← c.self.view_is) at c.requires.some) found in
+    let acted = rw next.is at c.perform_next.ensures.kept in
+    rw (← c.self.view_is) (next.action, acted.1.0, next.first, acted.0, acted.1.1, acted.1.2, again_value g.T.Reversible.unpacked c.self.inside.heads c.self.inside.tails c.perform_next.new.tails c.self.inside.undone c.perform_next.new.undone c.self.inside.ahead (c.self.inside.ahead - 1) next.more c.unwrap-head.result.now c.perform_next.new.head next.action acted.1.0 c.self.invariant found c.perform_next.ensures.undone acted.1.3)

@@ -1,23 +1,26 @@
-use Rattle.std.proofs.Common.{◌≡◌, ◌+◌, ◌-◌, arith, refl}
-use Rattle.pp_history.proofs.Steps.{after_back-more}
-use Rattle.pp_history.proofs.Turns.{has_moved}
+use Rattle.std.proofs.Common.{◌∙◌, ap, sym}
+use Rattle.std.specs.Option.{option_copied}
+use Rattle.pp_history.specs.Tails.{in_tail}
+use Rattle.pp_history.proofs.Joins.{item-at, back_value, back_log}
 use Rattle.pp_history.proofs.log.Log.take_back.Goals as goal
 
-pub undo_span-left-requires-clause-session : goal.undo_span-left-requires-clause-session
-undo_span-left-requires-clause-session g c = has_moved _ (λ v. refl) c.requires.session c.loop-left.invariant.moves
+pub undo-requires-clause-fits : goal.undo-requires-clause-fits
+undo-requires-clause-fits g c =
+    let found = sym c.get.ensures ∙ ap option_copied c.unwrap-head.ensures in
+    let at = item-at g.T.Reversible.unpacked in_tail c.self.inside.ahead c.self.inside.heads.items c.self.inside.tails.ring.items c.unwrap-head.result.now c.self.invariant.kept found in
+    let fits = rw (← c.self.view_is) at c.requires.fits in
+    rw at.is (fits at.item at.first)
 
-pub loop-left-preserved : goal.loop-left-preserved
-loop-left-preserved g c =
-    let did : c.args.n - (c.loop-left.left - c.undo_span-left.result) ≡ c.args.n - c.loop-left.left + c.undo_span-left.result =
-    omega (arith, c.loop-left.invariant.at_most, c.undo_span-left.ensures.some) in
-    record {
-      at_most = omega (arith, c.loop-left.invariant.at_most);
-      some = omega (arith, c.loop-left.invariant.some, c.undo_span-left.ensures.kept);
-      moves = λ v at. rw (did, ← after_back-more v (c.args.n - c.loop-left.left) c.undo_span-left.result)
-          (c.undo_span-left.ensures.moves _ (c.loop-left.invariant.moves v at));
-    }
+pub invariant_of-self : goal.invariant_of-self
+invariant_of-self g c =
+    let found = sym c.get.ensures ∙ ap option_copied c.unwrap-head.ensures in
+    let at = item-at g.T.Reversible.unpacked in_tail c.self.inside.ahead c.self.inside.heads.items c.self.inside.tails.ring.items c.unwrap-head.result.now c.self.invariant.kept found in
+    let undone = rw at.is at c.undo.ensures.undone in
+    back_log g.T.Reversible.unpacked c.self.inside.heads c.self.inside.tails c.undo.new.tails c.self.inside.undone c.undo.new.undone c.self.inside.ahead c.unwrap-head.result.now c.self.invariant found at c.undo.ensures.tails undone.1
 
 pub returns : goal.returns
-returns g c = λ v at.
-    let done : c.args.n - c.loop-left.left ≡ c.args.n = omega (arith, c.loop-left-test.false) in
-    rw (← done) (c.loop-left.invariant.moves v at)
+returns g c =
+    let found = sym c.get.ensures ∙ ap option_copied c.unwrap-head.ensures in
+    let at = item-at g.T.Reversible.unpacked in_tail c.self.inside.ahead c.self.inside.heads.items c.self.inside.tails.ring.items c.unwrap-head.result.now c.self.invariant.kept found in
+    let undone = rw at.is at c.undo.ensures.undone in
+    rw (← c.self.view_is) (at.item, at.first, undone.0, back_value g.T.Reversible.unpacked c.self.inside.heads c.self.inside.tails c.undo.new.tails c.self.inside.undone c.undo.new.undone c.self.inside.ahead c.unwrap-head.result.now c.self.invariant found at c.undo.ensures.tails undone.1)

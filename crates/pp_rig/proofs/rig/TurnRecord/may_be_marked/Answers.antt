@@ -1,7 +1,7 @@
 use Rattle.std.proofs.Common.{arith}
 use Rattle.pp_machine.specs.CentralSizes.{words_of}
 use Rattle.pp_rig.proofs.Marks.{exchange_unmarked, not_in_turn}
-use Rattle.pp_rig.proofs.rig.TurnRecord.may_have.Goals as goal
+use Rattle.pp_rig.proofs.rig.TurnRecord.may_be_marked.Goals as goal
 
 pub returns-else-must_search : goal.returns-else-must_search
 returns-else-must_search c = λ none.

@@ -1,0 +1,58 @@
+-- The exit status of a run that was cut short.
+use Rattle.std.proofs.Common.{◌≡◌, ℕ, ◌≤◌, List, refl, ap, inl, inr, arith, ◌⊎◌}
+use Rattle.pp_arguments.specs.CommandLine.{Text}
+use Rattle.pp_console.specs.Commands.{Value}
+use Rattle.pp_files.specs.Files.{Rule}
+use Rattle.pp_host.specs.Events.{Reading}
+use Rattle.pp_host.specs.Known.{Content, Found, Known, Missing}
+use Rattle.pp_host.specs.Loading.{IsLost}
+use Rattle.pp_host.specs.Options.{Asked}
+use Rattle.pp_program.specs.Course.{Course}
+use Rattle.pp_program.specs.Cuts.{IsCut, IsCutServing}
+use Rattle.pp_program.specs.Outside.{Outside}
+use Rattle.pp_program.specs.Program.{Given, exit_of}
+use Rattle.pp_program.specs.Run.{Follows, IsCutShort, IsRun, IsWhole}
+use Rattle.pp_trouble.specs.Trouble.{status_of}
+use Rattle.pp_trouble.specs.declared.trouble.Trouble.{Trouble}
+
+lost : (rule : Rule) (read content : Found) (trouble : Trouble) → IsLost rule read content trouble → (status_of trouble ≡ 2) ⊎ (status_of trouble ≡ 3)
+lost rule Missing content trouble p = absurd p
+lost rule (Content read) Missing trouble p = absurd p
+lost rule (Content read) (Content bytes) trouble (inl (out, runs)) = inl (ap status_of out)
+lost rule (Content read) (Content bytes) trouble (inr (failed, breaks)) = inr (ap status_of failed)
+
+serving : (start : Value) (bytes read : List ℕ) (course : Course) → IsCutServing start bytes read course → exit_of course.ended ≡ 3
+serving start bytes read course (IsCutServing.ByRead e) = rw e
+serving start bytes read course (IsCutServing.ByWrite front prefix e) = rw e
+
+cut : (asked : Asked) (given : Given) (readings : List Reading) (typed : List ℕ) (course : Course) → IsCut asked given readings typed course →
+    (exit_of course.ended ≡ 2) ⊎ (exit_of course.ended ≡ 3)
+cut asked given readings typed course (IsCut.InDeck at) = rw at.ends (lost _ at.read given.deck at.trouble at.lost)
+cut asked given readings typed course (IsCut.InPanel at) = rw at.ends (inr refl)
+cut asked given readings typed course (IsCut.AtMachine at) = rw at.ends (inl refl)
+cut asked given readings typed course (IsCut.InScript at) =
+    rw at.ends (inr (serving at.start at.cut.bytes at.cut.read at.performed at.cut.cut))
+
+cut_short : (files : Text → Known Found) (given : Given) (readings : List Reading) (typed : List ℕ) (course : Course) →
+    IsCutShort files given readings typed course → (exit_of course.ended ≡ 2) ⊎ (exit_of course.ended ≡ 3)
+cut_short files given readings typed course (IsCutShort.InWords e) = rw e (inl refl)
+cut_short files given readings typed course (IsCutShort.AfterWords at) = cut at.asked given readings typed course at.cut
+
+above : (status : ℕ) → (status ≡ 2) ⊎ (status ≡ 3) → status ≤ 1 → ⊥
+above status either small = grind arith
+
+whole : (files : Text → Known Found) (given : Given) (readings : List Reading) (typed : List ℕ) (course : Course) →
+    Follows files given readings typed course → exit_of course.ended ≤ 1 → IsWhole files given course
+whole files given readings typed course (Follows.Whole is_whole) small = is_whole
+whole files given readings typed course (Follows.CutShort at) small =
+    absurd (above (exit_of course.ended) (cut_short files given readings typed course at) small)
+
+-- ---- runs
+
+pub whole_run : (before after : Outside) (status : ℕ) (run : IsRun before after status) → status ≤ 1 → IsWhole before.files.known run.given run.course
+whole_run before after status run small =
+    whole before.files.known run.given run.readings run.typed run.course run.follows (rw run.exit at small)
+
+pub cut_run : (before after : Outside) (status : ℕ) (run : IsRun before after status) →
+    IsCutShort before.files.known run.given run.readings run.typed run.course → (status ≡ 2) ⊎ (status ≡ 3)
+cut_run before after status run at = rw run.exit (cut_short before.files.known run.given run.readings run.typed run.course at)
