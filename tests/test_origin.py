@@ -177,7 +177,8 @@ SECOND_TURN = {
 def origin(script, place, *options, **how):
     """Returns the lines of an origin."""
     place, _ = place_of_words(place.split())
-    return list(origin_lines([program(), *options], script.strip("\n").split("\n") if script else [], place, **how))
+    words = [program(), *options]
+    return list(origin_lines(words, Timeline(words, script.strip("\n").split("\n")), place, **how))
 
 
 class Codes(Case):
@@ -384,8 +385,8 @@ class Messages(Case):
 
     def test_refused_lines_are_left_out(self):
         got = tool("origin", "M", "0", "20", script="SET M 0 20 7\nSET M 0 20 9\nGO\n")
-        self.assertEqual(("M 00 0020 0007 TURN 0 SET LINE 1 WORD 5 (decimal)\n",
-                          "origin: 2 (decimal) lines of the script were refused and count for nothing\n", 0), got)
+        self.assertEqual(("M 00 0020 0007 TURN 0 SET LINE 1 WORD 5 (decimal)\n", 1), (got.out, got.status))
+        self.assertEqual("origin: 2 lines (decimal) were refused, the first is line 2 (decimal), ERR 03 NUMBER: SET M 0 20 9\n", got.err)
 
 
 class Model(Case):

@@ -8,7 +8,7 @@ from .support import PYTHON, TOP, Case, program
 from .terminal import Terminal
 
 # Each tool with words that are right.
-WITH_SIMULATOR = {"changed": ["1"], "changes": ["M", "0", "106"], "show": [], "state": [], "talk": [], "trace": [], "waits": []}
+WITH_SIMULATOR = {"changed": ["1"], "changes": ["M", "0", "106"], "origin": ["M", "0", "106"], "show": [], "state": [], "talk": [], "trace": [], "waits": []}
 WITH_SIMULATOR["film"] = ["-o", "FILM"]  # a file in the room of the test
 ON_TERMINAL = {"panel": []}
 WITHOUT = {"deck": [], "load": ["0", "100"], "words": ["--dump", "0"]}

@@ -6,8 +6,8 @@ import bisect
 from ..answers import PROCESSORS
 from ..console import MARK, MOST_TURNS, Console
 from ..failure import Failure
-from ..history import MOST_KEPT, STEP, Actions, History, room_of
-from ..run import without_history
+from ..history import MOST_KEPT, STEP, Actions
+from ..run import Script, without_history
 
 MOST_LINES = 900000  # that one simulator is given, of the 1,000,000 that it takes
 AT_ONCE = 1000  # lines
@@ -27,16 +27,12 @@ class Timeline:
 
     def __init__(self, words, lines):
         """Performs the script. The words are the program and its options."""
-        console, history = Console(words), History(room_of(words))
-        self.refused = 0
-        for number, line in enumerate(lines, 1):
-            answer = console.ask(line)
-            self.refused += bool(answer) and answer[0].startswith("ERR ")
-            history.take(ScriptLine(line, number), answer)
+        console = Console(words)
+        self.script = Script(console, [ScriptLine(line, number) for number, line in enumerate(lines, 1)])
         self.size = console.size_of_central()
         self.reader, self.printer = (int(line.split()[2], 8) for line in (console.reader(), console.printer()[0]))
         console.end()
-        self.actions = list(Actions(action for action in history.in_effect() if action.word not in ("WATCH", "UNWATCH")).runs)
+        self.actions = list(Actions(self.script.actions).runs)
         self._count()
 
     def _count(self):

@@ -4,7 +4,7 @@ import sys
 import time
 
 from ..answers import Place
-from ..command_line import Failure, arguments, complain, count, octal, script_lines, simulator, words_after, write_lines
+from ..command_line import Failure, arguments, count, octal, script_lines, simulator, words_after, write_lines
 from .search import Search, number_at
 from .text import Writer
 from .timeline import Replayer, Timeline
@@ -50,12 +50,9 @@ def value_of(words, option):
     return words[words.index(option) + 1] if option in words else None
 
 
-def origin_lines(words, script, place, at=None, most_steps=MOST_STEPS, with_addresses=False):
-    """Yields the lines of the origin of the number at a place after so many turns, or at the end of a script. The words are the
+def origin_lines(words, timeline, place, at=None, most_steps=MOST_STEPS, with_addresses=False):
+    """Yields the lines of the origin of the number at a place after so many turns, or at the end of a timeline. The words are the
     program and its options."""
-    timeline = Timeline(words, script)
-    if timeline.refused:
-        complain(f"{timeline.refused} (decimal) lines of the script were refused and count for nothing")
     if place.kind == "C" and place.numbers[0] >= timeline.size:
         raise Failure(f"there is no {place.short}: central memory has {timeline.size:o} words (octal)")
     position = timeline.end if at is None else timeline.after_turn(at)
@@ -81,5 +78,7 @@ def main():
     asked = parser.parse()
     place, rest = place_of(asked.words)
     (script,) = words_after(rest, 1, "give one place, one script")
-    most_steps = None if asked.all else asked.depth
-    write_lines(origin_lines(simulator(asked), script_lines(script), place, asked.at, most_steps, asked.addresses))
+    words = simulator(asked)
+    timeline = Timeline(words, script_lines(script))
+    write_lines(origin_lines(words, timeline, place, asked.at, None if asked.all else asked.depth, asked.addresses))
+    return timeline.script.status()
