@@ -264,6 +264,7 @@ H 12 0000 TURN 37 CR CARD 0000 COLUMN 002 DECK LINE 3 HAS 2 WORDS (decimal)"""),
 A 00 000000 TURN 14 DEADSTART"""),
     "a word of the panel": ("STEP\nDEADSTART", "M 0 14", {"panel": "* a note\n1 2 3 4 5 6 7 10\n11 12 13 14"}, """\
 M 00 0014 0014 TURN 1 DEADSTART PANEL LINE 3 WORD 4 (decimal)"""),
+    "the cell after the panel": ("SET M 0 15 7\nDEADSTART", "M 0 15", {"panel": "1 2 3 4 5 6 7 10 11 12 13 14"}, "M 00 0015 0000 TURN 0 DEADSTART"),
     "P of a dead start": ("DEADSTART", "P 0", {"panel": "1 2 3 4 5 6 7 10 11 12 13 14"}, "P 00 0001 TURN 0 DEADSTART, NOW 0001"),
     "SET H without a number": ("SET H 5 F 1234\nSTEP\nSET H 5 I", "H 5", {}, "H 05 1234 TURN 0 SET LINE 1 WORD 5 (decimal)"),
     "taken back": ("SET M 0 20 1\nSET M 0 20 2\nBACK", "M 0 20", {}, "M 00 0020 0001 TURN 0 SET LINE 1 WORD 5 (decimal)"),
@@ -364,6 +365,13 @@ class Cases(Case):
                         options += [f"--{kind}", path]
                 how = {key: value for key, value in how.items() if key not in ("options", "deck", "panel")}
                 self.assertEqual(wanted.split("\n"), origin(script, place, *options, **how))
+
+    def test_a_long_run(self):
+        """The search goes back by more than the simulator keeps: LDM 0305 finds a cell that was set before 65,536 turns."""
+        script = "SET M 0 305 1234\nSET M 0 100 3620 5000 305 3421 374\nSET P 0 100\nSTEP 200000"
+        got = origin(script, "M 0 21")
+        self.assertEqual("M 00 0305 1234 TURN 0 SET LINE 1 WORD 5 (decimal)", got[-1])
+        self.assertEqual(["H 05 0000 START"], origin(script, "H 5"))
 
     def test_a_central_word_of_five_chains(self):
         got = origin("SET M 0 20 1 2 3 4 5\nSET A 0 100\nSET M 0 100 6220\nSET P 0 100\nSTEP", "C 100")
