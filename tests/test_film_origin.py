@@ -61,6 +61,15 @@ class Origin(PageCase):
                           "H 01 0000: turn 25, PP 00, in the block of OAM 01 at 0002, from M 00 0011",
                           "M 00 0011 0000: before turn 1, line 1 (decimal) of the script: DEADSTART, word 9 (decimal) of the panel"], self.value(STEPS))
 
+    def test_central_memory(self):
+        """docs/MACHINE.md: a block of cells to a central word, and parts of it back to cells."""
+        script = "SET M 0 200 1 2 3 4 5\nSET M 0 5 1\nSET M 0 100 6305 200 1400 6020\nSET P 0 100\nSTEP 60\n"
+        self.browser.open(self.film(script=script), "#place=M+0+22")
+        self.browser.key("o")
+        self.assertEqual(["M 00 0022 0003: turn 51, PP 00, CRD 20 at 0103, from C 000000 part 2",
+                          "C 000000 00010002000300040005: turn 13, PP 00, in the block of CWM 05 at 0100, from M 00 0202",
+                          "M 00 0202 0003: before turn 1, line 1 word 7 (decimal) of the script: SET M 0 200 1 2 3 4 5"], self.value(STEPS))
+
     def test_places_without_an_origin(self):
         """A state and what belongs to a device are chosen without it."""
         for place in ("STATE 5", "CARD", "SYMBOLS"):
@@ -84,10 +93,11 @@ class Origin(PageCase):
         for seed in range(6):
             lines, choose = random_session(seed), random.Random(seed)
             words = ["--deck", f"{EXAMPLES}/read-a-deck/deck", "--panel", f"{EXAMPLES}/dead-start/panel"]
-            self.browser.open(self.film(*words, script="\n".join(lines) + "\n", status=int(self.refused(words, lines))))
-            timeline = Timeline([program(), *words], lines)
+            timeline, script = Timeline.of_script([program(), *words], lines)
+            self.browser.open(self.film(*words, script="\n".join(lines) + "\n", status=int(bool(script.refused))))
             replayer = Replayer([program(), *words], timeline)
             places = [Place("M", (choose.randrange(3), choose.randrange(0o100))) for _ in range(6)]
+            places += [Place("C", (choose.randrange(0o400),)) for _ in range(3)]
             for place in [*places, *(Place(kind, (choose.randrange(3),)) for kind in "APQ"), Place("H", (5,)), Place("H", (0o12,)), Place("XP", (0,))]:
                 wanted = self.tool_lines(timeline, replayer, place)
                 if len(wanted) < 0o40:  # the page has at most so many steps
@@ -96,14 +106,10 @@ class Origin(PageCase):
             replayer.end()
 
     @staticmethod
-    def refused(words, lines):
-        return bool(Timeline([program(), *words], lines).script.refused)
-
-    @staticmethod
     def tool_lines(timeline, replayer, place):
         """The same of the tool's search."""
         found = []
-        for line in Writer(timeline, f"{EXAMPLES}/read-a-deck/deck", f"{EXAMPLES}/dead-start/panel").lines(Search(replayer).origin(place, timeline.end)):
+        for line in Writer(timeline, replayer.words).lines(Search(replayer).origin(place, timeline.end)):
             head, _, rest = line.strip().partition(" TURN ")
             found.append((head.removesuffix(" START"), int(rest.split()[0], 8) if rest else 0))
         return found

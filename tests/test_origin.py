@@ -178,7 +178,8 @@ def origin(script, place, *options, **how):
     """Returns the lines of an origin."""
     place, _ = place_of_words(place.split())
     words = [program(), *options]
-    return list(origin_lines(words, Timeline(words, script.strip("\n").split("\n")), place, **how))
+    timeline, _ = Timeline.of_script(words, script.strip("\n").split("\n"))
+    return list(origin_lines(words, timeline, place, **how))
 
 
 class Codes(Case):
@@ -462,7 +463,7 @@ class Model(Case):
         return [choose.choice(of_turns[choose.choice(list(of_turns))]) for _ in range(12 if of_turns else 0)] + choose.sample(others, 2)
 
     def compare(self, words, lines, machine, choose):
-        timeline = Timeline(words, lines)
+        timeline, _ = Timeline.of_script(words, lines)
         self.assertEqual(int(machine[tagged.TURNS]), timeline.turns)
         chosen = self.places(machine, choose)
         comparison, replayer = Comparison(timeline), Replayer(words, timeline)

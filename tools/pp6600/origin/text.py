@@ -31,26 +31,31 @@ class File:
 class Writer:
     """Makes the lines."""
 
-    def __init__(self, timeline, deck=None, panel=None):
-        """The paths of the deck file and the panel file."""
-        self.timeline, self.deck, self.panel = timeline, File(deck), File(panel)
+    def __init__(self, timeline, words):
+        """The words are the program and its options, which name the deck file and the panel file."""
+        self.timeline = timeline
+        self.deck, self.panel = (File(words[words.index(option) + 1] if option in words else None) for option in ("--deck", "--panel"))
 
     def lines(self, root, now=None):
-        """Yields the lines of a step and of all that it came from. P goes on after it is written; now it has this number."""
+        """Yields the lines of a step and of all that it came from. P advances after it is written; now it has this number."""
+        return (line for _, line in self.rows(root, now))
+
+    def rows(self, root, now=None):
+        """Yields the same lines, each with its step; None for one that was not searched."""
         seen = set()
         todo = [(root, root.place, 0, None)]
         while todo:
             step, place, depth, parts = todo.pop()
             if step is None:
-                yield f"{INDENT * depth}{place.text} .. DEEPER"
+                yield None, f"{INDENT * depth}{place.text} .. DEEPER"
                 continue
             line = f"{INDENT * depth}{step.place.text} {step.number} {self.turn_of(step)}"
             if id(step) in seen and (step.links or step.addresses):
-                yield f"{line} AS ABOVE"
+                yield step, f"{line} AS ABOVE"
                 continue
             seen.add(id(step))
             links = self.wanted(step, parts)
-            yield " ".join([line, *self.how(step, links)]).rstrip() + (f", NOW {now}" if now and step is root else "")
+            yield step, " ".join([line, *self.how(step, links)]).rstrip() + (f", NOW {now}" if now and step is root else "")
             todo += self.following(step, links, depth)
 
     @staticmethod

@@ -11,6 +11,7 @@ from ..run import Script, without_history
 
 MOST_LINES = 900000  # that one simulator is given, of the 1,000,000 that it takes
 AT_ONCE = 1000  # lines
+WATCHES = ("WATCH", "UNWATCH")
 
 
 class ScriptLine(str):
@@ -23,17 +24,23 @@ class ScriptLine(str):
 
 
 class Timeline:
-    """The actions in effect at the end of a script, without watches: each a line and how often it is performed in a row."""
+    """The actions in effect, without watches: each a line, with its number, and how often it is performed in a row."""
 
-    def __init__(self, words, lines):
-        """Performs the script. The words are the program and its options."""
-        console = Console(words)
-        self.script = Script(console, [ScriptLine(line, number) for number, line in enumerate(lines, 1)])
+    def __init__(self, console, actions):
+        """Reads the size of central memory and the channels of the devices from a simulator. The actions are those of a history."""
         self.size = console.size_of_central()
         self.reader, self.printer = (int(line.split()[2], 8) for line in (console.reader(), console.printer()[0]))
-        console.end()
-        self.actions = list(Actions(self.script.actions).runs)
+        self.actions = list(Actions(action for action in actions if action.word not in WATCHES).runs)
         self._count()
+
+    @classmethod
+    def of_script(cls, words, lines):
+        """Performs a script. Returns its timeline, and the script as it was performed. The words are the program and its options."""
+        console = Console(words)
+        script = Script(console, [ScriptLine(line, number) for number, line in enumerate(lines, 1)])
+        timeline = cls(console, script.actions)
+        console.end()
+        return timeline, script
 
     def _count(self):
         """Counts the actions, the turns, and the slot before each run of actions, and at the end."""

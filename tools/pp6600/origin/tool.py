@@ -45,11 +45,6 @@ def place_of(words):
     return place, rest
 
 
-def value_of(words, option):
-    """Returns the value of an option of the simulator, or None."""
-    return words[words.index(option) + 1] if option in words else None
-
-
 def origin_lines(words, timeline, place, at=None, most_steps=MOST_STEPS, with_addresses=False):
     """Yields the lines of the origin of the number at a place after so many turns, or at the end of a timeline. The words are the
     program and its options."""
@@ -64,7 +59,7 @@ def origin_lines(words, timeline, place, at=None, most_steps=MOST_STEPS, with_ad
         now = number_at(replayer, place)
     replayer.end()
     progress.end()
-    yield from Writer(timeline, value_of(words, "--deck"), value_of(words, "--panel")).lines(step, now)
+    yield from Writer(timeline, words).lines(step, now)
 
 
 def main():
@@ -79,6 +74,6 @@ def main():
     place, rest = place_of(asked.words)
     (script,) = words_after(rest, 1, "give one place, one script")
     words = simulator(asked)
-    timeline = Timeline(words, script_lines(script))
+    timeline, performed = Timeline.of_script(words, script_lines(script))
     write_lines(origin_lines(words, timeline, place, asked.at, None if asked.all else asked.depth, asked.addresses))
-    return timeline.script.status()
+    return performed.status()

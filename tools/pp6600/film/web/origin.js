@@ -143,7 +143,7 @@ function causeText(step) {
   }
   const times = step.times > 1 ? `, ${octal(step.times)} times since ${whenText(step.earliest)}` : "";
   const names = [...step.links.map(sourceText), constantText(step)].filter(Boolean).join(" and ") || "zero";
-  const isEnd = film.inBlock[step.moment] && nameOf(step.place)[0] === "P" && step.place < film.layout.states;
+  const isEnd = film.inBlock[step.moment] && step.place === register(film.processor[step.moment], 0);
   const verb = isEnd ? "at its end, of " : !(film.writes.whats[step.write] & 1) ? "of " : step.links.length ? "from " : "";
   return `${whenText(step.moment)}, ${turnText(step.moment)}${times}, ${verb}${names}`;
 }
