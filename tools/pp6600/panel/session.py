@@ -7,6 +7,7 @@ from ..answers import Place
 from ..console import has_no_answer
 from ..failure import Failure
 from ..machine_state import MachineState, questions
+from ..origin.timeline import ScriptLine
 from ..run import Run
 
 LOG_LENGTH = 10000  # decimal, lines and answers
@@ -86,7 +87,7 @@ class Session:
 
     def send(self, line):
         """Sends a line, and returns its answer."""
-        answer = self.simulator.act(line)
+        answer = self.simulator.act(ScriptLine(line, len(self.sent) + 1))
         self.sent.append(line)
         if line.strip():
             self.log_line(line, answer)
