@@ -14,7 +14,7 @@ from tests.films import FOLDER, SHOWN, FilmCase, PageCase, about, film_text, ran
 from tests.support import TOP, program, read, run, tool
 
 from pp6600.failure import Failure
-from pp6600.film.camera import Film, Transcript
+from pp6600.film.camera import JUMP, Film, Transcript, to_film
 from pp6600.film.data import decode
 from pp6600.film.footprint import Footprint
 from pp6600.film.page import SCRIPTS, page
@@ -25,9 +25,9 @@ RANDOM_WORDS = ("--central", "32", "--panel", f"{TOP}/examples/dead-start/panel"
 BYTE = "\udcff"  # a byte of a command line that is not UTF-8, as Python has it
 
 
-def filmed(words, lines, skipped=0):
+def filmed(words, lines, *which):
     film = Film(words, Transcript(words, lines), 0o12, 0o13)
-    film.shoot(skipped)
+    film.shoot(*which)
     return film
 
 
@@ -47,6 +47,30 @@ class Camera(unittest.TestCase):
         paper = LAYOUT["paper"]
         self.assertEqual(whole.machine.numbers[:paper], late.machine.numbers[:paper])
 
+    def test_middle(self):
+        """A film of the moments in the middle has these, and the run is performed to its end."""
+        whole = filmed(self.words, self.lines)
+        count = len(whole.moments) // 3
+        middle = filmed(self.words, self.lines, count, count)
+        self.assertEqual(count, len(middle.moments) - 1)
+        is_jump = [kind == JUMP for kind, _ in whole.moments]
+        self.assertEqual([kind for kind, _ in whole.moments[count + 1:2 * count + 1]], [kind for kind, _ in middle.moments[1:]])
+        self.assertTrue(any(is_jump))
+
+    def test_around(self):
+        """The turn is one in effect: what was undone does not count."""
+        transcript = Transcript([program()], ["SET A 0 1", "STEP 10", "BACK 4", "SET A 1 1", "STEP 10"])
+        for turn, moment in ((0, 0), (1, 2), (4, 5), (5, 12), (0o14, 0o23)):
+            with self.subTest(turn=turn):
+                self.assertEqual(moment, transcript.moment_of_turn(turn))
+        self.assertEqual((0, 0o23), to_film(transcript, None, 1))
+        self.assertEqual((0, 0o23), to_film(transcript, None, None))
+        with self.assertRaisesRegex(Failure, r"^there is no turn 15: the highest is 14 \(octal\)$"):
+            transcript.moment_of_turn(0o15)
+        long = Transcript([program()], ["STEP 100000"])
+        self.assertEqual((0o40000 - 0o4000, 0o10000), to_film(long, None, 0o40000))
+        self.assertEqual((0o100000 - 0o4001, 0o4001), to_film(long, None, 0o77777))
+
     def test_a_change_that_was_not_dumped(self):
         with mock.patch.object(Footprint, "_add", lambda *_: None), self.assertRaisesRegex(Failure, "^a change was overlooked"):
             filmed(self.words, ["SET M 0 0 1405 3420", "STEP 20"])
@@ -62,6 +86,7 @@ class Tool(FilmCase):
         for words, script in (((), "STEP\n"), (("-o", f"{room}/no/folder.html"), "STEP\n"), (("-o", path, "no-such-file"), ""),
                               (("-o", path), "STEP 1000000\nSTEP\n"), (("-o", path, "--last", "9"), "STEP\n"), (("-o", room), "STEP\n"),
                               (("-o", path, "--deck", "no-such-file"), "STEP\n"), (("-o", path, "--reader", "99"), "STEP\n"),
+                              (("-o", path, "--around", "2"), "STEP\n"), (("-o", path, "--around", "1", "--last", "1"), "STEP\n"),
                               (("-o", path, "--program", "no-such-program"), "STEP\n")):
             with self.subTest(words=words):
                 done = tool("film", *words, script=script)

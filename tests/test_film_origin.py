@@ -10,7 +10,9 @@ from tests.support import EXAMPLES, program
 from pp6600.answers import Place
 from pp6600.origin.search import Search
 from pp6600.origin.text import Writer
-from pp6600.origin.timeline import Replayer, Timeline
+from pp6600.origin.positions import Replayer, numbered
+from pp6600.run import actions_in_effect
+from pp6600.script import Refusals
 
 STEPS = "[...document.querySelectorAll('#origin li')].map((one) => one.innerText)"
 MARKED = "[...document.querySelectorAll('{} .origin')].map((one) => one.textContent)"
@@ -93,23 +95,23 @@ class Origin(PageCase):
         for seed in range(6):
             lines, choose = random_session(seed), random.Random(seed)
             words = ["--deck", f"{EXAMPLES}/read-a-deck/deck", "--panel", f"{EXAMPLES}/dead-start/panel"]
-            timeline, script = Timeline.of_script([program(), *words], lines)
-            self.browser.open(self.film(*words, script="\n".join(lines) + "\n", status=int(bool(script.refused))))
-            replayer = Replayer([program(), *words], timeline)
+            refusals = Refusals()
+            replayer = Replayer([program(), *words], actions_in_effect([program(), *words], numbered(lines), refusals))
+            self.browser.open(self.film(*words, script="\n".join(lines) + "\n", status=int(bool(refusals.count))))
             places = [Place("M", (choose.randrange(3), choose.randrange(0o100))) for _ in range(6)]
             places += [Place("C", (choose.randrange(0o400),)) for _ in range(3)]
             for place in [*places, *(Place(kind, (choose.randrange(3),)) for kind in "APQ"), Place("H", (5,)), Place("H", (0o12,)), Place("XP", (0,))]:
-                wanted = self.tool_lines(timeline, replayer, place)
+                wanted = self.tool_lines(replayer, place)
                 if len(wanted) < 0o40:  # the page has at most so many steps
                     with self.subTest(seed=seed, place=place.text):
                         self.assertEqual(wanted, [tuple(line) for line in self.value(f"{PAGE_LINES}({json.dumps([place.short])})")])
             replayer.end()
 
     @staticmethod
-    def tool_lines(timeline, replayer, place):
+    def tool_lines(replayer, place):
         """The same of the tool's search."""
-        found = []
-        for line in Writer(timeline, replayer.words).lines(Search(replayer).origin(place, timeline.end)):
+        found, positions = [], replayer.positions
+        for line in Writer(positions, replayer.words).lines(Search(replayer).origin(place, positions.end)):
             head, _, rest = line.strip().partition(" TURN ")
             found.append((head.removesuffix(" START"), int(rest.split()[0], 8) if rest else 0))
         return found

@@ -11,6 +11,8 @@ import re
 from tests.films import PageCase, shown_film, text_of
 
 from pp6600.instructions import Processor
+from pp6600.machine_state import Channel
+from pp6600.sentences import sentence
 
 CHOSEN = "byId('chosen-text').textContent"
 TURN_AND_PLACE = "[film.turn[film.at], shown.chosen && shown.chosen.name]"
@@ -129,6 +131,55 @@ class Answers(PageCase):
             .waits_for([state] * 12 + ["F"]) for word, state, count, phase in cases], "in the tools")
 
 
+class Program(PageCase):
+    """Memory as instructions, and what the next turn does."""
+
+    def test_loader(self):
+        """The loader of README.md in turn 113, as docs/PANEL.md has it."""
+        self.browser.open(self.film("--deck", "examples/overwritten-loader/deck", "examples/overwritten-loader/script"), "#turn=113")
+        self.browser.key("i")
+        rows = ("[...document.querySelectorAll('#program tbody tr')].map((row) => [...row.cells].map((cell) => "
+                "[...cell.childNodes].filter((one) => !one.hidden).map((one) => one.textContent).join(' ')).join('|'))")
+        shown = self.value(rows)
+        at = shown.index("|0100|7712 0001|FNC 12 0001|")
+        self.assertEqual(["|0102|7412|ACN 12|", "|0103|1477|LDN 77|", "|0104|7112 0060|IAM 12 0060|", "r|0106|7512|DCN 12|"],
+                         shown[at + 1:at + 5])
+        sentence = "byId('sentence').innerText"
+        self.assertEqual("PP 00 IAM 12 0060: a word of channel 12 goes to cell 0064; 73 words are left", self.value(sentence))
+        self.browser.key("i")
+        self.assertEqual("|0104|7112 0060|IAM 12 0060|?J:#", self.value(rows)[at + 3], "docs/MACHINE.md: display code")
+        self.browser.click("#program button[data-place='M 00 0106']")
+        self.assertIn("M 00 0106 is 7512.", self.value(CHOSEN))
+        self.browser.key("i")
+        self.assertEqual(["numbers", "", False], self.value(f"[byId('memory-as').value, {sentence}, byId('cells').hidden]"))
+
+    def test_sentences(self):
+        """Each sentence is that of the tools, for each code, state of the channel and count."""
+        self.browser.open(self.film(script="STEP\n"), "#moment=0")
+        self.value("window.ask = ([p, word, second, a, q, phase, state]) => { const n = film.numbers;"
+                   "[0x50, 0x10].forEach((at) => { n[at] = 0o1234; }); n[0] = 0o77; n[0o76] = phase; n[0o77] = 0o60; n[p] = word; n[p + 1] = second;"
+                   "[p, a, q, phase].forEach((number, at) => { n[register(0, at)] = number; });"
+                   "n.fill(STATES.indexOf(state), film.layout.states, film.layout.states + CHANNELS); return sentenceOf(0); }; 0")
+        cases, wanted = [], []
+        for code, d, state, (a, q), phase in itertools.product(range(0o100), (0, 3, 0o14, 0o20, 0o50, 0o77), "IEFX",
+                                                               ((0, 0), (1, 1), (0o400000, 2)), (False, True)):
+            if phase and code not in (0o61, 0o63, 0o71, 0o73):
+                continue
+            word, p = code << 6 | d, 0 if phase and a == 1 else 0o100
+            cases.append((p, word, 0o7000, a, q, word if phase else 0, state))
+            wanted.append(self.sentence(*cases[-1]))
+        self.assertEqual(wanted, self.value(f"{json.dumps(cases)}.map(ask)"))
+
+    def sentence(self, p, word, second, a, q, phase, state):
+        """Returns the sentence of the tools for the numbers of a case."""
+        cells = {0o120: 0o1234, 0o20: 0o1234, 0: 0o77, 0o76: phase, 0o77: 0o60}
+        cells.update({p: word, p + 1: second})
+        processor = Processor({"P": f"{p:04o}", "A": f"{a:06o}", "Q": f"{q:04o}", "PHASE": f"{phase:04o}"},
+                              [f"{cells[p]:04o}", f"{cells[p + 1]:04o}"])
+        channels = [Channel(f"{number:02o}", state, "0000") for number in range(12)] + [Channel("14", "F", "0000")]
+        return sentence(processor, lambda address: cells.get(address % 0o10000, 0), channels)
+
+
 class Controls(PageCase):
     """Keys, fields and buttons."""
 
@@ -155,6 +206,12 @@ class Controls(PageCase):
         self.browser.key(" ")
         self.value("new Promise((done) => setTimeout(done, 600))")
         self.assertEqual([last, None], self.value("[film.at, shown.playing]"))
+
+    def test_around(self):
+        """docs/FILM.md: a film around a turn opens there."""
+        self.browser.open(self.film("--around", "40000", script=f"{COUNTER}STEP 100000\nBACK 20\n"))
+        self.assertEqual([0o40000, 0o10001, 0o34002], self.value("[film.turn[film.at], film.count, film.turn[0] + 2]"))
+        self.assertIn("After turn 40000.", self.value("byId('position').innerText"))
 
     def test_turns(self):
         """A turn is typed; a wrong one says so."""

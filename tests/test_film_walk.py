@@ -49,7 +49,7 @@ STATE = """(processor, first) => {
     printer: [`LP ${text("#printer .device")}`, ...paper.map((line) => `|${line}`), ...(rest ? [`/${rest}`] : [])],
     watches: text("#watches .list") === "NONE" ? ["W NONE"]
       : [...document.querySelectorAll("#watches .list div")].map((line) => `W ${line.firstChild.textContent.trim()}`),
-    window: [...document.querySelectorAll("#memory tbody button")].map((button) => button.textContent),
+    window: [...document.querySelectorAll("#cells tbody button")].map((button) => button.textContent),
     cells: [...film.numbers.subarray(0, 40960)].flatMap((word, at) => (word ? [[at, word]] : [])),
     central: film.central.map((address) => [address, textAt(placeNamed(`C ${address.toString(8)}`))])
       .filter(([, word]) => /[1-7]/.test(word)).sort(([one], [other]) => one - other),

@@ -17,7 +17,8 @@ from pp6600.origin.search import Search
 from pp6600.origin.text import Writer
 from pp6600.origin.tool import origin_lines
 from pp6600.origin.tool import place_of as place_of_words
-from pp6600.origin.timeline import Replayer, Timeline
+from pp6600.run import actions_in_effect
+from pp6600.origin.positions import Replayer, numbered
 
 KINDS = {"frame": "XP", "paper": "LP"}  # places of the model that have another name
 CAUSES = {"start": (search.START,), "line": (search.SET,), "dead_start": (search.DEADSTART,), "processor": (search.TURN,),
@@ -35,8 +36,8 @@ class Differs(Exception):
 class Comparison:
     """Compares the steps of an origin with the records of the model."""
 
-    def __init__(self, timeline):
-        self.timeline, self.seen, self.steps = timeline, set(), 0
+    def __init__(self, positions):
+        self.positions, self.seen, self.steps = positions, set(), 0
 
     def compare(self, step, record):
         todo = [(step, record, None)]
@@ -53,11 +54,11 @@ class Comparison:
 
     def one(self, step, record, parts):
         """Compares a step with a record. Returns the pairs of their sources, each with the parts that are wanted."""
-        about = step.place.text, self.timeline.turn(step.position), record.place, record.cause, record.turn, record.details
+        about = step.place.text, self.positions.turn(step.position), record.place, record.cause, record.turn, record.details
         self.demand(step.place == place_of(record.place) and step.cause in CAUSES[record.cause], *about)
         if record.cause == "start":
             return []
-        self.demand(self.timeline.turn(step.position) == record.turn, *about)
+        self.demand(self.positions.turn(step.position) == record.turn, *about)
         if record.place[0] != "paper":
             self.demand(int(step.number, 8) == record.number, *about, step.number, record.number)
         if record.cause in ("line", "reader"):
@@ -80,7 +81,7 @@ class Comparison:
         self.demand((step.turn.number, step.processor.instruction) == (details["n"], details["word"]), *about)
         if details["block"]:
             block = step.block.step
-            self.demand(CAUSES[details["block"].cause] == (block.cause,) and self.timeline.turn(block.position) == details["block"].turn, *about)
+            self.demand(CAUSES[details["block"].cause] == (block.cause,) and self.positions.turn(block.position) == details["block"].turn, *about)
         else:
             self.demand(int(step.processor.registers["P"], 8) == details["at"], *about)
         for _ in range(step.times - 1):
@@ -88,7 +89,7 @@ class Comparison:
             same = [earlier.details.get(name) == record.details[name] for name in ("n", "word", "at", "block")]
             self.demand(earlier.place == record.place and all(same), *about, "times")
             record = earlier
-        self.demand(self.timeline.turn(step.first_position) == record.turn, *about, "first")
+        self.demand(self.positions.turn(step.first_position) == record.turn, *about, "first")
         return record
 
     def sources(self, step, record, parts, about):
@@ -178,8 +179,7 @@ def origin(script, place, *options, **how):
     """Returns the lines of an origin."""
     place, _ = place_of_words(place.split())
     words = [program(), *options]
-    timeline, _ = Timeline.of_script(words, script.strip("\n").split("\n"))
-    return list(origin_lines(words, timeline, place, **how))
+    return list(origin_lines(words, actions_in_effect(words, numbered(script.strip("\n").split("\n"))), place, **how))
 
 
 class Codes(Case):
@@ -331,12 +331,12 @@ A 00 000005 TURN 1 AS ABOVE"""),
 M 00 0021 0012 TURN 25 PP 00 AT 0102 RAD 21 OF A 00 AND M 00 0021
   A 00 .. DEEPER
 M 00 0021 .. DEEPER"""),
-    "an earlier turn": ("SET M 0 20 5\nSET M 0 100 3020 3421 3521\nSET P 0 100\nSTEP 36", "M 0 21", {"at": 0o13}, """\
+    "an earlier turn": ("SET M 0 20 5\nSET M 0 100 3020 3421 3521\nSET P 0 100\nSTEP 36", "M 0 21", {"turn": 0o13}, """\
 M 00 0021 0005 TURN 13 PP 00 AT 0101 STD 21 FROM A 00
 A 00 000005 TURN 1 PP 00 AT 0100 LDD 20 FROM M 00 0020
 M 00 0020 0005 TURN 0 SET LINE 1 WORD 5 (decimal)"""),
-    "the settings before the next turn": ("STEP 3\nSET A 0 5\nSTEP\nSET A 0 6", "A 0", {"at": 3}, "A 00 000005 TURN 3 SET LINE 2 WORD 4 (decimal)"),
-    "before all turns": ("SET A 0 4\nSTEP 3\nSET A 0 5", "A 0", {"at": 0}, "A 00 000004 TURN 0 SET LINE 1 WORD 4 (decimal)"),
+    "the settings before the next turn": ("STEP 3\nSET A 0 5\nSTEP\nSET A 0 6", "A 0", {"turn": 3}, "A 00 000005 TURN 3 SET LINE 2 WORD 4 (decimal)"),
+    "before all turns": ("SET A 0 4\nSTEP 3\nSET A 0 5", "A 0", {"turn": 0}, "A 00 000004 TURN 0 SET LINE 1 WORD 4 (decimal)"),
     "addresses": ("SET M 0 5 7\nSET M 0 7 12\nSET M 0 100 4005\nSET P 0 100\nSTEP", "A 0", {"with_addresses": True}, """\
 A 00 000012 TURN 1 PP 00 AT 0100 LDI 05 FROM M 00 0007, ADDRESS IN M 00 0005
   M 00 0005 0007 TURN 0 SET LINE 1 WORD 5 (decimal)
@@ -463,13 +463,14 @@ class Model(Case):
         return [choose.choice(of_turns[choose.choice(list(of_turns))]) for _ in range(12 if of_turns else 0)] + choose.sample(others, 2)
 
     def compare(self, words, lines, machine, choose):
-        timeline, _ = Timeline.of_script(words, lines)
-        self.assertEqual(int(machine[tagged.TURNS]), timeline.turns)
+        replayer = Replayer(words, actions_in_effect(words, numbered(lines)))
+        positions = replayer.positions
+        self.assertEqual(int(machine[tagged.TURNS]), positions.turns)
         chosen = self.places(machine, choose)
-        comparison, replayer = Comparison(timeline), Replayer(words, timeline)
+        comparison = Comparison(positions)
         for place in chosen:
             try:
-                comparison.compare(Search(replayer).origin(place_of(place), timeline.end), machine[place].record)
+                comparison.compare(Search(replayer).origin(place_of(place), positions.end), machine[place].record)
             except Differs as difference:
                 self.fail(f"{place}: {difference}")
         replayer.end()

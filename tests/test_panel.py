@@ -102,10 +102,10 @@ class Machine(Case):
         """README.md: the state after the first BACK W, beside that after STEP 1300."""
         before, state = page_state("README.md", "STEP 1300", "STEP 1300"), page_state("README.md", "STEP 1300", "BACK W")
         view = View(pane="memory", cell=0o106, following=False, top=0o100)
-        got = screen(shown_of(state, before, view, kept=0o407, ahead=0o675), 80, 24)
+        got = screen(shown_of(state, before, view, turn=0o403, kept=0o407, ahead=0o675), 80, 24)
         lines = [line.text for line in got.lines]
-        self.assertEqual(" SLOT 00   KEPT 407   AHEAD 675 ", lines[0][:32])
-        self.assertEqual("cursor M 0 106 ", lines[0][36:51])
+        self.assertEqual(" TURN 403  SLOT 00  KEPT 407  AHEAD 675 ", lines[0][:40])
+        self.assertIn(" cursor M 0 106  all octal ", lines[0][40:])
         self.assertEqual(">00 0106*7512*  in IAM 000051*0000 7112* ", lines[2][:41])
         self.assertEqual(" 01 0000 0000 0000 PSN 000000 0000 0000  ", lines[3][:41])
         self.assertEqual("0100 0021  0022  0023  0024  0025  0026 >7512* 0100*", lines[13][:52])

@@ -9,6 +9,7 @@ import sys
 from .support import EXAMPLES, TOP, Case, program, read, run
 
 from pp6600.console import Console
+from pp6600.failure import Failure
 from pp6600.history import History
 from pp6600.panel.app import Panel
 from pp6600.panel.keys import LINE_KEYS, LINES, OTHER_KEYS, Facts, help_lines, step_lines
@@ -69,7 +70,7 @@ class Lines(Case):
                 ("s", 0, 0, 1, ["STEP"]), ("s", 0, 0, 0o12, ["STEP 12"]), ("S", 3, 0, 1, ["STEP 12"]), ("S", 0, 0, 3, ["STEP 36"]),
                 ("n", 0, 3, 1, ["STEP 3"]), ("n", 0, 0, 1, ["STEP 12"]), ("n", 9, 0, 1, ["STEP"]), ("n", 4, 0, 2, ["STEP 20"]),
                 ("W", 0, 0, 1, ["WATCH P 0", "BACK W"]), ("b", 0, 0, 1, ["BACK"]), ("b", 0, 0, 0o675, ["BACK 675"]),
-                ("f", 0, 0, 0o675, ["FORWARD 675"]), (" ", 0, 0, 1, ["STEP"])):
+                (" ", 0, 0, 1, ["STEP"])):
             with self.subTest(key, slot=slot, processor=processor, count=count):
                 self.assertEqual(wanted, LINES[key](facts(slot, processor), count))
         self.assertEqual(["STEP 1000000"], step_lines(0o1000000), "as many turns as a line may make")
@@ -97,10 +98,11 @@ class Lines(Case):
         history.take("BACK 6", ["BACK 6 SLOT 00"])
         self.assertEqual((0o25, 6), (history.kept.count, history.ahead.count))
         here = facts(0, 0, history=history)
-        for key, wanted in ((" ", "FORWARD"), ("F", "FORWARD 14"), ("N", "FORWARD 14"), (">", "FORWARD 6")):
+        for key, wanted in ((" ", ["FORWARD"]), ("s", ["FORWARD"]), (">", ["FORWARD 6"]), ("S", ["FORWARD 6", "STEP 6"]),
+                            ("n", ["FORWARD 6", "STEP 6"])):
             with self.subTest(key):
-                self.assertEqual([wanted], LINES[key](here, 1))
-        self.assertEqual(["FORWARD 4"], LINES["N"](here._replace(processor=2), 1))
+                self.assertEqual(wanted, LINES[key](here, 1), "what is ahead comes first")
+        self.assertEqual(["FORWARD 4"], LINES["n"](here._replace(processor=2), 1), "over the lines that were typed between")
         history.take("STEP", ["TURNS 1 SLOT 01"])
         self.assertEqual((0o26, 0), (history.kept.count, history.ahead.count), "a new action discards what is ahead")
 
@@ -139,9 +141,9 @@ class Culprits(PanelCase):
         self.assertEqual("0100 0021  0022  0023  0024  0025  0026 >7512* 0100*", got[13][:52])
         self.assertEqual("> BACK W                BACK 675 SLOT 00", got[22].rstrip())
         self.assertEqual(CULPRIT, got[23].rstrip())
-        press(panel, "g100<Enter>tW")
+        press(panel, "g100<Enter>tyW")
         self.assertEqual("BACK 75 SLOT 00", panel.session.log[-1][1][0])
-        press(panel, ":set a 0 0<Enter>25s")
+        press(panel, ":set a 0 0<Enter>y25s")
         registers = panel.session.state.processors[0].registers
         self.assertEqual(("0060", "000000"), (registers["P"], registers["A"]))
         room = self.room()
@@ -175,11 +177,26 @@ class Culprits(PanelCase):
         got = bottom(panel, "g106<Enter>W")
         self.assertEqual([("WATCH M 0 106", ["OK"]), ("BACK W", ["BACK 675 SLOT 00"])], panel.session.log[-2:])
         self.assertEqual(CULPRIT, got)
-        got = bottom(panel, "g100<Enter>W")
-        self.assertTrue(got.endswith(" changes M 0 100 from 7712; the 675 actions ahead are discarded"), got)
+        got = bottom(panel, "g100<Enter>Wy")
+        self.assertTrue(got.endswith(" changes M 0 100 from 7712"), got)
         self.assertEqual(("BACK W", ["BACK 75 SLOT 00"]), panel.session.log[-1])
-        self.assertEqual("Space on  s step  b back", bottom(panel, "<Left>")[:24], "something is ahead")
-        self.assertEqual("s step  b back  Tab ", bottom(panel, "><Left>")[:20], "nothing is ahead")
+
+    def test_asks(self):
+        """Stepping keys go over what is ahead. What would discard it is sent only after y, and how much it is is said."""
+        panel = self.wide_panel(FIRST_PROGRAM + "STEP 24\n")
+        press(panel, "12b")
+        sent = list(panel.session.sent)
+        for keys, line in (("t", "WATCH P 0"), (":step 2<Enter>", "step 2"), ("W", "WATCH P 0"),
+                           (":SET A 0 0<Enter>", "SET A 0 0")):
+            for answer in ("n", "<Escape>", "s"):
+                with self.subTest(keys, answer=answer):
+                    self.assertEqual(f"{line} discards the 12 actions ahead: y sends it, any other key does not", bottom(panel, keys))
+                    self.assertEqual(f"{line} was not sent", bottom(panel, answer))
+                    self.assertEqual(sent, panel.session.sent)
+        press(panel, "14s")
+        self.assertEqual(["FORWARD 12", "STEP 2"], panel.session.sent[-2:])
+        press(panel, "6b:SET A 0 7<Enter>y")
+        self.assertEqual(("SET A 0 7", ["OK"], 0), (*panel.session.log[-1], panel.session.history.to_redo))
 
     def test_instructions(self):
         for script, wanted in (
@@ -203,6 +220,213 @@ class Culprits(PanelCase):
                                  bottom(self.wide_panel(script), "W"))
 
 
+class Turns(PanelCase):
+    """The numbers of turns, and back without a limit. The expected states are those of a run up to the turn."""
+
+    def setUp(self):
+        script = ["SET M 0 100 1405 3420 3620 300", "SET P 0 100", "STEP 35", "SET A 1 7", "STEP 3000"]
+        self.long = self.wide_panel("\n".join([*script, "WATCH A 1", "UNWATCH A 1", "STEP 100000"]), "--history", "16")
+        self.script = script
+
+    def assert_at(self, turn, panel, discards=False):
+        """Fails if the machine is not that after so many turns."""
+        made = min(turn, 0o35)
+        lines = [*self.script[:2], *([f"STEP {made:o}"] if made else []), *(self.script[3:4] if turn >= 0o35 else []),
+                 *([f"STEP {turn - made:o}"] if turn > made else [])]
+        other = Session([PROGRAM])
+        other.perform_script(lines)
+        for dump in "DUMP PP 0", "DUMP PP 1", "DUMP M 0 0 7777", "DUMP H":
+            self.assertEqual(other.simulator.ask(dump), panel.session.simulator.ask(dump), f"{dump} after turn {turn:o}")
+        other.close()
+        self.assertIn(f" TURN {turn:o} ", press(panel)[0])
+
+    def test_number(self):
+        """docs/CONSOLE.md: BACK and FORWARD count; the number is of those in effect."""
+        panel = self.panel(FIRST_PROGRAM)
+        for keys, turn in (("", 0), ("s", 1), ("12s", 0o13), ("b", 0o12), (":SET A 0 1<Enter>y", 0o12), ("S", 0o24), ("B", 0o12),
+                           ("<Home>", 0)):
+            with self.subTest(keys):
+                self.assertIn(f" TURN {turn:o} ", press(panel, keys)[0])
+
+    def test_go_to_turn(self):
+        panel = self.long
+        self.assertIn(" TURN 103035 ", press(panel)[0])
+        for keys, turn in (("405G", 0o405), ("G406<Enter>", 0o406), ("G2000<Enter>", 0o2000), ("34G", 0o34), ("35G", 0o35), ("36G", 0o36),
+                           ("G0<Enter>", 0), ("G1<Enter>", 1), ("G100000<Enter>", 0o100000), ("103035G", 0o103035)):
+            with self.subTest(keys):
+                press(panel, keys)
+                self.assert_at(turn, panel)
+        self.assertEqual("there is no turn 103036 yet: the last one is 103035", bottom(panel, "103036G"))
+        self.assertEqual("9 is no turn: give an octal number, as 405", bottom(panel, "G9<Enter>"))
+        self.assert_at(0o103035, panel)
+
+    def test_marks(self):
+        """What the turn changed has stars: in turn 13 PP 00 stores A in cell 20 (docs/TUTORIAL.md)."""
+        panel = self.panel(FIRST_PROGRAM + "STEP 100\n")
+        lines = press(panel, "13GgM 0 20<Enter>")
+        self.assertIn("0020 0005*", "\n".join(lines))
+        self.assertEqual(" 00 0102*0300 0000 UJN 000005 0000 0000", lines[2][:41].rstrip())
+        self.assertEqual(" 11 0001 0000 0000  PSN 000000 0000 0000".split(), lines[11][:41].split())
+
+    def test_back(self):
+        """ERR 07 of the simulator is answered by a replay, and nothing of what is ahead is lost."""
+        panel = self.long
+        self.assertEqual("replayed in a fresh simulator", bottom(panel, "22b"))
+        self.assert_at(0o103013, panel)
+        self.assertIn(" KEPT 20  AHEAD 22 ", press(panel)[0])
+
+    def test_history_goes_on(self):
+        """After a replay, back and forward by each key, also over a setting; the number of a turn has one state."""
+        panel = self.long
+        press(panel, "2000G")
+        for keys, turn in (("b", 0o1777), ("B", 0o1765), ("s", 0o1766), ("S", 0o2000), ("14B", 0o1610), ("1000G", 0o1000), ("3S", 0o1036),
+                           ("G0<Enter>", 0), ("34s", 0o34), ("S", 0o46), ("3B", 0o10), ("<End>", 0o103035), ("7s", 0o103044),
+                           ("b", 0o103043)):
+            with self.subTest(keys):
+                press(panel, keys)
+                self.assert_at(turn, panel)
+
+    def test_saved(self):
+        """The script that is saved gives the same machine; what it does not have is said."""
+        panel, path = self.long, os.path.join(self.room(), "saved")
+        press(panel, "2000G5s")
+        self.assertFalse(panel.session.is_saved())
+        self.assertRegex(bottom(panel, f"w{path}<Enter>"), r"lines are saved in \S+, without the last 101032 actions ahead$")
+        self.assert_at(0o2005, self.panel(read(path)))
+        press(panel, f"<End>w! {path}<Enter>")
+        self.assert_at(0o103035, self.panel(read(path)))
+
+    def test_nothing_before(self):
+        panel = self.panel("STEP\n")
+        self.assertEqual("ERR 07 TOO FEW KEPT; < goes back to the beginning", bottom(panel, "2b"))
+        press(panel, "<Home>")
+        self.assertIn(" TURN 0  SLOT 00  KEPT 0  AHEAD 1 ", press(panel)[0])
+
+    def test_option(self):
+        """Without a script there is no turn 1."""
+        for turn, wanted in (0, None), (0o405, None), (0o1301, "there is no turn 1301 yet: the last one is 1300"):
+            panel = Panel(Session([PROGRAM, "--deck", DECK]))
+            self.addCleanup(panel.session.close)
+            with self.subTest(turn):
+                if wanted:
+                    with self.assertRaisesRegex(Failure, wanted):
+                        panel.perform_script(OVERWRITTEN.splitlines(), turn)
+                else:
+                    panel.perform_script(OVERWRITTEN.splitlines(), turn)
+                    self.assertIn(f" TURN {turn:o} ", press(panel)[0])
+
+
+class Until(PanelCase):
+    """Turns at which a condition comes to hold. docs/FILM.md: in turn 405 PP 00 overwrites cell 0106 of the loader of README.md."""
+
+    def assert_goes(self, panel, keys, turn, message):
+        lines = press(panel, keys)
+        with self.subTest(keys):
+            self.assertRegex(lines[0], f"^ TURN {turn} ")
+            self.assertRegex(lines[-1].rstrip(), message)
+
+    def test_changes(self):
+        """The number at the cursor, forward and back; nothing is lost of what is ahead."""
+        panel = self.wide_panel(OVERWRITTEN, "--deck", DECK)
+        change = "^TURN 405 PP 00 P 0106 IAM WAS 7512 NOW 0027$"
+        for keys, turn, message in (("g106<Enter>[", 405, change), ("[", 405, "^NONE: M 0 106 changes, before turn 405$"), ("G3<Enter>", 3, "^s step"),
+                                    ("]", 405, change), ("]", 405, "^NONE: M 0 106 changes, in turns 406 to 10001300$")):
+            self.assert_goes(panel, keys, turn, message)
+        self.assertIn("0100 0021  0022  0023  0024  0025  0026  0027*>0100", "\n".join(press(panel)))
+        self.assertEqual(0o1300 - 0o405, panel.session.history.to_redo)
+        self.assertEqual([], panel.session.watched())
+
+    def test_conditions(self):
+        """docs/TUTORIAL.md: in turn 13 STD stores 5 in cell 20, and in turn 25 UJN jumps to itself. P is 0101 after turn 1."""
+        panel = self.wide_panel(FIRST_PROGRAM + "STEP 100\n")
+        store, one = "^TURN 13 PP 00 P 0101 STD ", "^TURN 1 PP 00 P 0100 LDN "
+        for keys, turn, message in (("UM 0 20 = 5<Enter>", 13, f"{store}WAS 0000 NOW 0005$"), ("F", 13, "^NONE: M 0 20 = 5, before turn 13$"),
+                                    ("UP 0 = 101<Enter>", 1, f"{one}WAS 0100 NOW 0101$"), ("u<Up><Up><Enter>", 13, store),
+                                    ("F", 13, "^NONE: M 0 20 = 5, before"), ("UP 0 outside 100 101 and A 0 = 5<Enter>", 13, "^NONE: P 0 outside"),
+                                    ("G0<Enter>", 0, "^s step"), ("f", 13, store), ("<End>", 100, "^s step"), ("F", 13, store)):
+            self.assert_goes(panel, keys, turn, message)
+
+    def test_new_turns(self):
+        """Where no turn that was made is found, new ones are searched, and made up to the one that is found."""
+        panel = self.wide_panel(FIRST_PROGRAM + "STEP 4\n")
+        press(panel, "2b")
+        sent = list(panel.session.sent)
+        self.assert_goes(panel, "uM 0 20 = 5<Enter>", 13, "^TURN 13 PP 00 P 0101 STD WAS 0000 NOW 0005$")
+        self.assertEqual(sent + ["FORWARD 2", "STEP 6", "STEP 1"], panel.session.sent)
+        self.assert_goes(panel, "uH 14 = 100<Enter>", 1200, "^TURN 1200 PP 11 P 0077 PSN WAS 0077 NOW 0100$")
+
+    def test_faults(self):
+        panel = self.wide_panel(FIRST_PROGRAM)
+        for keys, message in (("f", "^give a condition, as P 0 = 105"), ("uP 0<Enter>", "^a condition is PLACE = 105"), ("uP 0 = 9<Enter>", "^9 is not octal$"),
+                              ("uP 13 = 0<Enter>", "13")):
+            self.assert_goes(panel, keys, 0, message)
+        self.assertIsNone(panel.fault)
+
+    def test_stopped(self):
+        """Ctrl-C ends a search, and the machine is where it was."""
+        panel, shown = self.wide_panel(FIRST_PROGRAM), []
+        panel.show = lambda: shown.append(panel.message)
+        panel.is_stopped = lambda: True
+        self.assert_goes(panel, "uH 13 is X<Enter>", 0, "^the search was stopped$")
+        self.assertRegex(shown[0], r"^searched to turn [0-7]+; Ctrl-C stops$")
+
+    def test_older_changes(self):
+        """Where BACK W finds no change that is kept, [ finds it."""
+        panel = self.wide_panel(FIRST_PROGRAM + "STEP 1000\n", "--history", "5")
+        self.assertEqual("ERR 10 NO CHANGE KEPT; [ goes to older changes", bottom(panel, "gM 0 20<Enter>W"))
+        self.assert_goes(panel, "[", 13, "^TURN 13 PP 00 P 0101 STD WAS 0000 NOW 0005; replayed in a fresh simulator$")
+
+
+class Program(PanelCase):
+    """Memory as instructions: the loader of README.md."""
+
+    def rows(self, panel, *keys):
+        """Presses keys, and returns the rows of memory and the line below them."""
+        lines = press(panel, *keys)
+        return [line[:52].rstrip() for line in lines[12:18]], lines[18].rstrip()
+
+    def test_program(self):
+        panel = self.panel(OVERWRITTEN, "--deck", DECK)
+        rows, below = self.rows(panel, "3Gi")
+        self.assertEqual(["PP 00  INSTRUCTIONS", " 0100 7712 0001  FNC 12 0001", ">0102 7412       ACN 12", " 0103 1477       LDN 77",
+                          " 0104 7112 0060  IAM 12 0060", " 0106 7512       DCN 12"], rows)
+        self.assertEqual("PP 00 ACN 12: activates channel 12", below)
+        rows, below = self.rows(panel, "113G")
+        self.assertEqual("PP 00  INSTRUCTIONS   in a block; returns to 0106", rows[0])
+        self.assertEqual([" 0104 7112 0060  IAM 12 0060", "r0106 7512       DCN 12"], rows[4:])
+        self.assertEqual("PP 00 IAM 12 0060: a word of channel 12 goes to cell 0064; 73 words are left", below)
+        self.assertEqual(" 0104 7112 0060  ?J:# IAM 12 0060", self.rows(panel, "d")[0][4], "docs/MACHINE.md: display code")
+        self.assertIn("0060 0001  0002  0003  0004 >0000  0000  0000  0000", self.rows(panel, "i")[0])
+        self.assertEqual("PP 03 PSN 00: passes", self.rows(panel, "d3)")[1], "the chosen processor")
+
+    def test_cursor(self):
+        """Up and Down go by instructions, Left and Right by cells, over the end of the window and of the memory too."""
+        panel = self.panel(OVERWRITTEN, "--deck", DECK)
+        press(panel, "3Gig100<Enter>")
+        for keys, place in (("j", "M 0 102"), ("2j", "M 0 104"), ("l", "M 0 105"), ("j", "M 0 106"), ("j", "M 0 107"), ("3k", "M 0 103"),
+                            ("3k", "M 0 77"), ("77k", "M 0 0"), ("k", "M 0 7777"), ("j", "M 0 0")):
+            with self.subTest(keys):
+                press(panel, keys)
+                self.assertEqual(place, panel.view.place())
+
+    def test_changed_and_watched(self):
+        panel = self.panel(FIRST_PROGRAM + "WATCH M 0 20\nSTEP 13\n")
+        self.assertEqual("w0020 0005*      PSN 05", self.rows(panel, "ig20<Enter>")[0][2])
+        self.assertEqual(">0102 0300       UJN 00 to 0102", next(row for row in self.rows(panel, "o")[0] if row[0] == ">"))
+
+    def test_sizes(self):
+        """Every size has lines of its width, with the sentence below memory."""
+        panel = self.panel(OVERWRITTEN, "--deck", DECK)
+        press(panel, "113Gi")
+        for columns in (80, 100, 119, 120, 131, 200):
+            for rows in (24, 25, 31, 60):
+                panel.resize(columns, rows)
+                lines = press(panel)
+                with self.subTest(columns=columns, rows=rows):
+                    self.assertEqual([columns] * rows, [len(line) for line in lines])
+                    self.assertEqual(1, sum("73 words are left" in line for line in lines))
+
+
 class Typed(PanelCase):
     """Counts and lines."""
 
@@ -221,7 +445,11 @@ class Typed(PanelCase):
     def test_lines(self):
         panel = self.panel(FIRST_PROGRAM)
         self.assertEqual("ERR 15 NOTHING WATCHED; t watches the number at the cursor", bottom(panel, ":BACK W<Enter>"))
-        self.assertEqual("ERR 01 NOT A COMMAND", bottom(panel, ":GO<Enter>"))
+        for line, wanted in (("SET M 0 9 1", "ERR 03 NUMBER; word 4: 9 is not octal"), ("DUMP M 0", "ERR 02 WORDS; the form is DUMP M n a b"),
+                             ("SET C 400000 1", "ERR 04 RANGE; word 3: 400000 is not 0 to 377777"),
+                             ("GO", "ERR 01 NOT A COMMAND; GO is no command: they are SET, STEP, BACK, FORWARD, WATC\u2026")):
+            with self.subTest(line):
+                self.assertEqual(wanted, bottom(panel, f":{line}<Enter>"))
         press(panel, ":dump pp 0<Enter>:<Up><Up><Enter>")
         self.assertEqual(["GO", "dump pp 0", "GO"], [line for line, _ in panel.session.log[-3:]])
         press(panel, ":SET A 0<Home><Right><Right><Right><Delete> <End><Backspace>1 77<Ctrl-W>5<Enter>")
@@ -238,7 +466,7 @@ class Typed(PanelCase):
                 got = bottom(panel, f":{word}<Enter>")
                 self.assertTrue("q" in got and "docs/CARD.md" in got, got)
                 self.assertEqual(sent, panel.session.sent)
-        self.assertEqual("ERR 01 NOT A COMMAND", bottom(panel, ":help me<Enter>"))
+        self.assertIn("ERR 01 NOT A COMMAND", bottom(panel, ":help me<Enter>"))
 
     def test_search_and_go_to(self):
         panel = self.panel(FIRST_PROGRAM)
@@ -319,7 +547,7 @@ class Sessions(PanelCase):
         self.assertEqual(["A 01", "H 01", "M 01 0010", "C 000001"], [one.place for one in panel.session.state.watches])
         press(panel, "t")
         self.assertEqual("UNWATCH C 1", panel.session.log[-1][0])
-        press(panel, "]][")
+        press(panel, "))(")
         self.assertEqual(2, panel.view.processor)
         press(panel, "5sx")
         self.assertEqual(panel.session.state.slot, panel.view.processor)

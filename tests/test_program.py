@@ -57,9 +57,9 @@ class Ways:
         return done.stdout or b"", done.stderr, done.returncode
 
     def by(self, script):
-        """By a Python script of the case, which runs the program."""
+        """By a Python script of the case, which runs the program; it may import the tools' package."""
         self.words = [sys.executable, script, *self.words]
-        return self.plain()
+        return self.plain(env={**os.environ, "PYTHONPATH": os.path.join(TOP, "tools"), "PYTHONDONTWRITEBYTECODE": "1"})
 
     def line_feeds(self, name, count):
         """With so many line feeds as a file or as standard input."""

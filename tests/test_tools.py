@@ -12,13 +12,14 @@ import termios
 import time
 from unittest import mock
 
-from .support import EXAMPLES, TOP, Case, blocks, program, read, run, tool
+from .support import EXAMPLES, PYTHON, TOP, Case, blocks, program, read, run, tool
 
 from pp6600 import Console
 from pp6600.changes import place_changes
 from pp6600.answers import ANSWER, Place
 from pp6600.history import History
-from pp6600.run import Replay, Run, performed
+from pp6600.listing import Symbols
+from pp6600.run import Replay, Run, actions_in_effect
 from pp6600.trace import lines_from
 
 LOADER = ("--deck", os.path.join(EXAMPLES, "overwritten-loader", "deck"))
@@ -32,7 +33,7 @@ STEP 1300
 FIRST_PROGRAM = "SET M 0 100 1405 3420 300\nSET P 0 100\n"
 # docs/TUTORIAL-2.md: two processors that wait for each other.
 DEADLOCK = "SET M 0 100 1407 7205 300\nSET P 0 100\nSET M 1 100 7005 300\nSET P 1 100\nSTEP 40\n"
-NAMES = ("changed", "changes", "deck", "film", "load", "origin", "panel", "show", "state", "talk", "trace", "waits", "words")
+NAMES = ("changes", "compare", "deck", "film", "load", "origin", "panel", "save", "show", "state", "symbols", "talk", "trace", "until", "waits", "words")
 
 
 def setUpModule():
@@ -59,7 +60,7 @@ class Pages(Case):
 
     def test_sessions(self):
         room = self.room()  # ./pp6600 of the page is the program under test
-        for name, path in (("pp6600", program()), ("tools", os.path.join(TOP, "tools")), ("examples", EXAMPLES)):
+        for name, path in (("pp6600", program()), ("tools", os.path.join(TOP, "tools")), ("examples", EXAMPLES), ("exercises", os.path.join(TOP, "exercises"))):
             os.symlink(path, os.path.join(room, name))
         for block in blocks("docs/TOOLS.md", "tools"):
             for session in re.split(r"^\$ ", block.text, flags=re.M)[1:]:
@@ -88,22 +89,27 @@ class Changes(Case):
         self.assertEqual(["TURN 13 PP 00 P 0101 STD WAS 0000 NOW 0005"], self.changes("M", "0", "20", script=script))
 
 
-class Changed(Case):
+class LastTurns(Case):
     """docs/MACHINE.md on the exchange jump and docs/TUTORIAL.md on a store of the same number."""
 
     def test_exchange(self):
         script = "SET C 0 00001234000005123456\nSET C 10 777\nSET M 0 100 2600\nSET P 0 100\nSTEP\n"
         wanted = ["P 00 0100 -> 0101", f"XP 00 {0:020} -> 00001234000005000000", f"XP 10 {0:020} -> {777:020}",
                   f"C 000000 00001234000005123456 -> {0:020}", f"C 000010 {777:020} -> {0:020}"]
-        self.assertEqual(f"TURN 1 PP 00: {', '.join(wanted)}", lines_of(tool("changed", "1", script=script))[-1])
+        self.assertEqual(f"TURN 1 PP 00: {', '.join(wanted)}", lines_of(tool("changes", "--turns", "1", script=script))[-1])
 
     def test_store_of_the_same_number(self):
         script = "SET M 0 50 5\nSET M 0 100 1405 3450 300\nSET P 0 100\nSTEP 13\n"
-        self.assertEqual("TURN 13 PP 00: P 00 0101 -> 0102\n", tool("changed", "1", script=script).out)
+        self.assertEqual("TURN 13 PP 00: P 00 0101 -> 0102\n", tool("changes", "--turns", "1", script=script).out)
 
     def test_past_the_end_of_central_memory(self):
-        got = tool("changed", "1", "--central", "032", script="SET A 0 100000\nSTEP\n")
+        got = tool("changes", "--turns", "1", "--central", "032", script="SET A 0 100000\nSTEP\n")
         self.assertEqual(("SET A 0 100000\nTURN 1 PP 00: P 00 0000 -> 0001\n", "", 0), got)
+
+
+def name_in(line):
+    """The name of the instruction in a line of a trace."""
+    return re.search(" ([A-Z]{3}) A ", line)[1]
 
 
 class Trace(Case):
@@ -120,7 +126,7 @@ class Trace(Case):
         self.assertEqual(0o100, len(names))
         script = "".join(f"SET M 0 0 {code}17 0\nSET P 0 0\nSET A 0 0\nSTEP 12\n" for code in sorted(names))
         got = self.trace("--processor", "0", script=script)
-        self.assertEqual([names[code] for code in sorted(names)], [line.split()[8] for line in got])
+        self.assertEqual([names[code] for code in sorted(names)], [name_in(line) for line in got])
 
     def test_processors(self):
         got = self.trace("--processor", "3", "--processor", "0", script="STEP 16\n")
@@ -135,14 +141,46 @@ class Trace(Case):
         wanted = [("ACN", "05 I 0000 -> E 0000"), ("OAN", "05 E 0000 -> F 0007"), ("IAN", "05 F 0007 -> E 0007"),
                   ("FJM", "05 E 0007"), ("DCN", "05 E 0007 -> I 0007")]
         got = self.trace("--channel", "5", script=script)
-        self.assertEqual(wanted, [(line.split()[8], line.partition(" H ")[2]) for line in got])
+        self.assertEqual(wanted, [(name_in(line), line.partition(" H ")[2]) for line in got])
         got = self.trace("--channel", "5", "--last", "1", script=script + "STEP 1000\n")
-        self.assertEqual(wanted[-1:], [(line.split()[8], line.partition(" H ")[2]) for line in got])
+        self.assertEqual(wanted[-1:], [(name_in(line), line.partition(" H ")[2]) for line in got])
+        got = self.trace("--channel", "5", "--from", "26", "--to", "37", script=script)
+        self.assertEqual(wanted[2:4], [(name_in(line), line.partition(" H ")[2]) for line in got])
         got = self.trace("--channel", "14", "--last", "1", script="STEP 100\n")
         self.assertEqual(["F 0005 -> F 0006"], [line.partition(" H 14 ")[2] for line in got])
 
 
+    def test_words_that_nobody_reads(self):
+        """docs/MACHINE.md: a word on a channel that is disconnected is lost; an input of a block ends and leaves one."""
+        script = "SET M 0 100 7405 1407 7205 7505 300\nSET P 0 100\nSTEP 100\n"
+        got = self.trace("--channel", "5", script=script)
+        self.assertEqual(["E 0000", "F 0007", "I 0007 WORD LOST"], [line.partition(" -> ")[2] for line in got])
+        script = "SET M 0 100 7105 200\nSET P 0 100\nSET H 5 F 7\nSTEP 12\nSTEP\n"
+        self.assertEqual(["H 05 F 0007", "H 05 F 0007 WORD LEFT"], [line[line.index("H 05"):] for line in self.trace("--channel", "5", script=script)])
+
+    def test_listing(self):
+        path = os.path.join(self.room(), "listing")
+        with open(path, "w", encoding="ascii") as file:
+            file.write("0100 1407 START LDN 7\n0101 7205 OUT OAN 5 . a word\n0102 0301 UJN 1\n")
+        got = self.trace("--symbols", "0", path, "--processor", "0", script=DEADLOCK)[:2]
+        self.assertEqual(["TURN 1 PP 00 P 0100 START 1407      LDN A 000000 Q 0000 PHASE 0000  START LDN 7",
+                          "TURN 13 PP 00 P 0101 OUT 7205      OAN A 000007 Q 0000 PHASE 0000 WAITS  OUT OAN 5 . a word"], got)
+
+
 class State(Case):
+    def test_after_a_turn(self):
+        got = lines_of(tool("state", "--turn", "2", script=DEADLOCK))
+        self.assertEqual([" PP 00 P 0101", " PP 01 P 0100", ">PP 02 P 0000"], [line[:13] for line in got[:3]])
+        self.assertEqual(" TURN 2", got[10][:40].rstrip())
+        self.assertEqual(" TURN 40", lines_of(tool("state", script=DEADLOCK))[10][:40].rstrip())
+
+    def test_labels(self):
+        path = os.path.join(self.room(), "symbols")
+        with open(path, "w", encoding="ascii") as file:
+            file.write("* names\nVERYLONG 0057\n")
+        got = lines_of(tool("state", "--symbols", "0", path, script=DEADLOCK))
+        self.assertEqual(" PP 00 P 0101 A 000007 Q 0000 PHASE 0000  AT VERYLONG+22 OAN WAITS  H 00 I 0000", got[0])
+
     def test_deadlock(self):
         got = lines_of(tool("state", script=DEADLOCK))
         self.assertEqual(" PP 00 P 0101 A 000007 Q 0000 PHASE 0000  AT P 7205 0300 OAN WAITS ", got[0][:67])
@@ -179,7 +217,15 @@ class Show(Case):
             got = tool("show", script=lines)
             answers = "".join(f"{line}\n" for line in got.out.split("\n")[:-1] if not line.startswith(">"))
             with self.subTest(seed=seed):
-                self.assertEqual(direct, (answers, got.err, got.status))
+                self.assertEqual((direct.out, direct.status, direct.status), (answers, got.status, got.err.count("\n")))
+
+    def test_lines_that_lead_to_a_turn(self):
+        got = tool("show", "--turn", "3", script=FIRST_PROGRAM + "STEP 5\nBACK 4\nSTEP 5\n")
+        wanted = tool("show", script=FIRST_PROGRAM + "STEP 3\n")
+        self.assertEqual(wanted, got)
+
+    def test_bytes_that_a_terminal_obeys(self):
+        self.assertEqual("> GO\\x1b[2J\nERR 06 NOT ASCII\n", tool("show", script="GO\033[2J\n").out)
 
 
 class Words(Case):
@@ -216,13 +262,49 @@ class Load(Case):
             console.end()
 
 
+class Listings(Case):
+    TEXT = ("\tDRIVER  page 1\n* 100 words\n 0100  1405 \tSTART  LDN 5\n0101B 3420B         STD COUNT\n0102 7112  0200  LOOP: IAM BUF,12\n"
+            "0020 0\tCOUNT\n0200   BUF BSS 60B\n0104 0300   * an end\n1977 December\n")
+
+    def test_labels(self):
+        symbols = Symbols(self.TEXT.splitlines())
+        self.assertEqual({0o100: "START", 0o102: "LOOP", 0o20: "COUNT", 0o200: "BUF"}, symbols.labels)
+        for address, name in ((0o77, "COUNT+57"), (0o100, "START"), (0o101, "START+1"), (0o103, "LOOP+1"), (0o277, "BUF+77"), (0o300, ""), (0, "")):
+            self.assertEqual(name, symbols.name(address))
+        for address, word, text in ((0o100, "1405", "START  LDN 5"), (0o100, "1406", ""), (0o103, "0200", ""), (0o104, "0300", "* an end")):
+            self.assertEqual(text, symbols.text(address, word))
+        again = Symbols(symbols.lines())
+        self.assertEqual(symbols.labels, again.labels)
+
+    def test_loaded_and_saved(self):
+        """What a listing loads is saved in each form, and loaded again."""
+        lines = tool("load", "--listing", "3", script=self.TEXT).out
+        self.assertEqual("SET M 3 20 0000\nSET M 3 100 1405 3420 7112 0200 0300\n", lines)
+        for option in ("", "--packed", "--two-bytes", "--listing", "--set"):
+            saved = subprocess.run([*PYTHON, os.path.join(TOP, "tools", "save"), *option.split(), "3", "100", "104"], input=lines.encode(),
+                                   env={**os.environ, "PP6600": program()}, stdout=subprocess.PIPE, check=True).stdout.decode("latin-1")
+            words = ["--listing", "3"] if option == "--listing" else [*option.split(), "3", "100"]
+            with self.subTest(option):
+                self.assertEqual("SET M 3 100 1405 3420 7112 0200 0300\n", saved if option == "--set" else tool("load", *words, script=saved).out)
+
+    def test_ways_to_name_addresses(self):
+        folder = self.room()
+        path = os.path.join(folder, "listing")
+        with open(path, "w", encoding="ascii") as file:
+            file.write("0100 1407 START LDN 7\n0101 7205 OUT OAN 5\n")
+        symbols = ("--symbols", "0", path)
+        self.assertEqual("PP 00 AT 0101 OUT OAN P 0101 OUT H 05", tool("waits", *symbols, script=DEADLOCK).out[:37])
+        self.assertEqual("TURN 13 PP 00 P 0101 OUT OAN\n", tool("until", "PP 0 waits", *symbols, script=DEADLOCK).out)
+
+
 class Waits(Case):
     """docs/TUTORIAL-2.md: two processors that wait for each other; docs/HOWTO.md: after a dead start, in a block, alone."""
 
     CODES = {0o70: "F", 0o72: "E", 0o74: "I", 0o75: "EF", 0o76: "I", 0o77: "I"}  # by the table of docs/MACHINE.md
 
     def waits(self, *words, script):
-        return lines_of(tool("waits", *words, script=script))
+        """The lines of processors, without what comes after the turn."""
+        return [line.partition(",")[0] for line in lines_of(tool("waits", *words, script=script)) if not line.startswith(" ")]
 
     def test_deadlock(self):
         wanted = ["PP 00 AT 0101 OAN P 0101 H 05 I 0000 SINCE TURN 13", "PP 01 AT 0100 IAN P 0100 H 05 I 0000 SINCE TURN 2"]
@@ -239,6 +321,32 @@ class Waits(Case):
         # A phase that changes alone: the block begins at its own address.
         got = self.waits(script="SET M 0 104 7105 104\nSET P 0 104\nSET A 0 3\nSET H 5 E\nSTEP 100\n")
         self.assertEqual(["PP 00 AT 0104 IAM P 0104 H 05 E 0000 SINCE TURN 13"], got)
+
+    def test_partner(self):
+        """docs/EXERCISES.md on hanging-channel: DCN waits on an inactive channel; the processor that comes second waits forever."""
+        wanted = ["PP 01 AT 0103 DCN P 0103 H 03 I 3333 SINCE TURN 110, FOR EVER", "  H 03 I 3333 SINCE TURN 107, BY PP 00 P 0104 DCN"]
+        self.assertEqual(wanted, lines_of(tool("waits", "exercises/hanging-channel/script")))
+        channel = self.channel_lines("SET M 0 100 7005 300\nSET P 0 100\nSTEP 30\nSET H 5 E\nSTEP 10\n")
+        self.assertEqual(["  H 05 E 0000 SINCE TURN 30, BY SET"], channel)
+        self.assertEqual(["  H 05 I 0000 SINCE TURN 0, BY NOBODY"] * 2, self.channel_lines(DEADLOCK))
+        # Where the partner is another: PP 01 reads the first word and asks for a second one. The reader, which has no card, answers a status.
+        channel = self.channel_lines("SET M 0 100 7405 1407 7205 300\nSET P 0 100\nSET M 1 100 7005 7005 300\nSET P 1 100\nSTEP 200\n")
+        self.assertEqual(["  H 05 E 0007 SINCE TURN 26, BY PP 01 P 0100 IAN"], channel)
+        channel = self.channel_lines("SET M 0 100 7712 2 7412 7012 7012 300\nSET P 0 100\nSTEP 200\n")
+        self.assertEqual(["  H 12 I 0001 SINCE TURN 25, BY PP 00 P 0103 IAN"], channel)
+
+    def channel_lines(self, script):
+        return [line for line in lines_of(tool("waits", script=script)) if line.startswith("  ")]
+
+    def test_for_ever(self):
+        """A count of twelve bits goes round for ever; after the other one the channel is activated."""
+        for script, wanted in ((DEADLOCK, [True, True]), ("SET M 0 100 7005 300\nSET P 0 100\nSET M 1 0 7414\nSTEP 30\n", [True, True]),
+                               ("SET M 0 100 7005 300\nSET P 0 100\nSET M 1 0 3620 376\nSTEP 30\n", [True]),
+                               ("SET M 0 100 7005 300\nSET P 0 100\nSET M 1 0 3620 3020 0575 7405 1407 7205 300\nSTEP 30\n", [False]),
+                               ("".join(f"SET M {n:o} 0 70{n:02o}\n" for n in range(10)) + "STEP 30\n", [True] * 10)):
+            got = [line.endswith(", FOR EVER") for line in lines_of(tool("waits", script=script)) if not line.startswith(" ")]
+            with self.subTest(script):
+                self.assertEqual(wanted, got)
 
     def test_none(self):
         self.assertEqual(["NO PROCESSOR WAITS"], self.waits(script="STEP 100\n"))
@@ -289,7 +397,8 @@ class Talk(Case):
         got, status = typed([os.path.join(TOP, "tools", "talk"), self.SCRIPT], [b"STEP 12\n", b"\x03GO\n", b"\x04"], environment)
         # The terminal shows the interrupt, which does nothing, as ^C.
         shown = tool("show", self.SCRIPT).out
-        self.assertEqual((f"{shown}> STEP 12\nTURNS 12 SLOT 01\n> GO\nERR 01 NOT A COMMAND\n> \n", 1), (got.replace("^C", ""), status))
+        before, _, after = got.replace("^C", "").partition("13> STEP")
+        self.assertEqual((shown, " 12\nTURNS 12 SLOT 01\n25> GO\nERR 01 NOT A COMMAND\n25> \n", 1), (before, after, status))
 
     def test_over_a_pipe(self):
         lines = [line[2:] for line in lines_of(tool("show", self.SCRIPT)) if line.startswith("> ")]
@@ -301,6 +410,71 @@ def machine(console):
     """All that the dumps show, but for the watches."""
     processors = [f"PP {n:o}" for n in range(10)] + [f"M {n:o} 0 7777" for n in range(10)]
     return [console.ask(f"DUMP {what}") for what in (*processors, "H", "XP", "C 0 777", "CR", "LP")]
+
+
+class Compare(Case):
+    def compare(self, *texts, more=(), status=1):
+        """What compare writes of scripts with these texts."""
+        paths = [os.path.join(self.room(), "script") for _ in texts]
+        for path, text in zip(paths, texts):
+            with open(path, "w", encoding="ascii") as file:
+                file.write(text)
+        done = tool("compare", *more, *paths)
+        self.assertEqual(("", status), done[1:])
+        return lines_of(done)
+
+    def test_decks(self):
+        """examples/read-a-deck: the reader puts the second column of the first card, 0102, on channel 12."""
+        folder, script = self.room(), read("examples", "read-a-deck", "script")
+        deck = os.path.join(folder, "deck")
+        with open(deck, "w", encoding="ascii") as file:
+            file.write(read("examples", "read-a-deck", "deck").replace("0101 0102", "0101 7777", 1))
+        words = ("--deck", "examples/read-a-deck/deck", "--other-deck", deck)
+        got = self.compare(script, more=words)
+        turn = int(got[0].split()[2], 8)
+        before = tool("state", "--turn", f"{turn - 1:o}", *words[:2], script=script).out
+        after = [tool("state", "--turn", f"{turn:o}", "--deck", path, script=script).out for path in (words[1], deck)]
+        self.assertEqual("H 12 F 0102 / F 7777", got[1])
+        self.assertEqual(["H 12 F 0101", "H 12 F 0102", "H 12 F 7777"], [re.search("H 12 [A-Z] [0-7]{4}", text)[0] for text in (before, *after)])
+        self.assertEqual([f"TURN {turn:o} PP 00 P 1000 IAM 12"] * 2, got[2:])
+
+    def test_scripts(self):
+        got = self.compare(DEADLOCK, DEADLOCK.replace("1407", "1410"))
+        self.assertEqual(["BEFORE TURN 1", "M 00 0100 1407 / 1410", "AFTER TURN 1", "A 00 000007 / 000010", "TURN 1 PP 00 P 0100 LDN 07",
+                          "TURN 1 PP 00 P 0100 LDN 10"], got)
+        self.assertEqual(["NO DIFFERENCE IN 40 TURNS"], self.compare(DEADLOCK, DEADLOCK, status=0))
+        got = self.compare(DEADLOCK + "SET C 5 1\nSTEP 10\n", DEADLOCK + "STEP 20\n")
+        self.assertEqual(["AFTER TURN 40", f"C 000005 {1:020} / {0:020}", "BY THE SETTINGS AFTER THAT TURN", "THE RUNS HAVE 50 AND 60 TURNS"], got)
+
+    def test_first_turn(self):
+        """Programs that differ in one word, or a word set later; against machines that are looked at after each turn."""
+        for seed in range(4):
+            choose = random.Random(seed)
+            lines = [f"SET M {n} 0 {' '.join(f'{choose.choice((0o14, 0o16, 0o34, 0o36, 0o54, 0o60, 0o62)):02o}{choose.randrange(0o20, 0o100):02o}' for _ in range(8))}"
+                     for n in range(3)] + [f"STEP {choose.randrange(1, 0o40):o}"]
+            others = [*lines, "SET M 1 25 7"] if seed % 2 else [lines[0].replace(lines[0].split()[6], "1477"), *lines[1:]]
+            with self.subTest(seed=seed):
+                got = [line for line in self.compare("\n".join([*lines, "STEP 40", ""]), "\n".join([*others, "STEP 40", ""])) if line.startswith("AFTER")]
+                self.assertEqual(self.oracle(lines, others), got)
+
+    def oracle(self, lines, others):
+        """The first turn after which a line of the dumps differs that did not differ before the first turn."""
+        known = None
+        for turn in range(0o1000):
+            looks = []
+            for some in (lines, others):
+                run = Replay([program()])
+                run.to_turn(actions_in_effect([program()], [*some, "STEP 40"]), turn)
+                looks.append(sum(machine(run), []))
+                is_over = run.turn < turn
+                run.end()
+            different = {at for at, pair in enumerate(zip(*looks)) if pair[0] != pair[1]}
+            if is_over:
+                return []
+            if different - (different if known is None else known):
+                return [f"AFTER TURN {turn:o}"]
+            known = different if known is None else known
+        return None
 
 
 class Replays(Case):
@@ -319,7 +493,7 @@ class Replays(Case):
         long.most_lines = 100
         for line in lines:
             self.assertEqual(plain.ask(line)[:1], long.act(line)[:1], line)
-        for slot, _ in anew.looks(performed(words, lines).actions, choose.randrange(100), choose.choice(((3,), range(10)))):
+        for slot, _ in anew.looks(actions_in_effect(words, lines), choose.randrange(100), choose.choice(((3,), range(10)))):
             if slot is not None:
                 self.assertEqual(anew.slot(), slot)
                 anew.advance(1)
@@ -331,13 +505,13 @@ class Replays(Case):
 
     def expected_trace(self, turns):
         """The trace of PP 03 in a machine of zeros, where each instruction passes."""
-        return [f"TURN {turn:o} PP 03 P {at:04o} 0000 0000 PSN A 000000 Q 0000 PHASE 0000"
+        return [f"TURN {turn:o} PP 03 P {at:04o} 0000      PSN A 000000 Q 0000 PHASE 0000"
                 for at, turn in enumerate(range(4, turns + 1, 10))]
 
     def test_long_runs(self):
         """Runs that need more lines than one simulator reads: here its limit is lowered."""
         words = [program(), "--history", "1"]
-        actions = performed(words, ["SET M 3 7000 1", "STEP 3000", "SET M 4 7000 1", "STEP 1750"]).actions
+        actions = actions_in_effect(words, ["SET M 3 7000 1", "STEP 3000", "SET M 4 7000 1", "STEP 1750"])
         turns = 0o4750
         with mock.patch.object(Run, "most_lines", 300), mock.patch.object(Run, "start", autospec=True, side_effect=Run.start) as start:
             self.assertEqual(self.expected_trace(turns), list(lines_from(words, actions, [3], None, 0)))
@@ -376,11 +550,31 @@ class Answers(Case):
         self.assertEqual((3, 3, 0), (history.older.count, history.kept.count, history.ahead.count))
 
 
+class Refusals(Case):
+    def test_each_tool(self):
+        """No tool is silent about a refused line of its script."""
+        for name, *words in (("changes", "P", "0"), ("changes", "--turns", "1"), ("save", "0", "0", "1"), ("show",), ("state",), ("trace",),
+                             ("until", "P", "0", "=", "1"), ("waits",), ("state", "--turn", "1"), ("show", "--turn", "1")):
+            got = tool(name, *words, script="STEP 2\nDEADSTART\nGO\n")
+            with self.subTest(name, words=words):
+                first = "line 2 (decimal), ERR 14 NO PANEL: DEADSTART"
+                self.assertEqual(f"{name}: 2 lines (decimal) were refused, the first is {first}\n", got.err)
+                self.assertEqual(1, got.status)
+
+    def test_one_line(self):
+        """The others are performed, and bytes that a terminal obeys are shown as numbers."""
+        for name, *words in ("changes", "--turns", "1"), ("changes", "M", "0", "0"), ("state",), ("trace",), ("waits",):
+            plain = tool(name, *words, script="STEP 5\nSTEP 2\n")
+            got = tool(name, *words, script="STEP 5\n\x1b[0mGO\nSTEP 2\n")
+            with self.subTest(name, words=words):
+                self.assertEqual((plain.out, f"{name}: one line was refused: line 2 (decimal), ERR 06 NOT ASCII: \\x1b[0mGO\n", 1), got)
+
+
 class Messages(Case):
     CASES = (
         (("changes", "M", "0", "9"), "", "9 is not octal"), (("changes", "Z", "1"), "", "a place is"),
         (("changes",), "", "a place is"), (("changes", "M", "20", "1"), "STEP\n", "ERR 04 RANGE to WATCH M 20 1"),
-        (("changed", "8"), "", "8 is not octal"), (("changed", "0"), "", "a count is 1 or more"),
+        (("changes", "--turns", "8"), "", "8 is not octal"), (("changes", "--turns", "0"), "", "a count is 1 or more"),
         (("trace", "--processor", "12"), "", "12 is no processor: it is 0 to 11"),
         (("trace", "--channel", "15"), "", "15 is no channel: it is 0 to 14"),
         (("trace", "--last", "1", "--last", "2"), "", "--last is given twice"),
@@ -391,11 +585,23 @@ class Messages(Case):
         (("words", "--dump", "0"), "1405 3420 0300\n7712 0001\n", "line 2 (decimal) is no row of the dump"),
         (("words", "--dump", "0"), "7776 0001 0002 0003\n", "line 1 (decimal) is no row of the dump"),
         (("deck",), "A" * 161, "more than 160"), (("deck",), "A\n" * 2001, "at most 2000"),
-        (("load", "0", "100"), "* nothing\n", "no word"), (("load", "0", "100"), "1\n10000\n", "line 2 (decimal): 10000 is no"),
+        (("compare",), "", "give two scripts"), (("compare", "a"), "", "give two scripts"), (("compare", "a", "b", "c"), "", "give two scripts"),
+        (("compare", "--other-deck", "a", "b", "c", "d"), "", "give two scripts"), (("load", "0", "100"), "* nothing\n", "no word"), (("load", "0", "100"), "1\n10000\n", "line 2 (decimal): 10000 is no"),
         (("load", "0", "100"), "0 " * 4097, "more than the 10000 cells"), (("load", "12", "0"), "1", "12 is no processor"),
-        (("load", "0"), "1", "required: A"), (("load", "--packed", "0", "0"), "A", "do not end with a word"),
+        (("load", "0"), "1", "give a processor and a cell"), (("load", "--packed", "0", "0"), "A", "do not end with a word"),
         (("load", "--packed", "0", "0"), "AB", "do not end with a word"), (("load", "--two-bytes", "0", "0"), "A", "not two"),
-        (("load", "--two-bytes", "0", "0"), "\0A A", "from byte 2 "), (("show", "--central", "33"), "STEP\n", "BAD ARGUMENTS"))
+        (("load", "--two-bytes", "0", "0"), "\0A A", "from byte 2 "), (("show", "--central", "33"), "STEP\n", "BAD ARGUMENTS"),
+        (("load", "0", "100"), "0100 1405\n0101 3420 LOOP\n", "with --listing"), (("load", "--listing"), "", "give a processor"),
+        (("load", "--listing", "0"), "* none\n", "no word"), (("load", "--listing", "0"), "7777 1 2\n", "line 1 (decimal) goes past cell 7777"),
+        (("load", "--listing", "0"), "0100 1 2\n\n0101 3\n", "line 3 (decimal) fills cell 0101, which line 1 has filled"),
+        (("load", "--listing", "0"), "0100 1\n101 18\n", "line 2 (decimal): 18 is no octal number"),
+        (("load", "--listing", "0"), "10000 1\n", "line 1 (decimal): 10000 is no octal number"),
+        (("load", "--listing", "--packed", "0"), "", "not allowed with"), (("symbols",), "0100 1405\n", "has no label"),
+        (("symbols",), "* none\nA B C\n", "line 2 (decimal) is neither of a listing nor NAME ADDRESS"),
+        (("save", "0", "100"), "", "give a processor, its first and its last cell"), (("save", "0", "7", "6"), "", "cell 6 is before cell 7"),
+        (("state", "--turn", "6"), "STEP 5\n", "no turn 6: the run has 5 turns"), (("talk", "--save", "/none/x"), "", "can't write /none/x"),
+        (("talk", "--save", "/dev/null"), "", "/dev/null exists"), (("changes", "--symbols", "12", "f", "P", "0"), "", "12 is no processor"),
+        (("changes", "--symbols", "0", "/dev/null", "P", "0"), "", "/dev/null has neither"))
 
     def test_words_that_are_not_right(self):
         for (name, *words), script, text in self.CASES:
@@ -403,18 +609,6 @@ class Messages(Case):
             with self.subTest(name, words=words):
                 self.assertEqual((2, 1), (got.status, got.err.count("\n")))
                 self.assertTrue(got.err.startswith(f"{name}: ") and text in got.err, got.err)
-
-    def test_lines_that_are_refused(self):
-        """One line on standard error has the first of them, and the status is 1; the others are performed."""
-        wanted = "line 2 (decimal), ERR 14 NO PANEL: DEADSTART\n"
-        for name, words in {"changed": ["1"], "changes": ["M", "0", "0"], "state": [], "trace": [], "waits": []}.items():
-            with self.subTest(name):
-                plain = tool(name, *words, script="STEP 5\nSTEP 2\n")
-                got = tool(name, *words, script="STEP 5\nDEADSTART\nSTEP 2\n")
-                self.assertEqual((plain.out, f"{name}: one line was refused: {wanted}", 1), got)
-                got = tool(name, *words, script="STEP 5\nDEADSTART\nGO\x1b[0m\nSTEP 2\n")
-                self.assertEqual((plain.out, f"{name}: 2 lines (decimal) were refused, the first is {wanted}", 1), got)
-        self.assertEqual("state: one line was refused: line 1 (decimal), ERR 06 NOT ASCII: [0mGO\n", tool("state", script="\x1b[0mGO\n").err)
 
     def test_help_and_version(self):
         for name in NAMES:

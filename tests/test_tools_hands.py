@@ -8,10 +8,12 @@ from .support import PYTHON, TOP, Case, program
 from .terminal import Terminal
 
 # Each tool with words that are right.
-WITH_SIMULATOR = {"changed": ["1"], "changes": ["M", "0", "106"], "origin": ["M", "0", "106"], "show": [], "state": [], "talk": [], "trace": [], "waits": []}
+WITH_SIMULATOR = {"changes": ["M", "0", "106"], "origin": ["M", "0", "106"], "save": ["0", "0", "1"], "show": [], "state": [], "talk": [], "trace": [],
+                  "until": ["P", "0", "=", "1"], "waits": []}
 WITH_SIMULATOR["film"] = ["-o", "FILM"]  # a file in the room of the test
 ON_TERMINAL = {"panel": []}
-WITHOUT = {"deck": [], "load": ["0", "100"], "words": ["--dump", "0"]}
+TWO_SCRIPTS = {"compare": ["--other-panel", "examples/dead-start/panel"]}  # or one, as here, that it does not read from standard input
+WITHOUT = {"deck": [], "load": ["0", "100"], "symbols": [], "words": ["--dump", "0"]}
 WITHOUT_TERMINAL = {**WITH_SIMULATOR, **WITHOUT}
 TOOLS = {**WITHOUT_TERMINAL, **ON_TERMINAL}
 
@@ -55,7 +57,7 @@ OTHERWISE = {
     ("film", "limited output"): ('ulimit -f 0; "$0" "$@"', "film.html: File too large"),
     **{("panel", what): (TREATMENTS[what][0], NO_TERMINAL)
        for what in ("full output", "limited output", "no such file", "a folder", "closed input")}}
-GIVEN = {"deck": b"HELLO.\n", "load": b"1405\n", "words": b"0100 1405\n"}
+GIVEN = {"deck": b"HELLO.\n", "load": b"1405\n", "symbols": b"A 5\n", "words": b"0100 1405\n"}
 
 
 def setUpModule():
@@ -130,10 +132,8 @@ class Hands(HandsCase):
                 if name in WITHOUT:
                     self.assert_one_line(name, "is not text in UTF-8", said)
                     self.assertEqual(2, status)
-                elif name in ("show", "talk"):
-                    self.assertEqual(("", 1), (said, status))
                 else:
-                    self.assert_one_line(name, "one line was refused: line 1 (decimal), ERR 06 NOT ASCII: * ", said)
+                    self.assert_one_line(name, "one line was refused: line 1 (decimal), ERR 06 NOT ASCII: * \\xff", said)
                     self.assertEqual(1, status)
         said, status = self.treated("words", [b"\xff"], PLAIN, b"", PYTHONIOENCODING="ascii")
         self.assert_one_line("words", "display code has no", said)

@@ -1,21 +1,26 @@
-"""Every change of a place over a whole run.
+"""Every change of a place over a whole run, or what each of its last turns changed.
 
 A watch finds the changes. Where they are close together, many short STEPs are written at once; then BACK W goes over the
 changes that these found, to see what was about to make each, and FORWARD over them again, to the end.
 """
 
 from .answers import CLOCK, PROCESSORS, Place
-from .command_line import arguments, script_lines, simulator, words_after, write_lines
+from .command_line import Script, arguments, count, simulator, words_after, write_lines
 from .console import CHANNEL_LINES, MARK, MOST_TURNS
 from .history import STEP
 from .instructions import Processor
-from .run import Replay, performed
+from .last_turns import last_turns
+from .listing import AllSymbols, add_symbols, symbols_of
+from .run import Replay
 
 DESCRIPTION = """Shows every change of a place (M 0 106, A 0, C 1000, H 12 ..) over the whole run of a script, however
 long: the turn, counted in octal from 1, the processor whose turn it was, its P before the turn, the name of its
 instruction, and the number before and after. H c is the register of a channel, with the state of the channel beside it.
 In that turn the card reader, the printer or the clock may have made the change. A SET or a DEADSTART is shown by its
-name, with the turns before it. What the script took back and did not perform again has no changes."""
+name, with the turns before it. What the script took back and did not perform again has no changes. With --turns COUNT, and
+without PLACE, it shows what each of the last COUNT turns changed: the numbers of the processor whose turn it was, the channels
+and the clock, the frame (XP), reader and printer, and the central words from A to A+17; a turn changes no others. Of a channel
+it shows the state and the register in one; of the paper the number of symbols and the last line."""
 
 CLOSE_STEPS, CLOSE_TURNS = 128, 64  # at most 8192 turns at once, which are all kept
 NEAR = 256  # turns to a change after which the next is expected soon
@@ -30,10 +35,10 @@ class Change:
         self.registers = None
         self.words = ["0000"]
 
-    def text(self, turns_before):
+    def text(self, turns_before, symbols):
         processor = Processor(self.registers, self.words)
-        return (f"TURN {turns_before + self.turn:o} PP {self.slot:02o} P {self.registers['P']} {processor.name} "
-                f"WAS {self.was} NOW {self.now}")
+        return (f"TURN {turns_before + self.turn:o} PP {self.slot:02o} P {symbols.beside(self.slot, self.registers['P'])} "
+                f"{processor.name} WAS {self.was} NOW {self.now}")
 
 
 def search(run, steps, turns):
@@ -86,7 +91,7 @@ def look_forward(run, changes, made, channel):
             next(answers)
 
 
-def changes_of_turns(run, turns, channel):
+def changes_of_turns(run, turns, channel, symbols):
     """Makes so many turns, and yields the line of each change."""
     close = False
     while turns:
@@ -96,7 +101,7 @@ def changes_of_turns(run, turns, channel):
         if changes:
             look_back(run, changes, channel)
             look_forward(run, changes, made, channel)
-        yield from [change.text(run.turn) for change in changes]
+        yield from [change.text(run.turn, symbols) for change in changes]
         close = len(changes) >= TOO_FEW if steps else bool(changes) and made < NEAR
         run.made(made)
         turns -= made
@@ -106,13 +111,13 @@ def shown_number(run, place, channel):
     return run.number(place.short) if channel is None else run.channel(channel)
 
 
-def place_changes(run, place, actions):
+def place_changes(run, place, actions, symbols=AllSymbols()):
     """Yields the line of each change of a place."""
     channel = place.numbers[0] if place.kind == "H" and place.numbers[0] < CLOCK else None  # the clock has no state
     run.watch(place.short)
     for line, times in actions:
         if line == STEP:
-            yield from changes_of_turns(run, times, channel)
+            yield from changes_of_turns(run, times, channel, symbols)
             continue
         was = shown_number(run, place, channel)
         run.perform(line)
@@ -122,12 +127,17 @@ def place_changes(run, place, actions):
 
 
 def main():
-    parser = arguments(DESCRIPTION, "[OPTION ..] PLACE [SCRIPT]")
+    parser = arguments(DESCRIPTION, "[OPTION ..] (PLACE | --turns COUNT) [SCRIPT]")
+    parser.add_argument("--turns", metavar="COUNT", type=count, help="show what each of the last turns changed, octal")
+    add_symbols(parser)
     parser.add_argument("words", nargs="*", metavar="PLACE [SCRIPT]", help="without a script, standard input is it")
     asked = parser.parse()
-    place, rest = Place.first_of(asked.words)
-    (path,) = words_after(rest, 1, "give one place, one script")
-    words = simulator(asked)
-    script = performed(words, script_lines(path))
-    write_lines(place_changes(Replay(words), place, script.actions), "NO CHANGE")
-    return script.status()
+    place, rest = (None, asked.words) if asked.turns else Place.first_of(asked.words)
+    (script,) = words_after(rest, 1, "give --turns, one script" if asked.turns else "give one place, one script")
+    words, symbols = simulator(asked), symbols_of(asked)
+    script = Script(words, script)
+    if asked.turns:
+        write_lines(last_turns(words, script.actions, asked.turns))
+    else:
+        write_lines(place_changes(Replay(words), place, script.actions, symbols), "NO CHANGE")
+    return script.status

@@ -49,6 +49,15 @@ def write(line, at_once=False):
         flush()
 
 
+def write_bytes(data):
+    """Writes bytes to standard output."""
+    try:
+        sys.stdout.buffer.write(data)
+        sys.stdout.buffer.flush()
+    except OSError as error:
+        raise unwritten(error) from None
+
+
 def write_lines(lines, otherwise=None, at_once=False):
     """Writes lines; if there is none, another one."""
     for line in lines:

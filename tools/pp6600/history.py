@@ -30,9 +30,27 @@ class Action(NamedTuple):
         return self.times if self.line == STEP else 0
 
 
+def without_watches(actions):
+    """Returns the actions of a replay, which stops nowhere."""
+    return [action for action in actions if action.word not in ("WATCH", "UNWATCH")]
+
+
 def turns_of(actions):
     """Returns the number of turns among actions."""
     return sum(action.turns for action in actions)
+
+
+def up_to_turn(actions, turn):
+    """Returns the actions up to a turn, with the settings before the next one."""
+    if turn > turns_of(actions):
+        raise Failure(f"there is no turn {turn:o}: the run has {turns_of(actions):o} turns, octal")
+    found, left = [], turn
+    for action in actions:
+        if action.turns > left:
+            return found + ([Action(STEP, left)] if left else [])
+        found.append(action)
+        left -= action.turns
+    return found
 
 
 class Actions:
@@ -87,27 +105,61 @@ class Actions:
         return actions + turns
 
 
+def until(near, far, turns):
+    """As `Actions.until`, of two lists, of which the first is used first."""
+    return near.until(turns) if turns <= near.turns else near.count + far.until(turns - near.turns)
+
+
 class History:
-    """What the lines of a session have done: `older` actions, those that are `kept` to be taken back, those `ahead`."""
+    """What the lines of a session have done: `older` actions, those that are `kept` to be taken back; those `ahead`, which
+    the simulator performs again, and `later` ones, which it no longer has."""
 
     def __init__(self, room=MOST_KEPT):
         self.room = room
-        self.older, self.kept, self.ahead = Actions(), Actions(), Actions()
+        self.older, self.kept, self.ahead, self.later = Actions(), Actions(), Actions(), Actions()
 
     @property
     def turns(self):
         """How many turns are in effect."""
         return self.older.turns + self.kept.turns
 
+    @property
+    def last_turn(self):
+        """How many turns are in effect or ahead."""
+        return self.turns + self.ahead.turns + self.later.turns
+
+    @property
+    def to_undo(self):
+        """How many actions are in effect."""
+        return self.older.count + self.kept.count
+
+    @property
+    def to_redo(self):
+        """How many actions are ahead."""
+        return self.ahead.count + self.later.count
+
+    def back_over(self, turns):
+        """Returns how many actions in effect have the last so many turns."""
+        return until(self.kept, self.older, turns)
+
+    def forward_over(self, turns):
+        """Returns how many actions ahead have the first so many turns."""
+        return until(self.ahead, self.later, turns)
+
     def in_effect(self):
         """Returns the actions that were not taken back, or were performed again."""
         return list(Actions([*self.older.runs, *self.kept.runs]).runs)
+
+    def all(self):
+        """Returns the actions in effect and those ahead, in their order."""
+        return list(Actions([*self.in_effect(), *reversed(self.ahead.runs), *reversed(self.later.runs)]).runs)
 
     def take(self, line, answer):
         """Counts a line by the lines of its answer. Returns whether it changed the machine, the history or the list."""
         kind, *rest = answer[0].split() if answer else ["NOTE"]
         if kind in ("OK", "TURNS"):
-            self.ahead = Actions() if self.ahead.count else self.ahead
+            if self.ahead.count or self.later.count:
+                self.ahead, self.later = Actions(), Actions()
             self.add(line if kind == "OK" else STEP, int(rest[0], 8) if rest else 1)
         elif kind in ("BACK", "FORWARD"):
             source, target = (self.kept, self.ahead) if kind == "BACK" else (self.ahead, self.kept)
@@ -125,9 +177,10 @@ class History:
 
     def perform_anew(self):
         """Counts all actions again, and those ahead as taken back: a fresh simulator keeps as many as it has room for."""
-        ahead = self.ahead.count
+        ahead, later = self.ahead.count, self.later
         actions = [*self.in_effect(), *reversed(self.ahead.runs)]
         self.__init__(self.room)
         for action in actions:
             self.add(*action)
         self.take("BACK", [f"BACK {ahead:o}"])
+        self.later = later

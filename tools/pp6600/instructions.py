@@ -124,6 +124,7 @@ TWO_WORDS = tuple(code for code, one in enumerate(INSTRUCTIONS) if one.words == 
 COMPLETES = {code: one.goes_on_in for code, one in enumerate(INSTRUCTIONS) if one.goes_on_in}
 BLOCK_GOES_ON = {code: one.goes_on_in for code, one in IN_BLOCK.items() if one.goes_on_in}
 WAITS_FOR = {code: STATES_WORDS[states] for code, states in {**COMPLETES, **BLOCK_GOES_ON}.items()}
+RELATIVE_JUMPS = range(0o03, 0o10)
 CHANNEL_CODES = range(0o64, 0o100)
 # The state of a channel that is not there: to a block it is inactive, and no other instruction completes on it.
 NOT_THERE, NOT_THERE_IN_BLOCK = "-", "I"
@@ -141,6 +142,10 @@ class Processor:
         self.channel = self.instruction & 0o77
 
     @property
+    def p(self):
+        return int(self.registers["P"], 8)
+
+    @property
     def row(self):
         """The row of the table that says what its turn does; in a block transfer that of a turn that goes on."""
         return IN_BLOCK[self.code] if self.phase else INSTRUCTIONS[self.code]
@@ -155,6 +160,17 @@ class Processor:
         """The instruction with its channel or d, and with its second word; in a block transfer without that."""
         second = f" {self.words[1]}" if self.code in TWO_WORDS and not self.phase else ""
         return f"{self.name} {self.channel:02o}{second}"
+
+    def address(self, cell):
+        """Returns the address of its instruction: P, or in a block transfer what cell 0000 says; None if the instruction is
+        not there. The function `cell` returns the number in a cell of this processor."""
+        address = (cell(0) - 1) % CELLS if self.phase else int(self.registers["P"], 8)
+        return address if cell(address) == self.instruction else None
+
+    def whole_text(self, cell):
+        """As `text`, in a block transfer too with the second word, if the instruction is still there."""
+        address = self.address(cell) if self.phase else None
+        return self.text if address is None else f"{self.text} {cell((address + 1) % CELLS):04o}"
 
     @property
     def goes_on_in(self):
@@ -196,6 +212,11 @@ class Processor:
             return self.channel if self.code < 0o40 else cell(self.channel)
         address = int(self.words[1], 8) + (cell(self.channel) if self.channel else 0)
         return address if address < CELLS else address - (CELLS - 1)
+
+
+def target_of(address, d):
+    """Returns the address to which a relative jump leads."""
+    return (address + (d if d < 0o40 else d - 0o77)) % CELLS
 
 
 def processor_at(console, number, registers=None):

@@ -8,10 +8,11 @@ import sys
 from .ending import flush, write
 from .failure import Failure
 from .options import ABOVE
-from .show import answer, shown
-from .text_files import input_lines
+from .script import Refusals
+from .show import answer
+from .text_files import input_lines, shown
 
-PROMPT = "> "
+PROMPT = "> "  # after the number of turns
 WRAPPED = "PP6600_WRAPPED"  # set for the tool that rlwrap runs
 FIRST_WORDS = ("help", "?", "quit", "exit")  # what a newcomer may type; the simulator has no such commands
 
@@ -43,7 +44,7 @@ def edit_lines():
         return
     if shutil.which("rlwrap") and os.environ.get("TERM", "dumb") != "dumb":
         os.environ[WRAPPED] = "yes"
-        wrap = ["rlwrap", "--case-insensitive", "--substitute-prompt", PROMPT, "--command-name", "pp6600", *completions()]
+        wrap = ["rlwrap", "--case-insensitive", "--command-name", "pp6600", *completions()]
         os.execvp("rlwrap", [*wrap, sys.executable, *sys.argv])
     try:
         import readline  # input() then has it
@@ -52,12 +53,12 @@ def edit_lines():
         pass
 
 
-def typed_lines():
-    """Yields the lines of a terminal, each after a prompt."""
+def typed_lines(run):
+    """Yields the lines of a terminal, each after a prompt with the number of turns in effect."""
     while True:
         flush()
         try:
-            line = input(PROMPT)
+            line = input(f"{run.turn:o}{PROMPT}")
         except EOFError:
             if WRAPPED not in os.environ:
                 write("")
@@ -67,17 +68,29 @@ def typed_lines():
         yield line.encode("utf-8", "surrogateescape").decode("latin-1")
 
 
-def converse(console):
-    """Performs the lines that are typed, or those of standard input."""
-    if is_terminal():
-        for line in typed_lines():
-            if line.strip().lower() in FIRST_WORDS:
-                write(f"Ctrl-D ends. Card: {card()}.")
-            else:
-                answer(console, line)
-            flush()
-        return
-    for line in input_lines():
-        write(shown(line))
-        answer(console, line)
+def converse(run, transcript):
+    """Performs the lines that are typed, or those of standard input. Returns the exit status."""
+    return converse_at_terminal(run, transcript) if is_terminal() else perform_input(run, transcript)
+
+
+def converse_at_terminal(run, transcript):
+    status = 0
+    for line in typed_lines(run):
+        if line.strip().lower() in FIRST_WORDS:
+            write(f"Ctrl-D ends. Card: {card()}.")
+        elif answer(run, line):
+            status = 1
+        else:
+            transcript.add(line)
         flush()
+    return status
+
+
+def perform_input(run, transcript):
+    refusals = Refusals()
+    for number, line in enumerate(input_lines(), 1):
+        write(f"> {shown(line)}".rstrip())
+        if not answer(run, line, number, refusals):
+            transcript.add(line)
+        flush()
+    return refusals.complain()

@@ -1,15 +1,19 @@
 """Files of words, as SET lines."""
 
 from .cells import set_lines, word_of
-from .command_line import Failure, Parser, bytes_of, cell, processor, read_lines, write_lines
+from .command_line import Failure, Parser, bytes_of, cell, processor, read_lines, words_after, write_lines
+from .listing import Listing, is_listing
 
 DESCRIPTION = """Writes the SET lines that load the words of a file into the cells of processor N from cell A on; after
 cell 7777 comes cell 0000. Without an option the file is text: octal numbers to 7777, one or many a line; what follows a *
-is a note, to the end of the line."""
+is a note, to the end of the line. With --listing each line has an address, one or more octal words, and any text: the words
+go where the addresses say, so A is left out. A B after a number is taken, and every other line is a comment."""
 
 
 def octal_words(lines):
     """Returns the words of the lines of a text, separated by blanks and tabs. What follows a * is a note."""
+    if is_listing(lines):
+        raise Failure("the first numbers of the lines are addresses: with --listing, and without A, the words go there")
     words = []
     for number, line in enumerate(lines, 1):
         try:
@@ -39,25 +43,36 @@ def two_byte_words(data):
     return [f"{upper << 8 | lower:04o}" for upper, lower in zip(data[::2], data[1::2])]
 
 
-def words_of(asked):
+def words_of(asked, path):
     """Returns the words of the file."""
     if asked.packed:
-        return packed_words(bytes_of(asked.file))
-    return two_byte_words(bytes_of(asked.file)) if asked.two_bytes else octal_words(read_lines(asked.file))
+        return packed_words(bytes_of(path))
+    return two_byte_words(bytes_of(path)) if asked.two_bytes else octal_words(read_lines(path))
+
+
+def lines_of(asked):
+    """Returns the SET lines."""
+    if not asked.words or not asked.listing and len(asked.words) < 2:
+        raise Failure("give a processor and a cell, as load 0 100; or load --listing 0")
+    number = processor(asked.words[0])
+    if asked.listing:
+        (path,) = words_after(asked.words[1:], 1, "--listing takes a processor, one file")
+        return Listing.of_file(path).set_lines(number)
+    (path,) = words_after(asked.words[2:], 1, "give a processor, a cell, one file")
+    return set_lines(number, cell(asked.words[1]), words_of(asked, path))
 
 
 def main():
-    parser = Parser(DESCRIPTION, "[--packed | --two-bytes] N A [FILE]")
+    parser = Parser(DESCRIPTION, "[--packed | --two-bytes | --listing] N [A] [FILE]")
     kinds = parser.add_mutually_exclusive_group()
     kinds.add_argument("--packed", action="store_true",
                        help="the file is binary: two words in three bytes, the upper bits first")
     kinds.add_argument("--two-bytes", action="store_true",
                        help="the file is binary: each word in two bytes, the upper bits first")
-    parser.add_argument("processor", metavar="N", type=processor, help="the processor, octal")
-    parser.add_argument("cell", metavar="A", type=cell, help="the first cell, octal")
-    parser.add_argument("file", metavar="FILE", nargs="?", help="without it, standard input is the file")
-    asked = parser.parse()
-    words = words_of(asked)
-    if not words:
+    kinds.add_argument("--listing", action="store_true", help="the file is a listing, with addresses")
+    parser.add_argument("words", metavar="N A FILE", nargs="*",
+                        help="the processor and the first cell, octal; without FILE, standard input is the file")
+    lines = lines_of(parser.parse())
+    if not lines:
         raise Failure("there is no word to load")
-    write_lines(set_lines(asked.processor, asked.cell, words))
+    write_lines(lines)

@@ -112,6 +112,10 @@ def count(text):
     return number
 
 
+def add_turn(parser):
+    parser.add_argument("--turn", metavar="N", type=octal, help="as it is after turn N, octal, with the settings before the next one")
+
+
 def words_after(words, most, what):
     """Checks that at most so many words are left, and returns them, with None for each that is missing."""
     if len(words) > most:

@@ -3,46 +3,21 @@ actions of a script, up to a turn, or with a look before each turn. Turns count 
 
 from .answers import PROCESSORS
 from .console import MARK, Console
-from .ending import complain, flush
 from .failure import Failure
-from .history import STEP, History, room_of
-
-MOST_SHOWN = 60  # characters of a line that was refused
+from .history import STEP, History, room_of, without_watches
 
 
-class Script:
-    """A script, performed line by line: what is in effect at its end, and which lines were refused."""
-
-    def __init__(self, console, lines):
-        self.history, self.refused = History(room_of(console.words)), []
-        for number, line in enumerate(lines, 1):
-            answer = console.ask(line)
-            self.history.take(line, answer)
-            if answer and answer[0].startswith("ERR "):
-                self.refused.append((number, line, answer[0]))
-
-    @property
-    def actions(self):
-        """The actions in effect: neither refused nor taken back. Watches are left out, for a replay stops nowhere."""
-        return [action for action in self.history.in_effect() if action.word not in ("WATCH", "UNWATCH")]
-
-    def status(self):
-        """Says on standard error how many lines were refused, and which was the first. Returns the exit status."""
-        if self.refused:
-            number, line, answer = self.refused[0]
-            more = f"{len(self.refused)} lines (decimal) were refused, the first is"
-            shown = "".join(filter(str.isprintable, line[:MOST_SHOWN]))
-            flush()
-            complain(f"{more if len(self.refused) > 1 else 'one line was refused:'} line {number} (decimal), {answer}: {shown}")
-        return 1 if self.refused else 0
-
-
-def performed(words, lines):
-    """Performs a script in a simulator of its own."""
-    console = Console(words)
-    script = Script(console, lines)
+def actions_in_effect(words, lines, refusals=None):
+    """Performs a script, and returns the actions in effect at its end: neither refused nor taken back. Watches are left
+    out, for a replay stops nowhere. Refused lines are noted."""
+    console, history = Console(words), History(room_of(words))
+    for number, line in enumerate(lines, 1):
+        answer = console.ask(line)
+        history.take(line, answer)
+        if refusals:
+            refusals.note(number, line, answer)
     console.end()
-    return script
+    return without_watches(history.in_effect())
 
 
 def without_history(words):

@@ -1,46 +1,61 @@
 """Lines with their answers, as a session is shown."""
 
-from .command_line import Failure, add_script, arguments, complain, script_lines, simulator, write
-from .console import Console
+from .command_line import Failure, Script, add_script, add_turn, arguments, complain, script_lines, simulator, write
+from .console import MOST_TURNS
+from .history import STEP, up_to_turn
+from .run import Run
+from .script import Refusals
+from .text_files import shown
 
-DESCRIPTION = """Shows each line of a script after '> ', and below it the answer. The exit status is the simulator's: 0
-if no line was refused, else 1. A DUMP CR of the tool's own is written first and after each DUMP, and once something is
-watched, after each STEP. All lines together are at most 1,000,000 (decimal)."""
+DESCRIPTION = """Shows each line of a script after '> ', and below it the answer. The exit status is 0 if no line was refused, else
+1. With --turn N it shows the lines that lead to turn N: those of the actions that are in effect at the end of the script, up to
+there, with the last STEP cut short. A DUMP CR of the tool's own is written first and after each DUMP, and once something is
+watched, after each STEP."""
 
 
-def shown(line):
-    """Returns a line of a script as it is shown."""
-    return f"> {line}".encode("latin-1").decode("utf-8", "backslashreplace").rstrip()
-
-
-def answer(console, line):
+def answer(run, line, number=0, refusals=None):
     """Performs a line, and shows its answer. Returns whether the line was refused."""
-    lines = console.ask(line)
+    lines = run.act(line)
     for text in lines:
         write(text)
-    return bool(lines) and lines[0].startswith("ERR ")
+    return (refusals or Refusals()).note(number, line, lines)
 
 
-def show_script(console, path, stop=False):
-    """Shows a script with its answers. Returns the number of the line at which it stopped, or None."""
-    for number, line in enumerate(script_lines(path), 1):
-        write(shown(line), at_once=True)
+def show_lines(run, lines, stop=False):
+    """Shows lines with their answers, to the first one that is refused if it is to stop there. Returns the exit status."""
+    refusals = Refusals()
+    for number, line in enumerate(lines, 1):
+        write(f"> {shown(line)}".rstrip(), at_once=True)
         try:
-            refused = answer(console, line)
+            refused = answer(run, line, number, refusals)
         except Failure as failure:
             raise Failure(f"line {number} (decimal): {failure}") from failure
         if stop and refused:
-            return number
-    return None
+            complain(f"stopped at line {number} (decimal), which was refused")
+            return 1
+    return refusals.complain()
+
+
+def lines_of(actions):
+    """Yields the lines of actions."""
+    for line, times in actions:
+        counts = [1] * times if line != STEP else [MOST_TURNS] * (times // MOST_TURNS) + [times % MOST_TURNS]
+        yield from (f"{STEP} {count:o}" if line == STEP else line for count in counts if count)
 
 
 def main():
     parser = arguments(DESCRIPTION)
     parser.add_argument("--stop", action="store_true", help="stop at the first line that is refused")
+    add_turn(parser)
     add_script(parser)
     asked = parser.parse()
-    console = Console(simulator(asked))
-    stopped = show_script(console, asked.script, asked.stop)
-    if stopped:
-        complain(f"stopped at line {stopped} (decimal), which was refused")
-    return console.end()
+    words = simulator(asked)
+    status = 0
+    if asked.turn is None:
+        lines = script_lines(asked.script)
+    else:
+        script = Script(words, asked.script)
+        lines, status = lines_of(up_to_turn(script.actions, asked.turn)), script.status
+    run = Run(words)
+    status |= show_lines(run, lines, asked.stop)
+    return max(run.end(), status)

@@ -25,6 +25,12 @@ def lines_of(text):
     return text.removesuffix("\n").split("\n") if text else []
 
 
+def shown(line):
+    """Returns a line of a script as it is shown: as text, without bytes that a terminal would obey."""
+    text = line.encode("latin-1").decode("utf-8", "backslashreplace").rstrip()
+    return "".join(letter if letter.isprintable() or letter == "\t" else letter.encode("unicode_escape").decode() for letter in text)
+
+
 def script_lines(path):
     """Returns the lines of a script. Each byte is a character, for the simulator judges them."""
     return lines_of(bytes_of(path).decode("latin-1"))

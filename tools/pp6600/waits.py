@@ -1,18 +1,26 @@
 """The processors that wait."""
 
-from .answers import CELLS, PROCESSORS, REGISTERS
-from .command_line import add_script, arguments, script_lines, simulator, write_lines
-from .history import STEP, turns_of
+from .answers import CELLS, CLOCK, PROCESSORS, REGISTERS
+from .channels import last_changes
+from .command_line import Script, add_script, add_turn, arguments, simulator, write_lines
+from .history import STEP, turns_of, up_to_turn
 from .instructions import processor_at, states_of
-from .run import Replay, performed
+from .listing import AllSymbols, add_symbols, symbols_of
+from .run import Replay
+from .whole import look, look_at_central
 
 DESCRIPTION = """Shows each processor that waits at the end of a script: the address of its instruction and its name, P,
 the channel that it waits for with its state and register, and the turn since which it waits, counted in octal from 1.
 FROM in place of SINCE: it will wait in its next turn, which has this number, if the channel is still the same. In a block
 transfer P is the cell of the next word; the address is NONE if no such instruction is where cell 0000 says, as after a
-dead start. A jump to itself is no wait."""
+dead start. A jump to itself is no wait. FOR EVER: nothing in the machine can end the wait any more. The line below says since
+which turn the channel is as it is, and who made it so: a processor with its P and instruction, a device, a SET or a DEADSTART,
+or nobody."""
 
 FIRST_SPAN = 0o10000  # of turns at the end that are searched first
+MOST_WATCHED = 8
+# After so many turns the clock is as it was, and so are loops of most lengths, and those of one or two rounds that count in a cell.
+ROUND_TRIP = PROCESSORS * CELLS * 2 * 9 * 5 * 7
 
 
 class Waiting:
@@ -84,27 +92,72 @@ def address_of_instruction(console, number, processor):
     return f"{address:04o}" if console.cells(number, address, address)[0] == processor.registers["PHASE"] else "NONE"
 
 
-def waits(words, actions):
-    """Yields a line for each processor that waits."""
+def hit_processor(line):
+    """Returns the processor of a HIT of its P."""
+    return int(line.split()[2], 8)
+
+
+def waiting_for_ever(words, actions, numbers):
+    """Returns those of at most eight waiting processors that will never go on: the machine comes back to a state where it was,
+    and meanwhile they have not moved. Then it does so again and again."""
     run = Replay(words)
     run.to_turn(actions, turns_of(actions))
-    channels = run.channels()
+    before, staying = (look(run), look_at_central(run)), set(numbers)
+    for number in numbers:
+        run.watch(f"P {number:o}")
+    for _, answer in run.step(ROUND_TRIP):
+        for line in answer[1:]:
+            staying.discard(hit_processor(line))
+            run.question(f"UNWATCH P {hit_processor(line):o}", ["OK"])
+        if not staying:
+            break
+    is_back = bool(staying) and before == (look(run), look_at_central(run))
+    run.end()
+    return staying if is_back else set()
+
+
+def at_end(words, actions, symbols):
+    """Returns the line of each processor that waits at the end, with the processor; and the lines of the channels."""
+    run = Replay(words)
+    run.to_turn(actions, turns_of(actions))
+    channels, found = run.channels(), {}
     for number in range(PROCESSORS):
         processor = processor_at(run, number)
         if processor.would_wait(states_of(channels)):
-            at = address_of_instruction(run, number, processor)
+            at, address = (symbols.beside(number, digits)
+                           for digits in (address_of_instruction(run, number, processor), processor.registers["P"]))
             channel = processor.channel
             line = channels[channel] if channel < len(channels) else f"H {channel:02o} NONE"
-            since = Waiting(number, processor, words, actions).first_turn()
-            yield f"PP {number:02o} AT {at} {processor.name} P {processor.registers['P']} {line} {since}"
+            found[number] = processor, f"PP {number:02o} AT {at} {processor.name} P {address} {line}"
+    devices = {int(run.reader().split()[2], 8): "THE READER", int(run.printer()[0].split()[2], 8): "THE PRINTER"}
     run.end()
+    return found, channels, devices
+
+
+def waits(words, actions, symbols=AllSymbols()):
+    """Yields a line for each processor that waits, and one for its channel."""
+    found, channels, devices = at_end(words, actions, symbols)
+    numbers = list(found)
+    for_ever = set().union(*(waiting_for_ever(words, actions, numbers[at:at + MOST_WATCHED])
+                             for at in range(0, len(numbers), MOST_WATCHED)))
+    waited_for = sorted({processor.channel for processor, _ in found.values() if processor.channel < CLOCK})
+    changes = last_changes(words, actions, waited_for, devices, symbols) if waited_for else {}
+    for number, (processor, line) in found.items():
+        since = Waiting(number, processor, words, actions).first_turn()
+        yield f"{line} {since}{', FOR EVER' if number in for_ever else ''}"
+        if processor.channel in changes:
+            turn, maker = changes[processor.channel]
+            yield f"  {channels[processor.channel]} SINCE TURN {turn:o}, BY {maker}"
 
 
 def main():
     parser = arguments(DESCRIPTION)
+    add_turn(parser)
+    add_symbols(parser)
     add_script(parser)
     asked = parser.parse()
-    words = simulator(asked)
-    script = performed(words, script_lines(asked.script))
-    write_lines(waits(words, script.actions), "NO PROCESSOR WAITS", at_once=True)
-    return script.status()
+    words, symbols = simulator(asked), symbols_of(asked)
+    script = Script(words, asked.script)
+    actions = script.actions if asked.turn is None else up_to_turn(script.actions, asked.turn)
+    write_lines(waits(words, actions, symbols), "NO PROCESSOR WAITS", at_once=True)
+    return script.status

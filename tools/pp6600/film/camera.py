@@ -7,7 +7,7 @@ from ..answers import CELLS, PROCESSORS
 from ..console import MARK, MOST_TURNS, Console
 from ..failure import Failure
 from ..history import History, room_of
-from ..run import Run, Script
+from ..run import Run
 from .footprint import Footprint
 from .machine import Machine
 from .places import LAYOUT
@@ -15,6 +15,7 @@ from .sources import TurnWritten, Written
 
 TURN, LINE, JUMP = range(3)  # the kinds of a moment: a turn, another action, a BACK or FORWARD
 MOST_MOMENTS = 0o1000000
+AROUND = 0o4000  # moments before a turn, and after it
 BETWEEN_CHECKS = 0o10000
 REGISTER_DUMPS = [f"DUMP PP {n:o}" for n in range(PROCESSORS)]
 END_DUMPS = [*REGISTER_DUMPS, "DUMP H", "DUMP XP", "DUMP LP", "DUMP W"]  # what the end of a run is compared by
@@ -38,7 +39,8 @@ class Transcript:
 
     def __init__(self, words, lines):
         console = Recorder(words)
-        self.script = Script(console, lines)
+        for line in lines:
+            console.ask(line)
         self.lines = list(zip(lines, console.answers))
         self.turns = {}  # of each line that did something: how many turns are in effect before and after it
         self._count_turns(History(room_of(words)))
@@ -68,13 +70,32 @@ class Transcript:
         return sum(count if kind == TURN else 1 for _, kind, count in self.actions())
 
 
-def to_skip(transcript, last):
-    """How many moments are performed before the film begins."""
+    def moment_of_turn(self, turn):
+        """Returns the last moment in which so many turns came to be in effect: 0 is the opening."""
+        moment = found = 0
+        for number, kind, count in self.actions():
+            before, after = self.turns[number]
+            if kind == TURN and before < turn <= after:
+                found = moment + turn - before
+            moment += count if kind == TURN else 1
+        if turn and not found:
+            highest = max((after for _, after in self.turns.values()), default=0)
+            raise Failure(f"there is no turn {turn:o}: the highest is {highest:o} (octal)")
+        return found
+
+
+def to_film(transcript, last, around):
+    """Returns how many moments are performed before the film begins, and how many are filmed: the last ones, those around a
+    turn, or all."""
     moments = transcript.moments()
+    if around is not None:
+        first = max(transcript.moment_of_turn(around) - AROUND, 0)
+        return first, min(first + 2 * AROUND, moments) - first
     wanted = moments if last is None else min(last, moments)
     if wanted > MOST_MOMENTS:
-        raise Failure(f"the run has {moments:o} moments, and a film at most {MOST_MOMENTS:o} (octal): film the last by --last COUNT")
-    return moments - wanted
+        raise Failure(f"the run has {moments:o} moments, and a film at most {MOST_MOMENTS:o} (octal): film the last by --last "
+                      "COUNT, or those around a turn by --around N")
+    return moments - wanted, wanted
 
 
 class Film:
@@ -91,31 +112,42 @@ class Film:
         self.jumps = {}  # the moment that a BACK or FORWARD leads to, or None if it is before the film
         self.first_moments, self.lengths = {}, {}  # of each line that is filmed: its first moment, and how many it has
         self.turns_passed = 0  # of the first line that is filmed
+        self.opens = None  # the moment at which the page opens, if it was asked for
         self.history, self.ahead = [], []  # the moments in effect, and those undone; None is one before the film
         self.below = 0  # how many actions of before the film are undone
         self.unchecked = 0
+        self.is_ended = False
 
-    def shoot(self, skipped):
-        """Performs the actions and films them, all but the first ones: so many moments are skipped."""
+    def shoot(self, skipped=0, filmed=MOST_MOMENTS):
+        """Performs the actions and films so many moments of them, after those that are skipped."""
         for number, kind, count in self.transcript.actions():
             length = count if kind == TURN else 1
-            passed = min(skipped, length)
-            skipped -= passed
-            if passed:
-                self._pass_over(number, kind, count, passed)
-            if passed == length:
-                continue
-            if not self.moments:
-                self._open()
-                self.turns_passed = passed
-            self.first_moments[number], self.lengths[number] = len(self.moments), length - passed
-            self._film(number, kind, count - passed if kind == TURN else count)
-        if not self.moments:
-            self._open()
-        self._check(True)
+            before = min(skipped, length)
+            now = min(filmed, length - before)
+            skipped, filmed = skipped - before, filmed - now
+            if before:
+                self._pass_over(number, kind, count, before)
+            if now:
+                if not self.moments:
+                    self._open()
+                    self.turns_passed = before
+                self.first_moments[number], self.lengths[number] = len(self.moments), now
+                self._film(number, kind, now if kind == TURN else count)
+            if before + now < length:
+                self._end()
+                self._pass_over(number, kind, count, length - before - now)
+        self._end()
         if [self.run.ask(dump) for dump in END_DUMPS] != self.transcript.end:
             raise Failure("the script did not come to the same end twice: this is a fault of film")
         self.run.end()
+
+    def _end(self):
+        """Ends the film, unless it has ended: it has an opening, and all numbers are compared."""
+        if not self.is_ended:
+            self.is_ended = True
+            if not self.moments:
+                self._open()
+            self._check(True)
 
     def _pass_over(self, number, kind, count, passed):
         """Performs what is not filmed."""

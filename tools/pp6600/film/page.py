@@ -8,15 +8,17 @@ import shlex
 
 from ..display_code import SYMBOLS
 from ..failure import Failure
-from ..instructions import BLOCK_GOES_ON, COMPLETES, IN_BLOCK, NAMES, NOT_THERE, NOT_THERE_IN_BLOCK, TWO_WORDS, WAITS_FOR
+from ..instructions import (
+    BLOCK_GOES_ON, COMPLETES, IN_BLOCK, NAMES, NOT_THERE, NOT_THERE_IN_BLOCK, RELATIVE_JUMPS, TWO_WORDS, WAITS_FOR)
 from ..options import OPTIONS
+from ..sentences import ROWS, STATE_NAMES, WAITS, WAITS_EVER
 from ..text_files import bytes_of, lines_of
 from .data import encode
 from .places import LAYOUT, MODES
 from .sources import CENTRAL, CONSTANT_NAMES
 
 WEB = os.path.join(os.path.dirname(os.path.abspath(__file__)), "web")
-SCRIPTS = ("state", "places", "machine", "origin", "lanes", "controls")  # the page's script, in the order in which it is joined
+SCRIPTS = ("state", "places", "machine", "program", "origin", "lanes", "controls")  # the page's script, in the order in which it is joined
 LONGEST_ANSWER = 40  # lines of one that a page keeps
 
 
@@ -79,7 +81,9 @@ def tables():
     """What the page has to know of the machine."""
     return {"layout": LAYOUT, "names": NAMES, "two_words": TWO_WORDS, "block_codes": list(IN_BLOCK), "completes": COMPLETES,
             "blocks": BLOCK_GOES_ON, "waits_for": WAITS_FOR, "not_there": [NOT_THERE, NOT_THERE_IN_BLOCK], "symbols": SYMBOLS,
-            "modes": MODES, "constants": CONSTANT_NAMES, "first_central": CENTRAL}
+            "relative_jumps": list(RELATIVE_JUMPS), "sentences": ROWS, "wait_sentences": [WAITS, WAITS_EVER],
+            "state_texts": STATE_NAMES, "modes": MODES, "constants": CONSTANT_NAMES,
+            "first_central": CENTRAL}
 
 
 def carried(asked, script):
@@ -126,7 +130,7 @@ def of_script(film):
     turns = film.transcript.turns
     numbers = {first: number for number, first in film.first_moments.items()}
     begins = turns[min(film.first_moments)][0] + film.turns_passed if film.first_moments else 0
-    return {"lines": list(lines(film)), "turns_before": begins,
+    return {"lines": list(lines(film)), "turns_before": begins, "opens": film.opens,
             "jumps": [(moment, -1 if target is None else target, turns[numbers[moment]][1])
                       for moment, target in film.jumps.items()]}
 

@@ -61,7 +61,7 @@ class Search:
     def __init__(self, replayer, most_steps=None, with_addresses=False, progress=None):
         """After so many steps by processors the sources of a step are searched no more; None: there is no limit. The function
         `progress` is called with each position that is reached."""
-        self.replayer, self.timeline = replayer, replayer.timeline
+        self.replayer, self.positions = replayer, replayer.positions
         self.most_steps, self.with_addresses, self.progress = most_steps, with_addresses, progress or (lambda position: None)
         self.asked = {}  # places, each with the links that ask for it
         self.steps = []
@@ -85,7 +85,7 @@ class Search:
         """Asks for the last write of a link's place before a position."""
         self.is_changed = True
         if link.place == CLOCK_PLACE:
-            tick = self.timeline.last_tick(position)
+            tick = self.positions.last_tick(position)
             link.step = Step(CLOCK_PLACE, TICK if tick else START, tick)
             self.steps.append(link.step)
         else:
@@ -127,14 +127,14 @@ class Search:
         size = FIRST_SIZE
         while self.asked and position:
             self.progress(position)
-            run = self.timeline.run_before(position)
-            if self.timeline.actions[run].line != STEP:
+            run = self.positions.run_before(position)
+            if self.positions.actions[run].line != STEP:
                 position -= 1
-                self._look_at_line(self.timeline.actions[run].line, position + 1)
+                self._look_at_line(self.positions.actions[run].line, position + 1)
                 continue
             processors = self._processors()
             passed = min(size * PROCESSORS // len(processors), MOST_TURNS_PASSED)
-            first = max(self.timeline.starts[run], position - passed)
+            first = max(self.positions.starts[run], position - passed)
             position = self._look_at_turns(Window(self.replayer, first, position, processors))
             size = min(3 * size, MOST_TURNS_READ) if position == first else FIRST_SIZE
         for place in list(self.asked):
@@ -224,7 +224,7 @@ class Search:
         self.replayer.goto(low)
         step = Step(Place("LP", (index,)), PAPER, low, index - before)
         step.number = symbol_of(self.replayer.printer(), index)
-        link = Link(step, Place("H", (self.timeline.printer,)))
+        link = Link(step, Place("H", (self.replayer.printer_channel,)))
         step.links = [link]
         self._ask(link, low)
         return step, low
@@ -243,11 +243,11 @@ class Devices:
     """What the reader and the printer put on their channels in a window."""
 
     def __init__(self, window):
-        timeline = window.timeline
+        replayer = window.replayer
         self.window = window
         self.found = {}
-        self.kinds = {Place("H", (timeline.reader,)): (READER, window.words_of_reader),
-                      Place("H", (timeline.printer,)): (PRINTER, window.words_of_printer)}
+        self.kinds = {Place("H", (replayer.reader_channel,)): (READER, window.words_of_reader),
+                      Place("H", (replayer.printer_channel,)): (PRINTER, window.words_of_printer)}
         self.words = {}
 
     def choose(self, asked):

@@ -31,9 +31,9 @@ class File:
 class Writer:
     """Makes the lines."""
 
-    def __init__(self, timeline, words):
+    def __init__(self, positions, words):
         """The words are the program and its options, which name the deck file and the panel file."""
-        self.timeline = timeline
+        self.positions = positions
         self.deck, self.panel = (File(words[words.index(option) + 1] if option in words else None) for option in ("--deck", "--panel"))
 
     def lines(self, root, now=None):
@@ -77,7 +77,7 @@ class Writer:
     def turn_of(self, step):
         if step.cause == START:
             return "START"
-        return f"TURN {self.timeline.turn(step.position):o}"
+        return f"TURN {self.positions.turn(step.position):o}"
 
     # ---- what wrote it
 
@@ -122,7 +122,7 @@ class Writer:
         return f"PP {step.turn.number:02o}{at and ' AT ' + at} {processor.name} {processor.channel:02o}{second}{begun}"
 
     def times(self, step):
-        first = self.timeline.turn(step.first_position)
+        first = self.positions.turn(step.first_position)
         return [f"{step.times:o} TIMES SINCE TURN {first:o}"] if step.times > 1 else []
 
     def sources(self, step, links):

@@ -57,8 +57,8 @@ class Window:
     """The turns of some processors between two positions, with no other action between these."""
 
     def __init__(self, replayer, first, last, processors):
-        self.replayer, self.timeline, self.first, self.last = replayer, replayer.timeline, first, last
-        slot = self.timeline.slot(first)
+        self.replayer, self.positions, self.first, self.last = replayer, replayer.positions, first, last
+        slot = self.positions.slot(first)
         self.processors = sorted(processors, key=lambda number: (number - slot) % PROCESSORS)  # in the order of their turns
         self.distances = [(number - slot) % PROCESSORS for number in self.processors]
         distances = set(self.distances)
@@ -174,7 +174,7 @@ class Window:
     def turn(self, at):
         words, key = self.words[self.keys[at]], self.keys[at]
         processor = Processor(registers_of(self.before[at]), [words[:4], words[4:]])
-        return Turn(int(key[:2], 8), processor, registers_of(self.after[at]), lambda _: self.cell_before(at), self.timeline.size)
+        return Turn(int(key[:2], 8), processor, registers_of(self.after[at]), lambda _: self.cell_before(at), self.replayer.size)
 
     def position(self, at):
         """Returns the position after a turn."""
@@ -195,7 +195,7 @@ class Window:
         """Returns by turns what the card reader put on its channel: a card and its column, or None for the status."""
         self.replayer.goto(self.first)
         was = self.replayer.reader().split()
-        if was[-1] == "IDLE" and not self._has_function(self.timeline.reader):
+        if was[-1] == "IDLE" and not self._has_function(self.replayer.reader_channel):
             return {}
         count = 2 * len(self.turns)
         lines = self._answers(["STEP\nDUMP CR\n"] * len(self.turns), count, count)[1::2]
@@ -212,7 +212,7 @@ class Window:
 
     def words_of_printer(self):
         """Returns by turns that the printer put its status on its channel."""
-        channel = self.timeline.printer
+        channel = self.replayer.printer_channel
         self.replayer.goto(self.first)
         if self.replayer.printer()[0].split()[-1] == "IDLE" and not self._has_function(channel):
             return {}

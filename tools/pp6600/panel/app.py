@@ -8,11 +8,13 @@ import time
 from ..answers import KINDS
 from ..failure import Failure
 from ..keyboard import FIRST_WORDS, card
+from ..timeline import REPLAYED
 from .keys import LINES, Facts, help_lines
 from .origins import Origin, OriginPage, Stopped
 from .page import Page
 from .prompt import Prompt
 from .remarks import in_width, remarks
+from .search import MOST_NEW, Stopped, last_before, next_found
 from .screen import LEAST_COLUMNS, LEAST_ROWS, Shown, is_too_small, layout, log_lines, screen
 from .text import Line
 from .view import ARROWS, View
@@ -22,7 +24,8 @@ LONG_ANSWER = 2  # lines; a longer answer is shown on a page
 BETWEEN_REPORTS = 0.2  # seconds
 CANCEL = ("Escape", "Ctrl-C")
 LETTERS = {"h": "Left", "j": "Down", "k": "Up", "l": "Right"}
-PROMPTS = {":": "> ", "g": "go to ", "/": "search ", "w": "w "}
+PROMPTS = {":": "> ", "g": "go to ", "G": "turn ", "u": "until ", "U": "back until ", "/": "search ", "w": "w "}
+NEW_ACTIONS = ("SET", "STEP", "WATCH", "UNWATCH", "DEADSTART")
 AFTER_FAULT = ("w", "L", "?", "Tab", "Shift-Tab", *ARROWS)  # keys that need no simulator
 
 
@@ -34,6 +37,10 @@ def words_to_find(text, kind):
     return [f"{int(word, 8):0{digits}o}" for word in words]
 
 
+def first_word(line):
+    return next(iter(line.upper().split()), "")
+
+
 class Panel:
     def __init__(self, session):
         self.session = session
@@ -42,6 +49,8 @@ class Panel:
         self.count = self.message = ""
         self.prompt = self.page = None
         self.typed = {kind: [] for kind in PROMPTS}
+        self.typed["U"] = self.typed["u"]
+        self.asked = []  # lines that would discard what is ahead
         self.fault = None  # why the simulator is no longer there
         self.is_asked_to_quit = self.is_ended = False
         self.show = lambda: None  # draws the screen
@@ -49,10 +58,12 @@ class Panel:
         self.shown_at = 0.0
         self.see()
 
-    def perform_script(self, lines):
-        """Performs the lines of a script."""
+    def perform_script(self, lines, turn=None):
+        """Performs the lines of a script, and goes to the turn if there is one."""
         whole = self.guard(self.session.perform_script, lines, self.stops)
-        if self.fault is None:
+        if whole and turn is not None:
+            self.go_to_turn(f"{turn:o}")
+        elif self.fault is None:
             self.message = "" if whole else f"the script was stopped after {len(self.session.sent)} (decimal) lines"
         self.see()
 
@@ -71,7 +82,7 @@ class Panel:
         self.see()
 
     def memory_rows(self):
-        return layout(self.columns, self.rows).memory
+        return layout(self.columns, self.rows, self.view.as_program).memory
 
     def see(self):
         """Moves the windows to their cursors, and sees that what they show is read."""
@@ -87,8 +98,9 @@ class Panel:
         if self.page:
             return self.page.screen(self.columns, self.rows)
         session = self.session
-        shown = Shown(session.state, session.before, self.view, session.history.kept.count, session.history.ahead.count,
-                      session.size, session.log, self.message, self.prompt and self.prompt.shown())
+        shown = Shown(session.state, session.before, self.view, session.history.turns,
+                      session.history.kept.count, session.history.to_redo, session.size, session.log, self.message,
+                      self.prompt and self.prompt.shown())
         return screen(shown, self.columns, self.rows)
 
     # ---- keys
@@ -101,6 +113,8 @@ class Panel:
                 self.go_before(page)
         elif self.prompt:
             self.press_in_prompt(key)
+        elif self.asked:
+            self.press_when_asked(key)
         else:
             self.press_alone(key)
         self.see()
@@ -120,6 +134,12 @@ class Panel:
             self.message = self.last_words()
         elif key in LINES:
             self.send_key(key, int(count or "1", 8))
+        elif key == "G" and count:
+            self.take_line("G", count)
+        elif key in ("f", "F"):
+            self.take_line("u" if key == "f" else "U", "")
+        elif key in ("]", "["):
+            self.take_line("u" if key == "]" else "U", f"{self.view.place()} changes")
         else:
             self.press_to_look(key, int(count or "1", 8))
 
@@ -140,12 +160,17 @@ class Panel:
             view.move(key, count, self.memory_rows(), self.session.size)
         elif key in ("Tab", "Shift-Tab"):
             view.next_pane(1 if key == "Tab" else -1)
-        elif key in ("[", "]"):
-            view.choose_processor(view.processor + (count if key == "]" else -count))
+        elif key in ("(", ")"):
+            view.choose_processor(view.processor + (count if key == ")" else -count))
         elif key == "x":
             view.choose_processor(self.session.state.slot)
         elif key == "o":
             view.following = True
+        elif key == "i":
+            view.as_program = not view.as_program
+        elif key == "d":
+            view.has_display_code = not view.has_display_code
+            view.as_program = True
         elif key in PROMPTS:
             self.prompt = Prompt(key, PROMPTS[key], self.typed[key])
         elif key == "c":
@@ -185,6 +210,23 @@ class Panel:
         self.send(LINES[key](facts, count))
 
     def send(self, lines):
+        """Sends lines, but asks before the first of them discards what is ahead."""
+        ahead, word = self.session.history.to_redo, first_word(lines[0])
+        if ahead and word in NEW_ACTIONS:
+            self.asked = lines
+            self.message = f"{lines[0]} discards the {ahead:o} actions ahead: y sends it, any other key does not"
+        else:
+            self.send_at_once(lines)
+
+    def press_when_asked(self, key):
+        """Performs the key that says whether what is ahead may be discarded."""
+        lines, self.asked = self.asked, []
+        if key == "y":
+            self.send_at_once(lines)
+        else:
+            self.message = f"{lines[0]} was not sent"
+
+    def send_at_once(self, lines):
         """Sends lines, and shows what is to be said about them."""
         self.shown_at = time.monotonic()
         outcome = self.guard(self.session.perform, lines, self.stops)
@@ -208,7 +250,8 @@ class Panel:
     def take_line(self, kind, text):
         """Does what a typed line asks for."""
         try:
-            {":": self.take_console_line, "g": self.go_to, "/": self.search, "w": self.save}[kind](text)
+            {":": self.take_console_line, "g": self.go_to, "G": self.go_to_turn, "u": self.go_until, "U": self.go_back_until,
+             "/": self.search, "w": self.save}[kind](text)
         except Failure as failure:
             self.message = str(failure)
 
@@ -223,6 +266,56 @@ class Panel:
     def go_to(self, text):
         if text:
             self.view.go_to(text, self.session.size)
+
+    def go_to_turn(self, text):
+        """Goes to a turn that was made."""
+        if not re.fullmatch("[0-7]{1,20}", text):
+            raise Failure(f"{text or 'nothing'} is no turn: give an octal number, as 405")
+        turn, last = int(text, 8), self.session.history.last_turn
+        if turn > last:
+            raise Failure(f"there is no turn {turn:o} yet: the last one is {last:o}")
+        self.show_turn(turn, [])
+
+    def show_turn(self, turn, said):
+        """Goes to a turn, and shows what is to be said of it."""
+        replays = self.session.simulator.replays
+        self.guard(self.session.to_turn, turn)
+        if self.fault is None:
+            more = [f"{REPLAYED} in a fresh simulator"] if self.session.simulator.replays > replays else []
+            self.message = in_width(said + more, self.columns)
+
+    def go_until(self, text):
+        """Goes on to the next turn at which a condition comes to hold."""
+        self.go_to_found(next_found, text, f"in turns {self.session.history.turns + 1:o} to {self.session.history.last_turn + MOST_NEW:o}")
+
+    def go_back_until(self, text):
+        """Goes back to the last such turn before the present one."""
+        self.go_to_found(last_before, text, f"before turn {self.session.history.turns:o}")
+
+    def go_to_found(self, find, text, where):
+        """Goes to the turn that is found; without a text, by the condition before."""
+        text = text or (self.typed["u"] or [""])[-1]
+        if not text:
+            raise Failure("give a condition, as P 0 = 105 or M 0 106 changes")
+        self.shown_at = time.monotonic()
+        try:
+            found = find(self.session, text, self.report_search)
+        except Stopped:
+            self.message = "the search was stopped"
+            return
+        if found is None:
+            self.message = f"NONE: {text}, {where}"
+        else:
+            self.show_turn(found.turn, [found.text()])
+
+    def report_search(self, turn):
+        """Shows now and then how far a search is, and ends it if the operator stops it."""
+        if time.monotonic() - self.shown_at > BETWEEN_REPORTS:
+            self.message = f"searched to turn {turn:o}; Ctrl-C stops"
+            self.show()
+            self.shown_at = time.monotonic()
+            if self.is_stopped():
+                raise Stopped
 
     def show_log(self):
         self.page = Page("All lines and answers", log_lines(self.session.log, None), at_end=True)
@@ -278,4 +371,6 @@ class Panel:
         if not path:
             raise Failure("w FILE saves what was sent: name a file")
         self.session.save(os.fsdecode(path.encode("latin-1")), over)
-        self.message = f"{len(self.session.sent)} (decimal) lines are saved in {path}"
+        later = self.session.history.later.count
+        without = f", without the last {later:o} actions ahead" if later else ""
+        self.message = f"{len(self.session.sent)} (decimal) lines are saved in {path}{without}"

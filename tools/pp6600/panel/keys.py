@@ -33,16 +33,20 @@ def turns_to(slot, processor, count):
     return (processor - slot - 1) % PROCESSORS + 1 + ROUND * (count - 1)
 
 
-def step(facts, count):
-    return step_lines(count)
+def on(facts, turns):
+    """Returns the lines that go on by so many turns: over those that are ahead, then over new ones."""
+    history = facts.history
+    again = history.last_turn - history.turns
+    forward = history.forward_over(turns) if turns <= again else history.to_redo
+    return ([counted("FORWARD", forward)] if forward else []) + step_lines(max(turns - again, 0))
 
 
-def step_round(facts, count):
-    return step_lines(ROUND * count)
+def on_round(facts, count):
+    return on(facts, ROUND * count)
 
 
-def step_to(facts, count):
-    return step_lines(turns_to(facts.slot, facts.processor, count))
+def on_to(facts, count):
+    return on(facts, turns_to(facts.slot, facts.processor, count))
 
 
 def back(facts, count):
@@ -50,28 +54,11 @@ def back(facts, count):
 
 
 def back_round(facts, count):
-    return [counted("BACK", facts.history.kept.until(ROUND * count))]
+    return [counted("BACK", facts.history.back_over(ROUND * count))]
 
 
 def back_to(facts, count):
-    return [counted("BACK", facts.history.kept.until(turns_to(facts.processor, facts.slot, count)))]
-
-
-def forward(facts, count):
-    return [counted("FORWARD", count)]
-
-
-def forward_round(facts, count):
-    return [counted("FORWARD", facts.history.ahead.until(ROUND * count))]
-
-
-def forward_to(facts, count):
-    return [counted("FORWARD", facts.history.ahead.until(turns_to(facts.slot, facts.processor, count)))]
-
-
-def on(facts, count):
-    """One turn: what is ahead again, if there is something, else a new one."""
-    return forward(facts, count) if facts.history.ahead.count else step(facts, count)
+    return [counted("BACK", facts.history.back_over(turns_to(facts.processor, facts.slot, count)))]
 
 
 def back_to_change(facts, count):
@@ -80,12 +67,12 @@ def back_to_change(facts, count):
     return watch + ["BACK W"] * min(count, facts.history.kept.count + 1)  # each one but a refused one undoes an action
 
 
-def to_oldest(facts, count):
-    return [counted("BACK", facts.history.kept.count or 1)]
+def to_beginning(facts, count):
+    return [counted("BACK", facts.history.to_undo or 1)]
 
 
 def to_newest(facts, count):
-    return [counted("FORWARD", facts.history.ahead.count or 1)]
+    return [counted("FORWARD", facts.history.to_redo or 1)]
 
 
 def toggle_watch(facts, count):
@@ -101,27 +88,28 @@ class Key(NamedTuple):
 
 
 LINE_KEYS = (
-    Key((" ",), "one turn on: FORWARD if something is ahead, else STEP", on),
-    Key(("s",), "STEP: a new turn; what was ahead is discarded", step),
+    Key(("s", " "), "one turn on: FORWARD if something is ahead, else STEP", on),
     Key(("b", "Backspace"), "BACK: undoes the newest action", back),
-    Key(("f",), "FORWARD: performs again what was undone", forward),
-    Key(("S",), "a round of new turns: STEP 12", step_round),
+    Key(("S",), "on by a round of turns, 12", on_round),
     Key(("B",), "back by a round of turns", back_round),
-    Key(("F",), "forward again by a round of turns", forward_round),
-    Key(("n",), "on to the next turn of the chosen processor", step_to),
+    Key(("n",), "on to the next turn of the chosen processor", on_to),
     Key(("p",), "back to its turn before", back_to),
-    Key(("N",), "forward again to its next turn", forward_to),
-    Key(("<", "Home"), "back to the oldest state that is kept", to_oldest),
+    Key(("<", "Home"), "back to the beginning", to_beginning),
     Key((">", "End"), "forward to the newest state", to_newest),
     Key(("W",), "BACK W: to before a watched (else the cursor's) number changed", back_to_change),
     Key(("t",), "WATCH the number at the cursor, or UNWATCH it", toggle_watch),
 )
 OTHER_KEYS = (
+    (("G",), "go to a turn: its number, before the key or after it"),
+    (("u", "U"), "on until a condition comes to hold, as P 0 = 105; and back"),
+    (("f", "F"), "on, and back, until the same condition again"),
+    (("]", "["), "on, and back, to a change of the number at the cursor"),
     (("Tab", "Shift-Tab"), "to the next part of the screen; to the one before"),
     (("arrows", "h j k l"), "move the cursor; Page Up and Page Down too"),
-    (("[", "]"), "choose the processor before; the next one"),
+    (("(", ")"), "choose the processor before; the next one"),
     (("x",), "choose the processor whose turn comes next"),
     (("o",), "memory around P again, after the cursor was moved"),
+    (("i", "d"), "memory as instructions, or as numbers again; with display code"),
     (("g",), "go to an address or a place: 106, M 3 106, C 1000, A 0, H 12"),
     (("/",), "search words from the cursor on; / and Enter: the next ones"),
     (("c",), "where the cursor's number came from; Enter: to before a step"),
@@ -150,5 +138,7 @@ def help_lines():
         "A star is beside each number that the last action changed, but not beside P of a",
         "processor that only passed through words 0000. > is before the processor whose",
         "turn comes next, and before the cell at P; w is before a watched cell. WAITS FOR",
-        "has a channel, and the state in which the processor would go on.",
-        "KEPT and AHEAD: how many actions BACK can undo and FORWARD can perform again."]
+        "has a channel, and the state in which the processor would go on. Among the",
+        "instructions r is before the cell at which a block transfer goes on.",
+        "TURN: how many turns are in effect. KEPT: how many actions the simulator can",
+        "undo; a step back over more is a replay. AHEAD: how many can be performed again."]

@@ -1,6 +1,6 @@
 """Shows the live machine on a full screen, and steps it forward and back by keys."""
 
-from ..command_line import Failure, arguments, script_lines, simulator, words_after
+from ..command_line import Failure, arguments, octal, script_lines, simulator, words_after
 from .app import Panel
 from .session import Session
 
@@ -11,6 +11,7 @@ w FILE saves what was sent as a script. It needs a terminal of 80 columns and 24
 
 def main():
     parser = arguments(DESCRIPTION, "[OPTION ..] [SCRIPT]")
+    parser.add_argument("--turn", metavar="N", type=octal, help="go to this turn of the script, counted in octal from 1")
     parser.add_argument("script", metavar="SCRIPT", nargs="*", help="lines of the console to begin with")
     asked = parser.parse()
     (script,) = words_after(asked.script, 1, "give one script")
@@ -21,7 +22,7 @@ def main():
     terminal.check()
     lines = [] if script is None else script_lines(script)
     panel = Panel(Session(simulator(asked)))
-    ended_by = terminal.run(panel, lines)
+    ended_by = terminal.run(panel, lines, asked.turn)
     if panel.fault:
         raise Failure(panel.fault)
     panel.session.close()

@@ -3,7 +3,8 @@
 from ..answers import Place
 from ..origin.search import Search
 from ..origin.text import Writer
-from ..origin.timeline import WATCHES, Replayer, Timeline
+from ..history import without_watches
+from ..origin.positions import Replayer
 from .page import Page
 from .screen import Screen, is_too_small
 from .text import HEAD, Line
@@ -23,29 +24,28 @@ class Origin:
         number of turns; it may raise Stopped."""
         history = session.history
         self.history, self.place = history, Place.parse(place)
-        self.timeline = timeline = Timeline(session.simulator, history.in_effect())
-        replayer = Replayer(session.simulator.words, timeline)
+        replayer = Replayer(session.simulator.words, history.in_effect())
+        self.positions = positions = replayer.positions
         try:
-            search = Search(replayer, MOST_STEPS, progress=lambda position: progress(timeline.turn(position), timeline.turns))
-            root = search.origin(self.place, timeline.end)
+            search = Search(replayer, MOST_STEPS, progress=lambda position: progress(positions.turn(position), positions.turns))
+            root = search.origin(self.place, positions.end)
             now = session.state.number_at(self.place) if self.place.kind == "P" else None
-            self.rows = list(Writer(timeline, replayer.words).rows(root, now))
+            self.rows = list(Writer(positions, replayer.words).rows(root, now))
         finally:
             replayer.end()
 
     def undone(self, step):
-        """Returns how many actions BACK has to undo, up to before the action that wrote a number; None if it was none, or if the
-        action is not kept."""
+        """Returns how many actions BACK has to undo, up to before the action that wrote a number; None if none did."""
         if step is None or not step.position:
             return None
-        left, count = self.timeline.end - step.position + 1, 0
+        left, count = self.positions.end - step.position + 1, 0
         for run in reversed(self.history.in_effect()):
             if not left:
                 break
-            taken = run.times if run.word in WATCHES else min(run.times, left)
-            count += taken
-            left -= taken if run.word not in WATCHES else 0
-        return count if count <= self.history.kept.count else None
+            is_watch = not without_watches([run])
+            count += run.times if is_watch else min(run.times, left)
+            left -= 0 if is_watch else min(run.times, left)
+        return count
 
 
 class OriginPage(Page):

@@ -1,31 +1,33 @@
 """What the panel says of the lines that were sent, beside their answers."""
 
+from ..reasons import reason
+from ..timeline import REPLAYED
 from .next_change import next_change
 from .session import hit_of, kind_of
 
-# What to do after an answer.
-ADVICE = {"ERR 07": "< goes back to the oldest state that is kept", "ERR 10": "the tool changes finds older ones",
-          "ERR 15": "t watches the number at the cursor", "ERR 16": "> goes to the newest state"}
+# What a key does about a refusal.
+ADVICE = {"ERR 07": "< goes back to the beginning", "ERR 10": "[ goes to older changes", "ERR 15": "t watches the number at the cursor",
+          "ERR 16": "> goes to the newest state"}
 
 
 def remarks(session, outcome, place):
     """Returns what an operator may not expect of the last lines, the most important first; the cursor is at the place."""
     kind, hit = kind_of(outcome.answer), hit_of(outcome.answer)
     if kind == "ERR" or hit:
-        return [hit or advice(outcome.answer[0])]
-    discarded = [f"the {outcome.discarded:o} actions ahead are discarded"] if outcome.discarded else []
+        return [hit or advice(session.log[-1][0], outcome.answer[0], session.size)]
     if kind != "BACK":
-        return discarded
-    is_to_change = session.sent[-1].upper().split() == ["BACK", "W"]
+        return [f"the {outcome.discarded:o} actions ahead are discarded"] if outcome.discarded else []
+    is_to_change = session.log[-1][0].upper().split() == ["BACK", "W"]
     change = [next_change(session, outcome.watched or [place])] if is_to_change else []
+    replayed = [f"{REPLAYED} in a fresh simulator"] if REPLAYED in outcome.answer else []
     undone = [watched for watched in outcome.watched if watched not in session.watched()]
-    return change + discarded + [f"WATCH {watched} is undone too" for watched in undone[:1]]
+    return change + replayed + [f"WATCH {watched} is undone too" for watched in undone[:1]]
 
 
-def advice(answer):
-    """Returns a refusal with what may be done about it."""
-    number = answer[:6]
-    return f"{answer}; {ADVICE[number]}" if number in ADVICE else answer
+def advice(line, answer, size):
+    """Returns a refusal with what may be done about it, or why the line was refused."""
+    more = ADVICE.get(answer[:6]) or reason(line, answer, size)
+    return f"{answer}; {more}" if more else answer
 
 
 def in_width(parts, width):

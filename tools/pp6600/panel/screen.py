@@ -5,6 +5,7 @@ from typing import Optional
 
 from ..answers import CELLS, ROW
 from ..machine_state import MachineState
+from .program import program_lines, sentence_line
 from .text import (
     CHANGED, CHOSEN, CURSOR, HEAD, HERE, REFUSED, SLOT, TITLE, WATCHED, Line, beside, in_height, last_in)
 from .view import View, central_top, memory_top
@@ -15,8 +16,7 @@ LEFT = 80  # columns of the machine
 CHANNELS_FROM, CENTRAL_FROM = 54, 53  # the columns
 COLUMN_FROM = 15  # the column of the device's column
 MACHINE_ROWS = 12  # the ten processors, their head and that of the memory
-HINTS = "s step  b back  Tab arrows g cursor  t watch  W who changed it  ? help  q quit"
-HINTS_AHEAD = "Space on  s step  b back  Tab g cursor  t watch  W who changed  ? help  q quit"  # s would discard it
+HINTS = "s step  b back  G turn  g cursor  W who changed it  i program  ? help  q quit"
 
 
 @dataclass
@@ -26,6 +26,7 @@ class Shown:
     state: MachineState
     before: MachineState
     view: View
+    turn: int = 0  # how many turns are in effect
     kept: int = 0
     ahead: int = 0
     size: int = 0o400000  # of central memory
@@ -57,13 +58,13 @@ class Layout:
     log: int
 
 
-def layout(columns, rows):
-    """Returns how a screen is divided."""
-    spare = rows - LEAST_ROWS
+def layout(columns, rows, as_program=False):
+    """Returns how a screen is divided. If memory is shown as a program, a line is below it."""
+    spare, line = rows - LEAST_ROWS, int(as_program)
     if columns >= WIDE:
-        return Layout(True, rows - 2 - MACHINE_ROWS, 0, 4 + spare // 3, 0)
+        return Layout(True, rows - 2 - MACHINE_ROWS - line, 0, 4 + spare // 3, 0)
     memory, log = spare // 2, spare // 3
-    return Layout(False, 5 + memory, 2, 1 + spare - memory - log, 2 + log)
+    return Layout(False, 5 + memory, 2, 1 + spare - memory - log, 2 + log - line)
 
 
 # ---- the parts of the machine
@@ -195,7 +196,9 @@ def central_lines(shown, rows):
 def machine_lines(shown, rows):
     """Returns processors, channels, devices and memories, with so many rows of memory."""
     upper = beside(processor_lines(shown), channel_lines(shown), CHANNELS_FROM)
-    return upper + beside(memory_lines(shown, rows), central_lines(shown, rows), CENTRAL_FROM)
+    as_program = shown.view.as_program
+    memory = (program_lines if as_program else memory_lines)(shown, rows)
+    return upper + beside(memory, central_lines(shown, rows), CENTRAL_FROM) + ([sentence_line(shown)] if as_program else [])
 
 
 # ---- watches, paper and the lines typed
@@ -264,8 +267,8 @@ def log_lines(log, rows):
 
 def title_line(shown, width):
     """Returns the line at the top."""
-    left = f" SLOT {shown.state.slot:02o}   KEPT {shown.kept:o}   AHEAD {shown.ahead:o}"
-    right = f"cursor {shown.view.place()}   all numbers octal   ? help "
+    left = f" TURN {shown.turn:o}  SLOT {shown.state.slot:02o}  KEPT {shown.kept:o}  AHEAD {shown.ahead:o}"
+    right = f"cursor {shown.view.place()}  all octal  ? help "
     return Line(left + right.rjust(width - len(left)), TITLE).fit(width)
 
 
@@ -276,7 +279,7 @@ def bottom_line(shown):
         return Line(asked, HEAD).add(text), len(asked) + place
     if shown.message:
         return Line(shown.message, REFUSED if shown.message.startswith("ERR ") else None), None
-    return Line(HINTS_AHEAD if shown.ahead else HINTS), None
+    return Line(HINTS), None
 
 
 def narrow_lines(shown, columns, parts):
@@ -291,7 +294,7 @@ def wide_lines(shown, parts):
     watches = [watch_part(shown, watch) for watch in shown.state.watches] or [Line("none")]
     paper = [Line(text) for text in shown.state.printer.paper[-parts.paper:]] or [Line("none")]
     right = [Line("WATCHES", HEAD)] + watches + [Line(), paper_head(shown)] + in_height(paper, parts.paper)
-    height = parts.memory + MACHINE_ROWS - len(right) - 1
+    height = parts.memory + MACHINE_ROWS + int(shown.view.as_program) - len(right) - 1
     right += [Line("LINES", HEAD)] + in_height(log_lines(shown.log, height), height)
     return beside(machine_lines(shown, parts.memory), right, LEFT + 2)
 
@@ -309,7 +312,7 @@ def screen(shown, columns, rows):
     """Returns the screen of a machine's state on a terminal of so many columns and rows."""
     if is_too_small(columns, rows):
         return small_screen(columns, rows)
-    parts = layout(columns, rows)
+    parts = layout(columns, rows, shown.view.as_program)
     middle = wide_lines(shown, parts) if parts.wide else narrow_lines(shown, columns, parts)
     bottom, column = bottom_line(shown)
     lines = [line.fit(columns) for line in [title_line(shown, columns)] + middle + [bottom]]

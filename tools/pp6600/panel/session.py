@@ -4,12 +4,13 @@ import os
 from typing import NamedTuple
 
 from ..answers import Place
-from ..console import has_no_answer
+from ..console import MOST_TURNS, has_no_answer
 from ..failure import Failure
 from ..machine_state import MachineState, questions
-from ..origin.timeline import ScriptLine
-from ..run import Run
+from ..origin.positions import ScriptLine
+from ..timeline import Timeline
 
+NEW = ("OK", "TURNS")  # the first words of answers to lines that discard what is ahead
 LOG_LENGTH = 10000  # decimal, lines and answers
 SEARCHED_AT_ONCE = 0o10000  # central words
 ALLOWANCE = 0o100  # central words asked for on either side of those that are shown
@@ -46,15 +47,23 @@ class Session:
     """A simulator, all lines that it was sent, and its state. The lines that ask for the state are not among them."""
 
     def __init__(self, words):
-        self.simulator = Run(words)
-        self.history = self.simulator.history
+        self.simulator = Timeline(words)
         self.size = self.simulator.size_of_central()
-        self.sent = []
-        self.saved = 0  # how many of the lines are in a file
+        self.lines_sent = 0
+        self.saved = (0, 0)  # the lines that are in a file
         self.log = []
         self.logged = 0  # lines of the log
         self.central = (0, 0)
         self.state = self.before = self.read()
+
+    @property
+    def history(self):
+        return self.simulator.history
+
+    @property
+    def sent(self):
+        """The lines that were sent; after a replay those of the replay, and what was sent after it."""
+        return self.simulator.sent
 
     def read(self):
         """Returns the machine's state."""
@@ -87,8 +96,8 @@ class Session:
 
     def send(self, line):
         """Sends a line, and returns its answer."""
-        answer = self.simulator.act(ScriptLine(line, len(self.sent) + 1))
-        self.sent.append(line)
+        self.lines_sent += 1
+        answer = self.simulator.move(ScriptLine(line, self.lines_sent))
         if line.strip():
             self.log_line(line, answer)
         return answer
@@ -103,18 +112,42 @@ class Session:
     def perform(self, lines, stops=never):
         """Sends lines up to one that is refused, or that ends with a HIT, or until it `stops`: that is asked before each
         line but the first, with how many are done and how many there are. Then reads the state. Returns the outcome."""
-        old, ahead, watched = self.state, self.history.ahead.count, self.watched()
+        old, discarded, watched = self.state, 0, self.watched()
         kinds, answer = set(), []
         for number, line in enumerate(lines):
             if number and stops(number, len(lines)):
                 break
+            ahead = self.history.to_redo
             answer = self.send(line)
             kinds.add(kind_of(answer))
+            discarded += ahead if kind_of(answer) in NEW else 0
             if kind_of(answer) == "ERR" or hit_of(answer):
                 break
-        if kinds & {"OK", "TURNS", "BACK", "FORWARD"}:
+        if kinds & {*NEW, "BACK", "FORWARD"}:
             self.state, self.before = self.read(), old
-        return Outcome(answer, ahead if kinds & {"OK", "TURNS"} else 0, watched)
+        return Outcome(answer, discarded, watched)
+
+    def to_turn(self, turn):
+        """Goes to where so many turns are in effect. What the last of them changed is marked."""
+        if turn:
+            self.go(turn - 1)
+        before = self.read() if turn else None
+        self.go(turn)
+        self.state = self.read()
+        self.before = before or self.state
+
+    def go(self, turn):
+        """Goes back or on to where so many turns are in effect: after the settings that follow the last of them. New turns do
+        not end where a watched number changes."""
+        history = self.history
+        if turn < history.turns:
+            self.send(f"BACK {history.back_over(history.turns - turn):o}")
+        elif turn >= history.last_turn and history.to_redo:
+            self.send(f"FORWARD {history.to_redo:o}")
+        elif history.turns < turn < history.last_turn:
+            self.send(f"FORWARD {history.forward_over(turn - history.turns + 1) - 1:o}")
+        while turn > self.history.turns:
+            self.send(f"STEP {min(turn - self.history.turns, MOST_TURNS):o}")
 
     def perform_script(self, lines, stops=never):
         """Performs a script, whatever is refused; `stops` is asked before each line. Returns whether all was performed."""
@@ -128,7 +161,7 @@ class Session:
             else:
                 self.send(line)
         else:
-            self.saved = len(self.sent)
+            self.saved = self.place
             return True
         self.state = self.before = self.read()
         return False
@@ -160,7 +193,12 @@ class Session:
             raise Failure(f"{path} exists; w! {path} writes over it") from None
         except (OSError, ValueError) as error:
             raise Failure(f"can't write {path}: {getattr(error, 'strerror', None) or error}") from error
-        self.saved = len(self.sent)
+        self.saved = self.place
+
+    @property
+    def place(self):
+        """How often actions were replayed, and how many lines were sent since."""
+        return self.simulator.replays, len(self.sent)
 
     def is_saved(self):
-        return self.saved == len(self.sent)
+        return self.saved == self.place

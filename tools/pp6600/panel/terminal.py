@@ -278,10 +278,11 @@ class Loop:
         return self.terminal.end_signal is not None
 
 
-def run(panel, script):
-    """Shows a panel that performs a script, and then keys. Returns the number of a signal that ended it, else None."""
+def run(panel, script, turn=None):
+    """Shows a panel that performs a script, goes to a turn, and then performs keys. Returns the number of a signal that ended
+    it, else None."""
     with Terminal() as terminal:
         panel.resize(*terminal.take_size())
         loop = Loop(terminal, panel)
-        panel.perform_script(script)
+        panel.perform_script(script, turn)
         return loop.run()

@@ -4,7 +4,9 @@ import re
 from dataclasses import dataclass
 
 from ..answers import CELLS, CLOCK, KINDS, PROCESSORS, ROW
+from ..disassembly import moved
 from ..failure import Failure
+from .program import present, program_of, rows_of
 
 PANES = ("processors", "channels", "memory", "central")
 REGISTERS = ("P", "A", "Q")  # those that can be watched
@@ -21,6 +23,9 @@ class View:
     cell: int = 0
     following: bool = True  # the memory follows P
     top: int = 0  # the first cell shown
+    as_program: bool = False  # the cells are shown as instructions
+    has_display_code: bool = False  # and beside them as two symbols each
+    program: tuple = ()  # the cells, and the addresses at which an instruction begins
     word: int = 0  # the central address
     central_top: int = 0
 
@@ -39,7 +44,9 @@ class View:
         """Moves the cursor by an arrow; a page has so many rows, and central memory so many words."""
         steps = -count if key in ("Up", "Left", "Page Up") else count
         is_across, is_page = key in ("Left", "Right"), key in ("Page Up", "Page Down")
-        if self.pane == "memory":
+        if self.pane == "memory" and self.as_program and not is_across:
+            self.move_rows(steps * (rows if is_page else 1))
+        elif self.pane == "memory":
             self.go_to_cell(self.cell + steps * (1 if is_across else ROW * rows if is_page else ROW))
         elif self.pane == "central":
             self.word = max(min(self.word + steps * (ROW if is_across else rows if is_page else 1), size - 1), 0)
@@ -49,6 +56,11 @@ class View:
             self.register = REGISTERS[(REGISTERS.index(self.register) + steps) % len(REGISTERS)]
         else:
             self.choose_processor(self.processor + steps)
+
+    def move_rows(self, steps):
+        """Moves the cursor by so many instructions."""
+        word, heads = self.program
+        self.go_to_cell(moved(word, self.cell, max(min(steps, CELLS), -CELLS), heads))
 
     def move_channel(self, steps, is_across):
         """Moves the cursor down, or across the two columns if there is a channel."""
@@ -92,8 +104,12 @@ class View:
     def scroll(self, state, rows, size):
         """Moves the windows to their cursors; each has so many rows, and central memory so many words."""
         if self.following:
-            self.cell = int(state.processors[self.processor].registers["P"], 8)
-        self.top = memory_top(self.top, self.cell, rows)
+            self.cell = present(state, self.processor) if self.as_program else state.processors[self.processor].p
+        if self.as_program:
+            self.program = program_of(state, self.processor)
+            self.top = rows_of(state, self, rows)[0].address
+        else:
+            self.top = memory_top(self.top, self.cell, rows)
         self.central_top = central_top(self.central_top, self.word, rows, size)
 
 

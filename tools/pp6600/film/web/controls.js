@@ -125,9 +125,11 @@ function followAddress() {
   if (place && !shown.chosen) accept("place", "no such place");
 }
 
-// Where a film without an address opens: the moment, and the name of a place or "". If the script ends in a BACK W, the turn that
-// it has found; if in a watch, or in turns that a watch has ended, the latest change of the watched number; else the end.
+// Where a film without an address opens: the moment, and the name of a place or "". If it is of the moments around a turn, there. If
+// the script ends in a BACK W, the turn that it has found; if in a watch, or in turns that a watch has ended, the latest change of the
+// watched number; else the end.
 function opening() {
+  if (film.opens !== null) return [film.opens, ""];
   const line = film.lines.findLast((one) => one.acts), end = film.count - 1;
   if (!line) return [end, ""];
   const hit = line.answer.find((text) => text.startsWith("HIT ")), words = line.text.trim().toUpperCase().split(/\s+/);
@@ -202,7 +204,7 @@ const KEYS = {
   ",": byHand(() => moveLine(-1)), ".": byHand(() => moveLine(1)),
   "[": byHand(() => moveToChange(-1)), "]": byHand(() => moveToChange(1)),
   o: () => findOrigin(), "/": () => byId("place").select(), g: () => byId("turn").select(), "?": () => showHelp(byId("help").hidden),
-  f: () => followTurns(), Escape: () => (byId("help").hidden ? chooseNone() : showHelp(false)),
+  i: () => nextForm(), f: () => followTurns(), Escape: () => (byId("help").hidden ? chooseNone() : showHelp(false)),
 };
 
 function showHelp(on) {
@@ -268,7 +270,7 @@ function chooseTyped() {
 }
 
 function build() {
-  for (const part of [buildControls, buildProcessors, buildChannels, buildMemory, buildCentral, buildFrame, buildReader,
+  for (const part of [buildControls, buildProcessors, buildChannels, buildMemory, buildProgram, buildCentral, buildFrame, buildReader,
     buildPrinter, buildScript, buildFiles, buildLanes, buildSigns]) part();
   byId("panel").hidden = !film.panel.length;
   document.querySelector("#panel p").textContent = film.panel.map(four).join(" ");

@@ -115,11 +115,11 @@ function showChannels() {
 // ---- memory
 
 // The window of memory; it follows the turns until a processor or a cell is chosen.
-const memory = { rows: [], processor: 0, follows: true, from: "P", first: 0 };
+const memory = { rows: [], processor: 0, follows: true, from: "P", first: 0, at: 0, as: "numbers" };
 const MEMORY_ROWS = 16;
 
 function buildMemory() {
-  const table = tableOf("memory"), body = table.createTBody();
+  const table = tableOf("cells"), body = table.createTBody();
   addHead(table, ["", ..."01234567", "display code"]);
   for (let at = 0; at < MEMORY_ROWS; at++) {
     const row = addRow(body, Array(10).fill(""));
@@ -155,7 +155,7 @@ function showCell(processor, address, always) {
   const shownNow = memory.processor === processor && ((address - memory.first + CELLS) % CELLS) < 8 * MEMORY_ROWS;
   if (always) memory.first = address & 0o7770;
   else if (!shownNow) memory.first = (address - 0o40 + CELLS) & 0o7770;
-  Object.assign(memory, { processor, follows: false, from: "at" });
+  Object.assign(memory, { processor, follows: false, from: "at", at: address });
   show();
 }
 
@@ -190,12 +190,14 @@ function showMemory() {
     let text = "";
     buttons.forEach((button, index) => {
       const address = (first + index) % CELLS;
+      button.hidden = memory.as !== "numbers";
       setPlace(button, `M ${two(n)} ${four(address)}`);
       button.classList.toggle("at-p", address === p);
       text += displayCode(film.numbers[n * CELLS + address]);
     });
     setText(row.cells[9], text);
   });
+  showProgram();
 }
 
 const central = { rows: [], first: 0 };

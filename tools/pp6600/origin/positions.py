@@ -6,12 +6,11 @@ import bisect
 from ..answers import PROCESSORS
 from ..console import MARK, MOST_TURNS, Console
 from ..failure import Failure
-from ..history import MOST_KEPT, STEP, Actions
-from ..run import Script, without_history
+from ..history import MOST_KEPT, STEP, Actions, without_watches
+from ..run import without_history
 
 MOST_LINES = 900000  # that one simulator is given, of the 1,000,000 that it takes
 AT_ONCE = 1000  # lines
-WATCHES = ("WATCH", "UNWATCH")
 
 
 class ScriptLine(str):
@@ -23,27 +22,17 @@ class ScriptLine(str):
         return line
 
 
-class Timeline:
-    """The actions in effect, without watches: each a line, with its number, and how often it is performed in a row."""
+def numbered(lines):
+    """Returns the lines of a script, each with its number."""
+    return [ScriptLine(line, number) for number, line in enumerate(lines, 1)]
 
-    def __init__(self, console, actions):
-        """Reads the size of central memory and the channels of the devices from a simulator. The actions are those of a history."""
-        self.size = console.size_of_central()
-        self.reader, self.printer = (int(line.split()[2], 8) for line in (console.reader(), console.printer()[0]))
-        self.actions = list(Actions(action for action in actions if action.word not in WATCHES).runs)
-        self._count()
 
-    @classmethod
-    def of_script(cls, words, lines):
-        """Performs a script. Returns its timeline, and the script as it was performed. The words are the program and its options."""
-        console = Console(words)
-        script = Script(console, [ScriptLine(line, number) for number, line in enumerate(lines, 1)])
-        timeline = cls(console, script.actions)
-        console.end()
-        return timeline, script
+class Positions:
+    """The actions of a history without its watches: each a line, and how often it is performed in a row."""
 
-    def _count(self):
-        """Counts the actions, the turns, and the slot before each run of actions, and at the end."""
+    def __init__(self, actions):
+        self.actions = list(Actions(without_watches(actions)).runs)
+        # The actions, the turns and the slot before each run of actions, and at the end.
         self.starts, self.turns_before, self.slots = [0], [0], [0]
         for action in self.actions:
             self.starts.append(self.starts[-1] + action.times)
@@ -111,9 +100,12 @@ class Timeline:
 class Replayer(Console):
     """A simulator that goes to any position: by BACK within what it keeps, else from the start in a fresh one."""
 
-    def __init__(self, words, timeline):
-        self.timeline = timeline
+    def __init__(self, words, actions):
+        """The words are the program and its options; the actions are those of a history."""
+        self.positions = Positions(actions)
         super().__init__(without_history(words))
+        self.size = self.size_of_central()
+        self.reader_channel, self.printer_channel = (int(line.split()[2], 8) for line in (self.reader(), self.printer()[0]))
 
     def start(self):
         super().start()
@@ -130,7 +122,7 @@ class Replayer(Console):
             self.position, self.kept = position, self.kept - count
             return
         batch = []
-        for line in self.timeline.between(self.position, position):
+        for line in self.positions.between(self.position, position):
             batch.append(line)
             if len(batch) == AT_ONCE:
                 self._perform(batch)

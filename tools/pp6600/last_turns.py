@@ -1,16 +1,9 @@
-"""What each of the last turns changed."""
+"""What each of the last turns changed: the registers of the processor whose turn it is and all its cells, the channels and the
+clock, the frame, both devices, and the central words from A to A+17, for a turn changes no others."""
 
 from .answers import CENTRAL_ADDRESSES, FRAME_WORDS, REGISTERS
-from .command_line import arguments, count, script_lines, simulator, words_after, write
-from .run import Replay, performed
-
-DESCRIPTION = """Shows what each of the last COUNT (octal) turns of a script changed: the turn, counted in octal from 1,
-the processor, and each number with what it was and is. The script is performed anew up to there, so COUNT may be more
-than what the simulator keeps. It sees the registers of the processor whose turn it is and all its cells, the channels
-and the clock, the frame (XP), reader and printer, and the central words from A to A+17, for a turn changes no others.
-Of a channel it shows the state and the register in one; of the paper it shows the number of symbols and the last line.
-It can't say which of processor, reader, printer and clock made a change of that turn. A SET or a DEADSTART between
-these turns is shown as a line of its own."""
+from .history import turns_of
+from .run import Replay
 
 
 def central_words(run, registers, size):
@@ -55,16 +48,10 @@ def changed_by_turn(run, slot, size):
     return f"TURN {run.turn:o} PP {slot:02o}: {', '.join(changes) or 'NOTHING'}"
 
 
-def main():
-    parser = arguments(DESCRIPTION, "[OPTION ..] COUNT [SCRIPT]")
-    parser.add_argument("count", metavar="COUNT", type=count)
-    parser.add_argument("script", metavar="SCRIPT", nargs="*", help="without it, standard input is the script")
-    asked = parser.parse()
-    (path,) = words_after(asked.script, 1, "give one count, one script")
-    words = simulator(asked)
-    script = performed(words, script_lines(path))
+def last_turns(words, actions, count):
+    """Yields a line for each of the last turns, and for each action between them."""
     run = Replay(words)
     size = run.size_of_central()
-    for slot, line in run.looks(script.actions, max(script.history.turns - asked.count, 0)):
-        write(line if slot is None else changed_by_turn(run, slot, size))
-    return script.status()
+    for slot, line in run.looks(actions, max(turns_of(actions) - count, 0)):
+        yield line if slot is None else changed_by_turn(run, slot, size)
+    run.end()

@@ -1,0 +1,53 @@
+"""The cells of a processor at the end of a script, in each form that load takes."""
+
+from .answers import ROW
+from .cells import in_rows, set_lines
+from .command_line import Failure, Script, arguments, cell, processor, simulator, words_after, write_bytes, write_lines
+from .history import turns_of
+from .run import Replay
+
+DESCRIPTION = """Writes cells A to B of processor N at the end of a script, for load: without an option rows of octal words."""
+
+
+def packed(words):
+    """Returns bytes that hold two words in three, the upper bits first. After an odd number of words come four bits of 0."""
+    return bytes.fromhex("".join(f"{int(word, 8):03x}" for word in words) + "0" * (len(words) % 2))
+
+
+def two_bytes(words):
+    """Returns bytes that hold each word in two, the upper bits first."""
+    return b"".join(int(word, 8).to_bytes(2, "big") for word in words)
+
+
+def listing(first, words):
+    """Returns rows that begin with their addresses."""
+    return [f"{first + ROW * at:04o} {' '.join(row)}" for at, row in enumerate(in_rows(words))]
+
+
+def main():
+    parser = arguments(DESCRIPTION, "[OPTION ..] N A B [SCRIPT]")
+    kinds = parser.add_mutually_exclusive_group()
+    kinds.add_argument("--packed", action="store_true", help="binary: two words in three bytes, the upper bits first")
+    kinds.add_argument("--two-bytes", action="store_true", help="binary: each word in two bytes, the upper bits first")
+    kinds.add_argument("--listing", action="store_true", help="rows that begin with their addresses")
+    kinds.add_argument("--set", action="store_true", help="SET lines for processor N")
+    parser.add_argument("words", nargs="*", metavar="N A B SCRIPT", help="octal; without a script, standard input is it")
+    asked = parser.parse()
+    if len(asked.words) < 3:
+        raise Failure("give a processor, its first and its last cell, as save 0 100 177")
+    (script,) = words_after(asked.words[3:], 1, "give a processor, two cells, one script")
+    number, first, last = processor(asked.words[0]), cell(asked.words[1]), cell(asked.words[2])
+    if last < first:
+        raise Failure(f"cell {last:o} is before cell {first:o}")
+    script = Script(simulator(asked), script)
+    run = Replay(simulator(asked))
+    run.to_turn(script.actions, turns_of(script.actions))
+    words = run.cells(number, first, last)
+    run.end()
+    if asked.packed or asked.two_bytes:
+        write_bytes(packed(words) if asked.packed else two_bytes(words))
+    elif asked.set:
+        write_lines(set_lines(number, first, words))
+    else:
+        write_lines(listing(first, words) if asked.listing else map(" ".join, in_rows(words)))
+    return script.status
