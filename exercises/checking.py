@@ -1,6 +1,8 @@
 """The exercises, and how an answer to one is checked. Works in a checkout and in an installation."""
 
+import difflib
 import functools
+import itertools
 import os
 import re
 import resource
@@ -19,6 +21,7 @@ from pp6600.installation import chosen_program
 from pp6600.options import BadWord
 
 ANSWERS = ("script", "panel")  # the files of an exercise that a student changes
+OWN_PARTS = ("task", "script", "check", "expected")  # what an exercise of a lecturer's own has
 SECONDS = 60  # for an answer, unless --seconds says another number
 MOST_WRITTEN = 1 << 24
 LONGEST_ANSWER = 1 << 20
@@ -26,9 +29,15 @@ MOST_SHOWN = 8
 
 
 def names():
-    """Returns the exercises, in the order of the table of docs/EXERCISES.md."""
+    """Returns the exercises: those of docs/EXERCISES.md, in the order of its table, then those of a lecturer's own."""
     with open(os.path.join(HERE, os.pardir, "docs", "EXERCISES.md"), encoding="utf-8") as page:
-        return re.findall(r"^\| \d+ \| `([a-z-]+)` \|", page.read(), flags=re.M)
+        return re.findall(r"^\| \d+ \| `([a-z-]+)` \|", page.read(), flags=re.M) + own_names()
+
+
+def own_names():
+    """Returns the exercises of a lecturer's own: folders with a text for students, in `task`, and a check."""
+    folders = sorted(entry.name for entry in os.scandir(HERE) if entry.is_dir())
+    return [name for name in folders if all(os.path.isfile(os.path.join(HERE, name, part)) for part in OWN_PARTS)]
 
 
 @functools.lru_cache(maxsize=None)
@@ -106,13 +115,33 @@ def rejected_line(words, room):
     return None
 
 
-def differences(wanted, written):
-    """Yields the lines that are not as expected."""
-    written = written[-len(wanted):]
-    pairs = [pair for pair in zip(wanted, [""] * (len(wanted) - len(written)) + written) if pair[0] != pair[1]]
+def differences(wanted, written, is_hidden):
+    """Yields the lines that are not as expected; what is expected is hidden where it would be the answer."""
+    written = written[-len(wanted) - MOST_SHOWN:]
+    pairs = []
+    for kind, first, last, start, end in difflib.SequenceMatcher(None, wanted, written, autojunk=False).get_opcodes():
+        start = start if first else max(start, end - last)  # what the script wrote comes before
+        if kind != "equal":
+            pairs += itertools.zip_longest(wanted[first:last], written[start:end])
     for right, got in pairs[:MOST_SHOWN]:
-        yield f"expected  {right}"
-        yield f"written   {got}"
+        if right is not None:
+            yield "expected  another line" if is_hidden else f"expected  {right}"
+        yield f"written   {got or ''}"
+
+
+def steps(text):
+    """Returns the lines of a script that make turns, with their numbers."""
+    lines = text.decode("latin-1").splitlines()
+    return [(number, line.strip()) for number, line in enumerate(lines, 1) if line.upper().split()[:1] == ["STEP"]]
+
+
+def step_left(name, room):
+    """Returns what says which STEP the script has, if there is none in that which was handed out; or None."""
+    left = steps(read(room, "script"))
+    if not left or steps(read(os.path.join(HERE, name), "script")):
+        return None
+    number, line = left[0]
+    return f"line {number} (decimal) of the script is {line}: leave it out, for the check makes the turns itself and expects their slots"
 
 
 def seconds(text):
@@ -141,7 +170,11 @@ def check(name, folder, limit):
         status, written = performed(words, room, limit)
         if status not in (0, 1):
             return True, written
-        faults = list(differences(read(room, "expected").decode().splitlines(), written))
+        is_hidden = os.path.exists(os.path.join(HERE, name, "hidden"))
+        faults = list(differences(read(room, "expected").decode().splitlines(), written, is_hidden))
+        left = step_left(name, room)
+        if faults and left:
+            faults.insert(0, left)
         if status == 1:
             faults.insert(0, rejected_line(words, room) or "a line of the check is rejected")
         return True, faults

@@ -588,7 +588,7 @@ class Origins(PanelCase):
         press(panel, "<Enter>")
         self.assertEqual([f"BACK {0o1300 - 0o373 + 1:o}"], panel.session.sent[4:])
         self.assertEqual("0026", panel.session.state.channels[0o12].register)
-        press(panel, "f")
+        press(panel, "s")
         self.assertEqual("0027", panel.session.state.channels[0o12].register)
 
     def test_session_stays(self):
@@ -614,11 +614,12 @@ class Origins(PanelCase):
         panel = self.panel("SET M 0 20 5\nSET M 0 20 7\nBACK\n")
         self.assertEqual(">M 00 0020 0005 TURN 0 SET LINE 1 WORD 5 (decimal)", press(panel, "gM 0 20<Enter>c")[1].rstrip())
 
-    def test_a_step_that_is_not_kept(self):
+    def test_a_step_that_is_no_longer_kept(self):
+        """What the simulator no longer keeps is performed anew; nothing comes before a number that was never written."""
         panel = self.wide_panel("SET M 0 20 5\nSTEP 30\n", "--history", "8")
-        said = bottom(panel, "gM 0 20<Enter>c<Enter>")
-        self.assertEqual("that step can't be undone: M 00 0020 0005 TURN 0 SET LINE 1 WORD 5 (decimal)", said)
-        self.assertEqual("that step can't be undone: M 00 0021 0000 START", bottom(panel, "gM 0 21<Enter>c<Enter>"))
+        press(panel, "gM 0 20<Enter>c<Enter>")
+        self.assertEqual((0, 0o31), (panel.session.history.to_undo, panel.session.history.to_redo))
+        self.assertEqual("nothing wrote it: M 00 0021 0000 START", bottom(panel, "gM 0 21<Enter>c<Enter>"))
 
     def test_registers(self):
         panel = self.wide_panel(FIRST_PROGRAM + "STEP 30\n")

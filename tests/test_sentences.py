@@ -125,7 +125,7 @@ class Sentences(Case):
     def compare_turn(self, console, lines, seen):
         before, memory = console.registers(0), console.cells(0, 0, CELLS - 1)
         p = int(before["P"], 8)
-        channels = [Channel(*FORMS["H"].fullmatch(line).groups()) for line in console.channels()]
+        channels = [Channel(*re.fullmatch(FORMS["H"], line).groups()) for line in console.channels()]
         processor = Processor(before, [memory[p], memory[(p + 1) % CELLS]])
         text = sentence(processor, lambda address: int(memory[address], 8), channels)
         console.demand("STEP")

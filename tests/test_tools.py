@@ -19,7 +19,7 @@ from pp6600.changes import place_changes
 from pp6600.answers import ANSWER, Place
 from pp6600.history import History
 from pp6600.listing import Symbols
-from pp6600.run import Replay, Run, actions_in_effect
+from pp6600.run import Replay, Run, performed
 from pp6600.trace import lines_from
 
 LOADER = ("--deck", os.path.join(EXAMPLES, "overwritten-loader", "deck"))
@@ -205,7 +205,7 @@ class Show(Case):
         self.assertEqual((wanted, "", 0), tool("show", *LOADER, os.path.join(EXAMPLES, "overwritten-loader", "script")))
 
     def test_simulator_that_ends_early(self):
-        ended = "show: the simulator ended early, with status 2: pp6600: CANNOT OPEN DECK\n"
+        ended = "show: the simulator ended early, with status 2: pp6600: CANNOT OPEN DECK (no-such-file)\n"
         for script in ("", "STEP\n"):
             self.assertEqual(("", ended, 2), tool("show", "--deck", "no-such-file", script=script))
 
@@ -464,7 +464,7 @@ class Compare(Case):
             looks = []
             for some in (lines, others):
                 run = Replay([program()])
-                run.to_turn(actions_in_effect([program()], [*some, "STEP 40"]), turn)
+                run.to_turn(performed([program()], [*some, "STEP 40"]).actions, turn)
                 looks.append(sum(machine(run), []))
                 is_over = run.turn < turn
                 run.end()
@@ -557,17 +557,8 @@ class Refusals(Case):
                              ("until", "P", "0", "=", "1"), ("waits",), ("state", "--turn", "1"), ("show", "--turn", "1")):
             got = tool(name, *words, script="STEP 2\nDEADSTART\nGO\n")
             with self.subTest(name, words=words):
-                first = "line 2 (decimal), ERR 14 NO PANEL: DEADSTART"
-                self.assertEqual(f"{name}: 2 lines (decimal) were refused, the first is {first}\n", got.err)
+                self.assertEqual(f"{name}: 2 lines (decimal) were refused, the first is line 2 (decimal), ERR 14 NO PANEL: DEADSTART\n", got.err)
                 self.assertEqual(1, got.status)
-
-    def test_one_line(self):
-        """The others are performed, and bytes that a terminal obeys are shown as numbers."""
-        for name, *words in ("changes", "--turns", "1"), ("changes", "M", "0", "0"), ("state",), ("trace",), ("waits",):
-            plain = tool(name, *words, script="STEP 5\nSTEP 2\n")
-            got = tool(name, *words, script="STEP 5\n\x1b[0mGO\nSTEP 2\n")
-            with self.subTest(name, words=words):
-                self.assertEqual((plain.out, f"{name}: one line was refused: line 2 (decimal), ERR 06 NOT ASCII: \\x1b[0mGO\n", 1), got)
 
 
 class Messages(Case):
@@ -609,6 +600,18 @@ class Messages(Case):
             with self.subTest(name, words=words):
                 self.assertEqual((2, 1), (got.status, got.err.count("\n")))
                 self.assertTrue(got.err.startswith(f"{name}: ") and text in got.err, got.err)
+
+    def test_lines_that_are_refused(self):
+        """One line on standard error has the first of them, and the status is 1; the others are performed."""
+        wanted = "line 2 (decimal), ERR 14 NO PANEL: DEADSTART\n"
+        for name, *words in (("changes", "--turns", "1"), ("changes", "M", "0", "0"), ("state",), ("trace",), ("waits",)):
+            with self.subTest(name, words=words):
+                plain = tool(name, *words, script="STEP 5\nSTEP 2\n")
+                got = tool(name, *words, script="STEP 5\nDEADSTART\nSTEP 2\n")
+                self.assertEqual((plain.out, f"{name}: one line was refused: {wanted}", 1), got)
+                got = tool(name, *words, script="STEP 5\nDEADSTART\nGO\x1b[0m\nSTEP 2\n")
+                self.assertEqual((plain.out, f"{name}: 2 lines (decimal) were refused, the first is {wanted}", 1), got)
+        self.assertEqual("state: one line was refused: line 1 (decimal), ERR 06 NOT ASCII: \\x1b[0mGO\n", tool("state", script="\x1b[0mGO\n").err)
 
     def test_help_and_version(self):
         for name in NAMES:

@@ -1,18 +1,21 @@
 """The tools in bad hands: whatever is done to one, it writes one line to standard error and ends with status 2."""
 
 import concurrent.futures
+import glob
 import os
+import signal
 import subprocess
+import time
 
 from .support import PYTHON, TOP, Case, program
 from .terminal import Terminal
 
 # Each tool with words that are right.
-WITH_SIMULATOR = {"changes": ["M", "0", "106"], "origin": ["M", "0", "106"], "save": ["0", "0", "1"], "show": [], "state": [], "talk": [], "trace": [],
+WITH_SIMULATOR = {"changes": ["M", "0", "106"], "origin": ["M", "0", "106"], "save": ["0", "0", "1"],
+                  "compare": ["--other-panel", "examples/dead-start/panel"], "show": [], "state": [], "talk": [], "trace": [],
                   "until": ["P", "0", "=", "1"], "waits": []}
 WITH_SIMULATOR["film"] = ["-o", "FILM"]  # a file in the room of the test
 ON_TERMINAL = {"panel": []}
-TWO_SCRIPTS = {"compare": ["--other-panel", "examples/dead-start/panel"]}  # or one, as here, that it does not read from standard input
 WITHOUT = {"deck": [], "load": ["0", "100"], "symbols": [], "words": ["--dump", "0"]}
 WITHOUT_TERMINAL = {**WITH_SIMULATOR, **WITHOUT}
 TOOLS = {**WITHOUT_TERMINAL, **ON_TERMINAL}
@@ -45,7 +48,7 @@ TREATMENTS = {
     "help into full output": ('"$0" "$1" "$2" --help >/dev/full', "can't write to standard output"),
     "version into closed output": ('"$0" "$1" "$2" --version >&-', "standard output is closed"),
     "unknown option": ('"$0" "$@" --nonsense', "--help shows what may be given"),
-    "too many words": ('"$0" "$@" A B C', "not also B C|unrecognized arguments|takes one file"),
+    "too many words": ('"$0" "$@" A B C', "not also B C|not also C|unrecognized arguments|takes one file"),
     "no such file": ('"$0" "$@" no-such-file', "can't read no-such-file"),
     "a folder": ('"$0" "$@" /', "can't read /: Is a directory"),
     "closed input": ('"$0" "$@" <&-', "standard input is closed"),
@@ -138,6 +141,33 @@ class Hands(HandsCase):
         said, status = self.treated("words", [b"\xff"], PLAIN, b"", PYTHONIOENCODING="ascii")
         self.assert_one_line("words", "display code has no", said)
         self.assertEqual(2, status)
+
+    def test_simulator_that_is_left(self):
+        """An interrupt ends the simulator too, which here waits for a writer of its deck; its message names a file without escapes."""
+        deck = os.path.join(self.folder, "fifo")
+        os.mkfifo(deck)
+        tool = subprocess.Popen([*PYTHON, os.path.join(TOP, "tools", "state"), "--deck", deck], stdin=subprocess.PIPE, env={**self.environment, "PP6600_PATIENCE": "30"})
+        time.sleep(1)
+        self.assertEqual([deck], self.decks_of_processes(deck))
+        tool.send_signal(signal.SIGINT)
+        self.assertEqual(-signal.SIGINT, tool.wait(10))
+        tool.stdin.close()
+        self.assertEqual([], self.decks_of_processes(deck))
+        said, _ = self.treated("state", ["--deck", "no\033[2Jne"], PLAIN, STEP)
+        self.assert_one_line("state", "CANNOT OPEN DECK (no\\x1b[2Jne)", said)
+
+    @staticmethod
+    def decks_of_processes(deck):
+        """The deck for each simulator that runs with it."""
+        found = []
+        for path in glob.glob("/proc/[0-9]*/cmdline"):
+            try:
+                with open(path, "rb") as file:
+                    words = file.read().decode("latin-1").split("\0")
+            except OSError:
+                continue
+            found += [deck] if deck in words and "tools/state" not in " ".join(words) else []
+        return found
 
     def test_error_output_that_cannot_be_written(self):
         for name in TOOLS:

@@ -11,7 +11,7 @@ from pp6600.answers import REGISTERS
 from pp6600.conditions import Condition
 from pp6600.history import STEP
 from pp6600.instructions import processor_at
-from pp6600.run import Run, actions_in_effect
+from pp6600.run import Run, performed
 from pp6600.until import Search, condition_and_script, first_found, last_found
 
 
@@ -178,7 +178,7 @@ class Against(Case):
             parts = [choose.choice(self.PARTS).format(n=choose.randrange(3), a=choose.randrange(9), s=choose.choice("IEF"))
                      .replace("= 8", "= 7").replace(" 8", " 10") for _ in range(choose.choice((1, 1, 2)))]
             condition = " and ".join(parts)
-            actions = actions_in_effect(words, lines)
+            actions = performed(words, lines).actions
             wanted = Oracle(words, condition).turns(actions)
             with self.subTest(condition, seed=seed):
                 with mock.patch("pp6600.until.ROUNDS", choose.choice((1, 3, 256))):
@@ -193,7 +193,7 @@ class Against(Case):
     def test_long_runs(self):
         """A search goes on in fresh simulators: here the limit of their lines is lowered."""
         words = [program()]
-        actions = actions_in_effect(words, ["SET M 3 0 0", "STEP 100000"])
+        actions = performed(words, ["SET M 3 0 0", "STEP 100000"]).actions
         with mock.patch.object(Run, "most_lines", 3000), mock.patch.object(Run, "start", autospec=True, side_effect=Run.start) as start:
             found = list(Search(words, actions, Condition.parse("P 3 = 100")).found())
             self.assertGreater(start.call_count, 2)

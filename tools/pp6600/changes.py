@@ -5,13 +5,13 @@ changes that these found, to see what was about to make each, and FORWARD over t
 """
 
 from .answers import CLOCK, PROCESSORS, Place
-from .command_line import Script, arguments, count, simulator, words_after, write_lines
+from .command_line import arguments, count, script_lines, simulator, words_after, write_lines
 from .console import CHANNEL_LINES, MARK, MOST_TURNS
 from .history import STEP
 from .instructions import Processor
 from .last_turns import last_turns
 from .listing import AllSymbols, add_symbols, symbols_of
-from .run import Replay
+from .run import Replay, performed
 
 DESCRIPTION = """Shows every change of a place (M 0 106, A 0, C 1000, H 12 ..) over the whole run of a script, however
 long: the turn, counted in octal from 1, the processor whose turn it was, its P before the turn, the name of its
@@ -133,11 +133,11 @@ def main():
     parser.add_argument("words", nargs="*", metavar="PLACE [SCRIPT]", help="without a script, standard input is it")
     asked = parser.parse()
     place, rest = (None, asked.words) if asked.turns else Place.first_of(asked.words)
-    (script,) = words_after(rest, 1, "give --turns, one script" if asked.turns else "give one place, one script")
+    (path,) = words_after(rest, 1, "give --turns, one script" if asked.turns else "give one place, one script")
     words, symbols = simulator(asked), symbols_of(asked)
-    script = Script(words, script)
+    script = performed(words, script_lines(path))
     if asked.turns:
         write_lines(last_turns(words, script.actions, asked.turns))
     else:
         write_lines(place_changes(Replay(words), place, script.actions, symbols), "NO CHANGE")
-    return script.status
+    return script.status()

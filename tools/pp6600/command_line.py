@@ -4,5 +4,4 @@ from .ending import complain, run, write, write_bytes, write_lines
 from .failure import Failure
 from .options import (
     Parser, add_script, add_turn, arguments, cell, channel, count, octal, processor, simulator, words_after)
-from .script import Script
 from .text_files import bytes_of, read_lines, script_lines

@@ -1,9 +1,9 @@
 """Two runs: the first turn after which the machines differ."""
 
-from .command_line import Failure, Script, arguments, simulator, write
+from .command_line import Failure, arguments, script_lines, simulator, words_after, write
 from .history import STEP, turns_of, up_to_turn
 from .instructions import processor_at
-from .run import Replay
+from .run import Replay, performed
 from .whole import differences, differences_of_paper, look, look_at_central
 
 DESCRIPTION = """Compares two runs: those of two scripts, or of one script with another deck or panel. Shows the first turn, octal from
@@ -19,8 +19,8 @@ MOST_SHOWN = 0o20  # of the places that differ
 class Side:
     """One of the two runs."""
 
-    def __init__(self, words, path):
-        script = Script(words, path)
+    def __init__(self, words, lines):
+        script = performed(words, lines)
         self.words, self.actions, self.status = words, script.actions, script.status
         self.turns = turns_of(self.actions)
 
@@ -117,20 +117,24 @@ def other_words(asked):
 
 
 def main():
-    parser = arguments(DESCRIPTION, "[OPTION ..] SCRIPT [SCRIPT]")
+    parser = arguments(DESCRIPTION, "[OPTION ..] [SCRIPT [SCRIPT]]")
     parser.add_argument("--other-deck", metavar="F", help="the deck of the second run")
     parser.add_argument("--other-panel", metavar="F", help="the panel of the second run")
-    parser.add_argument("scripts", nargs="*", metavar="SCRIPT", help="a second script, or the same with another deck or panel")
+    parser.add_argument("scripts", nargs="*", metavar="SCRIPT",
+                        help="with another deck or panel one script is enough, and without it standard input is the script")
     asked = parser.parse()
     has_other = asked.other_deck is not None or asked.other_panel is not None
-    if not (1 if has_other else 2) <= len(asked.scripts) <= 2:
+    words_after(asked.scripts, 2, "give two scripts")
+    if len(asked.scripts) < 2 and not has_other:
         raise Failure("give two scripts, or one script with --other-deck or --other-panel")
     words = simulator(asked)
-    sides = [Side(words, asked.scripts[0]), Side(other_words(asked), asked.scripts[-1])]
+    scripts = [script_lines(path) for path in asked.scripts or [None]]
+    sides = [Side(words, scripts[0]), Side(other_words(asked), scripts[-1])]
     status = 0
     for line in compare(Comparison(sides)):
         write(line, at_once=True)
         status = 1
     if not status:
         write(f"NO DIFFERENCE IN {sides[0].turns:o} TURNS")
-    return max(status, *(side.status for side in sides))
+    statuses = [side.status() for side in (sides if len(scripts) > 1 else sides[:1])]  # of one script the lines are said once
+    return max(status, *statuses)

@@ -61,7 +61,7 @@ class Subject(NamedTuple):
 
     def span(self, lines):
         """Returns where the number is in a line, from the lines of an answer: they have the same widths in each."""
-        form = FORMS[self.form].fullmatch(lines[self.rows[0]])
+        form = re.fullmatch(FORMS[self.form], lines[self.rows[0]])
         return form.start(self.groups[0]), form.end(self.groups[1])
 
     def value(self, lines):

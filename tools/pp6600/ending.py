@@ -5,17 +5,24 @@ import signal
 import sys
 
 from .failure import Failure
+from .pipe import kill_live
 
 FAILED = 2
 
 
 def complain(message):
     """Writes one line to standard error, after the tool's name."""
-    line = " ".join(str(message).split())
+    line = " ".join(shown_text(str(message)).split())
     try:
         print(f"{os.path.basename(sys.argv[0])}: {line}", file=sys.stderr, flush=True)
     except OSError:
         discard(sys.stderr)
+
+
+def shown_text(text):
+    """Returns a text without bytes that a terminal would obey, but for tabs and line ends."""
+    return "".join(letter if letter.isprintable() or letter in "\t\n" else letter.encode("unicode_escape", "surrogatepass").decode()
+                   for letter in text)
 
 
 def discard(stream):
@@ -91,10 +98,17 @@ def status_of(main):
     return status or 0
 
 
+def end_by_interrupt(*_):
+    """Ends the tool without a word, and the simulator with it."""
+    kill_live()
+    signal.signal(signal.SIGINT, signal.SIG_DFL)
+    os.kill(os.getpid(), signal.SIGINT)
+
+
 def run(main):
     """Runs a tool, and ends with the status that it returns (None: 0), or with a message and status 2."""
     if signal.getsignal(signal.SIGINT) is signal.default_int_handler:
-        signal.signal(signal.SIGINT, signal.SIG_DFL)  # an interrupt ends it without a word
+        signal.signal(signal.SIGINT, end_by_interrupt)
     try:
         sys.exit(status_of(main))
     except BrokenPipeError:  # the reader of the output has had enough

@@ -8,7 +8,7 @@ import sys
 from .ending import flush, write
 from .failure import Failure
 from .options import ABOVE
-from .script import Refusals
+from .run import Refusals
 from .show import answer
 from .text_files import input_lines, shown
 
@@ -93,4 +93,4 @@ def perform_input(run, transcript):
         if not answer(run, line, number, refusals):
             transcript.add(line)
         flush()
-    return refusals.complain()
+    return refusals.status()

@@ -1,5 +1,6 @@
 """A program at the other end of pipes. None of them is left to fill up, and no silence lasts forever."""
 
+import atexit
 import collections
 import functools
 import os
@@ -11,16 +12,32 @@ import sys
 from .failure import Failure
 
 PATIENCE = 30  # seconds without a byte
+LIVE = set()  # the pipes whose programs have not ended
 LONGEST_LINE = 4096
 KEPT_OF_ERRORS = 4096
+
+
+@atexit.register
+def kill_live():
+    """Ends the programs that the tool leaves: one that waits to open a FIFO does not see the end of its input."""
+    for pipe in list(LIVE):
+        pipe.kill()
 
 
 class Ended(Failure):
     """The simulator ended before it answered. What it wrote to standard error says why."""
 
-    def __init__(self, program, status, said):
+    def __init__(self, words, status, said):
         how = f"with status {status}" if status >= 0 else f"by signal {-status}"
-        super().__init__(f"the simulator ended early, {how}{': ' + said if said else f'; is {program} the simulator?'}")
+        super().__init__(f"the simulator ended early, {how}{': ' + said + file_of(words, said) if said else f'; is {words[0]} the simulator?'}")
+
+
+def file_of(words, said):
+    """Returns the name of the file that a message of the simulator is about, as a deck or a panel; or nothing."""
+    for option in ("--deck", "--panel"):
+        if option in words[:-1] and option[2:].upper() in said.split():
+            return f" ({words[words.index(option) + 1]})"
+    return ""
 
 
 def patience():
@@ -45,7 +62,7 @@ class Pipe:
     """A program whose standard input, output and error are pipes."""
 
     def __init__(self, words):
-        self.program = words[0]
+        self.program, self.words = words[0], words
         try:
             # A group of its own: an interrupt ends the tool, and then the end of its input ends the program.
             self.process = subprocess.Popen([built(words[0]), *words[1:]], bufsize=0, stdin=subprocess.PIPE, stdout=subprocess.PIPE,
@@ -54,6 +71,7 @@ class Pipe:
             raise Failure(f"can't run {words[0]}: {error.strerror}") from error
         self.input, self.output, self.errors = (
             stream.fileno() for stream in (self.process.stdin, self.process.stdout, self.process.stderr))
+        LIVE.add(self)
         self.poll = select.poll()
         for number in (self.output, self.errors):
             os.set_blocking(number, False)
@@ -85,7 +103,7 @@ class Pipe:
         while not self.lines:
             if self.output not in self.reading:
                 status = self.close()
-                raise Ended(self.program, status, (self.errors_text().splitlines() or [""])[-1])
+                raise Ended(self.words, status, (self.errors_text().splitlines() or [""])[-1])
             self.move()
         return self.lines.popleft()
 
@@ -130,6 +148,7 @@ class Pipe:
         except OSError:  # it has ended
             pass
         self.process.wait()
+        LIVE.discard(self)
 
     def errors_text(self):
         return self.said.decode("utf-8", "backslashreplace")
@@ -146,7 +165,9 @@ class Pipe:
                 raise self.stopped(f"{self.program} is not the simulator: it writes more than answers")
             self.move()
         try:
-            return self.process.wait(patience())
+            status = self.process.wait(patience())
+            LIVE.discard(self)
+            return status
         except subprocess.TimeoutExpired:
             raise self.stopped(f"{self.program} does not end after the end of its input") from None
         finally:

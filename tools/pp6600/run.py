@@ -3,21 +3,62 @@ actions of a script, up to a turn, or with a look before each turn. Turns count 
 
 from .answers import PROCESSORS
 from .console import MARK, Console
+from .ending import complain, flush
 from .failure import Failure
 from .history import STEP, History, room_of, without_watches
+from .text_files import shown
+
+MOST_SHOWN = 60  # characters of a line that was refused
 
 
-def actions_in_effect(words, lines, refusals=None):
-    """Performs a script, and returns the actions in effect at its end: neither refused nor taken back. Watches are left
-    out, for a replay stops nowhere. Refused lines are noted."""
-    console, history = Console(words), History(room_of(words))
-    for number, line in enumerate(lines, 1):
-        answer = console.ask(line)
-        history.take(line, answer)
-        if refusals:
-            refusals.note(number, line, answer)
+class Refusals:
+    """The lines of a script that were refused."""
+
+    def __init__(self):
+        self.count, self.first = 0, ""
+
+    def note(self, number, line, answer):
+        """Counts a line if its answer says that it was refused. Returns whether it was."""
+        is_refused = bool(answer) and answer[0].startswith("ERR ")
+        if is_refused and not self.count:
+            self.first = f"line {number} (decimal), {answer[0]}: {shown(line)[:MOST_SHOWN]}"
+        self.count += is_refused
+        return is_refused
+
+    def status(self):
+        """Says on standard error how many lines were refused, and which was the first. Returns the exit status."""
+        if self.count:
+            flush()
+            complain(f"{self.count} lines (decimal) were refused, the first is {self.first}" if self.count > 1
+                     else f"one line was refused: {self.first}")
+        return 1 if self.count else 0
+
+
+class Script:
+    """A script, performed line by line: what is in effect at its end, and which lines were refused."""
+
+    def __init__(self, console, lines):
+        self.history, self.refusals = History(room_of(console.words)), Refusals()
+        for number, line in enumerate(lines, 1):
+            answer = console.ask(line)
+            self.history.take(line, answer)
+            self.refusals.note(number, line, answer)
+
+    @property
+    def actions(self):
+        """The actions in effect: neither refused nor taken back. Watches are left out, for a replay stops nowhere."""
+        return without_watches(self.history.in_effect())
+
+    def status(self):
+        return self.refusals.status()
+
+
+def performed(words, lines):
+    """Performs a script in a simulator of its own."""
+    console = Console(words)
+    script = Script(console, lines)
     console.end()
-    return without_watches(history.in_effect())
+    return script
 
 
 def without_history(words):

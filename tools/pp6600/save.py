@@ -2,9 +2,9 @@
 
 from .answers import ROW
 from .cells import in_rows, set_lines
-from .command_line import Failure, Script, arguments, cell, processor, simulator, words_after, write_bytes, write_lines
+from .command_line import Failure, arguments, cell, processor, script_lines, simulator, words_after, write_bytes, write_lines
 from .history import turns_of
-from .run import Replay
+from .run import Replay, performed
 
 DESCRIPTION = """Writes cells A to B of processor N at the end of a script, for load: without an option rows of octal words."""
 
@@ -35,11 +35,11 @@ def main():
     asked = parser.parse()
     if len(asked.words) < 3:
         raise Failure("give a processor, its first and its last cell, as save 0 100 177")
-    (script,) = words_after(asked.words[3:], 1, "give a processor, two cells, one script")
+    (path,) = words_after(asked.words[3:], 1, "give a processor, two cells, one script")
     number, first, last = processor(asked.words[0]), cell(asked.words[1]), cell(asked.words[2])
     if last < first:
         raise Failure(f"cell {last:o} is before cell {first:o}")
-    script = Script(simulator(asked), script)
+    script = performed(simulator(asked), script_lines(path))
     run = Replay(simulator(asked))
     run.to_turn(script.actions, turns_of(script.actions))
     words = run.cells(number, first, last)
@@ -50,4 +50,4 @@ def main():
         write_lines(set_lines(number, first, words))
     else:
         write_lines(listing(first, words) if asked.listing else map(" ".join, in_rows(words)))
-    return script.status
+    return script.status()

@@ -1,10 +1,9 @@
 """Lines with their answers, as a session is shown."""
 
-from .command_line import Failure, Script, add_script, add_turn, arguments, complain, script_lines, simulator, write
+from .command_line import Failure, add_script, add_turn, arguments, complain, script_lines, simulator, write
 from .console import MOST_TURNS
 from .history import STEP, up_to_turn
-from .run import Run
-from .script import Refusals
+from .run import Refusals, Run, performed
 from .text_files import shown
 
 DESCRIPTION = """Shows each line of a script after '> ', and below it the answer. The exit status is 0 if no line was refused, else
@@ -33,7 +32,7 @@ def show_lines(run, lines, stop=False):
         if stop and refused:
             complain(f"stopped at line {number} (decimal), which was refused")
             return 1
-    return refusals.complain()
+    return refusals.status()
 
 
 def lines_of(actions):
@@ -54,8 +53,8 @@ def main():
     if asked.turn is None:
         lines = script_lines(asked.script)
     else:
-        script = Script(words, asked.script)
-        lines, status = lines_of(up_to_turn(script.actions, asked.turn)), script.status
+        script = performed(words, script_lines(asked.script))
+        lines, status = lines_of(up_to_turn(script.actions, asked.turn)), script.status()
     run = Run(words)
     status |= show_lines(run, lines, asked.stop)
     return max(run.end(), status)

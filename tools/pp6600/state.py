@@ -5,8 +5,7 @@ from .command_line import add_script, add_turn, arguments, script_lines, simulat
 from .history import up_to_turn
 from .instructions import processor_at, states_of
 from .listing import add_symbols, symbols_of
-from .run import Replay, Run
-from .script import Refusals, Script
+from .run import Refusals, Replay, Run, performed
 
 DESCRIPTION = """Shows the machine at the end of a script, or after a turn, on one screen: the ten processors with the two words
 from P on, the name of the instruction, and WAITS if it waits as the channels are; the channels and the clock beside them, the
@@ -44,19 +43,19 @@ def screen(run, symbols):
     return lines + watch_lines(run.demand("DUMP W"))
 
 
-def performed(words, path):
-    """Returns a run that has performed a script, and the status."""
+def run_to_end(words, path):
+    """Returns a run that has performed a script, and its refused lines."""
     run, refusals = Run(words), Refusals()
     for number, line in enumerate(script_lines(path), 1):
         refusals.note(number, line, run.act(line))
-    return run, refusals.complain()
+    return run, refusals
 
 
-def performed_to(words, path, turn):
-    """Returns a run that has performed the actions of a script up to a turn, and the status. Nothing is watched."""
-    script, run = Script(words, path), Replay(words)
+def run_to_turn(words, path, turn):
+    """Returns a run that has performed the actions of a script up to a turn, and its refused lines. Nothing is watched."""
+    script, run = performed(words, script_lines(path)), Replay(words)
     run.to_turn(up_to_turn(script.actions, turn), turn)
-    return run, script.status
+    return run, script.refusals
 
 
 def main():
@@ -66,7 +65,7 @@ def main():
     add_script(parser)
     asked = parser.parse()
     words, symbols = simulator(asked), symbols_of(asked)
-    run, status = performed(words, asked.script) if asked.turn is None else performed_to(words, asked.script, asked.turn)
+    run, refusals = run_to_end(words, asked.script) if asked.turn is None else run_to_turn(words, asked.script, asked.turn)
     write_lines(screen(run, symbols))
     run.end()
-    return status
+    return refusals.status()

@@ -2,6 +2,7 @@
 
 import sys
 
+from .ending import shown_text
 from .failure import Failure
 
 
@@ -27,8 +28,7 @@ def lines_of(text):
 
 def shown(line):
     """Returns a line of a script as it is shown: as text, without bytes that a terminal would obey."""
-    text = line.encode("latin-1").decode("utf-8", "backslashreplace").rstrip()
-    return "".join(letter if letter.isprintable() or letter == "\t" else letter.encode("unicode_escape").decode() for letter in text)
+    return shown_text(line.encode("latin-1").decode("utf-8", "backslashreplace").rstrip())
 
 
 def script_lines(path):

@@ -1,11 +1,11 @@
 """A run turn by turn."""
 
 from .answers import PROCESSORS, REGISTERS
-from .command_line import Script, add_script, arguments, channel, count, processor, simulator, write_lines
+from .command_line import add_script, arguments, channel, count, processor, script_lines, simulator, write_lines
 from .history import turns_of, up_to_turn
 from .instructions import TWO_WORDS, Processor
 from .listing import AllSymbols, add_symbols, symbols_of
-from .run import Replay
+from .run import Replay, performed
 
 DESCRIPTION = """Shows each turn of a script, as the processor stood before it: the turn, counted in octal from 1, the
 processor, P, the one or two words of the instruction, its name, A, Q and the phase; and WAITS if the turn was a wait. In a block transfer P is the cell of the next word, and the name is that of the transfer. Turns that the script
@@ -129,7 +129,7 @@ def main():
     add_script(parser)
     asked = parser.parse()
     words, symbols = simulator(asked), symbols_of(asked)
-    script = Script(words, asked.script)
+    script = performed(words, script_lines(asked.script))
     actions = script.actions if asked.to is None else up_to_turn(script.actions, min(asked.to, turns_of(script.actions)))
     write_lines(trace(words, actions, asked, symbols))
-    return script.status
+    return script.status()

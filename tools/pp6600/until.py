@@ -9,13 +9,13 @@ from typing import NamedTuple
 
 from .answers import CLOCK, PROCESSORS
 from .changes import CLOSE_STEPS, CLOSE_TURNS, NEAR, TOO_FEW
-from .command_line import Failure, Script, arguments, count, simulator, words_after, write
+from .command_line import Failure, arguments, count, script_lines, simulator, words_after, write
 from .conditions import Condition, Waits
 from .console import MARK, MOST_TURNS
 from .history import STEP, turns_of
 from .instructions import Processor, processor_at
 from .listing import AllSymbols, add_symbols, symbols_of
-from .run import Replay
+from .run import Replay, performed
 
 DESCRIPTION = """Shows the first turn at whose end a condition holds and at whose beginning it did not. A condition is PLACE = 105,
 also != < > <= >= (in quotation marks, for the shell), PLACE outside 100 117 or inside, PLACE changes, M 0 100 117 changes,
@@ -286,13 +286,13 @@ def main():
     add_symbols(parser)
     parser.add_argument("words", nargs="*", metavar="CONDITION [SCRIPT]", help="without a script, standard input is it")
     asked = parser.parse()
-    condition, script = condition_and_script(asked.words)
+    condition, path = condition_and_script(asked.words)
     symbols, words = symbols_of(asked), simulator(asked)
-    script = Script(words, script)
+    script = performed(words, script_lines(path))
     is_found = False
     for found in turns_found(asked, condition, words, script.actions):
         write(found.text(symbols), at_once=not asked.all)
         is_found = True
     if not is_found:
         write("NONE")
-    return script.status or int(not is_found)
+    return script.status() or int(not is_found)

@@ -2,11 +2,11 @@
 
 from .answers import CELLS, CLOCK, PROCESSORS, REGISTERS
 from .channels import last_changes
-from .command_line import Script, add_script, add_turn, arguments, simulator, write_lines
+from .command_line import add_script, add_turn, arguments, script_lines, simulator, write_lines
 from .history import STEP, turns_of, up_to_turn
 from .instructions import processor_at, states_of
 from .listing import AllSymbols, add_symbols, symbols_of
-from .run import Replay
+from .run import Replay, performed
 from .whole import look, look_at_central
 
 DESCRIPTION = """Shows each processor that waits at the end of a script: the address of its instruction and its name, P,
@@ -157,7 +157,7 @@ def main():
     add_script(parser)
     asked = parser.parse()
     words, symbols = simulator(asked), symbols_of(asked)
-    script = Script(words, asked.script)
+    script = performed(words, script_lines(asked.script))
     actions = script.actions if asked.turn is None else up_to_turn(script.actions, asked.turn)
     write_lines(waits(words, actions, symbols), "NO PROCESSOR WAITS", at_once=True)
-    return script.status
+    return script.status()

@@ -1,7 +1,6 @@
 """The tool that films a script."""
 
 from ..command_line import Failure, add_script, arguments, bytes_of, count, octal, simulator
-from ..script import Refusals
 from ..text_files import lines_of
 from .camera import Film, Transcript, to_film
 from .page import heading, page, text_of, write_page
@@ -30,7 +29,4 @@ def main():
     if asked.around is not None:
         film.opens = transcript.moment_of_turn(asked.around) - skipped
     write_page(asked.output, page(heading(asked.title, asked.script), text_of(film, asked, script)))
-    refusals = Refusals()
-    for number, (line, answer) in enumerate(transcript.lines, 1):
-        refusals.note(number, line, answer)
-    return refusals.complain()
+    return transcript.script.status()

@@ -343,7 +343,7 @@ class Panel:
         """Goes to before the action that wrote the number of the step chosen on a page."""
         count = page.origin.undone(page.chosen)
         if count is None:
-            self.message = f"that step can't be undone: {page.lines[page.at].text.strip()}"
+            self.message = f"nothing wrote it: {page.lines[page.at].text.strip()}"
         else:
             self.send([f"BACK {count:o}"])
 
