@@ -11,8 +11,7 @@ from pp6600.answers import Place
 from pp6600.origin.search import Search
 from pp6600.origin.text import Writer
 from pp6600.origin.positions import Replayer, numbered
-from pp6600.run import actions_in_effect
-from pp6600.script import Refusals
+from pp6600.run import performed
 
 STEPS = "[...document.querySelectorAll('#origin li')].map((one) => one.innerText)"
 MARKED = "[...document.querySelectorAll('{} .origin')].map((one) => one.textContent)"
@@ -95,9 +94,9 @@ class Origin(PageCase):
         for seed in range(6):
             lines, choose = random_session(seed), random.Random(seed)
             words = ["--deck", f"{EXAMPLES}/read-a-deck/deck", "--panel", f"{EXAMPLES}/dead-start/panel"]
-            refusals = Refusals()
-            replayer = Replayer([program(), *words], actions_in_effect([program(), *words], numbered(lines), refusals))
-            self.browser.open(self.film(*words, script="\n".join(lines) + "\n", status=int(bool(refusals.count))))
+            script = performed([program(), *words], numbered(lines))
+            replayer = Replayer([program(), *words], script.actions)
+            self.browser.open(self.film(*words, script="\n".join(lines) + "\n", status=int(bool(script.refusals.count))))
             places = [Place("M", (choose.randrange(3), choose.randrange(0o100))) for _ in range(6)]
             places += [Place("C", (choose.randrange(0o400),)) for _ in range(3)]
             for place in [*places, *(Place(kind, (choose.randrange(3),)) for kind in "APQ"), Place("H", (5,)), Place("H", (0o12,)), Place("XP", (0,))]:

@@ -17,7 +17,7 @@ from pp6600.origin.search import Search
 from pp6600.origin.text import Writer
 from pp6600.origin.tool import origin_lines
 from pp6600.origin.tool import place_of as place_of_words
-from pp6600.run import actions_in_effect
+from pp6600.run import performed
 from pp6600.origin.positions import Replayer, numbered
 
 KINDS = {"frame": "XP", "paper": "LP"}  # places of the model that have another name
@@ -179,7 +179,7 @@ def origin(script, place, *options, **how):
     """Returns the lines of an origin."""
     place, _ = place_of_words(place.split())
     words = [program(), *options]
-    return list(origin_lines(words, actions_in_effect(words, numbered(script.strip("\n").split("\n"))), place, **how))
+    return list(origin_lines(words, performed(words, numbered(script.strip("\n").split("\n"))).actions, place, **how))
 
 
 class Codes(Case):
@@ -463,7 +463,7 @@ class Model(Case):
         return [choose.choice(of_turns[choose.choice(list(of_turns))]) for _ in range(12 if of_turns else 0)] + choose.sample(others, 2)
 
     def compare(self, words, lines, machine, choose):
-        replayer = Replayer(words, actions_in_effect(words, numbered(lines)))
+        replayer = Replayer(words, performed(words, numbered(lines)).actions)
         positions = replayer.positions
         self.assertEqual(int(machine[tagged.TURNS]), positions.turns)
         chosen = self.places(machine, choose)

@@ -5,8 +5,7 @@ import time
 
 from ..answers import Place
 from ..command_line import Failure, arguments, count, octal, script_lines, simulator, words_after, write_lines
-from ..run import actions_in_effect
-from ..script import Refusals
+from ..run import performed
 from .positions import Replayer, numbered
 from .search import Search, number_at
 from .text import Writer
@@ -76,8 +75,7 @@ def main():
     asked = parser.parse()
     place, rest = place_of(asked.words)
     (script,) = words_after(rest, 1, "give one place, one script")
-    words, refusals = simulator(asked), Refusals()
-    actions = actions_in_effect(words, numbered(script_lines(script)), refusals)
-    status = refusals.complain()
-    write_lines(origin_lines(words, actions, place, asked.turn, None if asked.all else asked.depth, asked.addresses))
-    return status
+    words = simulator(asked)
+    run = performed(words, numbered(script_lines(script)))
+    write_lines(origin_lines(words, run.actions, place, asked.turn, None if asked.all else asked.depth, asked.addresses))
+    return run.status()
