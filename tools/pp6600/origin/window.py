@@ -25,10 +25,6 @@ class Key(str):
     def address(self):
         return int(self[5:9], 8)
 
-    @property
-    def phase(self):
-        return self[9:13]
-
     @staticmethod
     def of(number, address):
         """The key of an instruction, without its words."""

@@ -62,7 +62,8 @@ class OriginPage(Page):
 
     def press(self, key, rows):
         height = max(rows - 2, 1)
-        steps = {"Up": -1, "k": -1, "Down": 1, "j": 1, "Page Up": -height, "Page Down": height, "Home": -len(self.lines), "End": len(self.lines)}
+        steps = {"Up": -1, "k": -1, "Down": 1, "j": 1, "Page Up": -height, "Page Down": height,
+                 "Home": -len(self.lines), "End": len(self.lines)}
         self.at = max(0, min(self.at + steps.get(key, 0), len(self.lines) - 1))
         self.first = max(min(self.first, self.at), self.at - height + 1)
         self.is_asked_to_go = key == "Enter"

@@ -60,7 +60,8 @@ function countsAgain(step, sources, earlier) {
   return sources.length === 1 && sources[0].place === step.place && !(film.writes.whats[step.write] & 3) && earlier.write >= 0
     && film.kinds[other] === TURN && film.writes.whats[earlier.write] === film.writes.whats[step.write]
     && film.processor[other] === film.processor[moment] && film.word[other] === film.word[moment]
-    && film.inBlock[other] === film.inBlock[moment] && (film.inBlock[moment] ? issueOf(other) === issueOf(moment) : film.p[other] === film.p[moment]);
+    && film.inBlock[other] === film.inBlock[moment]
+    && (film.inBlock[moment] ? issueOf(other) === issueOf(moment) : film.p[other] === film.p[moment]);
 }
 
 // The step that wrote a place, with the steps of its sources, the latest first, up to so many.
@@ -138,7 +139,8 @@ function causeText(step) {
   if (step.write < 0) return `${whenText(step.moment)}, the clock`;
   if (isDevice(step)) {
     const column = columnOf(step);
-    if (!column) return `${whenText(step.moment)}, the status of the ${step.place === film.layout.words + film.reader ? "card reader" : "printer"}`;
+    const device = film.devices[step.place - film.layout.words];
+    if (!column) return `${whenText(step.moment)}, the status of the ${device}`;
     return `${whenText(step.moment)}, the card reader, card ${four(column.card)} column ${octal(column.column, 3)}`;
   }
   const times = step.times > 1 ? `, ${octal(step.times)} times since ${whenText(step.earliest)}` : "";
@@ -229,7 +231,8 @@ function drawOrigin(context, colours, drawn) {
     const lane = name === "lines" ? 0 : 1 + drawn.findIndex((one) => one.name === name);
     return (lane || name === "lines") && { x: LABEL + pixelOf(moment + 0.5), y: GAP + lane * (LANE + GAP) + LANE / 2 };
   };
-  const around = getComputedStyle(document.body).backgroundColor, rows = shown.origin.map(({ step, after }) => [dotOf(step), after && dotOf(after.step)]);
+  const around = getComputedStyle(document.body).backgroundColor;
+  const rows = shown.origin.map(({ step, after }) => [dotOf(step), after && dotOf(after.step)]);
   for (const [colour, width] of [[around, 4], [colours.ink, 1.5]]) {
     context.strokeStyle = context.fillStyle = colour;
     context.lineWidth = width;
