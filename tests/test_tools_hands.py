@@ -11,9 +11,9 @@ from .support import PYTHON, TOP, Case, program
 from .terminal import Terminal
 
 # Each tool with words that are right.
-WITH_SIMULATOR = {"changes": ["M", "0", "106"], "save": ["0", "0", "1"], "compare": ["--other-panel", "examples/dead-start/panel"],
-                  "show": [], "state": [], "talk": [], "trace": [], "until": ["P", "0", "=", "1"],
-                  "waits": []}
+WITH_SIMULATOR = {"changes": ["M", "0", "106"], "origin": ["M", "0", "106"], "save": ["0", "0", "1"],
+                  "compare": ["--other-panel", "examples/dead-start/panel"], "show": [], "state": [], "talk": [], "trace": [],
+                  "until": ["P", "0", "=", "1"], "waits": []}
 WITH_SIMULATOR["film"] = ["-o", "FILM"]  # a file in the room of the test
 ON_TERMINAL = {"panel": []}
 WITHOUT = {"deck": [], "load": ["0", "100"], "symbols": [], "words": ["--dump", "0"]}
