@@ -141,17 +141,32 @@ class Program(PageCase):
         rows = ("[...document.querySelectorAll('#program tbody tr')].map((row) => [...row.cells].map((cell) => "
                 "[...cell.childNodes].filter((one) => !one.hidden).map((one) => one.textContent).join(' ')).join('|'))")
         shown = self.value(rows)
-        at = shown.index("|0100|7712 0001|FNC 12 0001|")
-        self.assertEqual(["|0102|7412|ACN 12|", "|0103|1477|LDN 77|", "|0104|7112 0060|IAM 12 0060|", "r|0106|7512|DCN 12|"],
+        at = shown.index("|0100|7712 0001|FNC 12 0001||")
+        self.assertEqual(["|0102|7412|ACN 12||", "|0103|1477|LDN 77||", "|0104|7112 0060|IAM 12 0060||", "r|0106|7512|DCN 12||"],
                          shown[at + 1:at + 5])
         sentence = "byId('sentence').innerText"
         self.assertEqual("PP 00 IAM 12 0060: a word of channel 12 goes to cell 0064; 73 words are left", self.value(sentence))
         self.browser.key("i")
-        self.assertEqual("|0104|7112 0060|IAM 12 0060|?J:#", self.value(rows)[at + 3], "docs/MACHINE.md: display code")
+        self.assertEqual("|0104|7112 0060|IAM 12 0060||?J:#", self.value(rows)[at + 3], "docs/MACHINE.md: display code")
         self.browser.click("#program button[data-place='M 00 0106']")
         self.assertIn("M 00 0106 is 7512.", self.value(CHOSEN))
         self.browser.key("i")
         self.assertEqual(["numbers", "", False], self.value(f"[byId('memory-as').value, {sentence}, byId('cells').hidden]"))
+
+    def test_symbols(self):
+        """Labels are beside addresses, and the text of a listing beside its cell while its word is there."""
+        listing = os.path.join(self.room(), "listing")
+        with open(listing, "w", encoding="ascii") as file:
+            file.write("0104 7112 0060 INPUT IAM 12 60\n0106 7512 DCN 12\n")
+        loader = "examples/overwritten-loader"
+        self.browser.open(self.film("--symbols", "0", listing, "--deck", f"{loader}/deck", f"{loader}/script"), "#turn=113")
+        self.browser.key("i")
+        texts = "[...document.querySelectorAll('#program tbody tr')].map((row) => row.cells[1].textContent + ' ' + row.cells[4].textContent)"
+        self.assertEqual(["0104 INPUT IAM 12 60", "0106 DCN 12", "0107 INPUT+3"],
+                         [text for text in self.value(texts) if text[:4] in ("0104", "0106", "0107")])
+        self.value("moveTo(momentOfTurn(0o405))")
+        self.assertEqual("PP 00, in the block of IAM 12 at 0104 INPUT", self.value("turnText(film.at)"))
+        self.assertIn("0106 INPUT+2", self.value(texts))
 
     def test_sentences(self):
         """Each sentence is that of the tools, for each code, state of the channel and count."""

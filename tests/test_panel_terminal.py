@@ -1,6 +1,7 @@
 """The whole panel in a terminal, and what talk answers there to a newcomer."""
 
 import os
+import re
 import signal
 import subprocess
 import sys
@@ -211,18 +212,56 @@ class Failures(TerminalCase):
 
 
 class Talk(TerminalCase):
+    TALK = [*PYTHON, os.path.join(TOP, "tools", "talk"), "--program", PROGRAM]
+
+    def talk(self, *typed, words=()):
+        """Types lines, each after a prompt, and ends it. Returns the lines on the screen and the exit status."""
+        terminal = self.terminal([*self.TALK, *words], kind="dumb", columns=132, rows=40)
+        for text in (*(f"{line}\r" for line in typed), "\x04"):
+            self.assertIsNotNone(terminal.wait_until(lambda one: re.fullmatch("[0-7]+>", (one.lines() or [""])[-1])), terminal.lines())
+            shown = len(terminal.lines())
+            terminal.type(text)
+            terminal.wait_until(lambda one: len(one.lines()) > shown, 1 if text == "\x04" else 10)
+        status = terminal.status()
+        return terminal.lines(), status
+
     def test_first_words(self):
         """Who asks for help or for the end as elsewhere is told how talk ends; no line is sent."""
-        talk = [*PYTHON, os.path.join(TOP, "tools", "talk"), "--program", PROGRAM]
-        told = "Ctrl-D ends. Card: docs/CARD.md."
-        for typed, answer, status in (("help", told, 0), ("?", told, 0), ("Quit", told, 0), (" EXIT ", told, 0),
-                                      ("help me", "ERR 01 NOT A COMMAND", 1)):
+        told = "Ctrl-D ends. undo and redo go back and forward. Card: docs/CARD.md."
+        for typed, answer, status in (("help", [told], 0), ("?", [told], 0), ("Quit", [told], 0), (" EXIT ", [told], 0),
+                                      ("help me", ["ERR 01 NOT A COMMAND", "  help is no command: they are SET, STEP, BACK, FORWARD, WATCH, "
+                                                   "UNWATCH, DEADSTART and DUMP"], 1)):
             with self.subTest(typed):
-                terminal = self.terminal(talk, kind="dumb")
-                for answered, text in enumerate((f"{typed}\r", "STEP\r", "\x04")):
-                    terminal.wait_until(lambda one: one.lines()[2 * answered:] == [">"])
-                    terminal.type(text)
-                self.assertEqual(status, terminal.status())
-                self.assertEqual([f"> {typed}".rstrip(), answer, "> STEP", "TURNS 1 SLOT 01", ">"], terminal.lines())
-        done = run(*talk, script="help\n")
+                wanted = [f"0> {typed}".rstrip(), *answer, "0> STEP", "TURNS 1 SLOT 01", "1>"]
+                self.assertEqual((wanted, status), self.talk(typed, "STEP"))
+        done = run(*self.TALK, script="help\n")
         self.assertEqual("> help\nERR 01 NOT A COMMAND\n", done.out, "over a pipe it is a line like any other")
+
+    def test_undo(self):
+        """Back without a limit, and forward again; what is lost of what is ahead is said."""
+        path = os.path.join(self.room(), "saved")
+        lines, status = self.talk("SET A 1 7", "STEP 30", "BACK 20", "undo 20", "redo 11", "FORWARD 30", "redo", "STEP 2", "undo 100",
+                                  words=("--history", "8", "--save", path))
+        self.assertEqual([
+            "0> SET A 1 7", "OK", "0> STEP 30", "TURNS 30 SLOT 04", "30> BACK 20", "ERR 07 TOO FEW KEPT",
+            "  undo goes back over the 31 actions in effect", "30> undo 20", "BACK 20 SLOT 10", "replayed", "10> redo 11",
+            "FORWARD 11 SLOT 07", "21> FORWARD 30", "ERR 16 TOO FEW AHEAD", "  redo goes over the 7 actions ahead", "21> redo",
+            "FORWARD 1 SLOT 10", "22> STEP 2", "TURNS 2 SLOT 00", "  the 6 actions ahead are discarded", "24> undo 100",
+            "ERR 07 TOO FEW KEPT", "  undo goes back over the 25 actions in effect", "24>"], lines)
+        self.assertEqual(1, status)
+        self.assertEqual(["SET A 1 7", "STEP 10", "STEP 11", "STEP 1", "STEP 2"], read(path).splitlines())
+
+    def test_reasons(self):
+        """At a terminal a refusal has its reason, in show too."""
+        lines, _ = self.talk("SET M 0 9 1", "DUMP M 0", "SET C 100000 1", words=("--central", "32"))
+        self.assertEqual(["ERR 03 NUMBER", "  word 4: 9 is not octal"], lines[1:3])
+        self.assertEqual(["ERR 02 WORDS", "  the form is DUMP M n a b"], lines[4:6])
+        self.assertEqual(["ERR 04 RANGE", "  word 3: 100000 is not 0 to 77777"], lines[7:9])
+        path = os.path.join(self.room(), "script")
+        with open(path, "w", encoding="ascii") as file:
+            file.write("STEPP\n")
+        show = [*PYTHON, os.path.join(TOP, "tools", "show"), "--program", PROGRAM, path]
+        terminal = self.terminal(show, kind="dumb")
+        self.assertEqual(1, terminal.status())
+        self.assertEqual(["> STEPP", "ERR 01 NOT A COMMAND", "  STEPP is no command; STEP is"], terminal.lines()[:3])
+        self.assertEqual("> STEPP\nERR 01 NOT A COMMAND\n", run(*show).out, "elsewhere it has not")

@@ -6,7 +6,7 @@ import re
 
 from .support import Case, program
 
-from pp6600.answers import CELLS, CHANNELS, FORMS
+from pp6600.answers import CELLS, CHANNELS
 from pp6600.console import Console
 from pp6600.disassembly import row_at, rows_from, window
 from pp6600.instructions import NAMES, Processor
@@ -125,7 +125,7 @@ class Sentences(Case):
     def compare_turn(self, console, lines, seen):
         before, memory = console.registers(0), console.cells(0, 0, CELLS - 1)
         p = int(before["P"], 8)
-        channels = [Channel(*re.fullmatch(FORMS["H"], line).groups()) for line in console.channels()]
+        channels = [Channel(*line.split()[1:]) for line in console.channels()]
         processor = Processor(before, [memory[p], memory[(p + 1) % CELLS]])
         text = sentence(processor, lambda address: int(memory[address], 8), channels)
         console.demand("STEP")

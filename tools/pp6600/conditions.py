@@ -8,7 +8,7 @@ from .answers import CLOCK, FORMS, PROCESSORS, REGISTERS, ROW, STATES, Place
 from .failure import Failure
 
 FORM = ("a condition is PLACE = 105 (also != < > <= >=), PLACE outside 100 117, PLACE inside 100 117, PLACE changes, "
-        "M 0 100 117 changes, H 12 is F, PP 3 waits or PP 3 in a block; conditions are joined by and")
+        "M 0 100 117 changes, H 12 is F, H 12 changes state, PP 3 waits, PP 3 in a block or PP 3 not in a block; conditions are joined by and")
 COMPARISONS = {"=": operator.eq, "!=": operator.ne, "<": operator.lt, ">": operator.gt, "<=": operator.le, ">=": operator.ge}
 ALL = tuple(range(PROCESSORS))
 REGISTER_GROUPS = {name: group for group, name in enumerate(REGISTERS, 2)}  # of the form of DUMP PP
@@ -178,6 +178,8 @@ def first_test(words):
             raise Failure(f"{rest[0]} is before the first cell of {place.short}")
         return Changes(Subject.of_cells(*place.numbers, last)), rest[2:]
     kind = rest[0].lower() if rest else ""
+    if kind == "changes" and place.kind == "H" and rest[1:2] and rest[1].lower() == "state":
+        return Changes(Subject.of_place(place)._replace(groups=(2, 2), watch=None)), rest[2:]
     if kind == "changes":
         return Changes(Subject.of_place(place)), rest[1:]
     if kind == "is" and place.kind == "H":
@@ -202,13 +204,16 @@ def test_of(kind, numbers):
 def processor_test(words):
     """Returns the test of a processor, and the words after it."""
     number = number_of(words[1]) if len(words) > 2 else None
-    kind = [word.lower() for word in words[2:5]]
+    kind = [word.lower() for word in words[2:6]]
+    is_in = kind[:1] != ["not"]
+    kind = kind if is_in else kind[1:]
     if number is not None and number >= PROCESSORS:
         raise Failure(f"{words[1]} is no processor: it is 0 to {PROCESSORS - 1:o}")
-    if kind[:1] == ["waits"]:
+    if is_in and kind[:1] == ["waits"]:
         return Waits(number), words[3:]
-    if kind == ["in", "a", "block"]:
-        return Is(Subject.of_registers(number, "PHASE", "PHASE", "PHASE"), lambda digits: int(digits, 8) != 0), words[5:]
+    if kind[:3] == ["in", "a", "block"]:
+        subject = Subject.of_registers(number, "PHASE", "PHASE", "PHASE")
+        return Is(subject, lambda digits: (int(digits, 8) != 0) == is_in), words[5 if is_in else 6:]
     raise Failure(FORM)
 
 

@@ -158,7 +158,7 @@ class History:
         """Counts a line by the lines of its answer. Returns whether it changed the machine, the history or the list."""
         kind, *rest = answer[0].split() if answer else ["NOTE"]
         if kind in ("OK", "TURNS"):
-            if self.ahead.count or self.later.count:
+            if self.to_redo:
                 self.ahead, self.later = Actions(), Actions()
             self.add(line if kind == "OK" else STEP, int(rest[0], 8) if rest else 1)
         elif kind in ("BACK", "FORWARD"):

@@ -1,6 +1,7 @@
 """Lines typed at a terminal."""
 
 import os
+import re
 import shutil
 import signal
 import sys
@@ -9,11 +10,12 @@ from .ending import flush, write
 from .failure import Failure
 from .options import ABOVE
 from .run import Refusals
-from .show import answer
+from .show import answer, show_answer
 from .text_files import input_lines, shown
 
 PROMPT = "> "  # after the number of turns
 WRAPPED = "PP6600_WRAPPED"  # set for the tool that rlwrap runs
+UNDO = re.compile(r"\s*(undo|redo)(?:\s+([0-7]+))?\s*", re.I)  # as BACK and FORWARD, without their limits
 FIRST_WORDS = ("help", "?", "quit", "exit")  # what a newcomer may type; the simulator has no such commands
 
 
@@ -77,13 +79,38 @@ def converse_at_terminal(run, transcript):
     status = 0
     for line in typed_lines(run):
         if line.strip().lower() in FIRST_WORDS:
-            write(f"Ctrl-D ends. Card: {card()}.")
-        elif answer(run, line):
-            status = 1
+            write(f"Ctrl-D ends. undo and redo go back and forward. Card: {card()}.")
         else:
-            transcript.add(line)
+            status |= perform_typed(run, line, transcript)
         flush()
     return status
+
+
+def perform_typed(run, line, transcript):
+    """Performs a line that was typed, and shows what came of it. Returns whether it was refused."""
+    ahead, replays, sent = run.history.to_redo, run.replays, len(run.sent)
+    asked = UNDO.fullmatch(line)
+    lines = run.move(f"{'BACK' if asked[1].lower() == 'undo' else 'FORWARD'} {asked[2] or 1}") if asked else run.act(line)
+    show_answer(run, line, lines)
+    kind = lines[0].split()[0] if lines else ""
+    if run.replays > replays:
+        transcript.replace(*run.sent)
+    elif kind != "ERR":
+        transcript.add(*run.sent[sent:])
+    note = note_on(run, lines[0][:6], ahead) if lines else ""
+    if note:
+        write(f"  {note}")
+    return kind == "ERR"
+
+
+def note_on(run, answer, ahead):
+    """Returns what may not be expected after an answer, of which these are the first letters."""
+    history = run.history
+    if ahead and not history.to_redo and answer[:2] in ("OK", "TU"):
+        return f"the {ahead:o} actions ahead are discarded"
+    if answer == "ERR 07":
+        return f"undo goes back over the {history.to_undo:o} actions in effect" if history.older.count else ""
+    return f"redo goes over the {history.to_redo:o} actions ahead" if answer == "ERR 16" and history.to_redo else ""
 
 
 def perform_input(run, transcript):

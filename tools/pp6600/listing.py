@@ -193,6 +193,21 @@ class AllSymbols:
         symbols = self.of.get(processor)
         return symbols.name(int(digits, 8)) if symbols and digits.isdigit() else ""
 
+    def tables(self):
+        """Returns for each processor with symbols the names of its addresses, and the texts of the listing with their words."""
+        return {number: {"names": {address: name for address in range(CELLS) if (name := symbols.name(address))},
+                         "texts": {line.address: (int(word, 8), line.text) for word, line in symbols.listing.cells.values()
+                                   if line.text and symbols.text(line.address, word)}}
+                for number, symbols in self.of.items()}
+
+    def address(self, processor, text):
+        """Returns the address of a label of a processor, as START or START+3; None if there is no such label."""
+        label, _, more = text.partition("+")
+        symbols = self.of.get(processor)
+        named = {name.upper(): address for address, name in symbols.labels.items()} if symbols else {}
+        distance = octal_number(more or "0")
+        return None if distance is None or label.upper() not in named else (named[label.upper()] + distance) % CELLS
+
     def text(self, processor, digits, word):
         """Returns the listing's text beside a cell, if the word is that of the listing; or nothing."""
         symbols = self.of.get(processor)

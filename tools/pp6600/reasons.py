@@ -89,6 +89,11 @@ def out_of_range(words, central):
     return f"{named(words, len(words) - 2)} is over {words[-1]}"
 
 
+def size_of_central(words):
+    """Returns how many words central memory has in a simulator that was begun by these words."""
+    return 0o2000 * int(words[words.index("--central") + 1] if "--central" in words else 128)
+
+
 def reason(line, answer, central=CENTRAL_ADDRESSES):
     """Returns in a line why a line was refused, with the first line of its answer; nothing if there is no more to say. Central
     memory has so many words."""

@@ -46,7 +46,7 @@ class Script:
 
     @property
     def actions(self):
-        """The actions in effect: neither refused nor taken back. Watches are left out, for a replay stops nowhere."""
+        """The actions in effect: neither refused nor taken back. Watches are left out."""
         return without_watches(self.history.in_effect())
 
     def status(self):

@@ -2,12 +2,13 @@
 
 from .command_line import Failure, arguments, script_lines, simulator, words_after
 from .keyboard import converse, edit_lines
-from .run import Run
 from .show import show_lines
+from .timeline import Timeline
 
 DESCRIPTION = """Shows a script with its answers, then goes on with the lines that are typed. At a terminal it has a
 prompt, with the number of turns that are in effect, octal, and a history of lines, through rlwrap if it is there; Ctrl-D ends
-it, Ctrl-C does not. With --save FILE it writes a script that gives the session again: the lines of the script, and those typed
+it, Ctrl-C does not. There undo and redo, with a count or without, go back and forward as BACK and FORWARD do, but without their
+limit: older actions are replayed. A line that is refused has the reason below its answer. With --save FILE it writes a script that gives the session again: the lines of the script, and those typed
 that were not refused. The exit status is 0 if no line was refused, else 1."""
 
 
@@ -22,6 +23,13 @@ class Transcript:
             raise Failure(f"{path} exists; give the name of a new file") from None
         except OSError as error:
             raise Failure(f"can't write {path}: {error.strerror}") from error
+
+    def replace(self, *lines):
+        """Begins the file anew, after a replay."""
+        if self.path:
+            self.file.seek(0)
+            self.file.truncate()
+        self.add(*lines)
 
     def add(self, *lines):
         if not self.path:
@@ -40,7 +48,7 @@ def main():
     (script,) = words_after(asked.script, 1, "give one script")
     edit_lines()
     lines = [] if script is None else script_lines(script)
-    run, transcript, status = Run(simulator(asked)), Transcript(asked.save), 0
+    run, transcript, status = Timeline(simulator(asked)), Transcript(asked.save), 0
     if script is not None:
         status = show_lines(run, lines)
         transcript.add(*lines)

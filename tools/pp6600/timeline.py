@@ -19,21 +19,20 @@ class Timeline(Run):
         self.replays = 0
         super().__init__(words)
 
-    def send_line(self, line):
-        """Sends a line of a script, and returns its answer."""
-        answer = self.act(line)
+    def act(self, line, dumps=()):
+        answer = super().act(line, dumps)
         self.sent.append(line)
         return answer
 
     def move(self, line):
-        """As `send_line`, but BACK goes back over all actions in effect, and FORWARD on over all that are ahead."""
+        """As `act`, but BACK goes back over all actions in effect, and FORWARD on over all that are ahead."""
         asked = MOVE.fullmatch(line)
         count, history = int(asked[2] or "1", 8) if asked else 0, self.history
         if asked and asked[1].upper() == "BACK" and history.kept.count < count <= history.to_undo:
             return self.replay(count)
         if asked and asked[1].upper() == "FORWARD" and history.ahead.count < count <= history.to_redo:
             return self.go_over(count)
-        return self.send_line(line)
+        return self.act(line)
 
     def replay(self, count):
         """Undoes so many actions: goes on in a fresh simulator in which those before them are performed."""
@@ -55,7 +54,7 @@ class Timeline(Run):
         """Performs so many actions again, more than the simulator has ahead."""
         ahead, later = self.history.ahead.count, self.history.later
         if ahead:
-            self.send_line(f"FORWARD {ahead:o}")
+            self.act(f"FORWARD {ahead:o}")
         for action in later.pop(count - ahead):
             self.perform_again(*action)
         self.history.later = later
@@ -64,7 +63,7 @@ class Timeline(Run):
     def perform_again(self, line, times):
         """Performs an action so many times. Turns do not end where a watched number changes."""
         while times:
-            answer = self.send_line(f"STEP {min(times, MOST_TURNS):o}" if line == STEP else line)
+            answer = self.act(f"STEP {min(times, MOST_TURNS):o}" if line == STEP else line)
             if not answer or answer[0].split()[0] not in ("OK", "TURNS"):
                 raise self.nonsense(" ".join(answer))
             times -= int(answer[0].split()[1], 8) if line == STEP else 1

@@ -1,6 +1,7 @@
 """The tool that films a script."""
 
 from ..command_line import Failure, add_script, arguments, bytes_of, count, octal, simulator
+from ..listing import add_symbols, symbols_of
 from ..text_files import lines_of
 from .camera import Film, Transcript, to_film
 from .page import heading, page, text_of, write_page
@@ -17,10 +18,12 @@ def main():
     parser.add_argument("--last", metavar="COUNT", type=count, help="film the last moments alone, octal")
     parser.add_argument("--around", metavar="N", type=octal, help="film the moments around turn N, octal, and open there")
     parser.add_argument("--title", metavar="TEXT", help="the heading of the page (else the name of the script's file)")
+    add_symbols(parser)
     add_script(parser)
     asked = parser.parse()
     if asked.last is not None and asked.around is not None:
         raise Failure("give --last or --around, not both")
+    symbols_of(asked)  # a wrong one ends the tool before the run
     words, script = simulator(asked), bytes_of(asked.script)
     transcript = Transcript(words, lines_of(script.decode("latin-1")))
     film = Film(words, transcript, int(asked.reader or "12", 8), int(asked.printer or "13", 8))

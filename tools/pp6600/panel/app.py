@@ -9,7 +9,9 @@ from ..answers import KINDS
 from ..failure import Failure
 from ..keyboard import FIRST_WORDS, card
 from ..timeline import REPLAYED
+from ..listing import AllSymbols
 from .keys import LINES, Facts, help_lines
+from .origins import Origin, OriginPage, Stopped
 from .page import Page
 from .prompt import Prompt
 from .remarks import in_width, remarks
@@ -41,8 +43,9 @@ def first_word(line):
 
 
 class Panel:
-    def __init__(self, session):
-        self.session = session
+    def __init__(self, session, symbols=AllSymbols()):
+        """The symbols are the labels and the texts of listings, for each processor."""
+        self.session, self.symbols = session, symbols
         self.view = View()
         self.columns, self.rows = LEAST_COLUMNS, LEAST_ROWS
         self.count = self.message = ""
@@ -99,7 +102,7 @@ class Panel:
         session = self.session
         shown = Shown(session.state, session.before, self.view, session.history.turns,
                       session.history.kept.count, session.history.to_redo, session.size, session.log, self.message,
-                      self.prompt and self.prompt.shown())
+                      self.prompt and self.prompt.shown(), self.symbols)
         return screen(shown, self.columns, self.rows)
 
     # ---- keys
@@ -107,7 +110,9 @@ class Panel:
     def press(self, key):
         """Performs a key, by its name."""
         if self.page:
-            self.page = self.page if self.page.press(key, self.rows) else None
+            page, self.page = self.page, self.page if self.page.press(key, self.rows) else None
+            if self.page is None and isinstance(page, OriginPage) and page.is_asked_to_go:
+                self.go_before(page)
         elif self.prompt:
             self.press_in_prompt(key)
         elif self.asked:
@@ -170,6 +175,8 @@ class Panel:
             view.as_program = True
         elif key in PROMPTS:
             self.prompt = Prompt(key, PROMPTS[key], self.typed[key])
+        elif key == "c":
+            self.show_origin()
         elif key == "L":
             self.show_log()
         elif key == "?":
@@ -259,7 +266,10 @@ class Panel:
                 self.show_log()
 
     def go_to(self, text):
-        if text:
+        address = self.symbols.address(self.view.processor, text)
+        if address is not None:
+            self.view.go_to_cell(address)
+        elif text:
             self.view.go_to(text, self.session.size)
 
     def go_to_turn(self, text):
@@ -301,7 +311,7 @@ class Panel:
         if found is None:
             self.message = f"NONE: {text}, {where}"
         else:
-            self.show_turn(found.turn, [found.text()])
+            self.show_turn(found.turn, [found.text(self.symbols)])
 
     def report_search(self, turn):
         """Shows now and then how far a search is, and ends it if the operator stops it."""
@@ -314,6 +324,33 @@ class Panel:
 
     def show_log(self):
         self.page = Page("All lines and answers", log_lines(self.session.log, None), at_end=True)
+
+    def show_origin(self):
+        """Opens the page of where the number at the cursor came from."""
+        self.shown_at = time.monotonic()
+        try:
+            self.page = OriginPage(Origin(self.session, self.view.place(), self.searched))
+        except Stopped:
+            self.message = "the search was stopped"
+        except Failure as failure:  # of the search's own simulator
+            self.message = str(failure)
+
+    def searched(self, turn, turns):
+        """Shows now and then how far back a search is, and ends it if the operator stops it."""
+        if time.monotonic() - self.shown_at > BETWEEN_REPORTS:
+            self.message = f"searched back to turn {turn:o} of {turns:o}; Ctrl-C stops"
+            self.show()
+            self.shown_at = time.monotonic()
+        if self.is_stopped():
+            raise Stopped
+
+    def go_before(self, page):
+        """Goes to before the action that wrote the number of the step chosen on a page."""
+        count = page.origin.undone(page.chosen)
+        if count is None:
+            self.message = f"nothing wrote it: {page.lines[page.at].text.strip()}"
+        else:
+            self.send([f"BACK {count:o}"])
 
     def search(self, text):
         """Moves the cursor to the next words of this kind; without a text, of the kind that was searched before."""

@@ -1,6 +1,7 @@
 """Shows the live machine on a full screen, and steps it forward and back by keys."""
 
 from ..command_line import Failure, arguments, octal, script_lines, simulator, words_after
+from ..listing import add_symbols, symbols_of
 from .app import Panel
 from .session import Session
 
@@ -12,6 +13,7 @@ w FILE saves what was sent as a script. It needs a terminal of 80 columns and 24
 def main():
     parser = arguments(DESCRIPTION, "[OPTION ..] [SCRIPT]")
     parser.add_argument("--turn", metavar="N", type=octal, help="go to this turn of the script, counted in octal from 1")
+    add_symbols(parser)
     parser.add_argument("script", metavar="SCRIPT", nargs="*", help="lines of the console to begin with")
     asked = parser.parse()
     (script,) = words_after(asked.script, 1, "give one script")
@@ -21,7 +23,7 @@ def main():
         raise Failure("this Python has no module curses, so it can't draw on a terminal; the tool talk needs none") from None
     terminal.check()
     lines = [] if script is None else script_lines(script)
-    panel = Panel(Session(simulator(asked)))
+    panel = Panel(Session(simulator(asked)), symbols_of(asked))
     ended_by = terminal.run(panel, lines, asked.turn)
     if panel.fault:
         raise Failure(panel.fault)

@@ -8,6 +8,7 @@ from .text import CURSOR, HEAD, HERE, WATCHED, Line
 
 TEXT_FROM, LABEL_FROM = 17, 33  # the columns of an instruction and of its label
 DISPLAY_WIDTH = 5
+WIDTH = 52
 
 
 def cell_of(memory):
@@ -60,7 +61,10 @@ def row_line(shown, row, sign):
     line.fit(TEXT_FROM)
     if view.has_display_code:
         line.add(text_of([memory.word(row.address + at) for at in range(len(row.words))]).ljust(DISPLAY_WIDTH))
-    return line.add(row.text)
+    line.add(row.text)
+    symbols, address = shown.symbols, f"{row.address:04o}"
+    named = symbols.text(view.processor, address, row.words[0]) or symbols.name(view.processor, address)
+    return line.fit(max(LABEL_FROM, len(line.text) + 1)).add(named) if named else line
 
 
 def program_lines(shown, count):
@@ -70,8 +74,11 @@ def program_lines(shown, count):
     here, back = processor.p, back_at(processor, cell_of(memory))
     watched = state.watched_cells(view.processor)
     head = Line(f"PP {view.processor:02o}  INSTRUCTIONS", HEAD)
+    at = shown.symbols.name(view.processor, processor.registers["P"])
+    head.add(f"   P is {at}" if at and back is None else "")
     head.add("" if back is None else f"   in a block; returns to {back:04o}")
-    return [head] + [row_line(shown, row, sign_of(row, here, back, watched)) for row in rows_of(state, view, count)]
+    rows = [(row, sign_of(row, here, back, watched)) for row in rows_of(state, view, count)]
+    return [head] + [row_line(shown, row, sign).fit(WIDTH) for row, sign in rows]
 
 
 def sentence_line(shown):

@@ -4,6 +4,7 @@ from dataclasses import dataclass, field
 from typing import Optional
 
 from ..answers import CELLS, ROW
+from ..listing import AllSymbols
 from ..machine_state import MachineState
 from .program import program_lines, sentence_line
 from .text import (
@@ -33,6 +34,7 @@ class Shown:
     log: list = field(default_factory=list)
     message: str = ""
     prompt: Optional[tuple] = None  # what is asked, the text so far, and the place in it
+    symbols: AllSymbols = AllSymbols()
 
     def cursor_in(self, pane):
         """Returns the mark of the cursor, if it is in this part."""

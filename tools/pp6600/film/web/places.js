@@ -82,10 +82,10 @@ function issueOf(moment) {
 
 function turnText(moment) {
   const who = `PP ${two(film.processor[moment])}`;
-  if (!film.inBlock[moment]) return `${who}, ${instructionText(film.word[moment], film.second[moment])} at ${four(film.p[moment])}`;
+  if (!film.inBlock[moment]) return `${who}, ${instructionText(film.word[moment], film.second[moment])} at ${named(film.processor[moment], film.p[moment])}`;
   const issue = issueOf(moment);
   const name = `${film.names[film.word[moment] >> 6]} ${two(film.word[moment] & 0o77)}`;
-  return `${who}, in the block of ${name}` + (issue && film.kinds[issue] === TURN ? ` at ${four(film.p[issue])}` : "");
+  return `${who}, in the block of ${name}` + (issue && film.kinds[issue] === TURN ? ` at ${named(film.processor[moment], film.p[issue])}` : "");
 }
 
 // Who may have changed a place in a turn, beside the processor.

@@ -103,17 +103,29 @@ function sentenceOf(n) {
   return `${film.names[one.code]} ${two(one.d)}${second}: ${text.replace(/\{(.*?)\}/g, (_, name) => MEANINGS[name](one))}`;
 }
 
+// ---- labels
+
+// The name of an address, as START+3, and the listing's text of the line that begins there, if its word is still there; or "".
+const addressName = (n, address) => (film.labels[n] && film.labels[n].names[address]) || "";
+
+function textOfListing(n, address, word) {
+  const [listed, text] = (film.labels[n] && film.labels[n].texts[address]) || [];
+  return listed === word ? text : "";
+}
+
+const named = (n, address) => `${four(address)} ${addressName(n, address)}`.trim();
+
 // ---- the window of memory as instructions
 
 const program = { rows: [], top: 0 };
 
 function buildProgram() {
   const body = tableOf("program").createTBody();
-  addHead(tableOf("program"), ["", "", "words", "instruction", "display code"]);
+  addHead(tableOf("program"), ["", "", "words", "instruction", "", "display code"]);
   for (let at = 0; at < MEMORY_ROWS; at++) {
-    const row = addRow(body, Array(5).fill(""));
+    const row = addRow(body, Array(6).fill(""));
     row.cells[1].className = "name";
-    row.cells[4].className = "text";
+    row.cells[4].className = row.cells[5].className = "text";
     const buttons = [0, 1].map(() => addNumber(row.cells[2], "M 00 0000"));
     program.rows.push({ row, buttons });
   }
@@ -147,5 +159,6 @@ function showProgramRow(row, buttons, { address, words }, n, { p, back }) {
     button.classList.toggle("at-p", (address + at) % CELLS === p);
   });
   setText(row.cells[3], wordsText(address, words));
-  setText(row.cells[4], memory.as === "text" ? words.map(displayCode).join("") : "");
+  setText(row.cells[4], textOfListing(n, address, words[0]) || addressName(n, address));
+  setText(row.cells[5], memory.as === "text" ? words.map(displayCode).join("") : "");
 }
