@@ -110,8 +110,7 @@ def check_by_go(text, count):
         path = os.path.join(room, "check.go")
         with open(path, "w", encoding="ascii") as file:
             file.write(CHECKER)
-        env = {**os.environ, "GO111MODULE": "off", "GOPATH": "/usr/share/gocode", "GOCACHE": os.path.join(tempfile.gettempdir(), "pp6600-go-cache"),
-               "GOFLAGS": "-p=1"}
+        env = {**os.environ, "GO111MODULE": "off", "GOPATH": "/usr/share/gocode", "GOCACHE": os.path.join(room, "cache"), "GOFLAGS": "-p=1"}
         done = subprocess.run(["go", "run", path], input=text.encode(), env=env, stdout=subprocess.PIPE, stderr=subprocess.STDOUT, check=False)
     assert done.stdout.decode() == f"{count}\n", done.stdout.decode()
 
