@@ -391,6 +391,16 @@ class Back(DebugCase):
             turns.append(self.turns(client))
         self.assertEqual([1, 11, 14, 13, 10, 0, 0], turns)
 
+    def test_steps_back_over_a_dead_start(self):
+        """It begins the barrel anew, so the slots before it say nothing of the turns after it."""
+        client = self.session(["STEP 5", "DEADSTART", "STEP 3"], panel=os.path.join(EXAMPLES, "dead-start", "panel"))
+        for number, turns in ((1, 6), (4, 4), (7, 0)):
+            client.stop_after("stepBack", threadId=number + 1)
+            self.assertEqual(turns, self.turns(client))
+        client.ask("setDataBreakpoints", breakpoints=[{"dataId": "M 0 1"}])  # which the panel changes
+        stop = client.stop_after("continue", threadId=1)
+        self.assertEqual(("M 00 0001 was 0000 and is 1404", 5), (stop["text"], self.turns(client)))
+
     def test_out_of_a_block(self):
         client = self.session(LOADER[:3], deck=DECK)
         self.set_lines(client, 0, 0o104)
