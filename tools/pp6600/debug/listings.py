@@ -30,12 +30,12 @@ def instruction(memory, cell):
 
 
 WIDTH = len("0000  0000  LJM 00 0000")
-MOST_TEXT = 60  # characters of a restorer's own listing beside an instruction
+MOST_TEXT = 60  # bytes of the user's own listing beside an instruction
 
 
 class Beside:
-    """What stands beside the instructions of a processor: the label of a cell, and the text of the restorer's own listing as long as
-    the word is the one that it lists. All are of one width, in bytes."""
+    """What is beside the instructions of a processor: the label of a cell, and the text of the user's own listing as long as the word
+    is the one that it lists. All are of one width, in bytes."""
 
     def __init__(self, symbols=None):
         """The symbols are those of `pp6600.listing`."""
