@@ -586,3 +586,66 @@ class Sessions(PanelCase):
     def test_picture(self):
         """The picture of docs/PANEL.md is what the panel shows; docs/drawings/panel.py draws it anew."""
         self.assertEqual(("", "", 0), run(sys.executable, os.path.join(TOP, "docs", "drawings", "panel.py"), "--check"))
+
+
+# ---- where a number came from
+
+FIRST_STEP = ">M 00 0106 0027 TURN 405 PP 00 AT 0104 IAM 12 FROM H 12"  # docs/TOOLS.md
+READ = "H 12 0027 TURN 373 CR CARD 0000 COLUMN 026 DECK LINE 2 WORD 23 (decimal)"
+
+
+class Origins(PanelCase):
+    def test_loader(self):
+        """Enter goes to before the step that is chosen, and FORWARD comes back."""
+        panel = self.panel(OVERWRITTEN, "--deck", DECK)
+        page = press(panel, "g106<Enter>c")
+        self.assertEqual([" Where the number at M 00 0106 came from", FIRST_STEP, f" {READ}"], [line.rstrip() for line in page[:3]])
+        page = press(panel, "<Down>")
+        self.assertEqual([f" {FIRST_STEP[1:]}", f">{READ}"], [line.rstrip() for line in page[1:3]])
+        self.assertEqual((2, 0), panel.screen().cursor)
+        press(panel, "<Enter>")
+        self.assertEqual([f"BACK {0o1300 - 0o373 + 1:o}"], panel.session.sent[4:])
+        self.assertEqual("0026", panel.session.state.channels[0o12].register)
+        press(panel, "s")
+        self.assertEqual("0027", panel.session.state.channels[0o12].register)
+
+    def test_session_stays(self):
+        """The search, and a page that is closed, send nothing and undo nothing."""
+        for keys in "c<Escape>", "cc", "c<Down><Down><Up>q":
+            panel = self.panel(OVERWRITTEN, "--deck", DECK)
+            press(panel, "g106<Enter>")
+            before = list(panel.session.sent), panel.session.history.kept.count, panel.session.state
+            with self.subTest(keys):
+                press(panel, keys)
+                self.assertIsNone(panel.page)
+                self.assertEqual(before, (panel.session.sent, panel.session.history.kept.count, panel.session.state))
+
+    def test_watches_between(self):
+        """A WATCH is an action, which BACK undoes too; the search does not know it."""
+        panel = self.panel("SET M 0 20 5\nWATCH A 0\nSET M 0 20 7\nWATCH A 1\nSTEP 3\n")
+        self.assertEqual(">M 00 0020 0007 TURN 0 SET LINE 3 WORD 5 (decimal)", press(panel, "gM 0 20<Enter>c")[1].rstrip())
+        press(panel, "<Enter>")
+        self.assertEqual("BACK 5", panel.session.sent[-1])
+        self.assertEqual("0005", panel.session.state.number("M 0 20"))
+
+    def test_what_is_undone_does_not_count(self):
+        panel = self.panel("SET M 0 20 5\nSET M 0 20 7\nBACK\n")
+        self.assertEqual(">M 00 0020 0005 TURN 0 SET LINE 1 WORD 5 (decimal)", press(panel, "gM 0 20<Enter>c")[1].rstrip())
+
+    def test_a_step_that_is_no_longer_kept(self):
+        """What the simulator no longer keeps is performed anew; nothing comes before a number that was never written."""
+        panel = self.wide_panel("SET M 0 20 5\nSTEP 30\n", "--history", "8")
+        press(panel, "gM 0 20<Enter>c<Enter>")
+        self.assertEqual((0, 0o31), (panel.session.history.to_undo, panel.session.history.to_redo))
+        self.assertEqual("nothing wrote it: M 00 0021 0000 START", bottom(panel, "gM 0 21<Enter>c<Enter>"))
+
+    def test_registers(self):
+        panel = self.wide_panel(FIRST_PROGRAM + "STEP 30\n")
+        self.assertEqual(">A 00 000005 TURN 1 PP 00 AT 0100 LDN 05 CONSTANT 05", press(panel, "gA 0<Enter>c")[1].rstrip())
+        self.assertEqual(">P 00 0100 TURN 0 SET LINE 2 WORD 4 (decimal), NOW 0102", press(panel, "<Escape>gP 0<Enter>c")[1].rstrip())
+
+    def test_it_can_be_stopped(self):
+        panel = self.panel("SET M 0 20 5\nSTEP 1000\n")
+        panel.is_stopped = lambda: True
+        self.assertEqual("the search was stopped", bottom(panel, "gM 0 20<Enter>c"))
+        self.assertIsNone(panel.page)

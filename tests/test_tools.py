@@ -15,11 +15,9 @@ from unittest import mock
 from .support import EXAMPLES, PYTHON, TOP, Case, blocks, program, read, run, tool
 
 from pp6600 import Console
-from pp6600.last_turns import look
 from pp6600.changes import place_changes
-from pp6600.answers import ANSWER, CELLS, Place
+from pp6600.answers import ANSWER, Place
 from pp6600.history import History
-from pp6600.instructions import END_OF_BLOCK, END_OF_INPUT, IN_BLOCK, Effect, processor_at
 from pp6600.listing import Symbols
 from pp6600.run import Replay, Run, performed
 from pp6600.trace import lines_from
@@ -35,7 +33,7 @@ STEP 1300
 FIRST_PROGRAM = "SET M 0 100 1405 3420 300\nSET P 0 100\n"
 # docs/TUTORIAL-2.md: two processors that wait for each other.
 DEADLOCK = "SET M 0 100 1407 7205 300\nSET P 0 100\nSET M 1 100 7005 300\nSET P 1 100\nSTEP 40\n"
-NAMES = ("changes", "compare", "deck", "film", "load", "panel", "save", "show", "state", "symbols", "talk", "trace", "until", "waits", "words")
+NAMES = ("changes", "compare", "deck", "film", "load", "origin", "panel", "save", "show", "state", "symbols", "talk", "trace", "until", "waits", "words")
 
 
 def setUpModule():
@@ -62,7 +60,7 @@ class Pages(Case):
 
     def test_sessions(self):
         room = self.room()  # ./pp6600 of the page is the program under test
-        for name, path in (("pp6600", program()), ("tools", os.path.join(TOP, "tools")), ("examples", EXAMPLES), ("exercises", os.path.join(TOP, "exercises"))):
+        for name, path in (("pp6600", program()), *((name, os.path.join(TOP, name)) for name in ("tools", "examples", "exercises"))):
             os.symlink(path, os.path.join(room, name))
         for block in blocks("docs/TOOLS.md", "tools"):
             for session in re.split(r"^\$ ", block.text, flags=re.M)[1:]:
@@ -158,7 +156,8 @@ class Trace(Case):
         got = self.trace("--channel", "5", script=script)
         self.assertEqual(["E 0000", "F 0007", "I 0007 WORD LOST"], [line.partition(" -> ")[2] for line in got])
         script = "SET M 0 100 7105 200\nSET P 0 100\nSET H 5 F 7\nSTEP 12\nSTEP\n"
-        self.assertEqual(["H 05 F 0007", "H 05 F 0007 WORD LEFT"], [line[line.index("H 05"):] for line in self.trace("--channel", "5", script=script)])
+        got = [line[line.index("H 05"):] for line in self.trace("--channel", "5", script=script)]
+        self.assertEqual(["H 05 F 0007", "H 05 F 0007 WORD LEFT"], got)
 
     def test_listing(self):
         path = os.path.join(self.room(), "listing")
@@ -400,7 +399,8 @@ class Talk(Case):
         # The terminal shows the interrupt, which does nothing, as ^C.
         shown = tool("show", self.SCRIPT).out
         before, _, after = got.replace("^C", "").partition("13> STEP")
-        self.assertEqual((shown, " 12\nTURNS 12 SLOT 01\n25> SET M 0 9 1\nERR 03 NUMBER\n  word 4: 9 is not octal\n25> \n", 1), (before, after, status))
+        wanted = " 12\nTURNS 12 SLOT 01\n25> SET M 0 9 1\nERR 03 NUMBER\n  word 4: 9 is not octal\n25> \n"
+        self.assertEqual((shown, wanted, 1), (before, after, status))
 
     def test_over_a_pipe(self):
         lines = [line[2:] for line in lines_of(tool("show", self.SCRIPT)) if line.startswith("> ")]
@@ -452,12 +452,13 @@ class Compare(Case):
         """Programs that differ in one word, or a word set later; against machines that are looked at after each turn."""
         for seed in range(4):
             choose = random.Random(seed)
-            lines = [f"SET M {n} 0 {' '.join(f'{choose.choice((0o14, 0o16, 0o34, 0o36, 0o54, 0o60, 0o62)):02o}{choose.randrange(0o20, 0o100):02o}' for _ in range(8))}"
-                     for n in range(3)] + [f"STEP {choose.randrange(1, 0o40):o}"]
+            codes = (0o14, 0o16, 0o34, 0o36, 0o54, 0o60, 0o62)
+            words = [[f"{choose.choice(codes):02o}{choose.randrange(0o20, 0o100):02o}" for _ in range(8)] for _ in range(3)]
+            lines = [f"SET M {n} 0 {' '.join(part)}" for n, part in enumerate(words)] + [f"STEP {choose.randrange(1, 0o40):o}"]
             others = [*lines, "SET M 1 25 7"] if seed % 2 else [lines[0].replace(lines[0].split()[6], "1477"), *lines[1:]]
             with self.subTest(seed=seed):
-                got = [line for line in self.compare("\n".join([*lines, "STEP 40", ""]), "\n".join([*others, "STEP 40", ""])) if line.startswith("AFTER")]
-                self.assertEqual(self.oracle(lines, others), got)
+                got = self.compare(*("\n".join([*some, "STEP 40", ""]) for some in (lines, others)))
+                self.assertEqual(self.oracle(lines, others), [line for line in got if line.startswith("AFTER")])
 
     def oracle(self, lines, others):
         """The first turn after which a line of the dumps differs that did not differ before the first turn."""
@@ -552,71 +553,6 @@ class Answers(Case):
         self.assertEqual((3, 3, 0), (history.older.count, history.kept.count, history.ahead.count))
 
 
-class Table(Case):
-    """The table of what each code reads and writes, against the program."""
-
-    def random_state(self, code, trial, choose):
-        """Lines of a machine with an instruction of this code at P of PP 00, before its turn, or in its block."""
-        d = choose.choice((0, 0o14, 0o15, choose.randrange(64))) if code < 0o64 or trial > 7 else 5
-        first, m = choose.choice((0, 0o100, 0o7776)), choose.randrange(CELLS)
-        lines = [f"SET M 0 {at:o} {' '.join(f'{choose.randrange(CELLS):o}' for _ in range(8))}" for at in range(0, 0o100, 8)]
-        lines += [f"SET C {at:o} {choose.randrange(1 << 60):o}" for at in range(0o20)]
-        lines += [f"SET M 0 {first:o} {code:02o}{d:02o} {m:o}", f"SET P 0 {first:o}", f"SET A 0 {choose.choice((0, 3, choose.randrange(1 << 18))):o}"]
-        lines += [f"SET H {number:o} {'IEFX'[(trial + number) % 4]} {choose.randrange(CELLS):o}" for number in range(12)]
-        return lines + ["STEP 12"] * (trial % 3 if code in IN_BLOCK else 0)
-
-    def places(self, effects, processor, cell):
-        """The places that effects write, but for P, as `changes --turns` has them."""
-        found = set()
-        for place, _, _ in effects:
-            some = processor.cells(place, cell)
-            first = int(processor.registers["A"], 8)
-            if some:
-                found |= {f"M 00 {(some[0] + at) % CELLS:04o}" for at in range(some[1])}
-            elif place in ("C", "C20"):
-                found |= {f"C {(first + at) % 0o1000000:06o}" for at in range(int(place[1:] or "1"))}
-            elif place == "F20":
-                found |= {f"XP {at:02o}" for at in range(0o20)}
-            else:
-                found.add(f"{place} {processor.channel if place in 'HS' else 0:02o}")
-        return found
-
-    def test_each_changed_place_is_in_it(self):
-        console, choose = Console([program(), "--reader", "0", "--printer", "1"]), random.Random(7)
-        for code in range(0o100):
-            for trial in range(12 if code in IN_BLOCK else 8 if code >= 0o64 else 2):
-                lines = self.random_state(code, trial, choose)
-                console.perform_all(lines)
-                console.advance(-console.slot() % 10)
-                self.one_turn(console, lines)
-        console.end()
-
-    @staticmethod
-    def look(console, old_registers=None):
-        """The numbers that the processor may change, without P, and with the states of channels by themselves."""
-        numbers = look(console, 0, 0o100000, old_registers)
-        for line in console.channels()[2:-1]:  # without those of the devices, and the clock
-            numbers[line[:4]], numbers[f"S {line[2:4]}"] = line[7:], line[5]
-        return {place: number for place, number in numbers.items()
-                if place.split()[0] in ("M", "A", "Q", "PHASE", "C", "XP", "H", "S") and place not in ("H 00", "H 01", "H 14")}
-
-    def one_turn(self, console, lines):
-        processor = processor_at(console, 0)
-        before = self.look(console)
-        console.advance(1)
-        after = self.look(console, processor.registers)
-        effects = list(processor.row.effects)
-        if processor.phase:
-            effects += [*Effect.all_of(END_OF_BLOCK), *(Effect.all_of(END_OF_INPUT) if processor.code == 0o71 else ())]
-        changed = {place for place in before if before[place] != after[place]}
-        wanted = self.places(effects, processor, lambda address: int(before[f"M 00 {address:04o}"], 8))
-        self.assertLessEqual(changed, wanted, (processor.text, processor.registers, lines))
-        for effect in effects:
-            if effect.is_moved and effect.place == "A" and effect.sources == ("X",):
-                (source,) = self.places([effect._replace(place="X")], processor, lambda address: int(before[f"M 00 {address:04o}"], 8))
-                self.assertEqual(f"00{before[source]}", after["A 00"], processor.text)
-
-
 class Refusals(Case):
     def test_each_tool(self):
         """No tool is silent about a refused line of its script."""
@@ -644,7 +580,8 @@ class Messages(Case):
         (("words", "--dump", "0"), "7776 0001 0002 0003\n", "line 1 (decimal) is no row of the dump"),
         (("deck",), "A" * 161, "more than 160"), (("deck",), "A\n" * 2001, "at most 2000"),
         (("compare",), "", "give two scripts"), (("compare", "a"), "", "give two scripts"), (("compare", "a", "b", "c"), "", "give two scripts"),
-        (("compare", "--other-deck", "a", "b", "c", "d"), "", "give two scripts"), (("load", "0", "100"), "* nothing\n", "no word"), (("load", "0", "100"), "1\n10000\n", "line 2 (decimal): 10000 is no"),
+        (("compare", "--other-deck", "a", "b", "c", "d"), "", "give two scripts"),
+        (("load", "0", "100"), "* nothing\n", "no word"), (("load", "0", "100"), "1\n10000\n", "line 2 (decimal): 10000 is no"),
         (("load", "0", "100"), "0 " * 4097, "more than the 10000 cells"), (("load", "12", "0"), "1", "12 is no processor"),
         (("load", "0"), "1", "give a processor and a cell"), (("load", "--packed", "0", "0"), "A", "do not end with a word"),
         (("load", "--packed", "0", "0"), "AB", "do not end with a word"), (("load", "--two-bytes", "0", "0"), "A", "not two"),

@@ -11,9 +11,9 @@ from .support import PYTHON, TOP, Case, program
 from .terminal import Terminal
 
 # Each tool with words that are right.
-WITH_SIMULATOR = {"changes": ["M", "0", "106"], "save": ["0", "0", "1"], "compare": ["--other-panel", "examples/dead-start/panel"],
-                  "show": [], "state": [], "talk": [], "trace": [], "until": ["P", "0", "=", "1"],
-                  "waits": []}
+WITH_SIMULATOR = {"changes": ["M", "0", "106"], "origin": ["M", "0", "106"], "save": ["0", "0", "1"],
+                  "compare": ["--other-panel", "examples/dead-start/panel"], "show": [], "state": [], "talk": [], "trace": [],
+                  "until": ["P", "0", "=", "1"], "waits": []}
 WITH_SIMULATOR["film"] = ["-o", "FILM"]  # a file in the room of the test
 ON_TERMINAL = {"panel": []}
 WITHOUT = {"deck": [], "load": ["0", "100"], "symbols": [], "words": ["--dump", "0"]}
@@ -146,7 +146,10 @@ class Hands(HandsCase):
         """An interrupt ends the simulator too, which here waits for a writer of its deck; its message names a file without escapes."""
         deck = os.path.join(self.folder, "fifo")
         os.mkfifo(deck)
-        tool = subprocess.Popen([*PYTHON, os.path.join(TOP, "tools", "state"), "--deck", deck], stdin=subprocess.PIPE, env={**self.environment, "PP6600_PATIENCE": "30"})
+        tool = subprocess.Popen([*PYTHON, os.path.join(TOP, "tools", "state"), "--deck", deck], stdin=subprocess.PIPE,
+                                env={**self.environment, "PP6600_PATIENCE": "30"},
+                                preexec_fn=lambda: signal.signal(signal.SIGINT, signal.SIG_DFL))  # ignored in the background
+        self.addCleanup(tool.kill)
         time.sleep(1)
         self.assertEqual([deck], self.decks_of_processes(deck))
         tool.send_signal(signal.SIGINT)

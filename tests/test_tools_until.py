@@ -60,8 +60,10 @@ class Places(Case):
 class Words(Case):
     CASES = (("", "a condition is"), ("P 0", "a condition is"), ("P 0 = 8", "8 is not octal"), ("P 0 = 10000", "10000 is more than P 0 can be"),
              ("P 0 outside 5 4", "5 is over 4"), ("P 0 outside 5", "a condition is"), ("H 12 is Q", "a channel is I, E, F or X"),
-             ("P 0 is F", "a condition is"), ("PP 12 waits", "12 is no processor"), ("PP 3 in the block", "a condition is"), ("PP 3 not waits", "a condition is"),
-             ("P 0 changes state", "state is too much"), ("PP", "a condition is"), ("P 0 = 1 and", "a condition is"), ("Z 0 = 1", "a place is"), ("M 0 20 10 changes", "10 is before"),
+             ("P 0 is F", "a condition is"), ("PP 12 waits", "12 is no processor"),
+             ("PP 3 in the block", "a condition is"), ("PP 3 not waits", "a condition is"),
+             ("P 0 changes state", "state is too much"), ("PP", "a condition is"), ("P 0 = 1 and", "a condition is"),
+             ("Z 0 = 1", "a place is"), ("M 0 20 10 changes", "10 is before"),
              ("H 15 = 1", "no channel"), ("M 0 20 10 = 5", "a condition is"))
 
     def test_refused(self):
@@ -157,8 +159,12 @@ class Oracle:
 class Against(Case):
     """Random machines, and conditions of each kind."""
 
-    PARTS = ("P {n} = {a}", "P {n} outside 0 {a}", "P {n} != {a}", "A {n} > 5", "Q {n} changes", "M {n} {a} = 1", "M {n} {a} changes", "M {n} 0 17 changes",
-             "H 5 is {s}", "H 6 is {s}", "H 5 > 3", "H 14 = {a}", "H 14 changes", "PP {n} waits", "PP 0 waits", "PP {n} in a block", "PP {n} not in a block", "H 5 changes", "H 5 changes state", "H 6 changes state")
+    PARTS = ("P {n} = {a}", "P {n} outside 0 {a}", "P {n} != {a}", "A {n} > 5", "Q {n} changes", "M {n} {a} = 1", "M {n} {a} changes",
+             "M {n} 0 17 changes",
+             "H 5 is {s}", "H 6 is {s}", "H 5 > 3", "H 14 = {a}", "H 14 changes", "PP {n} waits", "PP 0 waits", "PP {n} in a block",
+             "PP {n} not in a block", "H 5 changes", "H 5 changes state", "H 6 changes state")
+
+    SETTINGS = ("SET H 5 E", "SET P 0 3", "SET A 1 5", "BACK 3", "SET H 6 F 7", "SET M 0 0 7505")
 
     def script(self, choose):
         """Programs of instructions on channels and in memory, with settings between the turns."""
@@ -168,7 +174,7 @@ class Against(Case):
                      for _ in range(8)]
             lines += [f"SET M {number} 0 {' '.join(cells)}", f"SET M {number} 10 {choose.choice(('300', '0370', '0'))}"]
         for _ in range(choose.randrange(1, 5)):
-            lines += [f"STEP {choose.randrange(1, 0o140):o}", choose.choice(("SET H 5 E", "SET P 0 3", "SET A 1 5", "BACK 3", "SET H 6 F 7", "SET M 0 0 7505"))]
+            lines += [f"STEP {choose.randrange(1, 0o140):o}", choose.choice(self.SETTINGS)]
         return [*lines, f"STEP {choose.randrange(1, 0o100):o}"]
 
     def test_random_conditions(self):

@@ -13,6 +13,7 @@ CELLS = 0o10000  # of a processor
 ROW = 8  # cells in a row of a dump
 FRAME_WORDS = 16
 CENTRAL_ADDRESSES = 0o1000000  # those that A can hold
+SYMBOLS_OF_PAPER = 0o200000  # at most
 REGISTERS = ("P", "A", "Q", "PHASE")
 STATES = "IEFX"  # of a channel: inactive, empty, full with data, full with a function code
 
@@ -33,29 +34,39 @@ KINDS = {
     "C": Kind((CENTRAL_ADDRESSES,), (6,), 20),
     "H": Kind((CLOCK + 1,), (2,), 4),
 }
+# Places that can't be watched: words of the frame, symbols of the paper, the phases of processors, and the states of channels.
+UNWATCHED = {
+    "XP": Kind((FRAME_WORDS,), (2,), 20),
+    "LP": Kind((SYMBOLS_OF_PAPER,), (6,), 2),
+    "PHASE": Kind((PROCESSORS,), (2,), 4),
+    "S": Kind((CHANNELS,), (2,), 1),
+}
+ALL_KINDS = {**KINDS, **UNWATCHED}
 
 
 class Place(NamedTuple):
-    """A place that can be watched. Places have an order: by kind, then by their numbers."""
+    """A place of the machine. Places have an order: by kind, then by their numbers."""
 
     kind: str
     numbers: tuple
 
     @classmethod
     def parse(cls, text):
-        """Returns the place of a text that is one, as M 0 106 or A 00."""
+        """Returns the place of a text that is one which can be watched, as M 0 106 or A 00."""
         place, rest = cls.first_of(text.split())
         if rest:
             raise Failure(f"{text} does not name one place")
         return place
 
     @classmethod
-    def first_of(cls, words):
-        """Returns the place that the words begin with, and the words after it. The simulator says which places there are."""
+    def first_of(cls, words, also=()):
+        """Returns the place that the words begin with, and the words after it: one that can be watched, or of kinds that are
+        allowed also. The simulator says which places there are."""
         kind = words[0].upper() if words else ""
-        end = 1 + len(KINDS[kind].sizes) if kind in KINDS else 0
+        end = 1 + len(ALL_KINDS[kind].sizes) if kind in (*KINDS, *also) else 0
         if not 0 < end <= len(words):
-            raise Failure("a place is M n a, A n, P n, Q n, C a or H c, as on a console line")
+            more = f"; also {' or '.join(also)} with a number" if also else ""
+            raise Failure(f"a place is M n a, A n, P n, Q n, C a or H c, as on a console line{more}")
         for number in words[1:end]:
             if not re.fullmatch("[0-7]+", number):
                 raise Failure(f"{number} is not octal")
@@ -64,7 +75,7 @@ class Place(NamedTuple):
     @property
     def text(self):
         """The place as answers have it, as M 00 0106."""
-        return " ".join([self.kind, *(f"{number:0{width}o}" for number, width in zip(self.numbers, KINDS[self.kind].widths))])
+        return " ".join([self.kind, *(f"{number:0{width}o}" for number, width in zip(self.numbers, ALL_KINDS[self.kind].widths))])
 
     @property
     def short(self):
@@ -74,7 +85,12 @@ class Place(NamedTuple):
     @property
     def digits(self):
         """How many digits the number at the place has."""
-        return KINDS[self.kind].digits
+        return ALL_KINDS[self.kind].digits
+
+    @property
+    def exists(self):
+        """Whether the machine has it; of a central word and a symbol of the paper it depends on the machine."""
+        return all(number < size for number, size in zip(self.numbers, ALL_KINDS[self.kind].sizes))
 
 
 # Of each answer's lines the form, a regular expression; here each n is an octal digit.

@@ -4,6 +4,7 @@ clock, the frame, both devices, and the central words from A to A+17, for a turn
 from .answers import CENTRAL_ADDRESSES, FRAME_WORDS, REGISTERS
 from .history import turns_of
 from .run import Replay
+from .whole import device
 
 
 def central_words(run, registers, size):
@@ -16,12 +17,6 @@ def central_words(run, registers, size):
     if last >= CENTRAL_ADDRESSES:
         lines += run.central(0, last - CENTRAL_ADDRESSES)
     return {f"C {address}": word for _, address, word in (line.split() for line in lines)}
-
-
-def device(line, names):
-    """Returns the fields of a reader's or a printer's line."""
-    words = line.split()
-    return {f"{words[0]} {name}": words[words.index(name) + 1] for name in names}
 
 
 def look(run, slot, size, old_registers=None):

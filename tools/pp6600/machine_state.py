@@ -59,6 +59,12 @@ class Memory:
         start = 5 + 5 * (address % ROW)
         return self.rows[address // ROW][start:start + 4]
 
+    @property
+    def digits(self):
+        """The digits of all cells, and then those of cell 0000 once more."""
+        text = "".join(row[5:] for row in self.rows).replace(" ", "")
+        return text + text[:4]
+
     def find(self, words, first):
         """Returns the first address, from `first` on and round to it, at which the words are; or None."""
         cells = [word for row in self.rows for word in row[5:].split()]

@@ -10,7 +10,7 @@ from typing import NamedTuple
 from .answers import CLOCK, PROCESSORS
 from .changes import CLOSE_STEPS, CLOSE_TURNS, NEAR, TOO_FEW
 from .command_line import Failure, arguments, count, script_lines, simulator, words_after, write
-from .conditions import Condition, Waits
+from .conditions import Condition
 from .console import MARK, MOST_TURNS
 from .history import STEP, turns_of
 from .instructions import Processor, processor_at
@@ -19,8 +19,8 @@ from .run import Replay, performed
 
 DESCRIPTION = """Shows the first turn at whose end a condition holds and at whose beginning it did not. A condition is PLACE = 105,
 also != < > <= >= (in quotation marks, for the shell), PLACE outside 100 117 or inside, PLACE changes, M 0 100 117 changes,
-H 12 is F, H 12 changes state, PP 3 waits, PP 3 in a block or not in a block; conditions are joined by and. A place is M n a, A n, P n, Q n, C a or H c. All numbers
-are octal. A line has the turn, counted from 1, the processor whose turn it was, its P before the turn, the name of its
+H 12 is F, H 12 changes state, PP 3 waits, PP 3 in a block or not in a block; conditions are joined by and. A place is
+M n a, A n, P n, Q n, C a or H c. All numbers are octal. A line has the turn, counted from 1, the processor whose turn it was, its P before the turn, the name of its
 instruction, and the numbers before and after. A processor waits if its latest turn was a wait. If there is no such turn, the
 tool writes NONE and ends with 1."""
 

@@ -11,6 +11,7 @@ from ..run import Run, Script
 from .footprint import Footprint
 from .machine import Machine
 from .places import LAYOUT
+from .sources import TurnWritten, Written
 
 TURN, LINE, JUMP = range(3)  # the kinds of a moment: a turn, another action, a BACK or FORWARD
 MOST_MOMENTS = 0o1000000
@@ -106,6 +107,7 @@ class Film:
         self.run = Run(words)
         self.machine = Machine()
         self.moments = []  # each a kind and its changes; the first is the opening
+        self.writes = []  # what each moment wrote
         self.jumps = {}  # the moment that a BACK or FORWARD leads to, or None if it is before the film
         self.first_moments, self.lengths = {}, {}  # of each line that is filmed: its first moment, and how many it has
         self.turns_passed = 0  # of the first line that is filmed
@@ -161,9 +163,10 @@ class Film:
         self._read_all(bool(self.run.history.in_effect()))
         self._add(LINE)
 
-    def _add(self, kind):
+    def _add(self, kind, written=None):
         """Ends a moment."""
         self.moments.append((kind, self.machine.take_changes()))
+        self.writes.append(written or Written())
         self.unchecked += 1
         if self.unchecked >= BETWEEN_CHECKS:
             self._check(False)
@@ -178,20 +181,21 @@ class Film:
         else:
             self._jump(line.split()[0].upper(), count)
 
-    def _done(self, kind):
+    def _done(self, kind, written):
         """Notes an action that can be taken back."""
         self.history.append(len(self.moments))
         self.ahead.clear()
-        self._add(kind)
+        self._add(kind, written)
 
     def _turn(self):
         processor = self.machine.numbers[LAYOUT["slot"]]
         footprint = Footprint(self.machine, processor, self.printer)
+        written = TurnWritten(self.machine, processor, footprint.processor, (self.reader, self.printer))
         answer = self.run.act("STEP 1", footprint.dumps(self.size))
         if not answer[0].startswith("TURNS 1 "):
             raise Failure(f"the simulator answers {answer[0]} to STEP 1")
         self.machine.read(answer, processor)
-        self._done(TURN)
+        self._done(TURN, written.after(self.size))
 
     def _line(self, line):
         """A SET, WATCH, UNWATCH or DEADSTART."""
@@ -204,7 +208,9 @@ class Film:
         if words[0] == "DEADSTART":
             for number in range(PROCESSORS):
                 self._read(f"DUMP M {number:o} 0 15", number)
-        self._done(LINE)
+        written = Written()
+        written.add_line(words)
+        self._done(LINE, written)
 
     @staticmethod
     def _dumps_after(words):

@@ -32,9 +32,28 @@ def _streams(moments):
     return kinds, places, growths
 
 
-def encode(about, moments):
+def _of_writes(writes):
+    """What the moments wrote as a row of bytes: of each how many writes; of each write the distance of its place from that of the
+    write before, what it is, and how many sources; of each source the distance of its place from that of the write, and parts."""
+    out = bytearray()
+    for written in writes:
+        _number(out, written.count)
+        numbers, last = iter(written.row), 0
+        for place in numbers:
+            _signed(out, place - last)
+            last = place
+            _number(out, next(numbers))
+            sources = next(numbers)
+            _number(out, sources)
+            for _ in range(sources):
+                _signed(out, next(numbers) - place)
+                _number(out, next(numbers))
+    return out
+
+
+def encode(about, moments, writes):
     """The text of a film; `about` is what else the page needs, as JSON takes it."""
-    streams = _streams(moments)
+    streams = [*_streams(moments), _of_writes(writes)]
     head = json.dumps({**about, "streams": [len(stream) for stream in streams]}, separators=(",", ":")).encode("ascii")
     whole = len(head).to_bytes(4, "little") + head + b"".join(streams)
     text = base64.b64encode(zlib.compress(whole, 9)).decode("ascii")
@@ -42,8 +61,8 @@ def encode(about, moments):
 
 
 def decode(text):
-    """What `encode` was given, but for the numbers before each change: what else the page needs, and of each moment its
-    kind and a list of places with the growths of their numbers."""
+    """What `encode` was given, but for the numbers before each change and the writes: what else the page needs, and of each moment
+    its kind and a list of places with the growths of their numbers."""
     whole = zlib.decompress(base64.b64decode(text))
     size = int.from_bytes(whole[:4], "little")
     about = json.loads(whole[4:4 + size])
@@ -51,7 +70,7 @@ def decode(text):
     for length in about["streams"]:
         rows.append(_numbers(whole[at:at + length]))
         at += length
-    kinds, places, growths = rows
+    kinds, places, growths, _ = rows
     return about, [(head & 3, _changes(head >> 2, places, growths)) for head in kinds]
 
 

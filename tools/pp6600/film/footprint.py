@@ -16,7 +16,7 @@ class Footprint:
         self.cells = []  # the first and the last of each range
         self.central = 0  # so many words from A on
         self.frame = False
-        processor = self._processor()
+        self.processor = processor = self._processor()
         for effect in processor.row.effects:
             self._add(processor, effect.place)
         self.a = int(processor.registers["A"], 8)
@@ -26,7 +26,7 @@ class Footprint:
         first = register(self.number, "P")
         numbers = self.machine.numbers[first:first + len(REGISTERS)]
         words = [f"{self._word(numbers[0] + at):04o}" for at in (0, 1)]
-        return Processor({name: f"{number:o}" for name, number in zip(REGISTERS, numbers)}, words)
+        return Processor({name: f"{number:0{6 if name == 'A' else 4}o}" for name, number in zip(REGISTERS, numbers)}, words)
 
     def _word(self, address):
         return self.machine.numbers[cell(self.number, address)]

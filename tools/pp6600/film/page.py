@@ -16,9 +16,10 @@ from ..sentences import ROWS, STATE_NAMES, WAITS, WAITS_EVER
 from ..text_files import bytes_of, lines_of
 from .data import encode
 from .places import LAYOUT, MODES
+from .sources import CENTRAL, CONSTANT_NAMES
 
 WEB = os.path.join(os.path.dirname(os.path.abspath(__file__)), "web")
-SCRIPTS = ("state", "places", "machine", "program", "lanes", "controls")  # the page's script, in the order in which it is joined
+SCRIPTS = ("state", "places", "machine", "program", "origin", "lanes", "controls")  # the page's script, in the order in which it is joined
 LONGEST_ANSWER = 40  # lines of one that a page keeps
 
 
@@ -75,7 +76,7 @@ def text_of(film, asked, script):
     """Returns the text of a film of the script, which is given as bytes, with the options that were asked for."""
     given = carried(asked, script)
     named = {"labels": symbols_of(asked).tables()}
-    return encode({**tables(), **named, **given, **setup(given["files"]), **of_machine(film), **of_script(film)}, film.moments)
+    return encode({**tables(), **named, **given, **setup(given["files"]), **of_machine(film), **of_script(film)}, film.moments, film.writes)
 
 
 def tables():
@@ -83,7 +84,8 @@ def tables():
     return {"layout": LAYOUT, "names": NAMES, "two_words": TWO_WORDS, "block_codes": list(IN_BLOCK), "completes": COMPLETES,
             "blocks": BLOCK_GOES_ON, "waits_for": WAITS_FOR, "not_there": [NOT_THERE, NOT_THERE_IN_BLOCK], "symbols": SYMBOLS,
             "relative_jumps": list(RELATIVE_JUMPS), "sentences": ROWS, "wait_sentences": [WAITS, WAITS_EVER],
-            "state_texts": STATE_NAMES, "modes": MODES}
+            "state_texts": STATE_NAMES, "modes": MODES, "constants": CONSTANT_NAMES,
+            "first_central": CENTRAL}
 
 
 def carried(asked, script):

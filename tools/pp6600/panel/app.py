@@ -11,6 +11,7 @@ from ..keyboard import FIRST_WORDS, card
 from ..timeline import REPLAYED
 from ..listing import AllSymbols
 from .keys import LINES, Facts, help_lines
+from .origins import Origin, OriginPage, Stopped
 from .page import Page
 from .prompt import Prompt
 from .remarks import in_width, remarks
@@ -109,7 +110,9 @@ class Panel:
     def press(self, key):
         """Performs a key, by its name."""
         if self.page:
-            self.page = self.page if self.page.press(key, self.rows) else None
+            page, self.page = self.page, self.page if self.page.press(key, self.rows) else None
+            if self.page is None and isinstance(page, OriginPage) and page.is_asked_to_go:
+                self.go_before(page)
         elif self.prompt:
             self.press_in_prompt(key)
         elif self.asked:
@@ -172,6 +175,8 @@ class Panel:
             view.as_program = True
         elif key in PROMPTS:
             self.prompt = Prompt(key, PROMPTS[key], self.typed[key])
+        elif key == "c":
+            self.show_origin()
         elif key == "L":
             self.show_log()
         elif key == "?":
@@ -319,6 +324,33 @@ class Panel:
 
     def show_log(self):
         self.page = Page("All lines and answers", log_lines(self.session.log, None), at_end=True)
+
+    def show_origin(self):
+        """Opens the page of where the number at the cursor came from."""
+        self.shown_at = time.monotonic()
+        try:
+            self.page = OriginPage(Origin(self.session, self.view.place(), self.searched))
+        except Stopped:
+            self.message = "the search was stopped"
+        except Failure as failure:  # of the search's own simulator
+            self.message = str(failure)
+
+    def searched(self, turn, turns):
+        """Shows now and then how far back a search is, and ends it if the operator stops it."""
+        if time.monotonic() - self.shown_at > BETWEEN_REPORTS:
+            self.message = f"searched back to turn {turn:o} of {turns:o}; Ctrl-C stops"
+            self.show()
+            self.shown_at = time.monotonic()
+        if self.is_stopped():
+            raise Stopped
+
+    def go_before(self, page):
+        """Goes to before the action that wrote the number of the step chosen on a page."""
+        count = page.origin.undone(page.chosen)
+        if count is None:
+            self.message = f"nothing wrote it: {page.lines[page.at].text.strip()}"
+        else:
+            self.send([f"BACK {count:o}"])
 
     def search(self, text):
         """Moves the cursor to the next words of this kind; without a text, of the kind that was searched before."""

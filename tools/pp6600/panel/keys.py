@@ -112,6 +112,7 @@ OTHER_KEYS = (
     (("i", "d"), "memory as instructions, or as numbers again; with display code"),
     (("g",), "go to an address, a label or a place: 106, M 3 106, C 1000, A 0"),
     (("/",), "search words from the cursor on; / and Enter: the next ones"),
+    (("c",), "where the cursor's number came from; Enter: to before a step"),
     ((":",), "a line of the console; Up and Down: lines typed before"),
     (("w",), "w FILE saves what was sent as a script; w! FILE writes over it"),
     (("L",), "all lines and answers"),

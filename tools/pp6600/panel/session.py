@@ -7,6 +7,7 @@ from ..answers import Place
 from ..console import MOST_TURNS, has_no_answer
 from ..failure import Failure
 from ..machine_state import MachineState, questions
+from ..origin.positions import ScriptLine
 from ..timeline import Timeline
 
 NEW = ("OK", "TURNS")  # the first words of answers to lines that discard what is ahead
@@ -48,6 +49,7 @@ class Session:
     def __init__(self, words):
         self.simulator = Timeline(words)
         self.size = self.simulator.size_of_central()
+        self.lines_sent = 0
         self.saved = (0, 0)  # the lines that are in a file
         self.log = []
         self.logged = 0  # lines of the log
@@ -94,7 +96,8 @@ class Session:
 
     def send(self, line):
         """Sends a line, and returns its answer."""
-        answer = self.simulator.move(line)
+        self.lines_sent += 1
+        answer = self.simulator.move(ScriptLine(line, self.lines_sent))
         if line.strip():
             self.log_line(line, answer)
         return answer

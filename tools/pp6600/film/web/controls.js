@@ -3,6 +3,7 @@
 function choose(place) {
   shown.chosen = place;
   shown.marks = place && momentsThatChanged(place.places);
+  if (shown.origin) showNoOrigin();
   byId("place").value = place ? place.name : "";
   accept("place", "");
   byId("chosen").hidden = !place;
@@ -32,6 +33,7 @@ function changeAhead(last) {
 
 function showChosen() {
   const place = shown.chosen;
+  showOriginHere();
   if (!place) return;
   const [last, previous] = changesBack(), { next, first, cut } = changeAhead(last);
   const by = (moment) => `by ${makerText(moment, place.places[0])}.`;
@@ -201,7 +203,7 @@ const KEYS = {
   " ": () => play(!shown.playing), "+": () => changeRate(1), "=": () => changeRate(1), "-": () => changeRate(-1),
   ",": byHand(() => moveLine(-1)), ".": byHand(() => moveLine(1)),
   "[": byHand(() => moveToChange(-1)), "]": byHand(() => moveToChange(1)),
-  "/": () => byId("place").select(), g: () => byId("turn").select(), "?": () => showHelp(byId("help").hidden),
+  o: () => findOrigin(), "/": () => byId("place").select(), g: () => byId("turn").select(), "?": () => showHelp(byId("help").hidden),
   i: () => nextForm(), f: () => followTurns(), Escape: () => (byId("help").hidden ? chooseNone() : showHelp(false)),
 };
 
@@ -233,7 +235,7 @@ function buildControls() {
   byId("rate").value = 1;
   byId("rate").onchange = () => changeRate(0);
   const buttons = { first: "Home", "round-back": "Shift+ArrowLeft", back: "ArrowLeft", play: " ", forward: "ArrowRight",
-    "round-forward": "Shift+ArrowRight", last: "End", "previous-change": "[", "next-change": "]", "help-button": "?" };
+    "round-forward": "Shift+ArrowRight", last: "End", "previous-change": "[", "next-change": "]", "came-from": "o", "help-button": "?" };
   for (const [id, key] of Object.entries(buttons)) byId(id).onclick = KEYS[key];
   byId("choose-none").onclick = chooseNone;
   byId("go-turn").onsubmit = (event) => { event.preventDefault(); goToTyped(); };
@@ -281,13 +283,14 @@ function build() {
 }
 
 async function openFilm() {
-  const [about, heads, places, growths] = await unpack(byId("film").textContent);
+  const [about, heads, places, growths, writes] = await unpack(byId("film").textContent);
   film = { ...about, at: 0, phaseMarks: [] };
   film.jumps = new Map(about.jumps.map(([moment, target, turn]) => [moment, [target, turn]]));
   film.centralIndex = new Map(film.central.map((address, at) => [address, at]));
   film.count = heads.length;
   makeTables();
   fillRows(heads, places, growths);
+  fillWrites(writes);
   film.at = film.count - 1;
   film.lineAt = linesOfMoments();
   film.highestTurn = film.turn.reduce((one, other) => Math.max(one, other), 0);

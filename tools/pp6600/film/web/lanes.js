@@ -144,6 +144,7 @@ function drawLanes() {
   drawn.forEach((lane, at) => drawLane(context, colours, lane, GAP + (at + 1) * (LANE + GAP), width));
   drawLines(context, colours, height);
   if (shown.chosen) drawChanges(context, colours, GAP + (rows - 1) * (LANE + GAP));
+  if (shown.origin) drawOrigin(context, colours, drawn);
   showFold();
   canvas.setAttribute("aria-label", `Lanes of the processors and channels from moment ${octal(lanes.from)} to ${octal(lanes.to - 1)}.`);
 }

@@ -290,6 +290,7 @@ function showReader() {
   columnCells.forEach((cell, at) => {
     setText(cell, film.deck[card] ? four(film.deck[card][at] || 0) : "");
     cell.className = film.deck[card] && at === column ? "next-column" : at < column ? "past-column" : "";
+    cell.classList.toggle("origin", isOriginColumn(card, at));
   });
 }
 

@@ -1,0 +1,251 @@
+// ---- where a number came from
+
+const MOST_STEPS = 32;
+const HAVE_AN_ORIGIN = ["M", "A", "P", "Q", "H", "C", "XP"];
+
+// Fills the rows of what each moment wrote: of each write its place, what it is, and its sources.
+function fillWrites(numbers) {
+  const starts = new Uint32Array(film.count + 1), places = [], whats = [], firsts = [0], sources = [], parts = [];
+  let at = 0;
+  for (let moment = 0; moment < film.count; moment++) {
+    let place = 0;
+    for (let count = numbers[at++]; count > 0; count--) {
+      places.push((place += signed(numbers[at])));
+      whats.push(numbers[at + 1]);
+      const last = at + 3 + 2 * numbers[at + 2];
+      for (at += 3; at < last; at += 2) {
+        sources.push(place + signed(numbers[at]));
+        parts.push(numbers[at + 1]);
+      }
+      firsts.push(sources.length);
+    }
+    starts[moment + 1] = places.length;
+  }
+  film.writes = { starts, places: Int32Array.from(places), whats: Uint8Array.from(whats), firsts: Uint32Array.from(firsts),
+    sources: Int32Array.from(sources), parts: Uint8Array.from(parts) };
+}
+
+const nameOfWritten = (place) => (place >= film.first_central ? `C ${octal(place - film.first_central, 6)}` : nameOf(place));
+const writtenPlace = (place) => (place.kind === "C" ? film.first_central + place.numbers[0] : place.places[0]);
+const isFrame = (place) => place >= film.layout.frame && place < film.layout.reader;
+const isWord = (place) => place >= film.first_central || isFrame(place);
+
+// The latest write of a place in effect at a moment: its moment and its number among the writes, -1 for the clock. The moment is 0
+// if nothing in the film wrote it, and -1 if what wrote it may be before the film.
+function lastWrite(place, moment) {
+  const { starts, places } = film.writes;
+  let at = resolve(moment);
+  for (; at > 0; at = resolve(at - 1)) {
+    if (place === film.layout.clock && film.kinds[at] === TURN && changedIn(at, place, place)) return { moment: at, write: -1 };
+    for (let write = starts[at + 1] - 1; write >= starts[at]; write--) if (places[write] === place) return { moment: at, write };
+  }
+  return { moment: at, write: -1 };
+}
+
+// The sources of a write, each a place with the parts that are wanted, as bits; 0 is the whole. Of the write some parts are wanted.
+function sourcesOf(write, wanted) {
+  const { firsts, sources, parts, places, whats } = film.writes, first = firsts[write];
+  const all = [...sources.subarray(first, firsts[write + 1])].map((place, at) => ({ place, parts: parts[first + at] }));
+  if (!wanted || !(whats[write] & 1) || !isWord(places[write])) return all;
+  if (all.length > 1) return all.filter((_, at) => wanted & (1 << at));
+  return all.map(({ place, parts: some }) => ({ place, parts: some ? some & wanted : wanted })).filter((one) => one.parts);
+}
+
+const isTurnStep = (step) => step.moment > 0 && film.kinds[step.moment] === TURN && step.write >= 0;
+const isDevice = (step) => isTurnStep(step) && (film.writes.whats[step.write] & 2) !== 0;
+
+// Whether a step is the same instruction counting the same place once more.
+function countsAgain(step, sources, earlier) {
+  const { moment } = step, other = earlier.moment;
+  return sources.length === 1 && sources[0].place === step.place && !(film.writes.whats[step.write] & 3) && earlier.write >= 0
+    && film.kinds[other] === TURN && film.writes.whats[earlier.write] === film.writes.whats[step.write]
+    && film.processor[other] === film.processor[moment] && film.word[other] === film.word[moment]
+    && film.inBlock[other] === film.inBlock[moment]
+    && (film.inBlock[moment] ? issueOf(other) === issueOf(moment) : film.p[other] === film.p[moment]);
+}
+
+// The step that wrote a place, with the steps of its sources, the latest first, up to so many.
+function originOf(place, moment) {
+  const known = new Map(), root = { place, parts: 0, ...lastWrite(place, moment) }, open = [root];
+  for (let count = 0; open.length && count < MOST_STEPS;) {
+    open.sort((one, other) => one.moment - other.moment || one.write - other.write);
+    const link = open.pop(), key = `${link.place} ${link.moment} ${link.write} ${link.parts}`;
+    link.step = known.get(key);
+    if (link.step) continue;
+    link.step = { ...link, step: null, links: [], times: 1, earliest: link.moment };
+    known.set(key, link.step);
+    if (!isTurnStep(link.step)) continue;
+    count++;
+    follow(link.step);
+    open.push(...link.step.links);
+  }
+  return root;
+}
+
+function follow(step) {
+  const sources = isDevice(step) ? [] : sourcesOf(step.write, step.parts);
+  let last = step;
+  for (;;) {
+    const earlier = sources.length === 1 ? lastWrite(sources[0].place, last.moment - 1) : null;
+    if (!earlier || !countsAgain(step, sources, earlier)) break;
+    last = earlier;
+    step.times++;
+    step.earliest = earlier.moment;
+  }
+  step.links = sources.map((source) => ({ ...source, ...lastWrite(source.place, last.moment - 1) }));
+}
+
+// What a function returns at another moment.
+function atMoment(moment, ask) {
+  const here = film.at;
+  goTo(moment);
+  const answer = ask();
+  goTo(here);
+  return answer;
+}
+
+// The card and the column that the reader put on its channel in a turn, or null for a status.
+function columnOf(step) {
+  if (!isDevice(step) || step.place !== film.layout.words + film.reader) return null;
+  return atMoment(step.moment, () => {
+    const { reader } = film.layout, isReading = film.modes.reader[film.numbers[reader + 2]] === "READING";
+    return isReading && { card: film.numbers[reader], column: film.numbers[reader + 1] - 1 };
+  }) || null;
+}
+
+const PART_NAMES = (parts) => [0, 1, 2, 3, 4].filter((part) => parts & (1 << part)).join(" ");
+
+function sourceText(link) {
+  const name = nameOfWritten(link.place);
+  return isWord(link.place) && link.parts ? `${name} part ${PART_NAMES(link.parts)}` : name;
+}
+
+function constantText(step) {
+  const name = film.constants[(film.writes.whats[step.write] >> 2) & 15], { moment } = step;
+  const d = two(film.word[moment] & 0o77), m = four(film.second[moment]);
+  return { "": "", d: `the constant ${d}`, m: `the constant ${m}`, dm: `the constant ${d}${m}`, return: "the return address",
+    zero: "zero", "no central word": "zero, past the last central word" }[name] || "";
+}
+
+// What wrote a step's number, in words.
+function causeText(step) {
+  if (step.moment < 0 || (step.moment === 0 && film.turns_before)) return "written before the film begins, or never";
+  if (step.moment === 0) return "never written";
+  if (film.kinds[step.moment] === LINE) {
+    const word = film.writes.whats[step.write], text = lineOf(step.moment).text.trim(), isPanel = /^d/i.test(text);
+    const where = `line ${film.lineAt[step.moment] + 1}${isPanel ? "" : ` word ${word}`} (decimal) of the script`;
+    return `${whenText(step.moment)}, ${where}: ${text}${isPanel && word ? `, word ${word} (decimal) of the panel` : ""}`;
+  }
+  if (step.write < 0) return `${whenText(step.moment)}, the clock`;
+  if (isDevice(step)) {
+    const column = columnOf(step);
+    const device = film.devices[step.place - film.layout.words];
+    if (!column) return `${whenText(step.moment)}, the status of the ${device}`;
+    return `${whenText(step.moment)}, the card reader, card ${four(column.card)} column ${octal(column.column, 3)}`;
+  }
+  const times = step.times > 1 ? `, ${octal(step.times)} times since ${whenText(step.earliest)}` : "";
+  const names = [...step.links.map(sourceText), constantText(step)].filter(Boolean).join(" and ") || "zero";
+  const isEnd = film.inBlock[step.moment] && step.place === register(film.processor[step.moment], 0);
+  const verb = isEnd ? "at its end, of " : !(film.writes.whats[step.write] & 1) ? "of " : step.links.length ? "from " : "";
+  return `${whenText(step.moment)}, ${turnText(step.moment)}${times}, ${verb}${names}`;
+}
+
+// The lines of an origin: each a step with its depth and its text. The source at the same place goes on at the same depth.
+function linesOfOrigin(root) {
+  const rows = [], todo = [{ link: root, depth: 0, after: null }], seen = new Set();
+  while (todo.length) {
+    const { link, depth, after } = todo.pop(), { step } = link, name = nameOfWritten(link.place);
+    if (!step) {
+      rows.push({ step: link, depth, after, text: `${name}: further back` });
+      continue;
+    }
+    const number = atMoment(Math.max(0, step.moment), () => textAt(placeNamed(name)));
+    const row = { step, depth, after, text: `${name} ${number}: ${seen.has(step) ? `as above, ${whenText(step.moment)}` : causeText(step)}` };
+    rows.push(row);
+    if (seen.has(step)) continue;
+    seen.add(step);
+    const same = step.links.length === 1 ? step.links : step.links.filter((one) => one.place === step.place).slice(-1);
+    const others = step.links.filter((one) => !same.includes(one));
+    todo.push(...same.map((one) => ({ link: one, depth, after: row })),
+      ...others.reverse().map((one) => ({ link: one, depth: depth + 1, after: row })));
+  }
+  return rows;
+}
+
+// ---- on the page
+
+function findOrigin() {
+  const place = shown.chosen;
+  if (!place || !HAVE_AN_ORIGIN.includes(place.kind)) return;
+  if (shown.origin) return showNoOrigin();
+  shown.origin = linesOfOrigin(originOf(writtenPlace(place), film.at));
+  const list = byId("origin");
+  list.textContent = "";
+  for (const { step, depth, text } of shown.origin) {
+    const item = document.createElement("li"), button = document.createElement("button");
+    button.type = "button";
+    button.className = "line";
+    button.textContent = text;
+    button.disabled = step.moment <= 0;
+    button.onclick = byHand(() => moveTo(step.moment));
+    item.style.marginLeft = `${depth}em`;
+    item.append(button);
+    list.append(item);
+  }
+  list.hidden = false;
+  markOrigin();
+  drawLanes();
+}
+
+function showNoOrigin() {
+  shown.origin = null;
+  byId("origin").hidden = true;
+  markOrigin();
+  drawLanes();
+}
+
+// Marks the lines of the script and the columns of the deck from which the number came.
+function markOrigin() {
+  const steps = (shown.origin || []).map((row) => row.step);
+  const lines = new Set(steps.filter((step) => step.moment > 0 && film.kinds[step.moment] === LINE).map((step) => film.lineAt[step.moment]));
+  lineRows.forEach((row, at) => row.classList.toggle("origin", lines.has(at)));
+  shown.columns = steps.map(columnOf).filter(Boolean);
+  showReader();
+}
+
+const isOriginColumn = (card, column) => (shown.columns || []).some((one) => one.card === card && one.column === column);
+
+function showOriginHere() {
+  [...byId("origin").children].forEach((item, at) => {
+    item.firstChild.toggleAttribute("aria-current", Boolean(shown.origin) && shown.origin[at].step.moment === film.at);
+  });
+  byId("came-from").hidden = !shown.chosen || !HAVE_AN_ORIGIN.includes(shown.chosen.kind);
+  byId("came-from").setAttribute("aria-expanded", Boolean(shown.origin));
+}
+
+// Draws the steps over the lanes: a dot in the lane of what wrote the number, and lines between them.
+function drawOrigin(context, colours, drawn) {
+  const dotOf = ({ moment, write, place }) => {
+    if (moment <= 0 || moment < lanes.from || moment >= lanes.to) return null;
+    const name = film.kinds[moment] !== TURN ? "lines" : isDevice({ moment, write }) ? nameOf(place) : `PP ${two(film.processor[moment])}`;
+    const lane = name === "lines" ? 0 : 1 + drawn.findIndex((one) => one.name === name);
+    return (lane || name === "lines") && { x: LABEL + pixelOf(moment + 0.5), y: GAP + lane * (LANE + GAP) + LANE / 2 };
+  };
+  const around = getComputedStyle(document.body).backgroundColor;
+  const rows = shown.origin.map(({ step, after }) => [dotOf(step), after && dotOf(after.step)]);
+  for (const [colour, width] of [[around, 4], [colours.ink, 1.5]]) {
+    context.strokeStyle = context.fillStyle = colour;
+    context.lineWidth = width;
+    for (const [dot, later] of rows) {
+      if (!dot) continue;
+      context.beginPath();
+      context.arc(dot.x, dot.y, 2 + width / 2, 0, 2 * Math.PI);
+      context.fill();
+      if (!later) continue;
+      context.beginPath();
+      context.moveTo(dot.x, dot.y);
+      context.lineTo(later.x, later.y);
+      context.stroke();
+    }
+  }
+}

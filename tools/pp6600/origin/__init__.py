@@ -1,0 +1,1 @@
+"""The tool that shows where a number came from."""

@@ -1,0 +1,151 @@
+"""The steps of an origin as text: a line each. A chain of single sources stays at one depth; of several sources the one at the same
+place goes on at that depth, after the others and the addresses, which are set in."""
+
+import re
+
+from ..instructions import IN_BLOCK, TWO_WORDS
+from ..text_files import bytes_of
+from ..writes import AT_END_OF_BLOCK, AT_END_OF_INPUT, NO_WORD, RETURN, ZERO
+from .search import DEADSTART, LINE_END, PAPER, PRINTER, READER, SET, START, TICK, TURN
+
+INDENT = "  "
+NOTE = re.compile(r"[ \t]*([*].*)?\r?")
+
+
+class File:
+    """The lines of a deck or panel file that are no notes, each with its number, from 1, and its words."""
+
+    def __init__(self, path):
+        lines = bytes_of(path).decode("latin-1").split("\n") if path is not None else []
+        self.lines = [(number, line.split()) for number, line in enumerate(lines, 1) if not NOTE.fullmatch(line)]
+
+    def word(self, index):
+        """Returns the number of the line that has a word of the file, from 0, and the word's number in the line, from 1."""
+        for number, words in self.lines:
+            if index < len(words):
+                return number, index + 1
+            index -= len(words)
+        raise IndexError(index)
+
+
+class Writer:
+    """Makes the lines."""
+
+    def __init__(self, positions, words):
+        """The words are the program and its options, which name the deck file and the panel file."""
+        self.positions = positions
+        self.deck, self.panel = (File(words[words.index(option) + 1] if option in words else None) for option in ("--deck", "--panel"))
+
+    def lines(self, root, now=None):
+        """Yields the lines of a step and of all that it came from. P advances after it is written; now it has this number."""
+        return (line for _, line in self.rows(root, now))
+
+    def rows(self, root, now=None):
+        """Yields the same lines, each with its step; None for one that was not searched."""
+        seen = set()
+        todo = [(root, root.place, 0, None)]
+        while todo:
+            step, place, depth, parts = todo.pop()
+            if step is None:
+                yield None, f"{INDENT * depth}{place.text} .. DEEPER"
+                continue
+            line = f"{INDENT * depth}{step.place.text} {step.number} {self.turn_of(step)}"
+            if id(step) in seen and (step.links or step.addresses):
+                yield step, f"{line} AS ABOVE"
+                continue
+            seen.add(id(step))
+            links = self.wanted(step, parts)
+            yield step, " ".join([line, *self.how(step, links)]).rstrip() + (f", NOW {now}" if now and step is root else "")
+            todo += self.following(step, links, depth)
+
+    @staticmethod
+    def wanted(step, parts):
+        """The links of a step, if these parts of its word are wanted: of a word that was joined only those that wrote them."""
+        if parts is None or step.cause != TURN or not step.write.is_joined:
+            return step.links
+        places = [place for part, (place, _) in enumerate(step.write.sources) if part in parts]
+        return [link for link in step.links if link.place in places]
+
+    @staticmethod
+    def following(step, links, depth):
+        """What follows a line, the last one first."""
+        same = links if len(links) == 1 else [link for link in links if link.place == step.place][-1:]
+        others = [link for link in links if link not in same]
+        return [*((link.step, link.place, depth, link.parts) for link in same),
+                *((link.step, link.place, depth + 1, link.parts) for link in reversed([*others, *step.addresses]))]
+
+    def turn_of(self, step):
+        if step.cause == START:
+            return "START"
+        return f"TURN {self.positions.turn(step.position):o}"
+
+    # ---- what wrote it
+
+    def how(self, step, links):
+        """Returns the words that say what wrote a number, and from what."""
+        if step.cause == TURN:
+            return [self.instruction(step), *self.times(step), *self.sources(step, links)]
+        return {SET: self.by_set, DEADSTART: self.by_dead_start, READER: self.by_reader, PRINTER: lambda step: ["LP STATUS"],
+                PAPER: self.by_printing, TICK: lambda step: ["CLOCK"], START: lambda step: []}[step.cause](step)
+
+    def by_set(self, step):
+        line, word = step.detail
+        return [f"SET LINE {line.number} WORD {word} (decimal)"]
+
+    def by_dead_start(self, step):
+        word = step.detail[1]
+        return ["DEADSTART"] + (["PANEL LINE {} WORD {} (decimal)".format(*self.panel.word(word - 1))] if word else [])
+
+    def by_reader(self, step):
+        if step.detail is None:
+            return ["CR STATUS"]
+        card, column = step.detail
+        number, words = self.deck.lines[card]
+        where = f"WORD {column + 1} (decimal)" if column < len(words) else f"HAS {len(words)} WORDS (decimal)"
+        return [f"CR CARD {card:04o} COLUMN {column:03o} DECK LINE {number} {where}"]
+
+    def by_printing(self, step):
+        half = "" if step.number == LINE_END else f" {'LOWER' if step.detail else 'UPPER'} SIX BITS"
+        return [f"LP FROM {step.links[0].place.text}{half}"]
+
+    @staticmethod
+    def instruction(step):
+        """The processor, and the address and the text of its instruction."""
+        processor, at = step.processor, ""
+        code, second = processor.code, ""
+        if not processor.phase:
+            at = processor.registers["P"]
+            second = f" {processor.words[1]}" if code in TWO_WORDS and code not in IN_BLOCK else ""
+        elif step.block.step.cause == TURN:
+            at = step.block.step.processor.registers["P"]
+        begun = "" if at else " BEGUN BY DEADSTART"
+        return f"PP {step.turn.number:02o}{at and ' AT ' + at} {processor.name} {processor.channel:02o}{second}{begun}"
+
+    def times(self, step):
+        first = self.positions.turn(step.first_position)
+        return [f"{step.times:o} TIMES SINCE TURN {first:o}"] if step.times > 1 else []
+
+    def sources(self, step, links):
+        """From what an instruction wrote a number."""
+        names = [self.name(link) for link in links] + [self.constant(step, name) for name in step.constants]
+        if step.place.kind == "P" and step.turn.effects() in (AT_END_OF_BLOCK, AT_END_OF_INPUT):
+            verb = "END OF BLOCK OF "
+        elif not step.write.is_moved:
+            verb = "OF "
+        else:
+            verb = "FROM " if links else ""
+        addresses = "".join(f", ADDRESS IN {link.place.text}" for link in step.addresses)
+        return [f"{verb}{' AND '.join(names) or 'ZERO'}{addresses}"]
+
+    @staticmethod
+    def name(link):
+        parts = f" PART{'S' * (len(link.parts) > 1)} {' '.join(map(str, link.parts))}" if link.parts else ""
+        return link.place.text + parts
+
+    @staticmethod
+    def constant(step, name):
+        processor = step.processor
+        numbers = {"d": f"{processor.channel:02o}", "m": processor.words[1], "dm": f"{processor.channel:02o}{processor.words[1]}"}
+        if name in numbers:
+            return f"CONSTANT {numbers[name]}"
+        return {RETURN: "RETURN ADDRESS", ZERO: "ZERO", NO_WORD: "ZERO PAST THE LAST WORD"}[name]

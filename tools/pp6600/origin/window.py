@@ -1,0 +1,229 @@
+"""The turns of some processors in a part of a run, read in a few passes: their registers before and after each, the words of their
+instructions, and the cells that have an address."""
+
+import functools
+
+from ..answers import CELLS, PROCESSORS
+from ..console import CHANNEL_LINES
+from ..instructions import TWO_WORDS, Processor
+from ..machine_state import ROWS, Memory
+from ..writes import Turn, address_is_in_cell, all_of, device_put_a_word, may_write
+
+NO_PHASE = "0000"
+FUNCTIONS = (0o76, 0o77)
+
+
+class Key(str):
+    """What turns with the same processor, P and phase have in common, as 00 P 01000000. Where an instruction is overwritten its
+    words are at the end."""
+
+    @property
+    def number(self):
+        return int(self[:2], 8)
+
+    @property
+    def address(self):
+        return int(self[5:9], 8)
+
+    @staticmethod
+    def of(number, address):
+        """The key of an instruction, without its words."""
+        return f"{number:02o} P {address % CELLS:04o}{NO_PHASE}"
+
+
+@functools.lru_cache(maxsize=20000)
+def processor_of(key, words):
+    """Returns the processor before turns with a key; its A and Q are not known."""
+    registers = {"P": key[5:9], "PHASE": key[9:13], "A": "000000", "Q": "0000"}
+    return Processor(registers, [words[:4], words[4:]])
+
+
+@functools.lru_cache(maxsize=20000)
+def writes_of(group):
+    """Returns the places that turns of a group may write: a number of a processor, its P and phase, and its words."""
+    return may_write(int(group[:2], 8), processor_of(group[:13], group[13:]))
+
+
+def group_of(key, words):
+    """Returns the group of a key: all keys of a processor with the same words, for P counts in a block transfer alone."""
+    return key[:13] + words if key[9:13] != NO_PHASE else f"{key[:2]} P 0000{NO_PHASE}{words}"
+
+
+class Window:
+    """The turns of some processors between two positions, with no other action between these."""
+
+    def __init__(self, replayer, first, last, processors):
+        self.replayer, self.positions, self.first, self.last = replayer, replayer.positions, first, last
+        slot = self.positions.slot(first)
+        self.processors = sorted(processors, key=lambda number: (number - slot) % PROCESSORS)  # in the order of their turns
+        self.distances = [(number - slot) % PROCESSORS for number in self.processors]
+        distances = set(self.distances)
+        self.turns = [at for at in range(last - first) if at % PROCESSORS in distances]  # each by its distance from the first
+        self._read()
+        self._find_words()
+
+    # ---- the passes
+
+    def _read(self):
+        """The first pass: the memories at the start, and the registers before and after each turn."""
+        size, order, count = len(self.processors), self.processors, len(self.turns)
+        dumps = [f"DUMP PP {number:o}\n" for number in order]
+        memories = [f"DUMP M {number:o} 0 7777\n" for number in order]
+        start = size * (1 + ROWS)
+        gaps = [(here - before - 1) % PROCESSORS + 1 for before, here in zip([self.distances[-1], *self.distances], self.distances)]
+        steps = ([f"STEP {gap:o}\n{dump}" for gap, dump in zip(gaps, dumps)] * (count // size + 1))[:count]
+        if steps:
+            steps[0] = f"STEP {self.turns[0] + 1:o}\n{dumps[0]}"
+        answers = self._answers([*dumps, *memories, *steps], 2 * size + 2 * count, start + 2 * count)
+        self.replayer.passed(self.first + (self.turns[-1] + 1 if steps else 0))
+        self.memories = {number: Memory(answers[size + ROWS * at:size + ROWS * (at + 1)]) for at, number in enumerate(order)}
+        self.after = answers[start + 1::2]
+        self.before = (answers[:size] + self.after)[:count]
+        self.keys = [line[3:12] + line[35:39] for line in self.before]
+
+    def _answers(self, texts, lines, count):
+        """Goes to the start, writes texts of so many lines, and returns so many lines of answers."""
+        self.replayer.goto(self.first, lines)
+        return self.replayer.bulk("".join(texts), lines, count)
+
+    def _at_turns(self, dumps_of):
+        """Another pass: makes the turns, and writes before each the dumps of one line that its key has. Returns the lines of the
+        answers by turns."""
+        texts, asked, made = [], [], 0
+        for at, key in enumerate(self.keys):
+            dumps = dumps_of.get(key)
+            if dumps:
+                texts += [f"STEP {self.turns[at] - made:o}\n"] * (self.turns[at] > made) + dumps
+                asked += [at] * len(dumps)
+                made = self.turns[at]
+        answers = self._answers(texts, len(texts), len(texts))
+        self.replayer.passed(self.first + made)
+        found = {}
+        for at, answer in zip(asked, (answer for answer in answers if answer[0] != "T")):
+            found.setdefault(at, []).append(answer)
+        return found
+
+    # ---- the instructions
+
+    def _find_words(self):
+        """Notes the words of each key; of the keys of a block transfer they do not count."""
+        texts = {f"{number:02o}": memory.digits for number, memory in self.memories.items()}
+        self.words = {}
+        for key in set(self.keys):
+            at = 4 * int(key[5:9], 8)
+            self.words[key] = texts[key[:2]][at:at + 8]
+        self._index()
+        if self._is_overwritten():
+            self._find_words_of_turns()
+            self._index()
+
+    def _index(self):
+        """Notes the keys of each group, and by each place that may be written the groups of the turns that may write it."""
+        self.groups, self.writers, self._addresses = {}, {}, None
+        for key, words in self.words.items():
+            group = group_of(key, words)
+            if group in self.groups:
+                self.groups[group].append(key)
+            else:
+                self.groups[group] = [key]
+        for group in self.groups:
+            for place in writes_of(group):
+                self.writers.setdefault(place, []).append(group)
+
+    def _is_overwritten(self):
+        """Returns whether a turn may write a word of an instruction that is performed in the window."""
+        cells = [place for place in self.writers if place.kind == "M"]
+        if any(self._is_code(*place.numbers) for place in cells if len(place.numbers) == 2):
+            return True
+        keys = {key for place in cells if len(place.numbers) == 1 for group in self.writers[place] for key in self.groups[group]}
+        written = {(key, self.cell_before(at)) for at, key in enumerate(self.keys) if key in keys}
+        return any(self._is_code(int(key[:2], 8), processor_of(key, self.words[key]).operand(lambda _, content=content: content))
+                   for key, content in written)
+
+    def _is_code(self, number, address):
+        """Returns whether a cell has a word of an instruction that is performed in the window."""
+        before = Key.of(number, address - 1)
+        return Key.of(number, address) in self.words or before in self.words and int(self.words[before][:2], 8) in TWO_WORDS
+
+    def _find_words_of_turns(self):
+        """Reads the words of each turn by itself."""
+        rows = self._at_turns({key: self._dumps_of_words(Key(key)) for key in self.words if key[9:13] == NO_PHASE})
+        self.words = {}
+        for at, key in enumerate(self.keys):
+            words = "".join(row[5:9] for row in rows[at]) if at in rows else 2 * "0000"
+            self.keys[at] = key + words
+            self.words[self.keys[at]] = words
+
+    @staticmethod
+    def _dumps_of_words(key):
+        return [f"DUMP M {key.number:o} {address:o} {address:o}\n" for address in (key.address, (key.address + 1) % CELLS)]
+
+    def cell_before(self, at):
+        """Returns the number in cell d before a turn whose operand's address is in it."""
+        if self._addresses is None:
+            keys = [Key(key) for key, words in self.words.items() if key[9:13] == NO_PHASE and address_is_in_cell(int(words[:4], 8))]
+            self._addresses = self._at_turns({key: [f"DUMP M {key.number:o} {self.words[key][2:4]} {self.words[key][2:4]}\n"] for key in keys})
+        return int(self._addresses[at][0][5:9], 8)
+
+    # ---- one turn
+
+    def turn(self, at):
+        words, key = self.words[self.keys[at]], self.keys[at]
+        processor = Processor(registers_of(self.before[at]), [words[:4], words[4:]])
+        return Turn(int(key[:2], 8), processor, registers_of(self.after[at]), lambda _: self.cell_before(at), self.replayer.size)
+
+    def position(self, at):
+        """Returns the position after a turn."""
+        return self.first + self.turns[at] + 1
+
+    def relevant(self, places):
+        """Returns the keys of the turns that may write one of these places."""
+        groups = [group for place in places for one in (place, all_of(place)) for group in self.writers.get(one, ())]
+        return {key for group in groups for key in self.groups[group]}
+
+    # ---- the devices; the window has the turns of all processors
+
+    def _has_function(self, channel):
+        """Returns whether a turn may give a function code to a channel."""
+        return any(int(group[13:15], 8) in FUNCTIONS and int(group[15:17], 8) == channel and group[9:13] == NO_PHASE for group in self.groups)
+
+    def words_of_reader(self):
+        """Returns by turns what the card reader put on its channel: a card and its column, or None for the status."""
+        self.replayer.goto(self.first)
+        was = self.replayer.reader().split()
+        if was[-1] == "IDLE" and not self._has_function(self.replayer.reader_channel):
+            return {}
+        count = 2 * len(self.turns)
+        lines = self._answers(["STEP\nDUMP CR\n"] * len(self.turns), count, count)[1::2]
+        self.replayer.passed(self.last)
+        found = {}
+        for at, line in enumerate(lines):
+            now = line.split()
+            if (was[-1], now[-1]) == ("STATUS", "SENT"):
+                found[at] = None
+            elif now[-1] == "READING" and now[4] == was[4] and now[8] > was[8]:
+                found[at] = int(was[4], 8), int(was[8], 8)
+            was = now
+        return found
+
+    def words_of_printer(self):
+        """Returns by turns that the printer put its status on its channel."""
+        channel = self.replayer.printer_channel
+        self.replayer.goto(self.first)
+        if self.replayer.printer()[0].split()[-1] == "IDLE" and not self._has_function(channel):
+            return {}
+        before, count = self.replayer.channels()[channel][5], 1 + len(CHANNEL_LINES)
+        lines = self._answers(["STEP\nDUMP H\n"] * len(self.turns), 2 * len(self.turns), count * len(self.turns))[1 + channel::count]
+        self.replayer.passed(self.last)
+        found = {}
+        for at, line in enumerate(lines):
+            after = line[5]
+            if after == "F" and device_put_a_word(channel, self.turn(at).writes(), before, after):
+                found[at] = None
+            before = after
+        return found
+
+
+def registers_of(line):
+    words = line.split()
+    return dict(zip(words[2::2], words[3::2]))
