@@ -43,7 +43,7 @@ class TerminalCase(PanelCase):
     def assert_same_screen(self, terminal, lines):
         """Waits until the terminal shows these lines."""
         wanted = [line.rstrip() for line in lines]
-        terminal.wait_until(lambda one: one.screen.text() == wanted, 5)
+        terminal.wait_until(lambda one: one.screen.text() == wanted, 20)
         self.assertEqual(wanted, terminal.screen.text())
 
 

@@ -86,10 +86,8 @@ class Waiting:
 
 def address_of_instruction(console, number, processor):
     """Returns the address: P, or in a block transfer what cell 0000 says, if the instruction is there."""
-    if not processor.phase:
-        return processor.registers["P"]
-    address = (int(console.cells(number, 0, 0)[0], 8) - 1) % CELLS
-    return f"{address:04o}" if console.cells(number, address, address)[0] == processor.registers["PHASE"] else "NONE"
+    address = processor.address(lambda at: int(console.cells(number, at, at)[0], 8))
+    return "NONE" if address is None else f"{address:04o}"
 
 
 def hit_processor(line):
