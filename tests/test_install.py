@@ -65,12 +65,18 @@ class Installed(InstallCase):
         self.assertEqual("> STEP 12\nTURNS 12 SLOT 00\n", done.out)
         self.assertEqual(f"pp6600-state {read('VERSION')}", alone(f"{self.prefix}/bin/pp6600-state", "--version").out)
 
+    def test_debug_adapter(self):
+        request = '{"seq":1,"type":"request","command":"threads"}'
+        done = alone(f"{self.prefix}/bin/pp6600-debug-adapter", script=f"Content-Length: {len(request)}\r\n\r\n{request}")
+        self.assertIn("no simulator runs: launch one first", done.out)
+
     def test_what_is_there(self):
         for name in ("pp6600", *(f"pp6600-{name}" for name in TOOLS)):
             for path in (f"bin/{name}", f"share/man/man1/{name}.1.gz", f"share/bash-completion/completions/{name}"):
                 with self.subTest(path):
                     self.assertTrue(os.path.isfile(os.path.join(self.prefix, path)))
-        for path in ("docs/CONSOLE.md", "docs/card.html", "docs/drawings/session.svg", "examples/clock/script", "exercises/grade"):
+        for path in ("docs/CONSOLE.md", "docs/card.html", "docs/drawings/session.svg", "examples/clock/script", "exercises/grade",
+                     "share/editors/kate/dap.json", "share/editors/vscode/package.json"):
             with self.subTest(path):
                 self.assertTrue(os.path.isfile(os.path.join(self.prefix, PAGES, path)))
         self.assertEqual(read("CHANGELOG.md"), alone("gunzip", "-c", f"{self.prefix}/{PAGES}/changelog.gz").out)

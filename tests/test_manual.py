@@ -153,4 +153,4 @@ class NamesOnPages(InstallCase):
         known = {"NAME", *os.listdir(os.path.join(TOP, "tools"))}
         for path in [os.path.join(TOP, "README.md"), *sorted(glob.glob(os.path.join(TOP, "docs", "*.md")))]:
             with self.subTest(os.path.basename(path)):
-                self.assertEqual(set(), set(re.findall(r"\btools/(\w+(?:\.py)?)", read(path))) - known)
+                self.assertEqual(set(), set(re.findall(r"\btools/(\w[\w-]*(?:\.py)?)", read(path))) - known)

@@ -132,11 +132,16 @@ def simulator(asked):
     return words
 
 
+def default_program():
+    """Returns the simulator that is run if none is named."""
+    return os.environ.get("PP6600") or os.path.join(ABOVE, "pp6600")
+
+
 def arguments(description, usage=None):
     """Returns a parser with the options that every tool with a simulator takes."""
     parser = Parser(description, usage)
     parser.add_argument("--program", metavar="FILE", help="the simulator (else $PP6600, else the one beside the tools)",
-                        default=os.environ.get("PP6600") or os.path.join(ABOVE, "pp6600"))
+                        default=default_program())
     for name, value in OPTIONS.items():
         parser.add_argument(f"--{name}", metavar=value, help="as the simulator has it")
     return parser

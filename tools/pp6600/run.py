@@ -74,10 +74,10 @@ class Run(Console):
     most_lines = 990000  # of the simulator's 1,000,000: what is asked between two actions takes fewer than are left
 
     def __init__(self, words):
+        super().__init__(words)
         self.history = History(room_of(words))
         self.next_slot = 0
         self.watched = []  # places, beside those of the history
-        super().__init__(words)
 
     @property
     def turn(self):

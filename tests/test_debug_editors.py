@@ -1,0 +1,209 @@
+"""The debug adapter in editors, where they are there: docs/EDITORS.md is followed to the culprit of the overwritten loader."""
+
+import json
+import os
+import shutil
+import signal
+import subprocess
+import time
+import unittest
+
+from tests.support import EXAMPLES, TOP, Case, program, read
+
+MODES = "/usr/share/emacs/site-lisp/elpa"
+INIT = """(setq inhibit-startup-screen t make-backup-files nil)
+(load "{top}/share/editors/emacs/pp6600-debug.el")
+(setq pp6600-debug-adapter '("{top}/tools/debug-adapter"))
+"""
+KATE_SESSION = """[Kate Plugins]
+kategdbplugin=true
+
+[MainWindow0]
+Kate-MDI-ToolView-Debug View-Visible=true
+
+[Plugin:kategdbplugin:MainWindow:0]
+alwaysFocusOnInput=true
+lastTarget=0
+targetCount=1
+target_0={}
+version=5
+"""
+
+
+def has_dap_mode():
+    return os.path.isdir(MODES) and any(name.startswith("dap-mode") for name in os.listdir(MODES))
+
+
+class EditorCase(Case):
+    def setUp(self):
+        """Makes the script and the deck, as the page does."""
+        self.folder = self.room()
+        lines = [line for line in read("examples", "overwritten-loader", "script").splitlines() if not line.startswith("*")]
+        with open(os.path.join(self.folder, "loader"), "w", encoding="ascii") as file:
+            file.write("\n".join(lines[:4]) + "\n")
+        shutil.copy(os.path.join(EXAMPLES, "overwritten-loader", "deck"), self.folder)
+        self.environment = {**os.environ, "HOME": self.folder, "PP6600": program(), "TERM": "screen", "PYTHONDONTWRITEBYTECODE": "1"}
+
+
+@unittest.skipUnless(shutil.which("emacs") and shutil.which("tmux") and has_dap_mode(), "there is no emacs with dap-mode, or no tmux")
+class Emacs(EditorCase):
+    """Emacs in a terminal of tmux."""
+
+    def setUp(self):
+        super().setUp()
+        with open(os.path.join(self.folder, ".emacs"), "w", encoding="utf-8") as file:
+            file.write(INIT.format(top=TOP))
+        self.addCleanup(self.tmux, "kill-server")
+        self.tmux("new-session", "-d", "-x", "120", "-y", "40", "emacs", "-nw")
+        self.assertTrue(self.shows("*scratch*"), self.screen())
+
+    def tmux(self, *words):
+        return subprocess.run(["tmux", "-S", os.path.join(self.folder, "tmux"), *words], env=self.environment, cwd=self.folder,
+                              stdout=subprocess.PIPE, stderr=subprocess.DEVNULL, text=True, check=False).stdout
+
+    def screen(self):
+        return self.tmux("capture-pane", "-p")
+
+    def shows(self, text, seconds=30):
+        deadline = time.monotonic() + seconds
+        while text not in self.screen():
+            if time.monotonic() > deadline:
+                return False
+            time.sleep(0.2)
+        return True
+
+    def type(self, text, *keys):
+        self.tmux("send-keys", "-l", text)
+        self.tmux("send-keys", *keys)
+
+    def command(self, name, *answers):
+        self.tmux("send-keys", "M-x")
+        self.assertTrue(self.shows("M-x"), self.screen())
+        self.type(name, "Enter")
+        for prompt, answer in answers:
+            self.assertTrue(self.shows(prompt), self.screen())
+            self.type(answer, "Enter")
+
+    def test_the_culprit(self):
+        self.command("pp6600-debug", ("Script:", "loader"), ("Deck", "deck"))
+        self.assertTrue(self.shows("0111  0032  PSN 32"), self.screen())
+        self.tmux("send-keys", "F12")
+        self.assertTrue(self.shows(">>"), self.screen())
+        self.type("WATCH M 0 106", "Enter")
+        self.assertTrue(self.shows("OK"), self.screen())
+        self.type("BACK W", "Enter")
+        self.assertTrue(self.shows("BACK 675 SLOT 00"), self.screen())
+        self.assertTrue(self.shows("0106  7512  DCN 12"), self.screen())  # the listing is read again
+        self.command("dap-ui-locals")
+        self.assertTrue(self.shows("PHASE: 7112"), self.screen())
+        self.assertIn("P: 0106", self.screen())
+        self.command("pp6600-step-back")
+        self.assertTrue(self.shows("P: 0105"), self.screen())
+        self.command("pp6600-reverse-continue")
+        self.assertTrue(self.shows("PHASE: 0000"), self.screen())
+
+
+@unittest.skipUnless(all(map(shutil.which, ("kate", "Xvfb", "xdotool", "dbus-run-session"))), "there is no kate, Xvfb, xdotool or dbus-run-session")
+class Kate(EditorCase):
+    """Kate on a screen of its own, by keys. What it asks and is told is read in the adapter's log."""
+
+    def setUp(self):
+        super().setUp()
+        self.log = os.path.join(self.folder, "log")
+        settings = json.loads(read("share", "editors", "kate", "dap.json"))
+        settings["dap"]["pp6600"]["run"]["command"] = [os.path.join(TOP, "tools", "debug-adapter"), "--log", self.log]
+        self.write(".config/kate/gdbplugin/dap.json", json.dumps(settings))
+        variables = {"file": os.path.join(self.folder, "loader"), "args": os.path.join(self.folder, "deck")}
+        target = {"debuggerKey": "pp6600", "debuggerProfile": "launch", "target": "Target 1", "variables": variables}
+        self.write(".local/share/kate/anonymous.katesession", KATE_SESSION.format(json.dumps(target)))
+        os.mkdir(os.path.join(self.folder, "run"), 0o700)
+        self.environment |= {"DISPLAY": self.display(), "XDG_RUNTIME_DIR": os.path.join(self.folder, "run"), "LANG": "C.UTF-8"}
+        self.start("dbus-run-session", "--", "kate", "--startanon", "loader")
+        self.wait_for(lambda: self.xdotool("search", "--onlyvisible", "--class", "kate"))
+        time.sleep(2)  # until it takes keys
+
+    def write(self, path, text):
+        path = os.path.join(self.folder, path)
+        os.makedirs(os.path.dirname(path), exist_ok=True)
+        with open(path, "w", encoding="ascii") as file:
+            file.write(text)
+
+    def display(self):
+        """Starts a screen, and returns its name."""
+        reading, writing = os.pipe()
+        self.start("Xvfb", "-displayfd", str(writing), "-screen", "0", "1000x640x24", pass_fds=[writing])
+        os.close(writing)
+        with open(reading, encoding="ascii") as file:
+            return f":{file.readline().strip()}"
+
+    def start(self, *words, **how):
+        """Starts a program, which ends with the test, as does what it has started."""
+        process = subprocess.Popen(words, env=self.environment, cwd=self.folder, stdin=subprocess.DEVNULL, stdout=subprocess.DEVNULL,
+                                   stderr=subprocess.DEVNULL, start_new_session=True, **how)
+        self.addCleanup(self.end, process)
+
+    @staticmethod
+    def end(process):
+        """Ends a program and what it has started, and waits until all have ended."""
+        deadline = time.monotonic() + 20
+        os.killpg(process.pid, signal.SIGTERM)
+        process.wait(20)
+        try:
+            while time.monotonic() < deadline:
+                os.killpg(process.pid, 0)
+                time.sleep(0.1)
+            os.killpg(process.pid, signal.SIGKILL)
+        except ProcessLookupError:
+            pass
+
+    def xdotool(self, *words):
+        return subprocess.run(["xdotool", *words], env=self.environment, stdout=subprocess.PIPE, stderr=subprocess.DEVNULL, text=True,
+                              check=False).stdout
+
+    def type(self, line):
+        self.xdotool("type", "--delay", "30", line)
+        self.xdotool("key", "Return")
+
+    def wait_for(self, is_so, seconds=40):
+        deadline = time.monotonic() + seconds
+        while not is_so():
+            self.assertLess(time.monotonic(), deadline, self.logged())
+            time.sleep(0.3)
+
+    def logged(self):
+        if not os.path.exists(self.log):
+            return ""
+        with open(self.log, encoding="ascii") as file:
+            return file.read()
+
+    def test_the_culprit(self):
+        self.xdotool("key", "alt+d")
+        self.xdotool("key", "s")  # Start Debugging
+        self.wait_for(lambda: '"event": "initialized"' in self.logged())
+        time.sleep(1)
+        self.xdotool("key", "alt+d")
+        self.xdotool("key", "c")  # Continue
+        self.wait_for(lambda: "P 0111 PSN 32" in self.logged())
+        time.sleep(1)
+        self.type("p :WATCH M 0 106")
+        self.wait_for(lambda: '"result": "OK"' in self.logged())
+        self.type("p :BACK W")
+        self.wait_for(lambda: "P 0106 in IAM 12" in self.logged())
+
+
+class Files(Case):
+    """What the files for editors say is so."""
+
+    def test_settings(self):
+        vscode = json.loads(read("share", "editors", "vscode", "package.json"))["contributes"]["debuggers"][0]
+        kate = json.loads(read("share", "editors", "kate", "dap.json"))["dap"]["pp6600"]
+        names = set(vscode["configurationAttributes"]["launch"]["properties"])
+        page = read("docs", "EDITORS.md").split("## What a session is begun with", 1)[1]
+        for name in sorted(names):
+            self.assertIn(f"`{name}`", page)
+        self.assertLessEqual(set(kate["configurations"]["launch"]["request"]) - {"command"}, names)
+        self.assertEqual((vscode["runtime"], [vscode["runtime"]]), ("pp6600-debug-adapter", kate["run"]["command"]))
+
+
+if __name__ == "__main__":
+    unittest.main()

@@ -1,0 +1,29 @@
+"""The debug adapter's beginning and end."""
+
+import signal
+import sys
+
+from ..command_line import Parser
+from .adapter import Adapter
+from .protocol import Wire
+
+DESCRIPTION = """Lets an editor debug the processors: it speaks the Debug Adapter Protocol over standard input and output. The
+editor starts it; docs/EDITORS.md says how VS Code, Emacs, Kate and Neovim are set up. A thread is a processor. The source of
+each is a listing of its cells, which follows the machine."""
+
+
+def end(*_):
+    sys.exit(0)
+
+
+def main():
+    parser = Parser(DESCRIPTION)
+    parser.add_argument("--log", metavar="FILE", help="add each message to this file: > before those of the editor, < before the answers")
+    asked = parser.parse()
+    for number in (signal.SIGTERM, signal.SIGHUP):
+        signal.signal(number, end)  # so that the listings are removed
+    adapter = Adapter(Wire(asked.log))
+    try:
+        adapter.serve()
+    finally:
+        adapter.close()

@@ -1,0 +1,171 @@
+"""The requests that show the machine, or set its numbers."""
+
+import base64
+import binascii
+
+from ..answers import CELLS, PROCESSORS, ROW
+from .breakpoints import Cell
+from .listings import instruction
+from .protocol import Refused
+from .variables import place_of, scope_and_number, scopes, set_line, value_of, variables
+
+LINE_CONTEXTS = ("repl", "clipboard", "")  # of what is typed; the others must not act
+PREFIX = ":"  # of a line that an editor evaluates as a watch expression
+MOVES = {"OK": "goto", "TURNS": "step", "BACK": "step", "FORWARD": "step"}  # why it has stopped, by an answer
+NO_INSTRUCTION = {"address": "0xffffffff", "instruction": "(no cell)"}
+
+
+class Requests:
+    """Those of an `Adapter`, whose machine, listings and points they use."""
+
+    # ---- where the processors are
+
+    def frame(self, frame):
+        """Returns the processor of a frame: each has one, and one more in a block transfer."""
+        if not isinstance(frame, int) or not 1 <= frame <= 2 * PROCESSORS:
+            raise Refused(f"{frame} is no frame")
+        return (frame - 1) % PROCESSORS
+
+    def do_stackTrace(self, threadId, startFrame=0, levels=0, **_):
+        number = self.number(threadId)
+        state = self.machine.state
+        processor, memory = state.processors[number], state.memories[number]
+        waits = processor.waits_for(state.states())
+        name = f"P {processor.registers['P']} {'in ' if processor.phase else ''}{processor.text}{f' waits for {waits}' if waits else ''}"
+        frames = [self.one_frame(threadId, name, Cell(number, int(processor.registers["P"], 8)))]
+        begun = (int(memory.word(0), 8) - 1) % CELLS  # cell 0000 has where the block goes on
+        if processor.phase and memory.word(begun) == processor.registers["PHASE"]:
+            frames.append(self.one_frame(threadId + PROCESSORS, f"begun at {begun:04o}", Cell(number, begun)))
+        return {"stackFrames": frames[startFrame:startFrame + levels if levels else None], "totalFrames": len(frames)}
+
+    def one_frame(self, frame, name, cell):
+        return {"id": frame, "name": name, "line": cell.address + self.base, "column": self.base,
+                "source": self.listings.source(cell.number), "instructionPointerReference": cell.reference}
+
+    def do_source(self, source=None, sourceReference=0, **_):
+        number = self.listings.number_of(source) if source else None
+        if number is None and isinstance(sourceReference, int) and 1 <= sourceReference <= PROCESSORS:
+            number = sourceReference - 1
+        if number is None:
+            raise Refused("no listing of this session")
+        return {"content": self.listings.text(number, self.machine.state.memories[number]), "mimeType": "text/plain"}
+
+    def do_gotoTargets(self, source, line, **_):
+        number, address = self.listings.number_of(source), line - self.base
+        if number is None or not 0 <= address < CELLS:
+            return {"targets": []}
+        return {"targets": [{"id": Cell(number, address).bits, "label": f"P {address:04o}", "line": line,
+                             "instructionPointerReference": Cell(number, address).reference}]}
+
+    def do_goto(self, threadId, targetId, **_):
+        number, target = self.number(threadId), Cell(targetId >> 12, targetId & 0o7777)
+        if target.number != number:
+            raise Refused(f"that is a cell of PP {target.number:02o}" if target.number < PROCESSORS else "that is no target")
+        self.set_number(f"SET P {number:o} {target.address:o}")
+        self.after = lambda: self.stopped("goto", number)
+
+    # ---- numbers
+
+    def do_scopes(self, frameId, **_):
+        return {"scopes": scopes(self.frame(frameId))}
+
+    def do_variables(self, variablesReference, start=0, count=0, **_):
+        scope, number = scope_and_number(variablesReference)
+        found = variables(self.machine, scope, number, dict.fromkeys([*self.machine.own, *self.points.places()]))
+        return {"variables": found[start:start + count] if count else found}
+
+    def act(self, line):
+        """Performs a line, and returns its answer. What was ahead may be lost by it: that is said."""
+        ahead, answer = self.machine.ahead, self.machine.act(line)
+        if ahead and answer and answer[0].split()[0] in ("OK", "TURNS"):
+            self.wire.say(f"{ahead:o} actions (octal) that were ahead are so no longer")
+        return answer
+
+    def set_number(self, line):
+        """Performs a line that sets numbers."""
+        answer = self.act(line)
+        if answer != ["OK"]:
+            raise Refused(f"{answer[0] if answer else 'nothing'}: {line}")
+        self.look()
+
+    def do_setVariable(self, variablesReference, name, value, **_):
+        place, line = set_line(*scope_and_number(variablesReference), name, value.strip())
+        self.set_number(line)
+        if self.sees_invalidated:
+            self.after = lambda: self.wire.event("invalidated", areas=["all"])
+        return {"value": value_of(self.machine, place)}
+
+    # ---- what is typed or pointed at
+
+    def do_evaluate(self, expression, frameId=None, context="repl", **_):
+        number = self.frame(frameId) if frameId else self.shown
+        text = expression.strip()
+        acts = context in LINE_CONTEXTS
+        if context == "watch" and text.startswith(PREFIX):
+            acts, text = True, text[len(PREFIX):].strip()
+        try:
+            return {"result": self.value(text, number), "variablesReference": 0}
+        except Refused:
+            if not acts:
+                raise
+        lines = text.split("\n")
+        answers = [self.typed(line.encode("utf-8", "replace").decode("latin-1"), number) for line in lines]
+        return {"result": "\n".join(line for answer in answers for line in answer), "variablesReference": 0}
+
+    def value(self, text, number):
+        """Returns the number at a place, or the cell that a label of the processor's symbols names."""
+        address = self.listings.address(number, text)
+        if address is None:
+            return value_of(self.machine, place_of(text, number))
+        return instruction(self.machine.state.memories[number], address)
+
+    def typed(self, line, number):
+        """Performs a line that was typed. Returns the lines of its answer; after one that moves the machine a stop follows."""
+        answer = self.act(line)
+        kind = answer[0].split()[0] if answer else ""
+        word = line.upper().split()[:1]
+        if kind == "OK" and word in (["WATCH"], ["UNWATCH"]):
+            self.machine.claim(line)
+            self.machine.look()
+        elif kind in MOVES:
+            self.look()
+            hit = next((text for text in answer if text.startswith("HIT ")), "")
+            self.after = lambda: self.stopped("data breakpoint" if hit else MOVES[kind], number, hit)
+        return answer
+
+    # ---- memory and instructions
+
+    def do_readMemory(self, memoryReference, count, offset=0, **_):
+        cell = Cell.of(memoryReference, offset)
+        memory = self.machine.state.memories[cell.number]
+        last = min(cell.address + (count + 1) // 2, CELLS)
+        data = b"".join(int(memory.word(at), 8).to_bytes(2, "big") for at in range(cell.address, last))[:count]
+        return {"address": cell.reference, "data": base64.b64encode(data).decode("ascii"), "unreadableBytes": count - len(data)}
+
+    def do_writeMemory(self, memoryReference, data, offset=0, **_):
+        cell = Cell.of(memoryReference, offset)
+        try:
+            data = base64.b64decode(data, validate=True)
+        except binascii.Error as error:
+            raise Refused(f"what is to be written is not base64: {error}") from None
+        if len(data) % 2 or any(byte > 0o17 for byte in data[::2]):
+            raise Refused("a cell is two bytes, the upper bits first, and has 12 bits (decimal)")
+        words = [f"{int.from_bytes(data[at:at + 2], 'big'):04o}" for at in range(0, len(data), 2)]
+        if cell.address + len(words) > CELLS:
+            raise Refused("that goes past cell 7777")
+        for at in range(0, len(words), ROW):
+            self.set_number(f"SET M {cell.number:o} {cell.address + at:o} {' '.join(words[at:at + ROW])}")
+        return {"bytesWritten": len(data)}
+
+    def do_disassemble(self, memoryReference, instructionCount, offset=0, instructionOffset=0, **_):
+        cell = Cell.of(memoryReference, offset)
+        first = cell.address + instructionOffset
+        return {"instructions": [self.instruction(cell.number, at) for at in range(first, first + instructionCount)]}
+
+    def instruction(self, number, address):
+        """Returns a cell as an instruction, and where its line is."""
+        if not 0 <= address < CELLS:
+            return NO_INSTRUCTION
+        memory = self.machine.state.memories[number]
+        return {"address": Cell(number, address).reference, "instructionBytes": memory.word(address),
+                "instruction": instruction(memory, address), "location": self.listings.source(number), "line": address + self.base}
