@@ -160,9 +160,28 @@ class Kate(EditorCase):
         return subprocess.run(["xdotool", *words], env=self.environment, stdout=subprocess.PIPE, stderr=subprocess.DEVNULL, text=True,
                               check=False).stdout
 
+    def menu(self, key):
+        """Chooses from the menu Debug."""
+        self.xdotool("key", "Escape")
+        self.xdotool("key", "alt+d")
+        time.sleep(0.5)
+        self.xdotool("key", key)
+
     def type(self, line):
         self.xdotool("type", "--delay", "30", line)
         self.xdotool("key", "Return")
+
+    def until(self, text, act):
+        """Acts until a text is in the log; keys are lost while Kate is busy."""
+        for _ in range(5):
+            act()
+            deadline = time.monotonic() + 8
+            while time.monotonic() < deadline:
+                if text in self.logged():
+                    time.sleep(1)
+                    return
+                time.sleep(0.3)
+        self.fail(self.logged())
 
     def wait_for(self, is_so, seconds=40):
         deadline = time.monotonic() + seconds
@@ -177,18 +196,10 @@ class Kate(EditorCase):
             return file.read()
 
     def test_the_culprit(self):
-        self.xdotool("key", "alt+d")
-        self.xdotool("key", "s")  # Start Debugging
-        self.wait_for(lambda: '"event": "initialized"' in self.logged())
-        time.sleep(1)
-        self.xdotool("key", "alt+d")
-        self.xdotool("key", "c")  # Continue
-        self.wait_for(lambda: "P 0111 PSN 32" in self.logged())
-        time.sleep(1)
-        self.type("p :WATCH M 0 106")
-        self.wait_for(lambda: '"result": "OK"' in self.logged())
-        self.type("p :BACK W")
-        self.wait_for(lambda: "P 0106 in IAM 12" in self.logged())
+        self.until('"event": "initialized"', lambda: self.menu("s"))  # Start Debugging
+        self.until("P 0111 PSN 32", lambda: self.menu("c"))  # Continue
+        self.until('"result": "OK"', lambda: self.type("p :WATCH M 0 106"))
+        self.until("P 0106 in IAM 12", lambda: self.type("p :BACK W"))
 
 
 class Files(Case):
