@@ -103,6 +103,7 @@ class Emacs(EditorCase):
         self.assertTrue(self.shows("PHASE: 0000"), self.screen())
 
 
+@unittest.skipUnless(os.environ.get("KATE_OF_TESTS"), "keys that are sent to a window may be lost: set KATE_OF_TESTS to try Kate")
 @unittest.skipUnless(all(map(shutil.which, ("kate", "Xvfb", "xdotool", "dbus-run-session"))), "there is no kate, Xvfb, xdotool or dbus-run-session")
 class Kate(EditorCase):
     """Kate on a screen of its own, by keys. What it asks and is told is read in the adapter's log."""
