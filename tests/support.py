@@ -40,6 +40,7 @@ class Done(NamedTuple):
 def run(*words, script="", env=None, **how):
     """Runs a command at the top of the repository, with the program under test as the simulator of all tools."""
     environment = {**os.environ, "PP6600": program(), **(env or {})}
+    environment.pop("PYTHONUNBUFFERED", None)  # users have none, and what is said comes after what was written all the same
     how = {"cwd": TOP, "timeout": PATIENCE, **how}
     done = subprocess.run(words, input=script.encode("latin-1"), env=environment, capture_output=True, check=False, **how)
     return Done(done.stdout.decode("utf-8", "replace"), done.stderr.decode("utf-8", "replace"), done.returncode)

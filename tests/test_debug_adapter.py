@@ -50,6 +50,19 @@ func main() {
 """
 
 
+
+def child_of(parent):
+    """Returns a process that another one has started."""
+    for path in glob.glob("/proc/[0-9]*/stat"):
+        try:
+            with open(path, encoding="latin-1") as file:
+                if file.read().rpartition(") ")[2].split()[1] == str(parent):
+                    return int(path.split("/")[2])
+        except OSError:  # it has ended meanwhile
+            pass
+    raise AssertionError("it has started no process")
+
+
 class DebugCase(Case):
     """Sessions, which end with the test. What is in them is written to a log, which go-dap reads where it is there."""
 
@@ -670,10 +683,10 @@ class BadHands(DebugCase):
     def test_a_simulator_that_ends(self):
         for command in ("stepIn", "continue"):
             client = self.session(LOOPS)
-            children = subprocess.run(["ps", "-o", "pid=", "--ppid", str(client.process.pid)], stdout=subprocess.PIPE, text=True, check=False)
+            child = child_of(client.process.pid)
             if command == "continue":
                 client.ask(command, threadId=1)
-            os.kill(int(children.stdout.split()[0]), signal.SIGKILL)
+            os.kill(child, signal.SIGKILL)
             if command == "stepIn":
                 client.ask(command, threadId=1)
             client.event("terminated")

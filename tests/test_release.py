@@ -208,7 +208,7 @@ class EmptyRoot(InstallCase):
         os.rename(self.path(ARCHIVE.removesuffix(".tar.gz")), root)
         put_files(root, libraries(f"{root}/{OWN}/pp6600"))
         chroot = ["chroot", root] if os.geteuid() == 0 else ["unshare", "-r", "chroot", root]
-        if not shutil.which(chroot[0], path=PATH) or alone(*chroot, f"/{OWN}/pp6600", "--help").status == 125:
+        if not shutil.which(chroot[0], path=PATH) or alone(*chroot, f"/{OWN}/pp6600", "--help").status:
             self.skipTest("chroot is not allowed here")
         done = alone(*chroot, f"/{OWN}/pp6600", f"/{PAGES}/examples/first-steps/script")
         self.assertEqual((read("examples", "first-steps", "stdout"), "", 0), done)

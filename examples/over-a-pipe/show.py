@@ -59,6 +59,7 @@ def show(simulator, script, output):
     for line in script:
         line = line.rstrip(b"\n")
         output.write(b"> " + line + b"\n")
+        output.flush()
         with time_limit(simulator):
             for text in answer(simulator, line):
                 output.write(text)

@@ -4,7 +4,7 @@ import sys
 
 from .command_line import Failure, add_script, add_turn, arguments, complain, script_lines, simulator, write
 from .console import MOST_TURNS
-from .ending import shown_text
+from .ending import flush, shown_text
 from .history import STEP, up_to_turn
 from .reasons import reason, size_of_central
 from .run import Refusals, Run, performed
@@ -44,6 +44,7 @@ def show_lines(run, lines, stop=False):
         except Failure as failure:
             raise Failure(f"line {number} (decimal): {failure}") from failure
         if stop and refused:
+            flush()
             complain(f"stopped at line {number} (decimal), which was refused")
             return 1
     return refusals.status()
