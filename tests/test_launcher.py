@@ -24,7 +24,7 @@ ANSWERED = ("TURNS 12 SLOT 00\n", "", 0)
 STAND_IN = """#!/bin/bash
 case $* in
     version) echo 'a kit'; exit ;;
-    'all check --jobs '*) echo "$PWD" >'{room}/proved'; if [ -e '{room}/fails' ]; then echo 'a goal is open'; exit 1; fi ;;
+    'all check --jobs '*) echo '== pp_arith'; if [ -e '{room}/fails' ]; then echo 'a goal is open'; exit 1; fi ;;
     run) mkdir -p out; cp '{program}' out/pp6600; if [ -e '{room}/other' ]; then echo >>out/pp6600; fi ;;
     ci) mkdir -p crates/pp6600/out; cp '{program}' crates/pp6600/out/pp6600; cat '{room}/ci'; exit ;;
 esac
@@ -193,7 +193,7 @@ class Prove(Launched):
         self.run_here("prove", rt=True)
         with self.marked("fails"):
             out, err, status = self.run_here("prove", rt=True)
-        self.assertEqual(("a goal is open\n", "prove: not proved; what went wrong is above\n", 1), (out, err, status))
+        self.assertEqual(("== pp_arith\n", "== pp_arith\na goal is open\nprove: not proved; what went wrong is above\n", 1), (out, err, status))
         self.assertFalse(os.path.exists(f"{self.built}.proved"))
 
     def test_a_source_that_changes_meanwhile_leaves_no_stamp(self):
