@@ -128,7 +128,7 @@ class Terminal:
             try:
                 fcntl.ioctl(0, termios.TIOCSWINSZ, struct.pack("HHHH", rows, columns, 0, 0))
                 os.chdir(folder or ".")
-                os.execvpe(words[0], words, {**os.environ, "TERM": kind, **(environment or {})})
+                os.execvpe(words[0], words, {**os.environ, "LC_ALL": "C.UTF-8", "TERM": kind, **(environment or {})})
             finally:
                 os._exit(127)
 
