@@ -13,7 +13,7 @@ import termios
 import time
 
 ESCAPE = "\x1b"
-SEQUENCE = re.compile(r"\x1b(?:\[([?>!]?)([0-9;]*)([@-~])|[()][A-Z0-9]|\][^\x07]*\x07|[78=>])")
+SEQUENCE = re.compile(r"\x1b(?:\[([?>!]?)([0-9;]*)([@-~])|[()][A-Z0-9]|\][^\x07]*\x07|[78=>DM])")
 LONGEST_SEQUENCE = 40
 
 
@@ -28,6 +28,7 @@ class Emulator:
         self.columns, self.rows = columns, rows
         self.cells = [[" "] * columns for _ in range(rows)]
         self.row = self.column = 0
+        self.top, self.bottom, self.saved = 0, rows - 1, (0, 0)  # the region of lines that scroll, and a cursor that is kept
         self.wraps = False  # after the last column the next character begins a new line
         self.last = " "
 
@@ -68,20 +69,46 @@ class Emulator:
         self.column += not self.wraps
 
     def line_feed(self):
-        if self.row == self.rows - 1:
-            self.cells = self.cells[1:] + [[" "] * self.columns]
+        if self.row == self.bottom:
+            self.scroll(self.top, 1)
         else:
-            self.row += 1
+            self.row = min(self.row + 1, self.rows - 1)
+
+    def scroll(self, first, count):
+        """Moves the lines from the first one to the end of the region up, or down if the count is negative."""
+        lines = self.cells[first:self.bottom + 1]
+        blank = [[" "] * self.columns for _ in range(min(abs(count), len(lines)))]
+        self.cells[first:self.bottom + 1] = lines[len(blank):] + blank if count > 0 else blank + lines[:len(lines) - len(blank)]
+
+    def short_sequence(self, final):
+        """Keeps the cursor, takes it back, or moves it by a line; at an end of the region the lines move."""
+        if final == "7":
+            self.saved = (self.row, self.column)
+        elif final == "8":
+            self.row, self.column = self.saved
+        elif final == "D":
+            self.line_feed()
+        elif final == "M" and self.row == self.top:
+            self.scroll(self.top, -1)
+        elif final == "M":
+            self.row = max(self.row - 1, 0)
 
     def sequence(self, found):
         private, numbers, final = found.groups()
+        if final is None:
+            self.short_sequence(found[0][1:])
         if final is None or private:
             return
         numbers = [int(number or 0) for number in numbers.split(";")]
         self.wraps = False
         if final == "m":
             self.colours |= {number for number in numbers if 30 <= number <= 37 or 40 <= number <= 47}
-        elif final in "Hfd`GABCDr":
+        elif final == "r":
+            self.top, self.bottom = (numbers[0] or 1) - 1, ((numbers + [0])[1] or self.rows) - 1
+            self.row = self.column = 0
+        elif final in "LM":
+            self.scroll(self.row, (numbers[0] or 1) * (1 if final == "M" else -1))
+        elif final in "Hfd`GABCD":
             self.move(final, *(number or 1 for number in (numbers + [0])[:2]))
         elif final in "JKXP@":
             self.edit(final, numbers[0])
@@ -92,8 +119,8 @@ class Emulator:
             self.unknown.append(found[0])
 
     def move(self, final, count, second):
-        """Moves the cursor. The region of lines that scroll (r) is always the whole screen here."""
-        row, column = {"H": (count - 1, second - 1), "f": (count - 1, second - 1), "r": (0, 0), "d": (count - 1, self.column),
+        """Moves the cursor."""
+        row, column = {"H": (count - 1, second - 1), "f": (count - 1, second - 1), "d": (count - 1, self.column),
                        "G": (self.row, count - 1), "`": (self.row, count - 1), "A": (self.row - count, self.column),
                        "B": (self.row + count, self.column), "C": (self.row, self.column + count),
                        "D": (self.row, self.column - count)}[final]
