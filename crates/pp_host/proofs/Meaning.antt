@@ -8,7 +8,8 @@ use Rattle.pp_arguments.specs.declared.options.Options.{Options}
 use Rattle.pp_trouble.specs.Trouble.{of_arguments}
 use Rattle.pp_trouble.specs.declared.trouble.Trouble.TheVariants.{BadArguments, BadChannel, NoMemory}
 use Rattle.pp_host.specs.Known.{Texts}
-use Rattle.pp_host.specs.Options.{Means, asked_by, asked_of}
+use Rattle.pp_host.specs.Calls.{asked_of}
+use Rattle.pp_host.specs.Options.{Means, asked_by}
 
 pub Means-asked : (words : List Text) (options : Options) → AreAskedBy words options → faults_of words ≡ [] → Means (Texts words) (Ok (asked_of options))
 unfolding asked_by
@@ -25,7 +26,7 @@ bad-channel words h c e = grind arith
 
 pub Means-rejected : (words : List Text) (fault : ArgFault) → IsCauseOf words fault → (of_arguments fault ≡ NoMemory) ⊎ Means (Texts words) (Err (of_arguments fault))
 Means-rejected words argument.NoMemory cause = inl refl
-Means-rejected words argument.Help cause = inr (inr (argument.Help, cause, refl))
-Means-rejected words argument.BadArguments (inl cause) = inr (inr (argument.BadArguments, cause, refl))
+Means-rejected words argument.Help cause = inr (inr (argument.Help, grind arith, cause, refl))
+Means-rejected words argument.BadArguments (inl cause) = inr (inr (argument.BadArguments, grind arith, cause, refl))
 Means-rejected words argument.BadArguments (inr (line, number)) = inr (inl (line, sym (bad-number words number)))
 Means-rejected words argument.BadChannel (line, history, central, channel) = inr (inl (line, sym (bad-channel words history central channel)))
