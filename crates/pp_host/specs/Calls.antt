@@ -37,7 +37,8 @@ IsNamed files None read content = ⊤
 IsNamed files (Some path) read content = IsContent (files path) read content
 
 -- a file that an option may name was loaded, or not: what was read of it, its content, and what follows from both
-pub record Loads (files : Text → Known Found) (before after : List Event) (kind : FileKind) (path : Option Text) (Follows : Found → Found → Type 0) : Type 0 where
+pub record Loads (files : Text → Known Found) (before after : List Event) (kind : FileKind) (path : Option Text)
+    (Follows : Found → Found → Type 0) : Type 0 where
   pub read : Found
   pub content : Found
   pub logged : after ≡ before ++ log_of kind path read

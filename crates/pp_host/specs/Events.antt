@@ -4,8 +4,8 @@ use Rattle.pp_arguments.specs.CommandLine.{Text}
 use Rattle.pp_host.specs.Known.{Content, Found}
 use Rattle.pp_trouble.specs.declared.trouble.FileKind.{FileKind}
 
--- A file of this kind was opened by this path, or it could not be opened. Or the file that was opened last was closed, after these bytes
--- were read from it.
+-- A file of this kind was opened by this path, or it could not be opened. Or the file that was opened last was closed, after
+-- these bytes were read from it.
 pub data Event : Type 0 where
   Opened : FileKind → Text → Event
   Missing : FileKind → Text → Event

@@ -12,7 +12,8 @@ use Rattle.pp_trouble.specs.declared.trouble.FileKind.TheVariants.{Deck, Panel, 
 use Rattle.pp_trouble.specs.declared.trouble.Trouble.{Trouble}
 use Rattle.pp_trouble.specs.declared.trouble.Trouble.TheVariants.{BadArguments, BadChannel}
 
--- What the words ask for: the length of the history, the size of central memory, the channels of the devices, and the paths of the files.
+-- What the words ask for: the length of the history, the size of central memory, the channels of the devices, and the paths of
+-- the files.
 pub record Asked : Type 0 where
   pub history : ℕ
   pub central : CentralSize

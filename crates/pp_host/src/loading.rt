@@ -46,7 +46,8 @@ pub fn deck<H: Host>(
     ensures deck { Loads (H.known_files host.old) (H.log host.old) (H.log host.new) FileKind.Deck (option_map string_bytes path.now)
         (λ read content. MatchResult result
         (λ deck. deck_at (option_map string_bytes path.now) content ≡ Ok deck.items)
-        (λ trouble. (deck_at (option_map string_bytes path.now) content ≡ Err trouble) ⊎ IsLost card_rule (option_map string_bytes path.now) read content trouble)) }
+        (λ trouble. (deck_at (option_map string_bytes path.now) content ≡ Err trouble)
+        ⊎ IsLost card_rule (option_map string_bytes path.now) read content trouble)) }
     ensures reads { H.failure_count host.new ≡ reads_by result (H.failure_count host.old) }
     ensures early { (count : ℕ) → writes_by result count ≡ count }
     ensures within { IfOk result (λ deck. All (All (λ word. word < 0o10000)) deck.items) }

@@ -28,9 +28,11 @@ serving : (start : Value) (bytes read : List ℕ) (course : Course) → IsCutSer
 serving start bytes read course (IsCutServing.ByRead e) = rw e
 serving start bytes read course (IsCutServing.ByWrite front rest all some e) = rw e
 
-cut : (asked : Asked) (given : Given) (readings : FileKind → Found) (typed : List ℕ) (course : Course) → IsCut asked given readings typed course →
+cut : (asked : Asked) (given : Given) (readings : FileKind → Found) (typed : List ℕ) (course : Course) →
+    IsCut asked given readings typed course →
     (exit_of course.ended ≡ 2) ⊎ (exit_of course.ended ≡ 3)
-cut asked given readings typed course (IsCut.InDeck trouble is_lost e) = rw e (lost _ asked.deck (readings Deck) (given.files Deck) trouble is_lost)
+cut asked given readings typed course (IsCut.InDeck trouble is_lost e) =
+    rw e (lost _ asked.deck (readings Deck) (given.files Deck) trouble is_lost)
 cut asked given readings typed course (IsCut.InPanel cards deck is_lost e) = rw e (inr refl)
 cut asked given readings typed course (IsCut.AtMachine start loaded e) = rw e (inl refl)
 cut asked given readings typed course (IsCut.InScript start bytes read performed loaded all is_read is_cut e) =
@@ -39,7 +41,8 @@ cut asked given readings typed course (IsCut.InScript start bytes read performed
 cut_short : (files : Text → Known Found) (given : Given) (readings : FileKind → Found) (typed : List ℕ) (course : Course) →
     IsCutShort files given readings typed course → (exit_of course.ended ≡ 2) ⊎ (exit_of course.ended ≡ 3)
 cut_short files given readings typed course (IsCutShort.InWords e) = rw e (inl refl)
-cut_short files given readings typed course (IsCutShort.AfterWords asked means named is_cut) = cut asked given readings typed course is_cut
+cut_short files given readings typed course (IsCutShort.AfterWords asked means named is_cut) =
+    cut asked given readings typed course is_cut
 
 above : (status : ℕ) → (status ≡ 2) ⊎ (status ≡ 3) → status ≤ 1 → ⊥
 above status either small = grind arith
@@ -52,7 +55,8 @@ whole files given readings typed course (Follows.CutShort at) small =
 
 -- ---- runs
 
-pub whole_run : (before after : Outside) (status : ℕ) (run : IsRun before after status) → status ≤ 1 → IsWhole before.files.known run.given run.course
+pub whole_run : (before after : Outside) (status : ℕ) (run : IsRun before after status) → status ≤ 1 →
+    IsWhole before.files.known run.given run.course
 whole_run before after status run small =
     whole before.files.known run.given run.readings run.typed run.course run.follows (rw run.exit at small)
 

@@ -40,8 +40,13 @@ by_kind deck panel script Deck = deck
 by_kind deck panel script Panel = panel
 by_kind deck panel script Script = script
 
+-- these words, the deck, the panel and the script, and standard input
+abbrev pub given_with : Words → Found → Found → Found → List ℕ → Given
+given_with words deck panel script input = record { words = words; files = by_kind deck panel script; input = input }
+
 -- what a course read and wrote, given what it read of each kind of file and of standard input
-pub record IsTraced (before after : Devices) (given : Given) (readings : FileKind → Found) (typed : List ℕ) (course : Course) : Type 0 where
+pub record IsTraced (before after : Devices) (given : Given) (readings : FileKind → Found) (typed : List ℕ)
+    (course : Course) : Type 0 where
   pub contents : All (λ file. IsContent (before.files.known file.path) (readings file.kind) (given.files file.kind)) course.opened
   pub bytes : IsInput before.input.left typed given.input
   pub files : AreRead before.files after.files course readings
@@ -70,37 +75,42 @@ pub record IsMade (asked : Asked) (cards : List Row) (panel : Option Row) (IsAt 
 -- no session was made: the options do not allow one, or memory ran out
 abbrev pub IsUnmade : Asked → List Row → Option Row → Trouble → Type 0
 IsUnmade asked cards panel trouble =
-    (session_with asked cards panel ≡ Err trouble) ⊎ ((trouble ≡ NoMemory) × ((start : Value) × (session_with asked cards panel ≡ Ok start)))
+    (session_with asked cards panel ≡ Err trouble)
+    ⊎ ((trouble ≡ NoMemory) × ((start : Value) × (session_with asked cards panel ≡ Ok start)))
 
 -- a script of these bytes was served, or it was cut short
 abbrev pub IsServed : Value → List ℕ → List ℕ → Course → Type 0
 IsServed start bytes read course = (course ≡ served start bytes) ⊎ IsCutServing start bytes read course
 
 -- the script of a source was answered, from each value that the session had: its bytes, and those that were read
-pub record AnswersScript (IsAt : Value → Type 0) (before after : Input) (output output' : Output) (result : Result ℕ Trouble) : Type 0 where
+pub record AnswersScript (IsAt : Value → Type 0) (before after : Input) (output output' : Output)
+    (result : Result ℕ Trouble) : Type 0 where
   pub bytes : List ℕ
   pub taken : List ℕ
   pub read : after.read ≡ before.read ++ taken
   pub left : Consumes before.left after.left taken
   pub all : IsInput before.left taken bytes
-  pub course : (start : Value) → IsAt start → (answers : List ℕ) × Appends output.text output'.text answers × IsServed start bytes taken (ends answers result)
+  pub course : (start : Value) → IsAt start →
+      (answers : List ℕ) × Appends output.text output'.text answers × IsServed start bytes taken (ends answers result)
 
 -- the script of this path was performed, or it could not be opened, or it was cut short
 abbrev pub IsPerformed : Option Text → Found → List ℕ → Found → List ℕ → Value → Course → Type 0
 IsPerformed path script input read typed start course =
     (course ≡ after (script_at path script input) (served start))
-    ⊎ ((bytes taken : List ℕ) × (script_at path script input ≡ Ok bytes) × (script_at path read typed ≡ Ok taken) × IsCutServing start bytes taken course)
+    ⊎ ((bytes taken : List ℕ) × (script_at path script input ≡ Ok bytes) × (script_at path read typed ≡ Ok taken)
+    × IsCutServing start bytes taken course)
 
--- The script of this path, or standard input, was performed after these files, from each value that the session had: the content of the
--- file and what was read of it, the bytes of standard input and what was read of it.
-pub record PerformsScript (IsAt : Value → Type 0) (path : Option Text) (before after : Devices) (result : Result ℕ Trouble) (words : Words) (deck panel deck_read panel_read : Found) : Type 0 where
+-- The script of this path, or standard input, was performed after these files, from each value that the session had: the
+-- content of the file and what was read of it, the bytes of standard input and what was read of it.
+pub record PerformsScript (IsAt : Value → Type 0) (path : Option Text) (before after : Devices) (result : Result ℕ Trouble)
+    (words : Words) (deck panel deck_read panel_read : Found) : Type 0 where
   pub script : Found
   pub read : Found
   pub input : List ℕ
   pub typed : List ℕ
   pub known : IsNamed before.files.known path read script
   pub course : (start : Value) → IsAt start → (answers : List ℕ)
-      × IsTraced before after (record { words = words; files = by_kind deck panel script; input = input }) (by_kind deck_read panel_read read) typed
+      × IsTraced before after (given_with words deck panel script input) (by_kind deck_read panel_read read) typed
       (performing path (ends answers result))
       × IsPerformed path script input read typed start (ends answers result)
 

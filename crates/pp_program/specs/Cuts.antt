@@ -31,10 +31,11 @@ pub record IsStart (asked : Asked) (given : Given) (start : Value) : Type 0 wher
 -- A script of these bytes was cut short, after some of them were read.
 pub data IsCutServing (start : Value) (bytes read : List ℕ) (course : Course) : Type 0 where
   -- A read failed. Every line that was finished by then was answered, within the limits of a script.
-  ByRead : course ≡ ends (run start (finished_within LINE_LIMIT BYTE_LIMIT read)).text (Err ReadFailed) → IsCutServing start bytes read course
-  -- A write failed. A proper prefix of the answers was written.
-  ByWrite : (front rest : List ℕ) → (served start bytes).answers ≡ front ++ rest → 0 < length rest → course ≡ ends front (Err WriteFailed) →
+  ByRead : course ≡ ends (run start (finished_within LINE_LIMIT BYTE_LIMIT read)).text (Err ReadFailed) →
       IsCutServing start bytes read course
+  -- A write failed. A proper prefix of the answers was written.
+  ByWrite : (front rest : List ℕ) → (served start bytes).answers ≡ front ++ rest → 0 < length rest →
+      course ≡ ends front (Err WriteFailed) → IsCutServing start bytes read course
 
 -- A run with these options was cut short. Memory is asked for by the deck and by the machine, and by nothing after.
 pub data IsCut (asked : Asked) (given : Given) (readings : FileKind → Found) (typed : List ℕ) (course : Course) : Type 0 where
@@ -50,6 +51,7 @@ pub data IsCut (asked : Asked) (given : Given) (readings : FileKind → Found) (
       IsCut asked given readings typed course
   -- The script has these bytes, of which these were read. It was cut short by a failed read or write.
   InScript : (start : Value) (bytes read : List ℕ) (performed : Course) → IsStart asked given start →
-      script_at asked.script (given.files Script) given.input ≡ Ok bytes → script_at asked.script (readings Script) typed ≡ Ok read →
+      script_at asked.script (given.files Script) given.input ≡ Ok bytes →
+      script_at asked.script (readings Script) typed ≡ Ok read →
       IsCutServing start bytes read performed → course ≡ loading asked (performing asked.script performed) →
       IsCut asked given readings typed course

@@ -58,7 +58,8 @@ abbrev pub output_of : {W : Type 0} → SinkGhosts W → W → Output
 output_of W sink = record { text = W.text sink; failures = W.failure_count sink }
 
 -- all that is outside of the program, as the host and the streams show it
-abbrev pub outside_of : {H F R W E : Type 0} → HostGhosts H F → SourceGhosts R → SinkGhosts W → SinkGhosts E → H → R → W → E → Outside
+abbrev pub outside_of : {H F R W E : Type 0} → HostGhosts H F → SourceGhosts R → SinkGhosts W → SinkGhosts E →
+    H → R → W → E → Outside
 outside_of H R W E host input output errors = record {
   words = H.known_words host;
   files = files_of H host;

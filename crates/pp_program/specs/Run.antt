@@ -16,7 +16,8 @@ use Rattle.pp_trouble.specs.declared.trouble.Trouble.TheVariants.{NoMemory}
 
 -- each file that the options name is the known one, if one is known, also if it was not asked for
 abbrev pub AreKnown : (Text → Known Found) → Given → Result Asked Trouble → Type 0
-AreKnown files given meaning = IfOk meaning (λ asked. (kind : FileKind) → IfSome (path_of asked kind) (λ path. Agrees (files path) (given.files kind)))
+AreKnown files given meaning =
+    IfOk meaning (λ asked. (kind : FileKind) → IfSome (path_of asked kind) (λ path. Agrees (files path) (given.files kind)))
 
 -- the course is the whole one that the program has for what the words mean
 pub record IsWhole (files : Text → Known Found) (given : Given) (course : Course) : Type 0 where
@@ -26,7 +27,8 @@ pub record IsWhole (files : Text → Known Found) (given : Given) (course : Cour
   pub whole : course ≡ program given meaning
 
 -- The run was cut short.
-pub data IsCutShort (files : Text → Known Found) (given : Given) (readings : FileKind → Found) (typed : List ℕ) (course : Course) : Type 0 where
+pub data IsCutShort (files : Text → Known Found) (given : Given) (readings : FileKind → Found) (typed : List ℕ)
+    (course : Course) : Type 0 where
   -- Memory ran out while the words were read, before anything was opened.
   InWords : course ≡ ends [] (Err NoMemory) → IsCutShort files given readings typed course
   -- The words ask for these options, and the run was cut short after that.
@@ -34,16 +36,19 @@ pub data IsCutShort (files : Text → Known Found) (given : Given) (readings : F
       IsCut asked given readings typed course → IsCutShort files given readings typed course
 
 -- the course is whole, or the run was cut short
-pub data Follows (files : Text → Known Found) (given : Given) (readings : FileKind → Found) (typed : List ℕ) (course : Course) : Type 0 where
+pub data Follows (files : Text → Known Found) (given : Given) (readings : FileKind → Found) (typed : List ℕ)
+    (course : Course) : Type 0 where
   Whole : IsWhole files given course → Follows files given readings typed course
   CutShort : IsCutShort files given readings typed course → Follows files given readings typed course
 
 -- ---- the whole run
 
--- The program was given what is known beforehand. If the bytes of a file or of standard input are not known, it was given those that it
--- read.
-pub record IsGiven (before : Outside) (given : Given) (readings : FileKind → Found) (typed : List ℕ) (course : Course) : Type 0 where
+-- The program was given what is known beforehand. If the bytes of a file or of standard input are not known, it was given those
+-- that it read.
+pub record IsGiven (before : Outside) (given : Given) (readings : FileKind → Found) (typed : List ℕ)
+    (course : Course) : Type 0 where
   pub words : Agrees before.words given.words
+  -- each file that the course opens
   pub files : All (λ file. IsContent (before.files.known file.path) (readings file.kind) (given.files file.kind)) course.opened
   pub input : IsInput before.input.left typed given.input
 
@@ -51,7 +56,7 @@ pub record IsGiven (before : Outside) (given : Given) (readings : FileKind → F
 pub record IsRun (before after : Outside) (status : ℕ) : Type 0 where
   -- There is what the program was given,
   pub given : Given
-  -- what it read of each kind of file,
+  -- what it read of each kind of file that it opened,
   pub readings : FileKind → Found
   -- the bytes that it read of standard input,
   pub typed : List ℕ

@@ -45,7 +45,8 @@ Prints before after bytes =
     Writes before after bytes before.failures
     ⊎ (AppendsPrefix before.text after.text bytes × (after.failures ≡ one_more before.failures))
 
--- Standard output has the answers, and after them the usage if that was asked for. No write failed, unless a failed write ended the run.
+-- Standard output has the answers, and after them the usage if that was asked for. No write failed, unless a failed write ended
+-- the run.
 abbrev pub IsOutput : Result ℕ Trouble → List ℕ → Output → Output → Type 0
 IsOutput (Err Help) answers before after = Prints before after (answers ++ line_of Help)
 IsOutput ended answers before after = Writes before after answers (writes_by ended before.failures)
