@@ -1,8 +1,9 @@
 #!/usr/bin/env python3
 """Makes docs/DEFINITIONS.md and docs/definitions.html, the definitions that the theorem rests on: docs/definitions.py [--check]
 
-docs/definitions.txt has the text of the first page. It names the functions whose contracts are the theorem. From there on the page has each
-definition of crates/*/specs and each type of crates/*/src that a definition on the page uses, word by word, with the comment above it.
+docs/definitions.txt has the text of the first page. It names the functions whose contracts are the theorem. From there on the page
+has each definition of crates/*/specs and each type of crates/*/src that a definition on the page uses, name by name, with the
+comment above it.
 
 These are faults:
 - a name that stands for nothing, or a definition that belongs to no chapter;

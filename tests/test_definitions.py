@@ -1,4 +1,4 @@
-"""Tests the pages of the definitions, by their text alone, and that docs/definitions.py finds what is wrong in a small repository."""
+"""Tests docs/DEFINITIONS.md by its text alone, and that docs/definitions.py finds faults that are planted in a small repository."""
 
 import contextlib
 import io
@@ -12,31 +12,45 @@ from tests.support import TOP, Case, read
 sys.path.insert(0, os.path.join(TOP, "docs"))
 import definitions  # noqa: E402
 
-PAGE = "docs/DEFINITIONS.md"
-ENTRY = re.compile(r"^### `([^`]+)`.*\n\n(.*)\n\n```(antt|rust)\n((?:(?!```).*\n)*)```\n\n(.*)", re.M)
-BARE = re.compile(r'"(?:\\.|[^"\\])*"|(?<!\S)(?:--|//)[^\n]*')
+ENTRY = re.compile(r"^### (`([^`]+)`.*)\n\n(.*)\n\n```(antt|rust)\n((?:(?!```).*\n)*)```\n\n(.*)", re.M)
+NOT_CODE = re.compile(r'"(?:\\.|[^"\\])*"|(?<!\S)(?:--|//)[^\n]*')
 TOKEN = re.compile(r"[^\s(){};,\[\]]+")
-KNOWN = set("""→ × = : . λ | _ ⊥ Type Unit record data where let in pub abbrev unfoldable module ghost enum struct const type crate infix infixl infixr
-    Self Vec Option String bool u8 u16 u32 u64 usize""".split())
+NUMBER = re.compile(r"(?:0o)?[\d_]+")
+LANGUAGE = set("""→ × = : . λ | _ ⊥ Type Unit record data where let in pub abbrev unfoldable module infix infixl infixr ghost
+    enum struct const type crate Self Vec Option String bool u8 u16 u32 u64 usize""".split())
+
+
+class Entry:
+    """A definition as the page shows it."""
+
+    def __init__(self, found):
+        heading, self.name, self.sentence, language, code, self.said = found
+        self.anchor = re.sub(r"[^\w -]", "", heading.lower()).replace(" ", "-")
+        self.code = NOT_CODE.sub("", code)
+        self.bound = bound_in(self.code) | set(re.findall(r"`([^`]+)`", self.said))
+        if language == "rust":
+            self.bound.update(re.findall(r"\w+", "".join(re.findall(r"^pub struct \w+<(.*?)>", code))))
+            self.code = re.sub(r"[<>&]|::|'\w+", " ", self.code)
+        own = r"^  (?:pub )?(\S+) :()" if language == "antt" else r"^    ([A-Z]\w*)|(\w+):"
+        self.names = parts(self.name) | {name for found in re.findall(own, code, re.M) for name in found}
+
+    def used(self):
+        """Returns the names in the code: of `a.b` and `a.` only a."""
+        tokens = [token for token in TOKEN.findall(self.code) if not NUMBER.fullmatch(token)]
+        return {token if token in self.bound else token.split(".")[0].rstrip(":") or "." for token in tokens}
 
 
 def parts(name):
-    """Returns a name and its last part, or the parts of an operator."""
-    return {part for part in name.split("◌") if part} | {name.split(".")[-1]}
+    """Returns the last part of a name, or each part of an operator, beside itself."""
+    return {name, name.split(".")[-1], *name.split("◌")}
 
 
-def members(code, language):
-    """Returns the names of constructors and fields."""
-    pattern = r"^  (?:pub )?(\S+) :" if language == "antt" else r"^    ([A-Z]\w*)|(\w+):"
-    return {name for found in re.finditer(pattern, code, re.M) for name in found.groups() if name}
-
-
-def bound(code):
-    """Returns the names that a definition binds: arguments, those of λ and let, fields of a record, and variables of patterns."""
-    found = re.findall(r"λ ((?:[^.]|\.(?=\S))*?)\.\s", code) + re.findall(r"[({]([^(){}:=]+) :", code)
-    found += re.findall(r"\blet (\S+)|(?<!\S)(\S+) = ", code)
-    patterns = [name for left in re.findall(r"^(\S.*?) =(?: |$)", code, re.M) for name in TOKEN.findall(left) if not name[:1].isupper()]
-    return {name for names in found for name in TOKEN.findall(" ".join(names) if isinstance(names, tuple) else names)} | set(patterns)
+def bound_in(code):
+    """Returns the names that a definition binds: arguments, those of λ and `let`, labels, and the variables of patterns."""
+    groups = re.findall(r"λ ((?:[^.]|\.(?=\S))*?)\.\s", code) + re.findall(r"[({]([^(){}:=]+) :", code)
+    groups += re.findall(r"\blet (\S+)", code) + re.findall(r"(?<!\S)(\S+) = ", code)
+    patterns = " ".join(re.findall(r"^(\S.*?) =(?: |$)", code, re.M))
+    return set(TOKEN.findall(" ".join(groups))) | {name for name in TOKEN.findall(patterns) if not name[0].isupper()}
 
 
 class Page(Case):
@@ -44,46 +58,37 @@ class Page(Case):
 
     @classmethod
     def setUpClass(cls):
-        cls.text = read(*PAGE.split("/"))
-        cls.entries = ENTRY.findall(cls.text)
-        cls.kit = {name.replace("\\|", "|") for name in re.findall(r"^\| `([^`]+)` \| \S+ \|", cls.text.split("\n## The words of the kit\n")[1], re.M)}
-
-    def check(self):
-        return subprocess.run([sys.executable, os.path.join(TOP, "docs", "definitions.py"), "--check"], capture_output=True, text=True, check=False)
+        cls.text = read("docs", "DEFINITIONS.md")
+        cls.entries = list(map(Entry, ENTRY.findall(cls.text)))
 
     def test_current(self):
-        done = self.check()
+        words = [sys.executable, os.path.join(TOP, "docs", "definitions.py"), "--check"]
+        done = subprocess.run(words, capture_output=True, text=True, check=False)
         self.assertEqual(("", 0), (done.stdout + done.stderr, done.returncode))
 
     def test_every_name_is_there(self):
-        """Each name of each definition is on the page, a word of the kit, or bound where it is used."""
-        known = KNOWN | {part for name in self.kit for part in parts(name)}
-        for name, _, language, code, _ in self.entries:
-            known |= parts(name) | members(code, language)
-        for name, _, language, code, said in self.entries:
-            bare, generics = BARE.sub(" ", code), re.match(r"pub struct \w+<([^>]*)>", code)
-            bare = re.sub(r"[<>&]|::|'\w+", " ", bare) if language == "rust" else bare
-            there = known | bound(bare) | set(re.findall(r"`([^`]+)`", said)) | set(re.findall(r"\w+", generics[1] if generics else ""))
-            heads = {token.rstrip(".:") if token.rstrip(".:") in there else token.split(".")[0].rstrip(":") for token in TOKEN.findall(bare)}
-            with self.subTest(name):
-                self.assertEqual(set(), {head for head in heads - there if head and not re.fullmatch(r"(?:0o)?[\d_]+", head)})
+        """Each name of each definition is on the page, in its list of words of the kit, or bound where it is used."""
+        kit = re.findall(r"^\| `([^`]+)` \| \S+ \|", self.text.split("\n## The words of the kit\n")[1], re.M)
+        known = LANGUAGE.union(*(parts(name.replace("\\|", "|")) for name in kit), *(entry.names for entry in self.entries))
+        for entry in self.entries:
+            with self.subTest(entry.name):
+                self.assertEqual(set(), entry.used() - known - entry.bound)
 
-    def test_every_definition_is_used(self):
-        """Each definition is a name of another one above it, or of a contract."""
-        contracts = "".join(re.findall(r"^```rust\npub fn .*?^```", self.text, re.M | re.S))
-        above = [set(TOKEN.findall(contracts.replace(".", " ")))]
-        for name, _, language, code, said in self.entries:
-            users = re.findall(r"\]\(#([^)]+)\)|the contract", said.split("Used by ")[1].split(". ")[0])
-            with self.subTest(name):
-                self.assertTrue(users)
-            above.append(users)
+    def test_order(self):
+        """Each definition is used by a contract, or by a definition above it."""
+        above = {"the contract"}
+        for entry in self.entries:
+            users = re.search(r"Used by (?:\[`[^`]+`\]\(#([^)]+)\)|(the contract))", entry.said)
+            with self.subTest(entry.name):
+                self.assertIn(users[1] or users[2], above)
+            above.add(entry.anchor)
 
     def test_counts(self):
         """The page and README.md have the number of definitions and of their lines."""
-        lines = [line for *_, code, _ in self.entries for line in BARE.sub("", code).splitlines() if line.strip()]
+        lines = [line for entry in self.entries for line in entry.code.splitlines() if line.strip()]
         count = f"{len(self.entries)} definitions in {len(lines):,} lines"
-        self.assertIn(count, " ".join(self.text.split()))
-        self.assertIn(count, " ".join(read("README.md").split()))
+        for text in (self.text, read("README.md")):
+            self.assertIn(count, " ".join(text.split()))
 
 
 # A repository of a few definitions, in which each form occurs that docs/definitions.py has to read.
@@ -223,20 +228,23 @@ class Small(Case):
         """What is on the page is what is used, in the order of its use."""
         page = definitions.read(self.top, "docs", "DEFINITIONS.md")
         names = ["Outcome", "◌⇒◌", "Same", "number", "text_of", "number", "shown_of", "Host.read", "mixed", "Color", "Depth"]
-        self.assertEqual(names, [name for name, *_ in ENTRY.findall(page)])
+        self.assertEqual(names, [name for _, name, *_ in ENTRY.findall(page)])
         for part in ("\n\nThe outcome of a run.\n\n", "`blend` is [`mixed`](#mixed)", "`HostGhosts` has [`Host.read`](#hostread).",
                      "Another number, in (words) and \\<marks>.", "\nmodule _ {A : Type 0} where\ninfix 10 ◌⇒◌\nabbrev pub ◌⇒◌ :",
-                     "\n-- a comment between two clauses\n", "`color.Red` is of [`Color`](#color)", "All 11, of [`Outcome`](#outcome)."):
+                     "\n-- a comment between two clauses\n", "`color.Red` is of [`Color`](#color)",
+                     "All 11, of [`Outcome`](#outcome)."):
             self.assertIn(part, page)
 
     def test_current(self):
         self.assertEqual(("", 0), self.printed("--check"))
         self.write("docs/DEFINITIONS.md", definitions.read(self.top, "docs", "DEFINITIONS.md") + "By hand.\n")
-        self.assertEqual(("docs/DEFINITIONS.md is not what docs/definitions.py makes: run docs/definitions.py\n", 1), self.printed("--check"))
+        fault = "docs/DEFINITIONS.md is not what docs/definitions.py makes: run docs/definitions.py\n"
+        self.assertEqual((fault, 1), self.printed("--check"))
 
     def test_ceilings(self):
-        for ceilings in ((10, 30), (11, 29)):
-            self.assertEqual((f"11 definitions in 30 lines: more than {ceilings[0]} in {ceilings[1]}\n", 1), self.printed(ceilings=ceilings))
+        for words, lines in ((10, 30), (11, 29)):
+            fault = f"11 definitions in 30 lines: more than {words} in {lines}\n"
+            self.assertEqual((fault, 1), self.printed(ceilings=(words, lines)))
 
     def test_planted(self):
         base, deep, text = "crates/pp_base/specs/Colors.antt", "crates/pp_small/specs/inner/Deep.antt", "docs/definitions.txt"

@@ -24,8 +24,9 @@ th, td { text-align: left; vertical-align: top; padding: .12em .5em; border-bott
 th { border-bottom: 1pt solid #333; }
 tr { break-inside: avoid; }
 code, pre { font-family: 'DejaVu Sans Mono', 'Liberation Mono', Menlo, Consolas, monospace; font-size: .88em; }
-pre { margin: .3em 0; padding: .35em .6em; background: #f6f6f4; line-height: 1.3; }
-pre span { display: block; white-space: pre-wrap; overflow-wrap: anywhere; padding-left: 4ch; text-indent: -4ch; min-height: 1.3em; }
+pre { font-size: .84em; margin: .3em 0; padding: .35em .6em; background: #f6f6f4; line-height: 1.3; }
+pre span { display: block; white-space: pre-wrap; overflow-wrap: anywhere; min-height: 1.3em;
+  padding-left: 4ch; text-indent: -4ch; }
 pre a { text-decoration: none; }
 pre a:hover { text-decoration: underline; }
 pre i { color: #666; }
@@ -54,7 +55,10 @@ def code(text):
 def numbered(text, book):
     """Returns HTML with the number of each definition after a link to it."""
     numbers = {entry.anchor: entry.number for entry in book.entries.values()}
-    return re.sub(r'<a href="#([^"]+)">.*?</a>', lambda found: f"{found.group()} <small>{numbers.get(found[1], '')}</small>", text)
+
+    def with_number(found):
+        return found.group() + (f" <small>{numbers[found[1]]}</small>" if found[1] in numbers else "")
+    return re.sub(r'<a href="#([^"]+)">.*?</a>', with_number, text)
 
 
 def block_of(block):
@@ -97,7 +101,8 @@ def html(book):
     """Returns the page."""
     parts = [text_of(book.text.front, book)]
     for at, (chapter, definitions) in enumerate(zip(book.text.chapters, book.chapters), 1):
-        parts += [f'<div class="chapter">\n<h2 id="{slug(chapter.title)}">{at} {escape(chapter.title)}</h2>', text_of(chapter.introduction, book)]
+        heading = f'<h2 id="{slug(chapter.title)}">{at} {escape(chapter.title)}</h2>'
+        parts += [f'<div class="chapter">\n{heading}', text_of(chapter.introduction, book)]
         parts += [entry_of(book.entries[definition], book) for definition in definitions] + ["</div>"]
     body = "\n".join(parts + [index(book)])
     return (f'<!DOCTYPE html>\n{MADE.strip()}\n<html lang="en">\n<head>\n<meta charset="utf-8">\n<title>The definitions</title>\n'

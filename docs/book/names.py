@@ -16,8 +16,8 @@ RUST = set("bool u8 u16 u32 u64 usize Self Option Vec String".split())
 SMALL_CONSTRUCTORS = ("zero", "suc", "true", "false", "[]", "◌∷◌", "inl", "inr")
 NAMED = "named"  # the guard of a type that is only named, as an argument of Ghosts
 
-# A word of the kit; a field that is read; and the use of one of these or of a definition, from one place of a text to another. A use
-# with a guard is in a field of a record of ghost members, and counts if that field is read somewhere.
+# A word of the kit; a field that is read; and the use of one of these or of a definition, from one place of a text to another.
+# A use with a guard is in a field of a record of ghost members, and counts if that field is read somewhere.
 Library = collections.namedtuple("Library", "module name")
 Field = collections.namedtuple("Field", "name")
 Use = collections.namedtuple("Use", "start end guard target")
@@ -236,7 +236,8 @@ class Reading:
         result = self.text[:starts[1]].rpartition("→")[2].rpartition(" : ")[2].split()[0]
         self.is_guarded = is_trait(self.names.target(result))
         signature = Walk(self.names, self.text, bound).over(self.text.index(" : "), starts[1])
-        self.keep(signature, [use if is_trait(use.target) or not self.is_guarded else use._replace(guard=NAMED) for use in signature.uses])
+        named = [use if is_trait(use.target) else use._replace(guard=NAMED) for use in signature.uses]
+        self.keep(signature, named if self.is_guarded else None)
         for start, end in zip(starts[1:], starts[2:]):
             if not self.text.startswith("unfolding ", start):
                 equals = matching(self.text, start, "=").start()

@@ -27,9 +27,9 @@ class Text:
         self.front, self.chapters = front.strip() + "\n", []
         for block in re.split(r"^## ", chapters, flags=re.M)[1:]:
             title, _, rest = block.partition("\n")
-            keys = dict(re.findall(r"^(files|facts): (.*)\n", rest, re.M))
+            files = " ".join(re.findall(r"^files: (.*)\n", rest, re.M)).split()
             introduction = re.sub(r"^(files|facts): .*\n", "", rest, flags=re.M).strip()
-            self.chapters.append(Chapter(title, keys["files"].split(), "facts" in keys, introduction))
+            self.chapters.append(Chapter(title, files, "\nfacts: " in block, introduction))
         self.kit = dict(re.findall(r"^`(.+?)`: (.*)$", kit, re.M))
 
 
@@ -78,8 +78,8 @@ def labels(text):
 def titles(definitions, taken):
     """Returns a heading for each definition: its name, with its file and more where two headings would have one anchor."""
     found, used = {}, collections.Counter(taken)
-    for level in ("`{0.name}`", "`{0.name}` ({0.place})", "`{0.name}` ({0.place}, {0.kind})", "`{0.name}` ({0.place}, line {0.line})"):
-        left = {definition: level.format(definition) for definition in definitions if definition not in found}
+    for level in ("", " ({0.place})", " ({0.place}, {0.kind})", " ({0.place}, line {0.line})"):
+        left = {definition: ("`{0.name}`" + level).format(definition) for definition in definitions if definition not in found}
         used.update(map(slug, left.values()))
         found.update({definition: title for definition, title in left.items() if slug(title) and used[slug(title)] == 1})
     return found
@@ -104,7 +104,8 @@ class Book:
         for definition, entry in self.entries.items():
             entry.read(self.reach.readings[definition], self.reach.fields)
             users = self.reach.users[definition]
-            entry.users = [user for user in self.contracts if user in users] + [self.entries[user] for user in self.entries if user in users]
+            entry.users = [user for user in self.contracts if user in users]
+            entry.users += [other for user, other in self.entries.items() if user in users]
             self.find_notes(entry, own, members)
 
     def find_notes(self, entry, own, members):
@@ -125,7 +126,7 @@ class Book:
 
     def named(self, name):
         """Returns the entry of a name in the text, as `load` or `pp_step/Rows:load`, or None if there is not exactly one."""
-        found = [entry for definition, entry in self.entries.items() if name in (definition.name, f"{definition.place}:{definition.name}")]
+        found = [entry for one, entry in self.entries.items() if name in (one.name, f"{one.place}:{one.name}")]
         return found[0] if len(found) == 1 else None
 
 
@@ -146,7 +147,8 @@ def notes(entry, entries):
     """Yields what the page says of the names in a definition."""
     found = []
     for (target, is_own), pieces in entry.elsewhere.items():
-        of = f"that of [{target.place}](#{entries[target].anchor})" if is_own else ("of " if target.members else "") + link(entries[target])
+        of = ("of " if target.members else "") + link(entries[target])
+        of = f"that of [{target.place}](#{entries[target].anchor})" if is_own else of
         found.append(f"{quoted(pieces)} {'is' if len(pieces) == 1 else 'are'} {of}")
     if found:
         yield f"Here {', '.join(found)}."
@@ -176,16 +178,19 @@ def entry_page(entry, entries):
 def contents(book):
     """Returns the table of the chapters."""
     rows = ["| Chapter | Definitions | Lines |", "|---|---|---|"]
-    for chapter, definitions in zip(book.text.chapters, book.chapters):
+    for at, (chapter, definitions) in enumerate(zip(book.text.chapters, book.chapters), 1):
         lines = sum(book.entries[definition].lines() for definition in definitions)
-        rows += [] if not lines else [f"| [{chapter.title}](#{slug(chapter.title)}) | {len(definitions)} | {lines} |"]
+        rows += [] if not lines else [f"| {at}. [{chapter.title}](#{slug(chapter.title)}) | {len(definitions)} | {lines} |"]
     return "\n".join(rows)
 
 
 def kit_table(book):
     """Returns the table of the words of the kit."""
-    rows = [f"| `{name.replace('|', chr(92) + '|')}` | {module} | {book.text.kit.get(name, '(no line)')} |" for module, name in book.reach.kit()]
-    return "\n".join(["| Word | Module | Meaning |", "|---|---|---|", *rows])
+    rows = ["| Word | Module | Meaning |", "|---|---|---|"]
+    for module, name in book.reach.kit():
+        word = name.replace("|", "\\|")
+        rows.append(f"| `{word}` | {module} | {book.text.kit.get(name, '(no line)')} |")
+    return "\n".join(rows)
 
 
 def filled(text, book):

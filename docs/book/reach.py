@@ -21,7 +21,7 @@ def contract(sources, path, name):
 
 
 class Reach:
-    """What contracts rest on: definitions and words of the kit, each with its users. Of ghost members only those that are read count."""
+    """What contracts rest on: definitions and words of the kit, each with its users. Ghost members count if they are read."""
 
     def __init__(self, sources, contracts):
         self.sources, self.contracts = sources, contracts
@@ -58,8 +58,8 @@ class Reach:
                 used.setdefault(user, []).append(target)
 
         def visit(definition):
-            first = [use.target for use in self.readings[definition].uses]
-            for target in sorted(used.get(definition, ()), key=lambda one: first.index(one) if one in first else len(first), reverse=True):
+            first = [use.target for use in self.readings[definition].uses] + used.get(definition, [])
+            for target in sorted(used.get(definition, ()), key=first.index, reverse=True):
                 if target not in met:
                     met.add(target)
                     visit(target)

@@ -7,7 +7,8 @@ USE = re.compile(r"^\s*(?:ghost )?((?:unfoldable )?pub )?(?:ghost )?use ([^\s;{]
 START = re.compile(r"(?=(?:abbrev|unfoldable|irreducible|pub|record|data) |\S+ : )"
                    r"(?:(?:abbrev|unfoldable|irreducible) )?(?:pub )?(?:(record|data) )?(\S+)")
 MEMBER = re.compile(r"^  (?:pub )?(\S+) :", re.M)
-RUST_ITEM = re.compile(r"(?P<above>(?:^(?:///|#\[).*\n)*)^(?:pub(?:\([^)\n]*\))? )?(?P<kind>enum|struct|trait|type|const) (?P<name>\w+)", re.M)
+RUST_ITEM = re.compile(r"(?P<above>(?:^(?:///|#\[).*\n)*)^(?:pub(?:\([^)\n]*\))? )?"
+                       r"(?P<kind>enum|struct|trait|type|const) (?P<name>\w+)", re.M)
 GHOST = re.compile(r"(?P<above>(?:^ +//.*\n)*)^ +(?P<text>ghost (?P<name>\w+):[^;]*;)$", re.M)
 VARIANT = re.compile(r"^    ([A-Z]\w*)", re.M)
 
