@@ -48,7 +48,7 @@ def faults_of_definitions(book):
             yield f"{place}: it belongs to no chapter of docs/definitions.txt"
         elif not definition.sentence():
             yield f"{place}: it has no sentence"
-        elif book.text.chapters[chapter].is_machine and not any(source in definition.sentence() for source in SOURCES):
+        elif book.text.chapters[chapter].is_machine and not any(source in definition.sentence().lower() for source in SOURCES):
             yield f"{place}: it has no source, {' or '.join(SOURCES)}"
     for contract in book.contracts:
         for name in sorted(book.reach.readings[contract].unresolved):

@@ -23,6 +23,7 @@ table { border-collapse: collapse; width: 100%; margin: .5em 0; }
 th, td { text-align: left; vertical-align: top; padding: .12em .5em; border-bottom: .4pt solid #999; }
 th { border-bottom: 1pt solid #333; }
 tr { break-inside: avoid; }
+td { overflow-wrap: anywhere; }
 code, pre { font-family: 'DejaVu Sans Mono', 'Liberation Mono', Menlo, Consolas, monospace; font-size: .88em; }
 pre { font-size: .84em; margin: .3em 0; padding: .35em .6em; background: #f6f6f4; line-height: 1.3; }
 pre span { display: block; white-space: pre-wrap; overflow-wrap: anywhere; min-height: 1.3em;

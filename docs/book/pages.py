@@ -20,7 +20,12 @@ def slug(heading):
 
 
 class Text:
-    """The text of definitions.txt: the first page, the chapters, and a line for each word of the kit."""
+    """The text of definitions.txt: the first page, the chapters, and a line for each word of the kit.
+
+    A line `contract: CRATE/src/FILE.rt NAME` shows the contract of a function, `contents` the table of the chapters, `kit` that of
+    the words of the kit, and [[NAME]] or [[CRATE/FILE:NAME]] a link to a definition. A chapter has lines `files:` with patterns of
+    CRATE/FILE, CRATE/src/FILE or CRATE/FILE:NAME, and one `facts:` if its definitions name their source.
+    """
 
     def __init__(self, text):
         front, chapters, kit = re.split(r"^== .*\n", text, flags=re.M)
@@ -46,8 +51,9 @@ class Entry:
     code = property(lambda self: "".join(piece for piece, _ in self.pieces))
 
     def lines(self):
-        """Returns how many lines the definition has, without comments and blank lines."""
-        return sum(1 for line in self.code.splitlines() if line.strip() and not COMMENT.match(line))
+        """Returns how many lines the definition has, without comments and the header of its module."""
+        own = self.code[len(self.definition.header):]
+        return sum(1 for line in own.splitlines() if line.strip() and not COMMENT.match(line))
 
     def read(self, reading, fields):
         """Cuts the code into pieces, without the ghost members that nothing reads."""
