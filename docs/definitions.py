@@ -79,7 +79,7 @@ def made(top, ceilings=CEILINGS):
     try:
         book = Book(Sources(top), Text(read(top, "docs", "definitions.txt")))
     except Unresolved as name:
-        return {}, [f"{name} is in no file"]
+        return {}, [f"{name}: not found"]
     faults = [*faults_of_definitions(book), *faults_of_text(book), *faults_of_counts(book, top, ceilings)]
     return {"docs/DEFINITIONS.md": markdown(book), "docs/definitions.html": html(book)}, faults
 

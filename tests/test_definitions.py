@@ -83,6 +83,14 @@ class Page(Case):
                 self.assertIn(users[1] or users[2], above)
             above.add(entry.anchor)
 
+    def test_links_of_the_printed_page(self):
+        """Each link leads to a place of the page or to a file, and each place is there once."""
+        printed = read("docs", "definitions.html")
+        places, links = re.findall(r' id="([^"]+)"', printed), re.findall(r' href="([^"#]*)(?:#([^"]*))?"', printed)
+        self.assertEqual(sorted(set(places)), sorted(places))
+        self.assertEqual(set(), {place for path, place in links if not path} - set(places))
+        self.assertEqual([], [path for path, _ in links if not os.path.exists(os.path.join(TOP, "docs", path))])
+
     def test_counts(self):
         """The page and README.md have the number of definitions and of their lines, without comments and headers of modules."""
         codes = (re.sub(r"^module _.*?\bwhere\n", "", entry.code, flags=re.S) for entry in self.entries)
@@ -188,18 +196,20 @@ abbrev pub mixed : Color → Color
 mixed Red = Green
 mixed other = other
 """,
-    "crates/pp_base/src/color.rt": """/// A color, this project's choice.
+    "crates/pp_base/src/color.rt": """ghost use Rattle.std.specs.Prelude.{ℕ, List};
+
+/// A color, this project's choice.
 #[derive(Clone)]
 pub enum Color {
     /// The first.
     #[default]
     Red,
     Green,
-    Shade(Depth),
+    Depth(Depth),
 }
 
 /// How dark it is (the manual).
-pub struct Depth(u8);
+pub struct Depth { pub ghost tone: { List ℕ }, level: u8 }
 """,
 }
 
@@ -253,7 +263,7 @@ class Small(Case):
                 (deep, "Same xs ys = number", "Same xs ys = numbers", f"{deep}:10: Same: numbers stands for nothing"),
                 (deep, "  -- they are the same\n", "", f"{deep}:9: Same: it has no sentence"),
                 (base, " (the manual)", "", f"{base}:5: mixed: it has no source, the manual or this project's choice"),
-                (base, "declared.color.Color.{", "declared.colors.Color.{", "pp_base.colors.Color is in no file"),
+                (base, "declared.color.Color.{", "declared.colors.Color.{", "pp_base.colors.Color: not found"),
                 (text, "[[Outcome]]", "[[Outcomes]]", f"{text}: [[Outcomes]] is not exactly one definition of the page"),
                 (text, "[[Outcome]]", "[[number]]", f"{text}: [[number]] is not exactly one definition of the page"),
                 (text, "`List`: a list\n", "", f"{text}: no line says what List of the kit means"),

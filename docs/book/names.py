@@ -5,7 +5,7 @@ import glob
 import os
 import re
 
-from book.sources import Definition, Scope, parsed_rust, parsed_spec
+from book.sources import VARIANT, Definition, Scope, parsed_rust, parsed_spec
 
 TOKEN = re.compile(r'"(?:\\.|[^"\\])*"|(?<!\S)(?:--|//)[^\n]*|\[\]|[(){};,\[\]]|[^\s(){};,\[\]"]+')
 VARIABLE = re.compile(r"[^\s(){};,\[\]=.→×λ]+")
@@ -189,14 +189,14 @@ class Walk:
         self.uses += [Use(end, token.end(), self.guard, Field(field)) for field in fields if field and not field.isdigit()]
 
 
-def matching(text, start, wanted):
-    """Returns the first token from a place on that is wanted and outside of the brackets that are open there, or None."""
+def find_token(text, start, wanted):
+    """Returns where a token is, from a place on, outside of the brackets that are opened after it."""
     depth = 0
     for token in TOKEN.finditer(text, start):
         if not depth and token.group() == wanted:
-            return token
+            return token.start()
         depth += (token.group() in "([{") - (token.group() in ")]}")
-    return None
+    raise Unresolved(f"{wanted} after {text[start:start + 40]!r}")
 
 
 class Reading:
@@ -228,11 +228,11 @@ class Reading:
         """Reads the clauses of a function."""
         bound = {"result", *re.findall(r"\b(\w+):", self.text)}
         for clause in re.finditer(r"^ +(?:ensures|requires)\*? *\w* \{", self.text, re.M):
-            self.keep(Walk(self.names, self.text, bound).over(clause.end(), matching(self.text, clause.end(), "}").start()))
+            self.keep(Walk(self.names, self.text, bound).over(clause.end(), find_token(self.text, clause.end(), "}")))
 
     def equations(self, bound):
         """Reads a signature and its clauses."""
-        starts = [found.start() for found in re.finditer(r"^(?!--|[\])}])\S", self.text, re.M)] + [len(self.text)]
+        starts = [line.start() for line in re.finditer(r"^(?!--|[\])}])\S", self.text, re.M)] + [len(self.text)]
         result = self.text[:starts[1]].rpartition("→")[2].rpartition(" : ")[2].split()[0]
         self.is_guarded = is_trait(self.names.target(result))
         signature = Walk(self.names, self.text, bound).over(self.text.index(" : "), starts[1])
@@ -240,7 +240,7 @@ class Reading:
         self.keep(signature, named if self.is_guarded else None)
         for start, end in zip(starts[1:], starts[2:]):
             if not self.text.startswith("unfolding ", start):
-                equals = matching(self.text, start, "=").start()
+                equals = find_token(self.text, start, "=")
                 variables = bound | self.variables(start, equals)
                 self.keep(Walk(self.names, self.text, variables, is_guarded=self.is_guarded).over(equals, end))
 
@@ -256,13 +256,19 @@ class Reading:
         return bound
 
     def rust(self, sources):
-        """Reads the types that a Rust definition names."""
-        text = re.sub(r"//[^\n]*", lambda found: " " * len(found.group()), self.text)
+        """Reads the types that a Rust definition names, and its ghost fields."""
+        text = re.sub(r"//[^\n]*", lambda comment: " " * len(comment.group()), self.text)
+        for ghost in re.finditer(r"\bghost \w+: \{", text):
+            end = find_token(text, ghost.end(), "}")
+            self.keep(Walk(self.names, self.text, {"Self"}).over(ghost.end(), end))
+            text = text[:ghost.start()] + " " * (end - ghost.start()) + text[end:]
         generics = re.match(r"[^({;]*?\w+<([^>]*)>", text)
-        known = {self.definition.name, *self.definition.members, *RUST, *re.findall(r"\w+", generics[1] if generics else "")}
+        known = {self.definition.name, *RUST, *re.findall(r"\w+", generics[1] if generics else "")}
+        variants = {variant.start(1) for variant in VARIANT.finditer(text) if self.definition.kind == "enum"}
         for token in re.finditer(r"\b[A-Z]\w*", text):
-            if token.group() not in known:
+            if token.start() not in variants and token.group() not in known:
                 try:
-                    self.uses.append(Use(token.start(), token.end(), None, sources.rust_type(self.definition.scope, token.group())))
+                    target = sources.rust_type(self.definition.scope, token.group())
+                    self.uses.append(Use(token.start(), token.end(), None, target))
                 except Unresolved as name:
                     self.unresolved.add(str(name))
