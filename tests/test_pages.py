@@ -5,6 +5,7 @@ sources, definitions or proofs, a word of a program, a file or folder, or a word
 and `Type::call` is a call of that type. A name after a word of KINDS is of that kind. A link has its file and its heading.
 """
 
+import functools
 import glob
 import os
 import re
@@ -122,6 +123,7 @@ def prose(text):
     return re.sub(r"^    .*", "", re.sub(r"^ *```.*?^ *```", "", text, flags=re.M | re.S), flags=re.M)
 
 
+@functools.lru_cache(maxsize=None)
 def anchors(text):
     """Returns what a link to each heading has after its '#': the words in small letters, with hyphens between them."""
     return {re.sub(r"[^\w -]", "", heading.lower()).replace(" ", "-") for heading in re.findall(r"^#+ (.+)$", prose(text), re.M)}
