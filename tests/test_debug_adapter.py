@@ -512,7 +512,7 @@ class Running(DebugCase):
             stops = iter([True] * 400)
             self.assertIsNone(Runner(machine, points, lambda: next(stops, False)).forward(0))
             self.assertGreater(machine.history.turns, 900000)
-            machine.close()
+            machine.run.close()
         finally:
             Run.most_lines = most
 

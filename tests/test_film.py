@@ -16,7 +16,6 @@ from tests.support import TOP, program, read, run, tool
 from pp6600.failure import Failure
 from pp6600.film.camera import JUMP, Film, Transcript, to_film
 from pp6600.film.data import decode
-from pp6600.film.footprint import Footprint
 from pp6600.film.page import SCRIPTS, page
 from pp6600.film.places import LAYOUT
 from pp6600.run import Run
@@ -72,7 +71,7 @@ class Camera(unittest.TestCase):
         self.assertEqual((0o100000 - 0o4001, 0o4001), to_film(long, None, 0o77777))
 
     def test_a_change_that_was_not_dumped(self):
-        with mock.patch.object(Footprint, "_add", lambda *_: None), self.assertRaisesRegex(Failure, "^a change was overlooked"):
+        with mock.patch("pp6600.film.footprint.dumps_of", lambda *_: []), self.assertRaisesRegex(Failure, "^a change was overlooked"):
             filmed(self.words, ["SET M 0 0 1405 3420", "STEP 20"])
 
 

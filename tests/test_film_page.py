@@ -364,6 +364,7 @@ class Opening(PageCase):
         rows = (("a BACK W", asked, [turn, "M 00 0106"]), ("a second one", again, [turn - 0o75 + 1, "M 00 0100"]),
                 ("a dump after it", f"{asked}DUMP PP 0\n* a note\n", [turn, "M 00 0106"]),
                 ("a watch", asked.removesuffix("BACK W\n"), [turn, "M 00 0106"]),
+                ("a watch with many zeros", f"{COUNTER}STEP 20\nWATCH M 00000000 0000000020\n", [0o13, "M 00 0020"]),
                 ("a watch without a change", f"{COUNTER}STEP 20\nWATCH M 0 777\n", [0o20, "M 00 0777"]),
                 ("a BACK W that is refused", f"{COUNTER}STEP 20\nBACK W\n", [0o20, None]),
                 ("a turn that a watch ended", f"{COUNTER}WATCH A 0\nSTEP 20\n", [1, "A 00"]),

@@ -522,7 +522,7 @@ class Replays(Case):
             start.reset_mock()
             wanted = [f"TURN {turn:o} PP 03 P {at:04o} PSN WAS {at:04o} NOW {at + 1:04o}"
                       for at, turn in enumerate(range(4, turns + 1, 10))]
-            self.assertEqual(wanted, list(place_changes(Replay(words), Place.parse("P 3"), actions)))
+            self.assertEqual(wanted, list(place_changes(words, Place.parse("P 3"), actions)))
             self.assertGreater(start.call_count, 2)
 
 

@@ -62,12 +62,12 @@ class Subject(NamedTuple):
     def span(self, lines):
         """Returns where the number is in a line, from the lines of an answer: they have the same widths in each."""
         form = re.fullmatch(FORMS[self.form], lines[self.rows[0]])
-        return form.start(self.groups[0]), form.end(self.groups[1])
+        return form.start(self.groups[0]) + (self.form == "M"), form.end(self.groups[1])  # without the blank before the words
 
     def value(self, lines):
         """Returns the digits of the number in the lines of an answer."""
         start, end = self.span(lines)
-        return " ".join(lines[row][start:end].strip() for row in self.rows)
+        return " ".join(lines[row][start:end] for row in self.rows)
 
 
 class Memo(dict):

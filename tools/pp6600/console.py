@@ -122,6 +122,13 @@ class Console:
         """Ends the input, and returns the simulator's exit status."""
         return self.pipe.end()
 
+    def close(self):
+        """Ends the simulator. What it still had to say no longer matters."""
+        try:
+            self.end()
+        except Failure:
+            pass
+
     # ---- what there is to see
 
     def registers(self, processor):

@@ -8,7 +8,6 @@ from itertools import accumulate
 from typing import NamedTuple
 
 from .answers import CLOCK, PROCESSORS
-from .changes import CLOSE_STEPS, CLOSE_TURNS, NEAR, TOO_FEW
 from .command_line import Failure, arguments, count, script_lines, simulator, words_after, write
 from .conditions import Condition
 from .console import MARK, MOST_TURNS
@@ -25,6 +24,9 @@ instruction, and the numbers before and after. A processor waits if its latest t
 tool writes NONE and ends with 1."""
 
 ROUNDS = 256  # of the barrel, looked at at once; all their turns are kept
+CLOSE_STEPS, CLOSE_TURNS = 128, 64  # at most 8192 turns at once, which are all kept
+NEAR = 256  # turns to a change after which the next is expected soon
+TOO_FEW = 8  # changes of close steps
 FIRST_SPAN = 0o10000  # of turns at the end that are searched first
 
 
@@ -68,9 +70,11 @@ class Looks:
 class Search:
     """A search over a replay, for the turns after `first` up to `last`."""
 
-    def __init__(self, words, actions, condition, first=0, last=None, progress=None):
-        """The function `progress` is called with a number of turns after each batch; it may raise an exception to end the search."""
+    def __init__(self, words, actions, condition, first=0, last=None, progress=None, watches=None):
+        """The function `progress` is called with a number of turns after each batch; it may raise an exception to end the search. The
+        watches are places whose changes end a STEP, if not those of the condition."""
         self.run = Replay(words)
+        self.watches = condition.watches if watches is None else watches
         self.actions, self.condition = actions, condition
         self.first, self.last = first, turns_of(actions) if last is None else last
         self.progress = progress
@@ -83,8 +87,7 @@ class Search:
         """Yields each turn at which the condition comes to hold."""
         try:
             rest = self.run.to_turn(self.actions, max(self.first - PROCESSORS, 0))  # what waits is known after a round
-            for place in self.condition.watches:
-                self.run.watch(place)
+            self.watch()
             for line, times in rest:
                 if line != STEP:
                     self.run.perform(line)
@@ -93,22 +96,21 @@ class Search:
                 if self.run.turn >= self.last:
                     break
         finally:
-            self.close_run()
+            self.run.close()  # the failure that ended the search is the one to be told
 
-    def close_run(self):
-        try:
-            self.run.end()
-        except Failure:  # the failure that ended the search is the one to be told
-            pass
+    def watch(self):
+        for place in self.watches:
+            self.run.watch(place)
 
     def turns(self, turns):
         """Makes so many turns, and yields those that are found."""
         self.look_first()
         while turns > 0:
             self.run.renew()
-            looks, verdicts = self.batch(turns)
-            found = self.those_found(looks, verdicts) if True in verdicts else []
-            self.held = verdicts[-1]
+            looks, columns = self.batch(turns)
+            verdicts = self.verdicts(columns, looks)
+            found = self.those_found(looks, verdicts, columns[0]) if True in verdicts else []
+            self.held, self.number = verdicts[-1], columns[0][-1]
             self.run.made(looks.ends[-1])
             turns -= looks.ends[-1]
             yield from found
@@ -124,29 +126,39 @@ class Search:
             self.layout[question] = at, lines
             at += len(lines)
         self.width = at
-        looks = Looks(self.run, [0], are_first=True)
-        self.held = self.verdicts(["", *(line for lines in answers for line in lines)], looks)[0]
+        columns = self.columns(["", *(line for lines in answers for line in lines)])
+        self.held, self.number = self.verdicts(columns, Looks(self.run, [0], are_first=True))[0], columns[0][0]
 
     def batch(self, turns):
-        """Makes turns, at most so many, and returns the looks at them and whether the condition holds at each."""
-        watched = bool(self.condition.watches)
-        steps, lines = self.watched_steps(turns) if watched else self.polled_steps(turns)
-        answers = self.run.ask_all(lines)
-        if watched:
-            answers = [line for line in answers if not line.startswith("HIT ")]
-        if len(answers) != len(steps) * self.width + 1 or not answers[0].startswith("TURNS "):
-            raise self.run.nonsense(answers[0])
-        made = [int(line.split()[1], 8) for line in answers[:-1:self.width]] if watched else steps
-        looks = Looks(self.run, list(accumulate(made)))
-        verdicts = self.verdicts(answers[:-1], looks)
-        if watched:
-            self.close = sum(map(int.__lt__, made, steps)) >= TOO_FEW if len(steps) > 1 else made[0] < min(NEAR, steps[0])
-        return looks, verdicts
+        """Makes turns, at most so many. Returns the looks at them, and for each test the digits of its number at each."""
+        steps, lines = self.watched_steps(turns) if self.watches else self.polled_steps(turns)
+        answers = self.run.ask_all(lines)[:-1]
+        if not self.watches:
+            if len(answers) != len(steps) * self.width or not answers[0].startswith("TURNS "):
+                raise self.run.nonsense(answers[0])
+            return Looks(self.run, list(accumulate(steps))), self.columns(answers)
+        made, numbers = self.hits(answers)
+        self.close = sum(map(int.__lt__, made, steps)) >= TOO_FEW if len(steps) > 1 else made[0] < min(NEAR, steps[0])
+        return Looks(self.run, list(accumulate(made))), [numbers] * len(self.condition.tests)
+
+    def hits(self, answers):
+        """Returns how many turns each STEP made, and the digits at the watched place after it."""
+        made, numbers = [], [self.number]
+        for line in answers:
+            kind, *words = line.split()
+            if kind == "TURNS":
+                made.append(int(words[0], 8))
+                numbers.append(numbers[-1])
+            elif kind == "HIT":
+                numbers[-1] = words[-1]
+            else:
+                raise self.run.nonsense(line)
+        return made, numbers[1:]
 
     def watched_steps(self, turns):
         steps = [CLOSE_TURNS] * min(CLOSE_STEPS, turns // CLOSE_TURNS) if self.close else []
         steps = steps or [min(turns, MOST_TURNS)]
-        return steps, self.lines_of(steps)
+        return steps, [*(f"STEP {step:o}" for step in steps), MARK]
 
     def polled_steps(self, turns):
         """Returns the turns of each STEP, up to the end of a turn that may change the condition, and the lines."""
@@ -166,10 +178,14 @@ class Search:
         """Returns the lines of looks after so many turns each."""
         return [line for step in steps for line in (f"STEP {step:o}", *self.questions)] + [MARK]
 
-    def verdicts(self, answers, looks):
+    def verdicts(self, columns, looks):
         """Returns whether the condition holds at each look."""
-        columns = [test.verdicts(self.values(test.subject, answers), looks) for test in self.condition.tests]
-        return columns[0] if len(columns) == 1 else [all(column) for column in zip(*columns)]
+        found = [test.verdicts(values, looks) for test, values in zip(self.condition.tests, columns)]
+        return found[0] if len(found) == 1 else [all(verdicts) for verdicts in zip(*found)]
+
+    def columns(self, answers):
+        """Returns for each test the digits of its number at each look."""
+        return [self.values(test.subject, answers) for test in self.condition.tests]
 
     def values(self, subject, answers):
         """Returns the digits of a number at each look."""
@@ -178,13 +194,17 @@ class Search:
         columns = [[line[start:end] for line in answers[first + row::self.width]] for row in subject.rows]
         return columns[0] if len(columns) == 1 else list(map(" ".join, zip(*columns)))
 
-    def those_found(self, looks, verdicts):
-        """Yields the turns at which the condition comes to hold."""
+    def those_found(self, looks, verdicts, numbers):
+        """Returns the turns at which the condition comes to hold. The numbers are the digits of the first test's at each look."""
         comes = [at for at, (was, now) in enumerate(zip([self.held, *verdicts], verdicts))
                  if now and (self.condition.is_change or not was) and self.run.turn + looks.ends[at] > self.first]
         befores = self.look_back(looks, comes)
-        return [Found(self.run.turn + looks.ends[at], looks.slot(at), processor, *self.difference(before, after))
-                for at, (registers, before), (processor, after) in zip(comes, befores, self.look_forward(looks, comes, befores))]
+        found = []
+        for at, (registers, before), (processor, after) in zip(comes, befores, self.look_forward(looks, comes, befores)):
+            if self.is_told:
+                before, after = ([(self.condition.numbers[0].name, digits)] for digits in [self.number, *numbers][at:at + 2])
+            found.append(Found(self.run.turn + looks.ends[at], looks.slot(at), processor, *self.difference(before, after)))
+        return found
 
     def look_back(self, looks, comes):
         """Goes back to before the first of these turns. Returns the registers and the numbers before each."""
@@ -213,13 +233,22 @@ class Search:
             processor = Processor(registers, next(answers)[0].split()[1:])
             yield processor, self.numbers(answers)
 
+    @property
+    def is_told(self):
+        """Whether a HIT tells all that is shown: of a channel the state is shown too."""
+        return bool(self.watches) and not (self.watches[0][0] == "H" and self.condition.numbers[0].rows[0] < CLOCK)
+
     def dumps(self):
         """Returns the questions for the numbers that are shown."""
-        return [(subject.question, [""] * subject.lines) for subject in self.condition.numbers]
+        return [] if self.is_told else [(subject.question, [""] * subject.lines) for subject in self.condition.numbers]
 
     def numbers(self, answers):
         """Returns the names and the digits of the numbers that are shown, from the answers."""
-        return [pair for subject in self.condition.numbers for pair in shown_numbers(subject, next(answers))]
+        return [] if self.is_told else [pair for subject in self.condition.numbers for pair in shown_numbers(subject, next(answers))]
+
+    def shown(self, subject):
+        """Returns the names and the digits of the numbers of a subject as it is now."""
+        return shown_numbers(subject, self.run.demand(subject.question))
 
     def difference(self, before, after):
         """Returns the numbers before and after a turn, of a range of cells those that differ; and whether they have names."""

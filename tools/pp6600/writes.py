@@ -5,11 +5,9 @@ is computed here but addresses: each is read from the simulator."""
 from typing import NamedTuple, Optional
 
 from .answers import CELLS, CENTRAL_ADDRESSES, CLOCK, FRAME_WORDS, Place
-from .instructions import END_OF_BLOCK, END_OF_INPUT, Effect
+from .instructions import CHANNEL_JUMPS, END_OF_BLOCK, END_OF_INPUT, INDEXED, INDIRECT, RELATIVE_JUMPS, Effect
 
 AT_END_OF_BLOCK, AT_END_OF_INPUT = Effect.all_of(END_OF_BLOCK), Effect.all_of(END_OF_INPUT)
-RELATIVE_JUMPS = range(0o3, 0o10)
-CHANNEL_JUMPS = range(0o64, 0o70)
 BLOCK_INPUT = 0o71
 EXCHANGE, BLOCKS_OF_CENTRAL = 0o26, (0o61, 0o63)
 A_IS_AN_ADDRESS = (EXCHANGE, 0o60, 0o62)
@@ -163,7 +161,7 @@ class Turn:
 def address_is_in_cell(word):
     """Returns whether the instruction of a word has its operand's address, or a part of it, in cell d."""
     code, d = word >> 6, word & 0o77
-    return 0o40 <= code < 0o50 or d != 0 and (code in (0o01, 0o02) or 0o50 <= code < 0o60)
+    return code in INDIRECT or d != 0 and code in INDEXED
 
 
 def may_write(number, processor):

@@ -179,7 +179,7 @@ class Adapter(Requests):
 
     def end_simulator(self):
         if self.machine:
-            self.machine.close()
+            self.machine.run.close()
             self.machine = None
 
     def close(self):
