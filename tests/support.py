@@ -52,9 +52,18 @@ def tool(name, *words, script="", **how):
 
 
 def read(*names):
-    """Returns the text of a file of the repository."""
+    """Returns the text of a file, by its path from the top of the repository."""
     with open(os.path.join(TOP, *names), encoding="utf-8") as file:
         return file.read()
+
+
+def write(path, data="", mode=0o644):
+    """Writes a file of text or bytes, and the folders that it needs. Returns its path."""
+    os.makedirs(os.path.dirname(path), exist_ok=True)
+    with open(path, "wb") as file:
+        file.write(data if isinstance(data, bytes) else data.encode("utf-8"))
+    os.chmod(path, mode)
+    return path
 
 
 class Block(NamedTuple):
@@ -85,6 +94,16 @@ class Case(unittest.TestCase):
         folder = tempfile.TemporaryDirectory(prefix="pp6600-test-")
         self.addCleanup(folder.cleanup)
         return folder.name
+
+    def file(self, data, name="file"):
+        """Returns the path of a file in a new folder."""
+        return write(os.path.join(self.room(), name), data)
+
+    def check_rows(self, function, *rows):
+        """Checks what a function returns: the last part of each row is what is wanted, and the others are what it is given."""
+        for *given, wanted in rows:
+            with self.subTest(given):
+                self.assertEqual(wanted, function(*given))
 
 
 def add_tests(case, check, named):

@@ -19,9 +19,10 @@ from .run import Replay, performed
 DESCRIPTION = """Shows the first turn at whose end a condition holds and at whose beginning it did not. A condition is PLACE = 105,
 also != < > <= >= (in quotation marks, for the shell), PLACE outside 100 117 or inside, PLACE changes, M 0 100 117 changes,
 H 12 is F, H 12 changes state, PP 3 waits, PP 3 in a block or not in a block; conditions are joined by and. A place is
-M n a, A n, P n, Q n, C a or H c. All numbers are octal. A line has the turn, counted from 1, the processor whose turn it was, its P before the turn, the name of its
-instruction, and the numbers before and after. A processor waits if its latest turn was a wait. If there is no such turn, the
-tool writes NONE and ends with 1."""
+M n a, A n, P n, Q n, C a or H c. All numbers are octal; with --symbols a label may be in the place of an address. A line has
+the turn, counted from 1, the processor whose turn it was, its P before the turn, the name of its instruction, and the numbers
+before and after. A processor waits if its latest turn was a wait. If there is no such turn, the tool writes NONE and ends with
+1."""
 
 ROUNDS = 256  # of the barrel, looked at at once; all their turns are kept
 CLOSE_STEPS, CLOSE_TURNS = 128, 64  # at most 8192 turns at once, which are all kept
@@ -286,10 +287,10 @@ def last_found(words, actions, condition, first=0, most=1, last=None, progress=N
     return found[-most:]
 
 
-def condition_and_script(words):
+def condition_and_script(words, symbols=AllSymbols()):
     """Returns the condition and the script of a command line. The condition may be one word or several."""
     tokens = [(token, at) for at, word in enumerate(words) for token in word.split() or [word]]
-    condition, rest = Condition.first_of([token for token, _ in tokens])
+    condition, rest = Condition.first_of([token for token, _ in tokens], symbols)
     if rest:
         at = tokens[-len(rest)][1]
         if len(rest) < len(tokens) and tokens[-len(rest) - 1][1] == at:
@@ -315,8 +316,8 @@ def main():
     add_symbols(parser)
     parser.add_argument("words", nargs="*", metavar="CONDITION [SCRIPT]", help="without a script, standard input is it")
     asked = parser.parse()
-    condition, path = condition_and_script(asked.words)
     symbols, words = symbols_of(asked), simulator(asked)
+    condition, path = condition_and_script(asked.words, symbols)
     script = performed(words, script_lines(path))
     is_found = False
     for found in turns_found(asked, condition, words, script.actions):

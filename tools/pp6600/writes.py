@@ -11,9 +11,9 @@ AT_END_OF_BLOCK, AT_END_OF_INPUT = Effect.all_of(END_OF_BLOCK), Effect.all_of(EN
 BLOCK_INPUT = 0o71
 EXCHANGE, BLOCKS_OF_CENTRAL = 0o26, (0o61, 0o63)
 A_IS_AN_ADDRESS = (EXCHANGE, 0o60, 0o62)
-P_OF_FRAME = (0, 1)  # the parts of word 0 that have the central processor's P
+# Parts of a word of sixty bits, of twelve each; part 0 is the leftmost.
+P_OF_FRAME = (0, 1)  # those of word 0 that have the central processor's P
 WITHOUT_B_FIELD = (0, 1, 2, 3)  # what word 0 of the frame gets of a central word
-PARTS = 5  # of twelve bits in a word of sixty; part 0 is the leftmost
 
 # Constants: what a write has that is no number of a place. d, m and dm are fields of the instruction.
 RETURN, WORD, ZERO, NO_WORD = "return", "word", "zero", "no central word"
