@@ -11,7 +11,7 @@ import unittest
 from unittest import mock
 
 from tests.films import FOLDER, SHOWN, FilmCase, PageCase, about, film_text, random_session, shown_film
-from tests.support import TOP, program, read, run, tool
+from tests.support import TOP, program, read, run, tool, write
 
 from pp6600.failure import Failure
 from pp6600.film.camera import JUMP, Film, Transcript, to_film
@@ -119,8 +119,7 @@ class Tool(FilmCase):
         room = self.room()
         other, target, link = (os.path.join(room, name) for name in ("other", "target.html", "film.html"))
         for path in other, target:
-            with open(path, "w", encoding="ascii") as file:
-                file.write("kept")
+            write(path, "kept")
         os.symlink(other, f"{link}.part")
         os.symlink(target, link)
         self.assertEqual(("", "", 0), tool("film", "-o", link, script="STEP\n"))
@@ -141,8 +140,7 @@ class Tool(FilmCase):
         room = self.room()
         script, odd = os.path.join(room, "a <script>"), os.path.join(room, f"b{BYTE}")
         for path in script, odd:
-            with open(path, "w", encoding="ascii") as file:
-                file.write("STEP\n")
+            write(path, "STEP\n")
         for words, wanted in (((script,), "a &lt;script&gt;"), ((odd,), "b\ufffd"), (("--title", f"c{BYTE}", script), "c\ufffd"),
                               ((), "standard input"), (("--title", "/*--script--*/<!--film-->"), "/*--script--*/&lt;!--film--&gt;")):
             with self.subTest(words=words):
@@ -163,8 +161,7 @@ class Tool(FilmCase):
         room = self.room()
         contents = {"script": b"STEP 3\r\n* caf\xe9 \xff\nGO", "deck": b"* one card\n0001 0002\n", "my panel": b"1 2 3 4 5 6\n7 10 11 12 13 14\n"}
         for name, data in contents.items():
-            with open(os.path.join(room, name), "wb") as file:
-                file.write(data)
+            write(os.path.join(room, name), data)
         words = ("--deck", f"{room}/deck", "--panel", f"{room}/my panel", "--central", "32")
         kept = about(read(self.film(*words, f"{room}/script", status=1)))
         self.assertEqual(contents, {file["name"]: file["bytes"].encode("latin-1") for file in kept["files"]})

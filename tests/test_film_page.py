@@ -155,9 +155,7 @@ class Program(PageCase):
 
     def test_symbols(self):
         """Labels are beside addresses, and the text of a listing beside its cell while its word is there."""
-        listing = os.path.join(self.room(), "listing")
-        with open(listing, "w", encoding="ascii") as file:
-            file.write("0104 7112 0060 INPUT IAM 12 60\n0106 7512 DCN 12\n")
+        listing = self.file("0104 7112 0060 INPUT IAM 12 60\n0106 7512 DCN 12\n")
         loader = "examples/overwritten-loader"
         self.browser.open(self.film("--symbols", "0", listing, "--deck", f"{loader}/deck", f"{loader}/script"), "#turn=113")
         self.browser.key("i")
@@ -323,13 +321,9 @@ class Controls(PageCase):
 
     def test_save(self):
         """The buttons save the script and the deck, byte for byte."""
-        room = self.room()
-        deck = os.path.join(room, "my deck")
-        with open(deck, "wb") as file:
-            file.write(b"* caf\xe9\n0001 0002\n")
+        deck = self.file(b"* caf\xe9\n0001 0002\n", "my deck")
         path = self.film("--deck", deck, script="STEP 3\n* \xff\n", status=1)
-        saved = os.path.join(room, "saved")
-        os.mkdir(saved)
+        saved = self.room()
         self.browser.save_into(saved)
         self.browser.open(path)
         texts = self.value("[...document.querySelectorAll('#files button')].map((one) => one.innerText)")

@@ -417,9 +417,7 @@ class Program(PanelCase):
 
     def test_symbols(self):
         """Labels and the listing's own text, and g with a label."""
-        path = os.path.join(self.room(), "listing")
-        with open(path, "w", encoding="ascii") as file:
-            file.write("0100 7712 0001 START FNC 12 1\n0102 7412 ACN 12\n0103 1477 LDN 77\n0104 7112 0060 INPUT IAM 12 60\n")
+        path = self.file("0100 7712 0001 START FNC 12 1\n0102 7412 ACN 12\n0103 1477 LDN 77\n0104 7112 0060 INPUT IAM 12 60\n")
         panel = Panel(Session([PROGRAM, "--deck", DECK]), AllSymbols([(0, path)]))
         self.addCleanup(panel.session.close)
         panel.resize(160, 24)
@@ -431,6 +429,7 @@ class Program(PanelCase):
         self.assertEqual("M 0 106", panel.view.place())
         self.assertEqual("TURN 405 PP 00 P 0106 INPUT+2 IAM WAS 7512 NOW 0027", bottom(panel, "]"))
         self.assertIn("neither an octal address nor a place", bottom(panel, "gNOWHERE<Enter>"))
+        self.assertEqual("TURN 405 PP 00 P 0106 INPUT+2 IAM WAS 7512 NOW 0027", bottom(panel, "G0<Enter>uM 0 input+2 = 27<Enter>"))
 
     def test_sizes(self):
         """Every size has lines of its width, with the sentence below memory."""

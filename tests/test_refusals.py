@@ -1,10 +1,9 @@
 """Tests tests/refusals.py on lines that rt printed, and on edits of its own."""
 
 import os
-import shutil
 import subprocess
 
-from tests.support import PYTHON, TOP, Case
+from tests.support import PYTHON, Case, read, write
 
 LABEL = "rt: must-fail pp_arith/{}.edit: {}\n"
 GOAL = "refused, as it must be: note: src/accumulator.rt:8:1: it is not proved that what the function ensures holds when it returns (`returns`)"
@@ -25,13 +24,9 @@ class Refusals(Case):
     def judged(self, edits, said):
         """Returns what is said at the end of what rt printed, in a repository with these edits of one crate, and the status."""
         room = self.room()
-        for folder in ("tests", "crates/pp_arith/src", "crates/pp_arith/must-fail"):
-            os.makedirs(os.path.join(room, folder))
-        files = {"src/sums.rt": SOURCE, **{f"must-fail/{name}.edit": text for name, text in edits.items()}}
-        for path, text in files.items():
-            with open(os.path.join(room, "crates", "pp_arith", path), "w", encoding="utf-8") as file:
-                file.write(text)
-        script = shutil.copy(os.path.join(TOP, "tests", "refusals.py"), os.path.join(room, "tests"))
+        for path, text in {"src/sums.rt": SOURCE, **{f"must-fail/{name}.edit": text for name, text in edits.items()}}.items():
+            write(os.path.join(room, "crates", "pp_arith", path), text)
+        script = write(os.path.join(room, "tests", "refusals.py"), read("tests", "refusals.py"))
         done = subprocess.run([*PYTHON, script], input=said, cwd=room, capture_output=True, text=True, check=False)
         self.assertEqual("", done.stderr)
         return done.stdout.splitlines()[-1], done.returncode

@@ -13,7 +13,7 @@ import os
 import re
 import shutil
 
-from tests.support import EXAMPLES, TOP, Case, add_tests, blocks, program, read, run
+from tests.support import EXAMPLES, TOP, Case, add_tests, blocks, program, read, run, write
 
 PAGES = ["README.md", *sorted(os.path.relpath(path, TOP) for path in glob.glob(os.path.join(TOP, "docs", "*.md")))]
 EXERCISES = [path for path in sorted(glob.glob(os.path.join(TOP, "exercises", "*"))) if os.path.isdir(os.path.join(path, "solution"))]
@@ -65,8 +65,7 @@ class Commands(Case):
         for name in ("examples", "exercises", "tools"):
             os.symlink(os.path.join(TOP, name), os.path.join(folder, name))
         for name, text in files.items():
-            with open(os.path.join(folder, name), "w", encoding="utf-8") as file:
-                file.write(text)
+            write(os.path.join(folder, name), text)
         done = run("bash", "-c", f"exec 2>&1\n{commands}", cwd=folder)
         self.assertEqual(wanted, done.out)
 
@@ -81,8 +80,8 @@ class Exercises(Case):
         done = run(*words, os.path.join(case, "solution"))
         self.assertEqual(0, done.status, done.out)
         files = os.listdir(case)
-        with open(os.path.join(case, "args") if "args" in files else os.devnull, encoding="utf-8") as file:
-            arguments = "".join(f" {name}/{word}" if word in files else f" {word}" for word in file.read().splitlines())
+        given = read(case, "args").splitlines() if "args" in files else []
+        arguments = "".join(f" {name}/{word}" if word in files else f" {word}" for word in given)
         self.assertIn(f"    cat {name}/script - | ./pp6600{arguments}", read("docs", "EXERCISES.md").splitlines())
 
 

@@ -4,7 +4,8 @@ import random
 from unittest import mock
 
 from .support import Case, program, tool
-from .test_tools import DEADLOCK, FIRST_PROGRAM, LOADER, OVERWRITTEN
+from .test_panel_keys import FIRST_PROGRAM, OVERWRITTEN
+from .test_tools import DEADLOCK, LOADER
 
 from pp6600 import Console, Failure
 from pp6600.answers import REGISTERS
