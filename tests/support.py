@@ -84,6 +84,15 @@ def blocks(page, kind):
     return found
 
 
+def names_of_codes():
+    """Returns the name of each code in the table of docs/MACHINE.md."""
+    names = {}
+    for codes, called in re.findall(r"^\| ([0-7]{2}(?:, [0-7]{2})*) \| ([A-Z]{3}(?:, [A-Z]{3})*) \|", read("docs", "MACHINE.md"), flags=re.M):
+        codes, called = codes.split(", "), called.split(", ")
+        names.update(zip(codes, called * len(codes) if len(called) == 1 else called))
+    return [names[f"{code:02o}"] for code in range(64)]
+
+
 class Case(unittest.TestCase):
     """A test case with a folder of its own where it wants one."""
 

@@ -7,11 +7,10 @@ import os
 import re
 import stat
 import subprocess
-import unittest
 from unittest import mock
 
 from tests.films import FOLDER, SHOWN, FilmCase, PageCase, about, film_text, random_session, shown_film
-from tests.support import TOP, program, read, run, tool, write
+from tests.support import TOP, Case, program, read, run, tool, write
 
 from pp6600.failure import Failure
 from pp6600.film.camera import JUMP, Film, Transcript, to_film
@@ -30,7 +29,7 @@ def filmed(words, lines, *which):
     return film
 
 
-class Camera(unittest.TestCase):
+class Camera(Case):
     """How a run is filmed."""
 
     def setUp(self):
@@ -59,9 +58,7 @@ class Camera(unittest.TestCase):
     def test_around(self):
         """The turn is one in effect: what was undone does not count."""
         transcript = Transcript([program()], ["SET A 0 1", "STEP 10", "BACK 4", "SET A 1 1", "STEP 10"])
-        for turn, moment in ((0, 0), (1, 2), (4, 5), (5, 12), (0o14, 0o23)):
-            with self.subTest(turn=turn):
-                self.assertEqual(moment, transcript.moment_of_turn(turn))
+        self.check_rows(transcript.moment_of_turn, (0, 0), (1, 2), (4, 5), (5, 12), (0o14, 0o23))
         self.assertEqual((0, 0o23), to_film(transcript, None, 1))
         self.assertEqual((0, 0o23), to_film(transcript, None, None))
         with self.assertRaisesRegex(Failure, r"^there is no turn 15: the highest is 14 \(octal\)$"):

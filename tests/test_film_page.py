@@ -9,6 +9,7 @@ import os
 import re
 
 from tests.films import PageCase, shown_film, text_of
+from tests.test_panel import BLOCKS_GO_ON, COMPLETES
 
 from pp6600.instructions import Processor
 from pp6600.machine_state import Channel
@@ -51,9 +52,7 @@ class Answers(PageCase):
         """README.md: after 1300 turns and a WATCH, BACK W takes back 675 actions, to before a turn of PP 00 in its block input."""
         self.browser.open(shown_film("overwritten-loader"))
         self.click_line("STEP 1300")
-        self.browser.key("/")
-        self.browser.write("m 0 106")
-        self.browser.key("Enter")
+        self.browser.fill("/", "m 0 106")
         turn = 0o1301 - 0o675 + 1
         self.assertIn(f"turn {turn:o}, by PP 00, in the block of IAM 12 at 0104.", self.value(CHOSEN))
         self.browser.key("[")
@@ -107,15 +106,12 @@ class Answers(PageCase):
     def test_each_wait(self):
         """docs/MACHINE.md: in which state of its channel each instruction completes, and each block goes on or ends; what they
         do on channel 14; and that there is no channel 15 to 77."""
-        completes = {0o70: ("F", "full"), 0o72: ("E", "empty"), 0o74: ("I", "inactive"), 0o75: ("EFX", "active"),
-                     0o76: ("I", "inactive"), 0o77: ("I", "inactive")}
-        blocks = {0o71: ("IF", "full"), 0o73: ("IE", "empty")}
         self.browser.open(self.film(script="STEP\n"), "#moment=0")
         cases, wanted = [], []
         for code, channel, state, count, phase in itertools.product(range(0o100), (3, 0o14, 0o15, 0o77), "IEFX", (0, 1), (False, True)):
             if phase and code not in (0o61, 0o63, 0o71, 0o73):
                 continue
-            goes_on, name = (blocks if phase else completes).get(code, ("IEFX", ""))
+            goes_on, name = (BLOCKS_GO_ON if phase else COMPLETES).get(code, ("IEFX", ""))
             if channel == 0o14:
                 waits = code in (0o72, 0o74, 0o76, 0o77) if not phase else code == 0o73
             elif channel > 0o14:
@@ -233,9 +229,7 @@ class Controls(PageCase):
         for word, wanted in (("13", [2 + 0o13, "", "false"]), ("9", [2 + 0o13, "not an octal number", "true"]),
                              ("77777", [self.LAST, "no turn 77777: the highest is 1000", "true"]), ("x", [self.LAST, "not an octal number", "true"]),
                              ("1000", [2 + 0o1000, "", "false"])):
-            self.browser.key("g")
-            self.browser.write(word)
-            self.browser.key("Enter")
+            self.browser.fill("g", word)
             with self.subTest(word):
                 self.assertEqual(wanted, self.value(shown))
             self.browser.key("Escape")
@@ -259,17 +253,13 @@ class Controls(PageCase):
         focus = self.value(outline)
         for word in "M 12 0", "M 0", "nothing":
             self.browser.key("Escape")
-            self.browser.key("/")
-            self.browser.write(word)
-            self.browser.key("Enter")
+            self.browser.fill("/", word)
             with self.subTest(word):
                 self.assertEqual([word, "M 00 0020", "no such place", "true", "place"], self.value(shown))
         self.assertNotEqual(focus, self.value(outline))
         self.browser.click("#processors button[data-place='A 01']")
         self.assertEqual(["A 01", "A 01", "", "false", ""], self.value(shown))
-        self.browser.key("/")
-        self.browser.write("h 5")
-        self.browser.key("Enter")
+        self.browser.fill("/", "h 5")
         self.assertEqual(["H 05", "H 05", "", "false", ""], self.value(shown))
         self.browser.key("Escape")
         self.assertEqual(["", None, "", "false", ""], self.value(shown))
@@ -331,9 +321,8 @@ class Controls(PageCase):
         self.assertEqual("To run it again: pp6600 --deck 'my deck' script", self.value("byId('again').innerText"))
         for at in 1, 2:
             self.browser.click(f"#files button:nth-child({at})")
-        for name, data in (("script", b"STEP 3\n* \xff\n"), ("my deck", b"* caf\xe9\n0001 0002\n")):
-            with self.subTest(name):
-                self.assertEqual(data, self.saved(os.path.join(saved, name)))
+        self.check_rows(lambda name: self.saved(os.path.join(saved, name)),
+                ("script", b"STEP 3\n* \xff\n"), ("my deck", b"* caf\xe9\n0001 0002\n"))
 
     def saved(self, path):
         """Waits for a file that the page saves, and returns its bytes."""

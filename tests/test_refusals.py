@@ -39,9 +39,8 @@ class Refusals(Case):
                 self.assertEqual((f"{1 - wanted} passed, {wanted} failed", wanted), self.judged({"wrong_sum": WRONG_SUM}, said))
 
     def test_kept_line_is_judged(self):
-        for text, wanted in ((GOAL, 0), (LOST, 1)):
-            with self.subTest(text):
-                self.assertEqual(wanted, self.judged({"wrong_sum": WRONG_SUM}, KEPT + LABEL.format("wrong_sum", text))[1])
+        self.check_rows(lambda text: self.judged({"wrong_sum": WRONG_SUM}, KEPT + LABEL.format("wrong_sum", text))[1],
+                (GOAL, 0), (LOST, 1))
 
     def test_mutant_without_a_line(self):
         edits = {"wrong_sum": WRONG_SUM, "other_sum": WRONG_SUM}
@@ -50,7 +49,7 @@ class Refusals(Case):
 
     def test_edit_that_only_renames(self):
         """rt shows a goal for it too, if an answer was written for the goal's old name."""
-        for pairs, wanted in (
+        self.check_rows(lambda pairs: self.judged({"edit": EDIT + pairs}, LABEL.format("edit", GOAL))[1],
                 ("old: let sum = a + b;\nnew: let total = a + b;\nold: if sum < 7 { sum } else { sum - 7 }\nnew: if total < 7 { total } else { total - 7 }\n", 1),
                 ("old: ensures fits {\nnew: ensures small {\n", 1),
                 ("old: add(a: u32\nnew: add(c: u32\nold: a + b\nnew: c + b\n", 1),
@@ -58,6 +57,4 @@ class Refusals(Case):
                 ("old: a + b\nnew: a - b\n", 0),
                 ("old: sum - 7 }\nnew: sum - 8 }\n", 0),
                 ("old: a + b\nnew: a.wrapping_add(b)\n", 0),
-                ("old: let sum = a + b;\nnew: let total = a + a; let sum = total;\n", 0)):
-            with self.subTest(pairs):
-                self.assertEqual(wanted, self.judged({"edit": EDIT + pairs}, LABEL.format("edit", GOAL))[1])
+                ("old: let sum = a + b;\nnew: let total = a + a; let sum = total;\n", 0))

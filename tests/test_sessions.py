@@ -1,8 +1,8 @@
 """Runs every session and every shell command that a page shows, and every exercise with its solution.
 
 A block of a page that begins with `session` has typed lines after > and their answers; the words after `session` are the program's,
-and `continued` goes on with the session before. A block `shell` has commands after $ and what they write; a block `python NAME` is the
-file NAME for all later commands of the page. A block `tools` has the sessions of the tools, which tests/test_tools.py runs.
+and `continued` goes on with the session before. A block `shell` has commands after $ and what they write, and so have the blocks
+`tools`, which go on in one folder; a block `python NAME` is the file NAME for all later commands of the page.
 
 An exercise is a folder: script (the lines to begin with), check (the lines that follow the finished script), expected (the last lines
 that the program must then write), args, and solution, a folder with the files that replace those of the same name.
@@ -36,10 +36,10 @@ def shell_blocks():
     found = []
     for page in PAGES:
         files = {block.words[1]: block.text for block in blocks(page, "python") if len(block.words) == 2}
-        for block in blocks(page, "shell"):
-            lines = block.text.splitlines(keepends=True)
+        for some in filter(None, [*([block] for block in blocks(page, "shell")), blocks(page, "tools")]):
+            lines = "".join(block.text for block in some).splitlines(keepends=True)
             commands = "".join(line[2:] for line in lines if line.startswith("$ "))
-            found.append((block.place, (commands, "".join(line for line in lines if not line.startswith("$ ")), files)))
+            found.append((some[0].place, (commands, "".join(line for line in lines if not line.startswith("$ ")), files)))
     return found
 
 

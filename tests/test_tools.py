@@ -1,4 +1,4 @@
-"""The tools: every session of docs/TOOLS.md, what the other pages say, and their messages. Expected values are those of README.md,
+"""The tools: what the pages say, and their messages. Expected values are those of README.md,
 docs/TUTORIAL.md, docs/TUTORIAL-2.md and docs/MACHINE.md."""
 
 import os
@@ -7,9 +7,11 @@ import re
 import subprocess
 from unittest import mock
 
-from .films import random_session
-from .support import EXAMPLES, PYTHON, TOP, Case, blocks, program, read, run, tool
+from .films import random_line, random_session
+from .installing import TOOLS
+from .support import EXAMPLES, PYTHON, TOP, Case, blocks, names_of_codes, program, read, run, tool
 from .terminal import Terminal
+from .test_panel import COMPLETES
 from .test_panel_keys import FIRST_PROGRAM, OVERWRITTEN
 
 from pp6600 import Console
@@ -23,40 +25,14 @@ from pp6600.trace import last_lines, lines_from
 LOADER = ("--deck", os.path.join(EXAMPLES, "overwritten-loader", "deck"))
 # docs/TUTORIAL-2.md: two processors that wait for each other.
 DEADLOCK = "SET M 0 100 1407 7205 300\nSET P 0 100\nSET M 1 100 7005 300\nSET P 1 100\nSTEP 40\n"
-NAMES = ("changes", "compare", "deck", "film", "load", "origin", "panel", "save", "show", "state", "symbols", "talk", "trace", "until", "waits", "words")
 
 
 def setUpModule():
     os.environ.pop("PYTHONDONTWRITEBYTECODE", None)  # a tool that has been compiled starts sooner
 
 
-def random_line(choose):
-    """A line of a script: a number set, turns, watches, steps back and forward, a note or a refused line."""
-    number = choose.randrange(10)
-    return choose.choice((
-        f"SET M {number:o} {choose.randrange(16):o} {choose.randrange(4096):o} {choose.randrange(4096):o}",
-        f"SET A {number:o} {choose.randrange(1 << 18):o}", f"set p {number:o} {choose.randrange(16):o}", "SET H 5 F 7",
-        f"STEP {choose.randrange(1, 40):o}", f"STEP {choose.randrange(1, 40):o}", f"WATCH A {number:o}", "WATCH P 0",
-        f"UNWATCH A {number:o}", "DEADSTART", "BACK", "BACK W", f"BACK {choose.randrange(1, 60):o}", "FORWARD",
-        f"FORWARD {choose.randrange(1, 30):o}", "DUMP CR", "* a note", "GO"))
-
-
 def lines_of(done):
     return done.out.splitlines()
-
-
-class Pages(Case):
-    """Each command of docs/TOOLS.md and what it writes."""
-
-    def test_sessions(self):
-        room = self.room()  # ./pp6600 of the page is the program under test
-        for name, path in (("pp6600", program()), *((name, os.path.join(TOP, name)) for name in ("tools", "examples", "exercises"))):
-            os.symlink(path, os.path.join(room, name))
-        for block in blocks("docs/TOOLS.md", "tools"):
-            for session in re.split(r"^\$ ", block.text, flags=re.M)[1:]:
-                command, _, wanted = session.partition("\n")
-                with self.subTest(command, at=block.place):
-                    self.assertEqual(wanted, run("bash", "-c", f"{command} 2>&1", cwd=room).out)
 
 
 class Changes(Case):
@@ -108,15 +84,9 @@ class Trace(Case):
 
     def test_names_of_the_codes(self):
         """Each name and code as in the table of docs/MACHINE.md."""
-        row = re.compile(r"^\| ([0-7]{2}(?:, [0-7]{2})*) \| ([A-Z]{3}(?:, [A-Z]{3})*) \|", flags=re.M)
-        names = {}
-        for codes, got in row.findall(read("docs", "MACHINE.md")):
-            codes, got = codes.split(", "), got.split(", ")
-            names.update(zip(codes, got * len(codes) if len(got) == 1 else got))
-        self.assertEqual(0o100, len(names))
-        script = "".join(f"SET M 0 0 {code}17 0\nSET P 0 0\nSET A 0 0\nSTEP 12\n" for code in sorted(names))
+        script = "".join(f"SET M 0 0 {code:02o}17 0\nSET P 0 0\nSET A 0 0\nSTEP 12\n" for code in range(0o100))
         got = self.trace("--processor", "0", script=script)
-        self.assertEqual([names[code] for code in sorted(names)], [name_in(line) for line in got])
+        self.assertEqual(names_of_codes(), [name_in(line) for line in got])
 
     def test_processors(self):
         got = self.trace("--processor", "3", "--processor", "0", script="STEP 16\n")
@@ -255,7 +225,7 @@ class Load(Case):
         for option, data in texts.items():
             done = tool("load", *option.split(), "3", "7000", script=data.decode("latin-1"))
             console = Console([program()])
-            console.perform_all(lines_of(done))
+            console.ask_all([*lines_of(done), "DUMP CR"])
             with self.subTest(option):
                 self.assertEqual([f"{word:04o}" for word in words], console.cells(3, 0o7000, 0o7777) + console.cells(3, 0, 0))
             console.end()
@@ -296,8 +266,6 @@ class Listings(Case):
 
 class Waits(Case):
     """docs/TUTORIAL-2.md: two processors that wait for each other; docs/HOWTO.md: after a dead start, in a block, alone."""
-
-    CODES = {0o70: "F", 0o72: "E", 0o74: "I", 0o75: "EF", 0o76: "I", 0o77: "I"}  # by the table of docs/MACHINE.md
 
     def waits(self, *words, script):
         """The lines of processors, without what comes after the turn."""
@@ -351,9 +319,9 @@ class Waits(Case):
     def test_each_state(self):
         """Each code on a channel of its own in the same state; channel 14, and one that is none."""
         for state in "IEF":
-            script = "".join(f"SET M {n:o} 0 {code:o}{n:02o} 17\nSET H {n:o} {state}\n" for n, code in enumerate(self.CODES))
+            script = "".join(f"SET M {n:o} 0 {code:o}{n:02o} 17\nSET H {n:o} {state}\n" for n, code in enumerate(COMPLETES))
             got = self.waits(script=script + "SET M 6 0 7214\nSET M 7 0 7014\nSET M 10 0 7515\nSET M 11 0 6615\n")
-            wanted = [f"PP {n:02o}" for n, completes in enumerate(self.CODES.values()) if state not in completes]
+            wanted = [f"PP {n:02o}" for n, (completes, _) in enumerate(COMPLETES.values()) if state not in completes]
             with self.subTest(state):
                 self.assertEqual([*wanted, "PP 06", "PP 10"], [line[:5] for line in got])
         self.assertEqual("PP 10 AT 0000 DCN P 0000 H 15 NONE FROM TURN 11", got[-1], "a channel that is none")
@@ -593,7 +561,7 @@ class Messages(Case):
         self.assertEqual("state: one line was refused: line 1 (decimal), ERR 06 NOT ASCII: \\x1b[0mGO\n", tool("state", script="\x1b[0mGO\n").err)
 
     def test_help_and_version(self):
-        for name in NAMES:
+        for name in TOOLS:
             with self.subTest(name):
                 got = tool(name, "--help")
                 self.assertEqual(("", 0, "usage: "), (got.err, got.status, got.out[:7]))

@@ -79,7 +79,9 @@ class Search:
         self.actions, self.condition = actions, condition
         self.first, self.last = first, turns_of(actions) if last is None else last
         self.progress = progress
-        self.questions = list(dict.fromkeys(subject.question for subject in condition.subjects))
+        lines = {subject.question: subject.lines for subject in condition.subjects}
+        *firsts, self.width = accumulate(lines.values(), initial=1)  # lines of the answers to a STEP and to the dumps after it
+        self.layout = dict(zip(lines, firsts))
         self.slots = sorted(set().union(*(subject.slots for subject in condition.subjects)))
         self.close = self.held = False
         self.batches = {}
@@ -120,14 +122,7 @@ class Search:
 
     def look_first(self):
         """Looks at the machine before turns."""
-        answers = [self.run.demand(question) for question in self.questions]
-        self.layout = {}
-        at = 1  # after the answer to STEP
-        for question, lines in zip(self.questions, answers):
-            self.layout[question] = at, lines
-            at += len(lines)
-        self.width = at
-        columns = self.columns(["", *(line for lines in answers for line in lines)])
+        columns = self.columns(["", *(line for question in self.layout for line in self.run.demand(question))])
         self.held, self.number = self.verdicts(columns, Looks(self.run, [0], are_first=True))[0], columns[0][0]
 
     def batch(self, turns):
@@ -177,7 +172,7 @@ class Search:
 
     def lines_of(self, steps):
         """Returns the lines of looks after so many turns each."""
-        return [line for step in steps for line in (f"STEP {step:o}", *self.questions)] + [MARK]
+        return [line for step in steps for line in (f"STEP {step:o}", *self.layout)] + [MARK]
 
     def verdicts(self, columns, looks):
         """Returns whether the condition holds at each look."""
@@ -186,14 +181,7 @@ class Search:
 
     def columns(self, answers):
         """Returns for each test the digits of its number at each look."""
-        return [self.values(test.subject, answers) for test in self.condition.tests]
-
-    def values(self, subject, answers):
-        """Returns the digits of a number at each look."""
-        first, lines = self.layout[subject.question]
-        start, end = subject.span(lines)
-        columns = [[line[start:end] for line in answers[first + row::self.width]] for row in subject.rows]
-        return columns[0] if len(columns) == 1 else list(map(" ".join, zip(*columns)))
+        return [subject.column(answers, self.layout[subject.question], self.width) for subject in self.condition.subjects]
 
     def those_found(self, looks, verdicts, numbers):
         """Returns the turns at which the condition comes to hold. The numbers are the digits of the first test's at each look."""
