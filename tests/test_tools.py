@@ -366,7 +366,7 @@ def machine(console):
 class Compare(Case):
     def compare(self, *texts, more=(), status=1):
         """What compare writes of scripts with these texts."""
-        done = tool("compare", *more, *map(self.file, texts))
+        done = tool("compare", "--central", "32", *more, *map(self.file, texts))
         self.assertEqual(("", status), done[1:])
         return lines_of(done)
 
