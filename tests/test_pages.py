@@ -181,7 +181,7 @@ class Pages(Case):
 
     def test_planted_faults(self):
         """The checks find these faults, and nothing else."""
-        for text, wanted in (
+        self.check_rows(lambda text: faults("page.md", text),
                 ("`add18` of `pp_arith`, `pp_rig::Rig::check`, `crates.txt`, `BACK W`, the clause `fits`, the mutant `plain_end_around`.", []),
                 ("A call that is gone: `no_such_call`.", ["no no_such_call for `no_such_call`"]),
                 ("In another crate: `pp_arith::Session`.", ["no pp_arith::Session for `pp_arith::Session`"]),
@@ -196,6 +196,4 @@ class Pages(Case):
                 ("To a [heading](docs/CONSOLE.md#no-such-heading).", ["no docs/CONSOLE.md#no-such-heading"]),
                 ("A block has names of its own:\n\n```\n`no_such_call`\n```\n\n    `no_such_call`\n", []),
                 ("There are 17 crates.", ["'17 crates' is a count, which goes stale"]),
-                ("It has twelve short tests.", ["'twelve short tests' is a count, which goes stale"])):
-            with self.subTest(text):
-                self.assertEqual(wanted, faults("page.md", text))
+                ("It has twelve short tests.", ["'twelve short tests' is a count, which goes stale"]))
