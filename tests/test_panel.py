@@ -149,12 +149,11 @@ class Machine(Case):
             state = dumps.state()
             with self.subTest(f"{code} on a channel {letter}"):
                 self.assertEqual(wanted, state.processors[4].waits_for(state.states()))
+        dumps = Dumps()
         for word, wanted in ("7214", "14 never"), ("7014", ""), ("7514", ""), ("7777", "77 never"):
-            dumps = Dumps()
             dumps.memories[0][0] = word
-            state = dumps.state()
             with self.subTest(word):
-                self.assertEqual(wanted, state.processors[0].waits_for(state.states()))
+                self.assertEqual(wanted, dumps.state().processors[0].waits_for(dumps.state().states()))
 
     def test_reader(self):
         """docs/TUTORIAL-2.md: the card reader after three columns."""
@@ -258,7 +257,7 @@ class Parts(Case):
         self.assertEqual(["> SET M 0 100 7712 1 7412 1477 7112 6\u2026", "> " + "X" * 36],
                          [line for line in lines if line.startswith("> ")])
         self.check_rows(lambda message: texts(shown_of(Dumps().state(), message=message))[-1],
-                ("X" * 81, "X" * 79 + "\u2026"), ("X" * 80, "X" * 80), ("X" * 80 + "   ", "X" * 80))
+                        ("X" * 81, "X" * 79 + "\u2026"), ("X" * 80, "X" * 80), ("X" * 80 + "   ", "X" * 80))
         whole = "".join(texts(shown_of(page_state("README.md", "STEP 1300", "BACK W"))))
         self.assertEqual(0, whole.count("\u2026"), "nothing of a small screen is cut")
 
@@ -285,6 +284,6 @@ class Parts(Case):
     def test_windows(self):
         """A window stays where it is while its cursor is in it; round the end of a memory too."""
         self.check_rows(lambda top, address: memory_top(top, address, 5),
-                (0o100, 0o147, 0o100), (0o100, 0o150, 0o110), (0o100, 0o77, 0o70), (0o7770, 0o3, 0o7770))
+                        (0o100, 0o147, 0o100), (0o100, 0o150, 0o110), (0o100, 0o77, 0o70), (0o7770, 0o3, 0o7770))
         top = memory_top(0o100, 0o4000, 5)
         self.assertTrue(top % 8 == 0 and top <= 0o4000 < top + 5 * 8, top)

@@ -4,12 +4,11 @@ docs/TUTORIAL.md, docs/TUTORIAL-2.md and docs/MACHINE.md."""
 import os
 import random
 import re
-import subprocess
 from unittest import mock
 
 from .films import random_line, random_session
 from .installing import TOOLS
-from .support import EXAMPLES, PYTHON, TOP, Case, blocks, names_of_codes, program, read, run, tool
+from .support import EXAMPLES, TOP, Case, blocks, names_of_codes, program, read, run, tool
 from .terminal import Terminal
 from .test_panel import COMPLETES
 from .test_panel_keys import FIRST_PROGRAM, OVERWRITTEN
@@ -119,9 +118,10 @@ class Trace(Case):
             for channel in (5, 6, 0o12, 0o13, 0o14):
                 processors = (range(10), [0, 1], [3])[(seed + channel) % 3]
                 touches = list(lines_from(words, actions, processors, channel, 9 * seed))
-                with self.subTest(seed=seed, channel=channel):
-                    for count in (2, 0o1000):
-                        self.assertEqual(touches[-count:], list(last_lines(words, actions, processors, channel, count, 9 * seed, AllSymbols())))
+                for count in (2, 0o1000):
+                    got = last_lines(words, actions, processors, channel, count, 9 * seed, AllSymbols())
+                    with self.subTest(seed=seed, channel=channel, count=count):
+                        self.assertEqual(touches[-count:], list(got))
 
     def test_words_that_nobody_reads(self):
         """docs/MACHINE.md: a word on a channel that is disconnected is lost; an input of a block ends and leaves one."""
@@ -238,20 +238,18 @@ class Listings(Case):
     def test_labels(self):
         symbols = Symbols(self.TEXT.splitlines())
         self.assertEqual({0o100: "START", 0o102: "LOOP", 0o20: "COUNT", 0o200: "BUF"}, symbols.labels)
-        for address, name in ((0o77, "COUNT+57"), (0o100, "START"), (0o101, "START+1"), (0o103, "LOOP+1"), (0o277, "BUF+77"), (0o300, ""), (0, "")):
-            self.assertEqual(name, symbols.name(address))
-        for address, word, text in ((0o100, "1405", "START  LDN 5"), (0o100, "1406", ""), (0o103, "0200", ""), (0o104, "0300", "* an end")):
-            self.assertEqual(text, symbols.text(address, word))
-        again = Symbols(symbols.lines())
-        self.assertEqual(symbols.labels, again.labels)
+        self.check_rows(symbols.name, (0o77, "COUNT+57"), (0o100, "START"), (0o101, "START+1"), (0o103, "LOOP+1"),
+                        (0o277, "BUF+77"), (0o300, ""), (0, ""))
+        self.check_rows(symbols.text, (0o100, "1405", "START  LDN 5"), (0o100, "1406", ""), (0o103, "0200", ""),
+                        (0o104, "0300", "* an end"))
+        self.assertEqual(symbols.labels, Symbols(symbols.lines()).labels)
 
     def test_loaded_and_saved(self):
         """What a listing loads is saved in each form, and loaded again."""
         lines = tool("load", "--listing", "3", script=self.TEXT).out
         self.assertEqual("SET M 3 20 0000\nSET M 3 100 1405 3420 7112 0200 0300\n", lines)
         for option in ("", "--packed", "--two-bytes", "--listing", "--set"):
-            saved = subprocess.run([*PYTHON, os.path.join(TOP, "tools", "save"), *option.split(), "3", "100", "104"], input=lines.encode(),
-                                   env={**os.environ, "PP6600": program()}, stdout=subprocess.PIPE, check=True).stdout.decode("latin-1")
+            saved = tool("save", *option.split(), "3", "100", "104", script=lines, encoding="latin-1").out
             words = ["--listing", "3"] if option == "--listing" else [*option.split(), "3", "100"]
             with self.subTest(option):
                 self.assertEqual("SET M 3 100 1405 3420 7112 0200 0300\n", saved if option == "--set" else tool("load", *words, script=saved).out)
@@ -338,7 +336,8 @@ class Talk(Case):
     SCRIPT = "examples/first-steps/script"
 
     def test_at_a_terminal(self):
-        terminal = Terminal([os.path.join(TOP, "tools", "talk"), self.SCRIPT], kind="dumb", folder=TOP, environment={"PP6600": program()})
+        words = os.path.join(TOP, "tools", "talk"), self.SCRIPT
+        terminal = Terminal(words, kind="dumb", folder=TOP, environment={"PP6600": program()})
         self.addCleanup(terminal.close)
         for text in "STEP 12\r", "\x03SET M 0 9 1\r", "\x04":
             terminal.wait_until(lambda one: one.written.endswith(b"> "))
