@@ -4,6 +4,7 @@ docs/TUTORIAL.md, docs/TUTORIAL-2.md and docs/MACHINE.md."""
 import os
 import random
 import re
+import select
 from unittest import mock
 
 from .films import random_line, random_session
@@ -469,6 +470,12 @@ class Replays(Case):
 
 
 class Answers(Case):
+    def test_signal_while_a_text_is_sent(self):
+        """Where it comes before the text is there, the simulator ends as ever."""
+        console = Console([program()])
+        console.pipe.poll.register(console.pipe.input, select.POLLOUT)
+        self.assertEqual(0, console.end())
+
     def test_places(self):
         for text, short, digits in (("M 00 0106", "M 0 106", 4), ("A 11", "A 11", 6), ("C 001000", "C 1000", 20), ("H 14", "H 14", 4)):
             place = Place.parse(short.lower())
