@@ -584,17 +584,21 @@ def serve(console, script, write):
     return status
 
 
+def console_of(given, machine=Machine):
+    """Returns the console of a machine with these options and their files."""
+    options = read_options(given)
+    deck = list(read_rows(given['--deck'], 'DECK', COLUMNS)) if '--deck' in given else []
+    panel = read_panel(given['--panel']) if '--panel' in given else None
+    reject_if(options['reader'] == options['printer'], 2, 'SAME CHANNEL')
+    reject_if(len(deck) > 2000, 2, 'DECK TOO LONG')
+    return Console(machine(deck, panel, **options))
+
+
 def run(words, standard_input, write):
     """Runs the program with the file of standard input. Returns the exit status and what goes to standard error."""
     try:
         given = read_words(words)
-        options = read_options(given)
-        deck = list(read_rows(given['--deck'], 'DECK', COLUMNS)) if '--deck' in given else []
-        panel = read_panel(given['--panel']) if '--panel' in given else None
-        reject_if(options['reader'] == options['printer'], 2, 'SAME CHANNEL')
-        reject_if(len(deck) > 2000, 2, 'DECK TOO LONG')
-        console = Console(Machine(deck, panel, **options))
-        return serve(console, given.get('SCRIPT', standard_input), write), ''
+        return serve(console_of(given), given.get('SCRIPT', standard_input), write), ''
     except Rejected as rejected:
         status, text = rejected.args
         if text == USAGE:

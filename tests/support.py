@@ -37,13 +37,13 @@ class Done(NamedTuple):
     status: int
 
 
-def run(*words, script="", env=None, **how):
+def run(*words, script="", env=None, encoding="utf-8", **how):
     """Runs a command at the top of the repository, with the program under test as the simulator of all tools."""
     environment = {**os.environ, "PP6600": program(), **(env or {})}
     environment.pop("PYTHONUNBUFFERED", None)  # users have none, and what is said comes after what was written all the same
     how = {"cwd": TOP, "timeout": PATIENCE, **how}
     done = subprocess.run(words, input=script.encode("latin-1"), env=environment, capture_output=True, check=False, **how)
-    return Done(done.stdout.decode("utf-8", "replace"), done.stderr.decode("utf-8", "replace"), done.returncode)
+    return Done(done.stdout.decode(encoding, "replace"), done.stderr.decode("utf-8", "replace"), done.returncode)
 
 
 def tool(name, *words, script="", **how):
@@ -87,7 +87,8 @@ def blocks(page, kind):
 def names_of_codes():
     """Returns the name of each code in the table of docs/MACHINE.md."""
     names = {}
-    for codes, called in re.findall(r"^\| ([0-7]{2}(?:, [0-7]{2})*) \| ([A-Z]{3}(?:, [A-Z]{3})*) \|", read("docs", "MACHINE.md"), flags=re.M):
+    row = re.compile(r"^\| ([0-7]{2}(?:, [0-7]{2})*) \| ([A-Z]{3}(?:, [A-Z]{3})*) \|", re.M)
+    for codes, called in row.findall(read("docs", "MACHINE.md")):
         codes, called = codes.split(", "), called.split(", ")
         names.update(zip(codes, called * len(codes) if len(called) == 1 else called))
     return [names[f"{code:02o}"] for code in range(64)]

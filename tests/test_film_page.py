@@ -233,10 +233,8 @@ class Controls(PageCase):
             with self.subTest(word):
                 self.assertEqual(wanted, self.value(shown))
             self.browser.key("Escape")
-        for address, wanted in (("#turn=1001", "no turn 1001: the highest is 1000"), ("#turn=18", "not an octal number"), ("#turn=20", "")):
-            self.value(f"location.hash = '{address}'; followAddress()")
-            with self.subTest(address):
-                self.assertEqual(wanted, self.value("byId('no-turn').innerText"))
+        self.check_rows(lambda address: self.value(f"location.hash = '{address}'; followAddress(); byId('no-turn').innerText"),
+                        ("#turn=1001", "no turn 1001: the highest is 1000"), ("#turn=18", "not an octal number"), ("#turn=20", ""))
         self.browser.open(self.film("--last", "10", script="STEP 100\n"), "#turn=5")
         self.assertEqual([0, "the film begins at turn 70"], self.value(shown)[:2])
 
@@ -322,7 +320,7 @@ class Controls(PageCase):
         for at in 1, 2:
             self.browser.click(f"#files button:nth-child({at})")
         self.check_rows(lambda name: self.saved(os.path.join(saved, name)),
-                ("script", b"STEP 3\n* \xff\n"), ("my deck", b"* caf\xe9\n0001 0002\n"))
+                        ("script", b"STEP 3\n* \xff\n"), ("my deck", b"* caf\xe9\n0001 0002\n"))
 
     def saved(self, path):
         """Waits for a file that the page saves, and returns its bytes."""
@@ -364,11 +362,9 @@ class Opening(PageCase):
     def test_address(self):
         """A link leads to a moment and a place."""
         path = shown_film("overwritten-loader")
-        for address, wanted in (("#turn=405&place=M+0+106", [0o405, "M 00 0106"]), ("#turn=405", [0o405, None]), ("#moment=0", [0, None]),
-                                ("#place=A+0", [0o335, "A 00"]), ("#turn=405&place=nothing", [0o405, None])):
-            with self.subTest(address):
-                self.browser.open(path, address)
-                self.assertEqual(wanted, self.value(TURN_AND_PLACE))
+        self.check_rows(lambda address: self.browser.open(path, address) or self.value(TURN_AND_PLACE),
+                        ("#turn=405&place=M+0+106", [0o405, "M 00 0106"]), ("#turn=405", [0o405, None]), ("#moment=0", [0, None]),
+                        ("#place=A+0", [0o335, "A 00"]), ("#turn=405&place=nothing", [0o405, None]))
         self.assertEqual("no such place", self.value("byId('no-place').innerText"))
         self.value("moveTo(film.turn.indexOf(0o400)); choose(placeNamed('M 0 106')); new Promise((done) => setTimeout(done, 500))")
         self.assertEqual("#moment=403&place=M+00+0106", self.value("location.hash"))

@@ -439,11 +439,7 @@ class Model(Case):
     def console(words):
         given = model.read_words(words)
         model.reject_if("SCRIPT" in given or any("=" in word for word in words), 2, "not as a tool begins it")
-        options = model.read_options(given)
-        deck = list(model.read_rows(given["--deck"], "DECK", model.COLUMNS)) if "--deck" in given else []
-        panel = model.read_panel(given["--panel"]) if "--panel" in given else None
-        model.reject_if(options["reader"] == options["printer"] or len(deck) > 2000, 2, "")
-        return model.Console(tagged.Machine(deck, panel, **options))
+        return model.console_of(given, tagged.Machine)
 
     @staticmethod
     def places(machine, choose):

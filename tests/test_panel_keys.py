@@ -89,18 +89,14 @@ class Lines(Case):
                              ("STEP 3", "TURNS 3 SLOT 04")):
             history.take(line, [answer])
         here = facts(4, 0, history=history)
-        for key, count, wanted in (("b", 1, "BACK"), ("B", 1, "BACK 14"), ("B", 2, "BACK 26"), ("p", 1, "BACK 6"),
-                                   ("p", 2, "BACK 20"), ("B", 3, "BACK 41"), ("<", 1, "BACK 33")):
-            with self.subTest(key, count=count):
-                self.assertEqual([wanted], LINES[key](here, count))
+        self.check_rows(lambda key, count: ", ".join(LINES[key](here, count)), ("b", 1, "BACK"), ("B", 1, "BACK 14"),
+                        ("B", 2, "BACK 26"), ("p", 1, "BACK 6"), ("p", 2, "BACK 20"), ("B", 3, "BACK 41"), ("<", 1, "BACK 33"))
         self.assertEqual(["BACK 14"], LINES["p"](here._replace(processor=4), 1), "to the slot's own last turn")
         history.take("BACK 6", ["BACK 6 SLOT 00"])
         self.assertEqual((0o25, 6), (history.kept.count, history.ahead.count))
         here = facts(0, 0, history=history)
-        for key, wanted in ((" ", ["FORWARD"]), ("s", ["FORWARD"]), (">", ["FORWARD 6"]), ("S", ["FORWARD 6", "STEP 6"]),
-                            ("n", ["FORWARD 6", "STEP 6"])):
-            with self.subTest(key):
-                self.assertEqual(wanted, LINES[key](here, 1), "what is ahead comes first")
+        self.check_rows(lambda key: ", ".join(LINES[key](here, 1)), (" ", "FORWARD"), ("s", "FORWARD"), (">", "FORWARD 6"),
+                        ("S", "FORWARD 6, STEP 6"), ("n", "FORWARD 6, STEP 6"))  # what is ahead comes first
         self.assertEqual(["FORWARD 4"], LINES["n"](here._replace(processor=2), 1), "over the lines that were typed between")
         history.take("STEP", ["TURNS 1 SLOT 01"])
         self.assertEqual((0o26, 0), (history.kept.count, history.ahead.count), "a new action discards what is ahead")
@@ -402,11 +398,9 @@ class Program(PanelCase):
         """Up and Down go by instructions, Left and Right by cells, over the end of the window and of the memory too."""
         panel = self.panel(OVERWRITTEN, "--deck", DECK)
         press(panel, "3Gig100<Enter>")
-        for keys, place in (("j", "M 0 102"), ("2j", "M 0 104"), ("l", "M 0 105"), ("j", "M 0 106"), ("j", "M 0 107"), ("3k", "M 0 103"),
-                            ("3k", "M 0 77"), ("77k", "M 0 0"), ("k", "M 0 7777"), ("j", "M 0 0")):
-            with self.subTest(keys):
-                press(panel, keys)
-                self.assertEqual(place, panel.view.place())
+        self.check_rows(lambda keys: press(panel, keys) and panel.view.place(),
+                ("j", "M 0 102"), ("2j", "M 0 104"), ("l", "M 0 105"), ("j", "M 0 106"), ("j", "M 0 107"), ("3k", "M 0 103"),
+                ("3k", "M 0 77"), ("77k", "M 0 0"), ("k", "M 0 7777"), ("j", "M 0 0"))
 
     def test_changed_and_watched(self):
         panel = self.panel(FIRST_PROGRAM + "WATCH M 0 20\nSTEP 13\n")
@@ -490,10 +484,8 @@ class Typed(PanelCase):
         self.assertEqual(0o100, panel.view.cell)
         self.assertIn("7777 is not there", bottom(panel, "/7777<Enter>"))
         self.assertIn("no place", bottom(panel, "g12345<Enter>"))
-        for text, place in ("M 3 17", "M 3 17"), ("C 1000", "C 1000"), ("H 14", "H 14"), ("q 5", "Q 5"), ("PP 11", "Q 11"):
-            with self.subTest(text):
-                press(panel, f"g{text}<Enter>")
-                self.assertEqual(place, panel.view.place())
+        self.check_rows(lambda text: press(panel, f"g{text}<Enter>") and panel.view.place(),
+                        ("M 3 17", "M 3 17"), ("C 1000", "C 1000"), ("H 14", "H 14"), ("q 5", "Q 5"), ("PP 11", "Q 11"))
         press(panel, ":SET C 123456 7<Enter>gC 0<Enter>/7<Enter>")
         self.assertEqual("C 123456", panel.view.place())
 
@@ -554,10 +546,8 @@ class Sessions(PanelCase):
     def test_moves(self):
         """The cursor, by arrows and Tab; a watch of each kind of place at it."""
         panel = self.panel()
-        for place, keys in {"A 1": "j<Right>", "H 1": "<Tab>j", "M 1 10": "<Tab>gM 1 0<Enter>j", "C 1": "<Tab><Down>"}.items():
-            with self.subTest(place):
-                press(panel, keys, "t")
-                self.assertEqual(f"WATCH {place}", panel.session.log[-1][0])
+        self.check_rows(lambda keys: press(panel, keys, "t") and panel.session.log[-1][0], ("j<Right>", "WATCH A 1"),
+                        ("<Tab>j", "WATCH H 1"), ("<Tab>gM 1 0<Enter>j", "WATCH M 1 10"), ("<Tab><Down>", "WATCH C 1"))
         self.assertEqual(["A 01", "H 01", "M 01 0010", "C 000001"], [one.place for one in panel.session.state.watches])
         press(panel, "t")
         self.assertEqual("UNWATCH C 1", panel.session.log[-1][0])

@@ -40,7 +40,7 @@ class Refusals(Case):
 
     def test_kept_line_is_judged(self):
         self.check_rows(lambda text: self.judged({"wrong_sum": WRONG_SUM}, KEPT + LABEL.format("wrong_sum", text))[1],
-                (GOAL, 0), (LOST, 1))
+                        (GOAL, 0), (LOST, 1))
 
     def test_mutant_without_a_line(self):
         edits = {"wrong_sum": WRONG_SUM, "other_sum": WRONG_SUM}

@@ -4,12 +4,12 @@ docs/TUTORIAL.md, docs/TUTORIAL-2.md and docs/MACHINE.md."""
 import os
 import random
 import re
-import subprocess
+import select
 from unittest import mock
 
 from .films import random_line, random_session
 from .installing import TOOLS
-from .support import EXAMPLES, PYTHON, TOP, Case, blocks, names_of_codes, program, read, run, tool
+from .support import EXAMPLES, TOP, Case, blocks, names_of_codes, program, read, run, tool
 from .terminal import Terminal
 from .test_panel import COMPLETES
 from .test_panel_keys import FIRST_PROGRAM, OVERWRITTEN
@@ -119,9 +119,10 @@ class Trace(Case):
             for channel in (5, 6, 0o12, 0o13, 0o14):
                 processors = (range(10), [0, 1], [3])[(seed + channel) % 3]
                 touches = list(lines_from(words, actions, processors, channel, 9 * seed))
-                with self.subTest(seed=seed, channel=channel):
-                    for count in (2, 0o1000):
-                        self.assertEqual(touches[-count:], list(last_lines(words, actions, processors, channel, count, 9 * seed, AllSymbols())))
+                for count in (2, 0o1000):
+                    got = last_lines(words, actions, processors, channel, count, 9 * seed, AllSymbols())
+                    with self.subTest(seed=seed, channel=channel, count=count):
+                        self.assertEqual(touches[-count:], list(got))
 
     def test_words_that_nobody_reads(self):
         """docs/MACHINE.md: a word on a channel that is disconnected is lost; an input of a block ends and leaves one."""
@@ -238,20 +239,18 @@ class Listings(Case):
     def test_labels(self):
         symbols = Symbols(self.TEXT.splitlines())
         self.assertEqual({0o100: "START", 0o102: "LOOP", 0o20: "COUNT", 0o200: "BUF"}, symbols.labels)
-        for address, name in ((0o77, "COUNT+57"), (0o100, "START"), (0o101, "START+1"), (0o103, "LOOP+1"), (0o277, "BUF+77"), (0o300, ""), (0, "")):
-            self.assertEqual(name, symbols.name(address))
-        for address, word, text in ((0o100, "1405", "START  LDN 5"), (0o100, "1406", ""), (0o103, "0200", ""), (0o104, "0300", "* an end")):
-            self.assertEqual(text, symbols.text(address, word))
-        again = Symbols(symbols.lines())
-        self.assertEqual(symbols.labels, again.labels)
+        self.check_rows(symbols.name, (0o77, "COUNT+57"), (0o100, "START"), (0o101, "START+1"), (0o103, "LOOP+1"),
+                        (0o277, "BUF+77"), (0o300, ""), (0, ""))
+        self.check_rows(symbols.text, (0o100, "1405", "START  LDN 5"), (0o100, "1406", ""), (0o103, "0200", ""),
+                        (0o104, "0300", "* an end"))
+        self.assertEqual(symbols.labels, Symbols(symbols.lines()).labels)
 
     def test_loaded_and_saved(self):
         """What a listing loads is saved in each form, and loaded again."""
         lines = tool("load", "--listing", "3", script=self.TEXT).out
         self.assertEqual("SET M 3 20 0000\nSET M 3 100 1405 3420 7112 0200 0300\n", lines)
         for option in ("", "--packed", "--two-bytes", "--listing", "--set"):
-            saved = subprocess.run([*PYTHON, os.path.join(TOP, "tools", "save"), *option.split(), "3", "100", "104"], input=lines.encode(),
-                                   env={**os.environ, "PP6600": program()}, stdout=subprocess.PIPE, check=True).stdout.decode("latin-1")
+            saved = tool("save", *option.split(), "3", "100", "104", script=lines, encoding="latin-1").out
             words = ["--listing", "3"] if option == "--listing" else [*option.split(), "3", "100"]
             with self.subTest(option):
                 self.assertEqual("SET M 3 100 1405 3420 7112 0200 0300\n", saved if option == "--set" else tool("load", *words, script=saved).out)
@@ -338,7 +337,8 @@ class Talk(Case):
     SCRIPT = "examples/first-steps/script"
 
     def test_at_a_terminal(self):
-        terminal = Terminal([os.path.join(TOP, "tools", "talk"), self.SCRIPT], kind="dumb", folder=TOP, environment={"PP6600": program()})
+        words = os.path.join(TOP, "tools", "talk"), self.SCRIPT
+        terminal = Terminal(words, kind="dumb", folder=TOP, environment={"PP6600": program()})
         self.addCleanup(terminal.close)
         for text in "STEP 12\r", "\x03SET M 0 9 1\r", "\x04":
             terminal.wait_until(lambda one: one.written.endswith(b"> "))
@@ -470,6 +470,12 @@ class Replays(Case):
 
 
 class Answers(Case):
+    def test_signal_while_a_text_is_sent(self):
+        """Where it comes before the text is there, the simulator ends as ever."""
+        console = Console([program()])
+        console.pipe.poll.register(console.pipe.input, select.POLLOUT)
+        self.assertEqual(0, console.end())
+
     def test_places(self):
         for text, short, digits in (("M 00 0106", "M 0 106", 4), ("A 11", "A 11", 6), ("C 001000", "C 1000", 20), ("H 14", "H 14", 4)):
             place = Place.parse(short.lower())
@@ -494,17 +500,6 @@ class Answers(Case):
         self.assertEqual((3, 2, 3, 4), (history.older.count, history.kept.count, history.ahead.count, history.turns))
         history.take("WATCH P 0", ["OK"])
         self.assertEqual((3, 3, 0), (history.older.count, history.kept.count, history.ahead.count))
-
-
-class Refusals(Case):
-    def test_each_tool(self):
-        """No tool is silent about a refused line of its script."""
-        for name, *words in (("changes", "P", "0"), ("changes", "--turns", "1"), ("save", "0", "0", "1"), ("show",), ("state",), ("trace",),
-                             ("until", "P", "0", "=", "1"), ("waits",), ("state", "--turn", "1"), ("show", "--turn", "1")):
-            got = tool(name, *words, script="STEP 2\nDEADSTART\nGO\n")
-            with self.subTest(name, words=words):
-                self.assertEqual(f"{name}: 2 lines (decimal) were refused, the first is line 2 (decimal), ERR 14 NO PANEL: DEADSTART\n", got.err)
-                self.assertEqual(1, got.status)
 
 
 class Messages(Case):
@@ -549,15 +544,17 @@ class Messages(Case):
                 self.assertTrue(got.err.startswith(f"{name}: ") and text in got.err, got.err)
 
     def test_lines_that_are_refused(self):
-        """One line on standard error has the first of them, and the status is 1; the others are performed."""
-        wanted = "line 2 (decimal), ERR 14 NO PANEL: DEADSTART\n"
-        for name, *words in (("changes", "--turns", "1"), ("changes", "M", "0", "0"), ("state",), ("trace",), ("waits",)):
-            with self.subTest(name, words=words):
-                plain = tool(name, *words, script="STEP 5\nSTEP 2\n")
-                got = tool(name, *words, script="STEP 5\nDEADSTART\nSTEP 2\n")
-                self.assertEqual((plain.out, f"{name}: one line was refused: {wanted}", 1), got)
-                got = tool(name, *words, script="STEP 5\nDEADSTART\nGO\x1b[0m\nSTEP 2\n")
-                self.assertEqual((plain.out, f"{name}: 2 lines (decimal) were refused, the first is {wanted}", 1), got)
+        """No tool is silent about them: one line on standard error has the first, and the status is 1. All others are performed."""
+        first = "line 2 (decimal), ERR 14 NO PANEL: DEADSTART\n"
+        for name, *words in (
+                ("changes", "P", "0"), ("changes", "--turns", "1"), ("changes", "M", "0", "0"), ("save", "0", "0", "1"), ("show",),
+                ("state",), ("trace",), ("until", "P", "0", "=", "1"), ("waits",), ("state", "--turn", "1"), ("show", "--turn", "1")):
+            plain = tool(name, *words, script="STEP 5\nSTEP 2\n")
+            for more, said in ("", "one line was refused: "), ("GO\x1b[0m\n", "2 lines (decimal) were refused, the first is "):
+                got = tool(name, *words, script=f"STEP 5\nDEADSTART\n{more}STEP 2\n")
+                with self.subTest(name, words=words, more=more):
+                    self.assertEqual((f"{name}: {said}{first}", 1), got[1:])
+                    self.assertTrue(got.out == plain.out or (name, *words) == ("show",))  # which shows the refused lines too
         self.assertEqual("state: one line was refused: line 1 (decimal), ERR 06 NOT ASCII: \\x1b[0mGO\n", tool("state", script="\x1b[0mGO\n").err)
 
     def test_help_and_version(self):

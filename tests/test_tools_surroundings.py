@@ -99,9 +99,9 @@ class SlowPrograms(HandsCase):
 class Example(HandsCase):
     def test_bad_hands(self):
         self.check_rows(lambda words, script: run(SHOW, *words, script=script),
-                ([], "", ("", "show.py: give the simulator and its options, as in show.py ./pp6600 <SCRIPT\n", 2)),
-                ([program(), "--none"], "STEP\n", ("> STEP\n", "pp6600: BAD ARGUMENTS\n", 2)),
-                ([program()], "* \xff\n", ("> * \ufffd\nERR 06 NOT ASCII\n", "", 1)),
-                (["true"], "STEP\n", ("> STEP\n", "show.py: the simulator ended before it answered\n", 2)))
+                        ([], "", ("", "show.py: give the simulator and its options, as in show.py ./pp6600 <SCRIPT\n", 2)),
+                        ([program(), "--none"], "STEP\n", ("> STEP\n", "pp6600: BAD ARGUMENTS\n", 2)),
+                        ([program()], "* \xff\n", ("> * \ufffd\nERR 06 NOT ASCII\n", "", 1)),
+                        (["true"], "STEP\n", ("> STEP\n", "show.py: the simulator ended before it answered\n", 2)))
         done = run("bash", "-c", '"$0" "$@" >/dev/full', SHOW, program(), script="STEP\n")
         self.assertEqual(("", "show.py: [Errno 28] No space left on device\n", 2), done)

@@ -67,7 +67,7 @@ class Subject(NamedTuple):
         return form.start(self.groups[0]) + (self.form == "M"), form.end(self.groups[1])  # without the blank before the words
 
     def column(self, answers, first, width):
-        """Returns the digits of the number at looks, each of so many lines of answers; those to the dump begin at the first line."""
+        """Returns the digits of the number at looks, each of so many lines of answers. Those to the dump begin at line `first`."""
         start, end = self.span(answers[first:first + self.lines])
         columns = [[line[start:end] for line in answers[first + row::width]] for row in self.rows]
         return columns[0] if len(columns) == 1 else list(map(" ".join, zip(*columns)))

@@ -2,6 +2,7 @@
 
 import atexit
 import collections
+import contextlib
 import functools
 import os
 import select
@@ -157,7 +158,7 @@ class Pipe:
         """Ends the input and returns the exit status. Every answer was read before, so no more output may come."""
         while self.unsent and self.output in self.reading:
             self.move()
-        if self.unsent:
+        with contextlib.suppress(KeyError):  # it may wait to be written without a text, if a signal has come just then
             self.poll.unregister(self.input)
         self.process.stdin.close()
         while self.reading:

@@ -21,7 +21,8 @@ def last_touches(words, actions, channel, processors, count, first):
         if positions.actions[run].line == STEP:
             window = Window(replayer, start, position, range(PROCESSORS) if is_of_device else processors)
             touched = completed(window, channel) | (changed(window, channel) if is_of_device else set())
-            found += [positions.turn(window.position(at)) for at in sorted(touched, reverse=True) if window.number(at) in processors]
+            shown = [at for at in sorted(touched, reverse=True) if window.number(at) in processors]
+            found += [positions.turn(window.position(at)) for at in shown]
             size = min(8 * size, MOST_TURNS_READ)
         position = start
     replayer.end()

@@ -72,8 +72,8 @@ class Search:
     """A search over a replay, for the turns after `first` up to `last`."""
 
     def __init__(self, words, actions, condition, first=0, last=None, progress=None, watches=None):
-        """The function `progress` is called with a number of turns after each batch; it may raise an exception to end the search. The
-        watches are places whose changes end a STEP, if not those of the condition."""
+        """The function `progress` is called with a number of turns after each batch; it may raise an exception to end the search.
+        The watches are places whose changes end a STEP, if not those of the condition."""
         self.run = Replay(words)
         self.watches = condition.watches if watches is None else watches
         self.actions, self.condition = actions, condition
@@ -233,7 +233,8 @@ class Search:
 
     def numbers(self, answers):
         """Returns the names and the digits of the numbers that are shown, from the answers."""
-        return [] if self.is_told else [pair for subject in self.condition.numbers for pair in shown_numbers(subject, next(answers))]
+        subjects = [] if self.is_told else self.condition.numbers
+        return [pair for subject in subjects for pair in shown_numbers(subject, next(answers))]
 
     def shown(self, subject):
         """Returns the names and the digits of the numbers of a subject as it is now."""

@@ -262,8 +262,8 @@ class Adapter(Requests):
         self.stopped(reason, stop.number, f"PP {cell.number:02o} is at {cell.address:04o}" if ids else "", ids)
 
     def step(self, number, is_out=False):
-        """Makes one turn of a processor, and those before it. If it is to be outside a block transfer, it runs on to before the turn
-        that follows that."""
+        """Makes one turn of a processor, and those before it. If it is to be outside a block transfer, it runs on to before the
+        turn that follows that."""
         stop = self.runner().step(number)
         if stop:
             self.report(stop)

@@ -57,7 +57,8 @@ class Looks:
 
     def __init__(self, numbers, places):
         self.numbers = sorted(numbers)
-        self.subjects = [*(Subject.of_registers(number, "P", "PHASE", "PP") for number in self.numbers), *map(Subject.of_place, places)]
+        self.subjects = [Subject.of_registers(number, "P", "PHASE", "PP") for number in self.numbers]
+        self.subjects += map(Subject.of_place, places)
         self.lines = [subject.question for subject in self.subjects]
         *self.firsts, self.width = accumulate((subject.lines for subject in self.subjects), initial=1)  # lines of the answers
 

@@ -52,7 +52,8 @@ class Machine:
     def registers(self, number):
         """Returns the registers of a processor, each as its digits."""
         first = register(number, "P")
-        return {name: f"{value:0{6 if name == 'A' else 4}o}" for name, value in zip(REGISTERS, self.numbers[first:first + len(REGISTERS)])}
+        p, a, q, phase = self.numbers[first:first + len(REGISTERS)]
+        return {"P": f"{p:04o}", "A": f"{a:06o}", "Q": f"{q:04o}", "PHASE": f"{phase:04o}"}
 
     def processor(self, number):
         """Returns a processor as it is now."""

@@ -15,7 +15,8 @@ def next_found(session, text, symbols, progress):
     """Returns the first turn after the present one at whose end the condition holds, and at whose beginning it did not: one
     that was made, or a new one. Returns None if there is none."""
     actions = without_watches([*session.history.all(), Action(STEP, MOST_NEW)])
-    return next(first_found(session.simulator.words, actions, Condition.parse(text, symbols), session.history.turns, 1, progress), None)
+    condition = Condition.parse(text, symbols)
+    return next(first_found(session.simulator.words, actions, condition, session.history.turns, 1, progress), None)
 
 
 def last_before(session, text, symbols, progress):
