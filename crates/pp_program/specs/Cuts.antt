@@ -2,7 +2,7 @@
 use Rattle.std.specs.Prelude.{◌≡◌, ℕ, ◌<◌, List, ◌++◌, length, Option, Some, None, Ok, Err}
 use Rattle.pp_arguments.specs.CommandLine.{Text}
 use Rattle.pp_console.specs.Commands.{Value}
-use Rattle.pp_console.specs.Script.{run}
+use Rattle.pp_console.specs.Script.{outcome}
 use Rattle.pp_console.specs.declared.progress.TheConstants.{LINE_LIMIT, BYTE_LIMIT}
 use Rattle.pp_files.specs.Files.{card_rule, panel_rule}
 use Rattle.pp_files.specs.Rows.{Row}
@@ -36,7 +36,7 @@ pub record IsProperPrefix (front whole : List ℕ) : Type 0 where
 -- A script of these bytes was cut short, after some of them were read.
 pub data IsCutServing (start : Value) (bytes read : List ℕ) (course : Course) : Type 0 where
   -- A read failed. Every line that was finished by then was answered, within the limits of a script.
-  ByRead : course ≡ ends (run start (finished_within LINE_LIMIT BYTE_LIMIT read)).text (Err ReadFailed) → IsCutServing start bytes read course
+  ByRead : course ≡ ends (outcome start (finished_within LINE_LIMIT BYTE_LIMIT read)).text (Err ReadFailed) → IsCutServing start bytes read course
   -- A write failed. A proper prefix of the answers was written.
   ByWrite : (front : List ℕ) → IsProperPrefix front (served start bytes).answers → course ≡ ends front (Err WriteFailed) → IsCutServing start bytes read course
 
