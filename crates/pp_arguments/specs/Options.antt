@@ -1,5 +1,5 @@
 -- The options that the words of the command line ask for.
-use Rattle.std.specs.Prelude.{◌≡◌, ◌≤◌, ◌==◌, ◌&&◌, ◌⊎◌, [], ℕ, Bool, Err, List, None, Ok, Option, Result, Some, codes, if◌then◌else◌, is_some, nat_le, option_and_then, option_map, IsTrue}
+use Rattle.std.specs.Prelude.{◌≡◌, ◌≤◌, ◌==◌, ◌&&◌, ◌⊎◌, [], ℕ, Bool, Err, List, None, Ok, Option, Result, Some, codes, if◌then◌else◌, is_some, nat_le, option_and_then, option_map}
 use Rattle.std.specs.Result.{result_ok}
 use Rattle.std.specs.String.{string_bytes}
 use Rattle.pp_arith.specs.OctalRead.{octal_read}
@@ -8,7 +8,7 @@ use Rattle.pp_machine.specs.declared.central.CentralSize.TheVariants.{K128, K32,
 use Rattle.pp_arguments.specs.CommandLine.{IsFaultOf, Text, are_taken, faults_of, value_of}
 use Rattle.pp_arguments.specs.Decimal.{decimal_read}
 use Rattle.pp_arguments.specs.declared.options.ArgFault.{ArgFault}
-use Rattle.pp_arguments.specs.declared.options.ArgFault.TheVariants.{BadArguments, BadChannel, Help, NoMemory}
+use Rattle.pp_arguments.specs.declared.options.ArgFault.TheVariants.{BadArguments, BadChannel, NoMemory}
 use Rattle.pp_arguments.specs.declared.options.Options.{Options}
 
 -- ---- one word
@@ -56,7 +56,7 @@ reader_of words = asked_or 0o12 channel_read (value_of words (codes "reader"))
 abbrev pub printer_of : List Text → Option ℕ
 printer_of words = asked_or 0o13 channel_read (value_of words (codes "printer"))
 
--- What words ask for: the length of the undo history, the size of central memory, the devices' channels, and the names of the files.
+-- What words ask for: the length of the undo history, the size of central memory, the devices' channels and the files' names.
 pub record Asked : Type 0 where
   pub history : ℕ
   pub central : CentralSize

@@ -1,7 +1,8 @@
 //! The options of the program: what the words of the command line ask for, or why they are rejected.
 ghost use Rattle.pp_arguments.specs.CommandLine.{Text, faults_of};
 ghost use Rattle.pp_arguments.specs.Inner.{AreGiven};
-ghost use Rattle.pp_arguments.specs.Options.{AreInRange, IsCauseOf, IsMemoryOrChannel, are_admitted, asked_by, asked_of, asked_or, central_read, channel_read, history_read};
+ghost use Rattle.pp_arguments.specs.Options.{AreInRange, IsCauseOf, IsMemoryOrChannel, are_admitted, asked_by, asked_of};
+ghost use Rattle.pp_arguments.specs.Options.{asked_or, central_read, channel_read, history_read};
 ghost use Rattle.std.specs.Prelude.{◌≡◌, ◌≤◌, [], List, Ok, map, option_map, IfErr, IfOk, IfSome, IsTrue, OnOk};
 ghost use Rattle.std.specs.String.{string_bytes};
 
@@ -109,7 +110,8 @@ fn file(alloc: Global, word: Option<&str>) -> Result<Option<String>, ArgFault>
 /// `NoMemory`, `BadArguments` and `BadChannel`.
 #[tactic(auto, unfolding(crate::specs::Options::asked_by))]
 fn options_of(alloc: Global, matches: &ArgMatches) -> Result<Options, ArgFault>
-    ensures asked { (words : List Text) → AreGiven words matches.now → IfOk result (λ options. asked_by words ≡ Ok (asked_of options)) }
+    ensures asked { (words : List Text) → AreGiven words matches.now →
+        IfOk result (λ options. asked_by words ≡ Ok (asked_of options)) }
     ensures ranges { IfOk result AreInRange }
     ensures cause { (words : List Text) → AreGiven words matches.now → faults_of words ≡ [] → IfErr result (IsCauseOf words) }
     ensures admitted { (words : List Text) → AreGiven words matches.now → IsTrue (are_admitted words) → IfErr result IsMemoryOrChannel }

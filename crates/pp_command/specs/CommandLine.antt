@@ -26,22 +26,22 @@ infix 70 ◌⇒◌
 abbrev pub ◌⇒◌ : {A : Type 0} → List ℕ → (WordList → Result A LineFault) → Entry A
 keyword ⇒ reading = record { keyword = keyword; reading = reading }
 
--- The words are read by the entry whose keyword is this word, in letters of either case. Without such an entry the line is rejected.
+-- The entry whose keyword is this word, in letters of either case, reads the words after it. Without one it is no command, 01.
 abbrev pub read_by : {A : Type 0} → List (Entry A) → List ℕ → WordList → Result A LineFault
 read_by [] word given = Err NotACommand
 read_by (entry ∷ entries) word given =
     if str_eq_ignore_ascii_case word entry.keyword then entry.reading given else read_by entries word given
 
--- The words are read by the entry whose keyword is the first of them.
+-- The first word is the keyword. Without a word there are too few, 02.
 abbrev pub choose : {A : Type 0} → List (Entry A) → WordList → Result A LineFault
 choose entries [] = Err WordCount
 choose entries (kind ∷ given) = read_by entries kind given
 
--- What is made of what the words say.
+-- What is made of what the words ask for.
 abbrev pub makes : {A B : Type 0} → (A → B) → (WordList → Result A LineFault) → WordList → Result B LineFault
 makes make read given = read given >>= λ x. Ok (make x)
 
--- SET M n a v .. has one to eight numbers v.
+-- SET M n a v .. sets the cells of processor n from cell a on to one to eight numbers v.
 unfoldable pub set_cells : WordList → Result Request LineFault
 set_cells (n ∷ a ∷ v ∷ more) =
     if nat_lt 7 (length more) then Err WordCount
@@ -64,7 +64,7 @@ set_channel (c ∷ s ∷ []) = state s >>= λ found. makes (λ n. Act (SetChanne
 set_channel (c ∷ s ∷ more) = state s >>= λ found. makes (λ (n, v). Act (SetChannel n found (Some v))) (two 0o13 0o7777) (c ∷ more)
 set_channel _ = Err WordCount
 
--- The words after SET.
+-- SET, by the kind of number: M for cells, A, P or Q for a register of a processor, C for a central word, H for a channel.
 unfoldable pub set : WordList → Result Request LineFault
 set = choose (
     codes "M" ⇒ set_cells
@@ -75,7 +75,7 @@ set = choose (
     ∷ codes "H" ⇒ set_channel
     ∷ [])
 
--- The place of WATCH and UNWATCH: a cell, A, P or Q of a processor, a central word, or the register of a channel. H 14 is the clock.
+-- A place of WATCH and UNWATCH: a cell, A, P or Q of a processor, a central word, or a channel's register. H 14 is the clock.
 unfoldable pub place : WordList → Result Watched LineFault
 place = choose (
     codes "M" ⇒ makes (λ (n, a). Cell n a) (two 0o11 0o7777)
@@ -91,7 +91,7 @@ abbrev pub is_change : WordList → Bool
 is_change (word ∷ []) = str_eq_ignore_ascii_case word (codes "W")
 is_change _ = false
 
--- BACK W, or BACK [count].
+-- BACK W goes back to a change, and BACK [count] undoes actions.
 unfoldable pub back : WordList → Result Request LineFault
 back given = if is_change given then Ok BackToChange else makes Back count given
 
@@ -99,15 +99,16 @@ back given = if is_change given then Ok BackToChange else makes Back count given
 abbrev pub ordered : ℕ → ℕ → Request → Result Request LineFault
 ordered first last request = if nat_le first last then Ok request else Err OutOfRange
 
--- DUMP M n a b.
+-- DUMP M n a b shows cells a to b of processor n.
 unfoldable pub dump_cells : WordList → Result Request LineFault
 dump_cells given = three 0o11 0o7777 0o7777 given >>= λ (n, a, b). ordered a b (DumpCells n a b)
 
--- DUMP C a b.
+-- DUMP C a b shows the central words a to b.
 unfoldable pub dump_central : WordList → Result Request LineFault
 dump_central given = two 0o377777 0o377777 given >>= λ (a, b). ordered a b (DumpCentral a b)
 
--- The words after DUMP.
+-- DUMP, by what is shown: M cells, PP a processor, H the channels, C central words, XP the exchange package, CR the card reader, LP
+-- the line printer, W the watches.
 unfoldable pub dump : WordList → Result Request LineFault
 dump = choose (
     codes "M" ⇒ dump_cells
@@ -120,7 +121,7 @@ dump = choose (
     ∷ codes "W" ⇒ none DumpWatches
     ∷ [])
 
--- The eight (decimal) commands, by the first word of the line. A count is that of turns or of actions.
+-- The eight commands, by the first word of the line. STEP has a count of turns, and BACK and FORWARD one of actions.
 unfoldable pub request_of : List ℕ → WordList → Result Request LineFault
 request_of = read_by (
     codes "SET" ⇒ set
@@ -133,7 +134,7 @@ request_of = read_by (
     ∷ codes "DUMP" ⇒ dump
     ∷ [])
 
--- The request of a line of words, or nothing if the line is ignored.
+-- The request of a line with these words, or nothing if the line is ignored. The first word names the command.
 abbrev pub sentence : WordList → Result (Option Request) LineFault
 sentence [] = Ok None
 sentence (first ∷ given) =
@@ -144,8 +145,8 @@ sentence (first ∷ given) =
 abbrev pub is_printable : ℕ → Bool
 is_printable byte = byte == 9 || (nat_le 32 byte && nat_le byte 126)
 
--- The request of a line: nothing if it is ignored, or why it is rejected. One carriage return at its end is dropped. Then its length is
--- tested, at most 255 (decimal) bytes, and then each byte.
+-- The request of a line: nothing if it is ignored, or why it is rejected. One carriage return at its end is dropped. Its length is
+-- tested first, at most 255 (decimal) bytes, and then each byte.
 unfoldable pub command : List ℕ → Result (Option Request) LineFault
 command line =
     let text = without_return line in

@@ -22,7 +22,8 @@ outcome-line start done line = fold-append follow (record { text = []; value = s
 
 -- the request of a line, after its carriage return was dropped
 abbrev command_of_text : List ℕ → Result (Option Request) LineFault
-command_of_text text = if nat_lt 255 (length text) then Err TooLong else (if list_all is_printable text then sentence (words text) else Err NotAscii)
+command_of_text text =
+    if nat_lt 255 (length text) then Err TooLong else (if list_all is_printable text then sentence (words text) else Err NotAscii)
 
 -- a line that is too long is as good as its kept prefix
 too_long : (text : List ℕ) → 255 < length text → command_of_text text ≡ Err TooLong
@@ -58,9 +59,15 @@ module _ {W E : Type 0} (sink : Ghosts W) (old new : State) (second third : W) (
 
   -- the line was performed, and a proper prefix of its answer was written
   pub line-breaks : {fault : E} → Performs sink old new second third (Err fault) (λ v. answer_line v line) → Breaks new (sink.text third) origin done line
-  line-breaks performs = record {
-    leaves = rw (outcome-line origin.start done line) (performs.session _ ended.performed.leaves);
-    writes =
-        let answer = performs.text _ ended.performed.leaves in
-        (answer.0, answer.2.rest, Appends-again _ _ _ _ _ ended.performed.writes answer.1, rw (outcome-line origin.start done line, append_assoc, ← answer.2.all) refl, answer.2.some);
-  }
+  line-breaks performs =
+      let (front, written, proper) = performs.text _ ended.performed.leaves in
+      record {
+        leaves = rw (outcome-line origin.start done line) (performs.session _ ended.performed.leaves);
+        front = front;
+        writes = Appends-again _ _ _ _ _ ended.performed.writes written;
+        prefix = record {
+          rest = proper.rest;
+          all = rw (outcome-line origin.start done line, append_assoc, ← proper.all) refl;
+          some = proper.some;
+        };
+      }

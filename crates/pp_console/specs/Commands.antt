@@ -23,8 +23,8 @@ use Rattle.pp_console.specs.Moves.{moved_text}
 use Rattle.pp_console.specs.Watches.{watches_text, hit_text}
 use Rattle.pp_console.specs.Dumps.{cells_text, processor_text, channels_text, central_text, frame_text, reader_text, printer_text}
 
--- The value of a session of the console: its starting machine, the actions that are in effect, how many of them are in the undo history,
--- the redo list, and the length of the undo history.
+-- A session of the console: its starting machine, the actions that are in effect, how many of them the undo history holds, the redo
+-- list, and how many actions the undo history can hold.
 abbrev pub Value : Type 0
 Value = SessionValue Machine Action
 

@@ -12,7 +12,7 @@ use Rattle.pp_lines.proofs.LongLines.{read-kept}
 use Rattle.pp_lines.specs.Results.{◌>>=◌}
 use Rattle.pp_lines.specs.Words.{words, is_ignored}
 use Rattle.pp_files.specs.Rows.{Row, row_of_words, row_of_line}
-use Rattle.pp_files.specs.Loading.{HasRows}
+use Rattle.pp_files.specs.Inner.Loading.{HasRows}
 use Rattle.pp_files.specs.Files.{Rule, with_line, with_lines, rows_of_lines, lines_of_file, rows_of_file}
 
 -- ---- one line
@@ -20,7 +20,8 @@ use Rattle.pp_files.specs.Files.{Rule, with_line, with_lines, rows_of_lines, lin
 -- the row of line k, after its carriage return was dropped
 abbrev row_of_text : ℕ → List ℕ → Result (Option Row) LoadFault
 row_of_text k text =
-    if nat_lt 1023 (length text) then Err (LineTooLong k) else (if is_ignored (words text) then Ok None else row_of_words k (words text))
+    if nat_lt 1023 (length text) then Err (LineTooLong k)
+    else (if is_ignored (words text) then Ok None else row_of_words k (words text))
 
 text-long : (k : ℕ) (text : List ℕ) → 1023 < length text → row_of_text k text ≡ Err (LineTooLong k)
 text-long k text h = grind (arith, nat_tests)

@@ -27,16 +27,16 @@ BreaksOff rule limit taken = (length taken ≤ limit) × HasNoFault rule (finish
 
 -- Why a file was not loaded, given the bytes that were read and all bytes of the file: the file has this fault, or
 -- memory ran out or a read failed before any fault of the file.
-abbrev pub IsCauseOf : {A : Type 0} → Rule → (List ℕ → Result A LoadFault) → List ℕ → List ℕ → LoadFault → Type 0
-IsCauseOf rule file taken bytes fault =
+abbrev pub IsLoadCause : {A : Type 0} → Rule → (List ℕ → Result A LoadFault) → List ℕ → List ℕ → LoadFault → Type 0
+IsLoadCause rule file taken bytes fault =
     (file bytes ≡ Err fault)
     ⊎ (((fault ≡ NoMemory) × RunsOut rule file_limit bytes) ⊎ ((fault ≡ ReadFailed) × BreaksOff rule file_limit taken))
 
 -- the source's count of failures after a fault
-abbrev pub reads_after : LoadFault → ℕ → ℕ
-reads_after ReadFailed count = one_more count
-reads_after fault count = count
+abbrev pub reads_after_load : LoadFault → ℕ → ℕ
+reads_after_load ReadFailed count = one_more count
+reads_after_load fault count = count
 
 -- a failed read raises the source's count of failures by one, and nothing else does
-abbrev pub CountsReads : {A : Type 0} → ℕ → ℕ → Result A LoadFault → Type 0
-CountsReads old new result = MatchResult result (λ _. new ≡ old) (λ fault. new ≡ reads_after fault old)
+abbrev pub CountsLoadReads : {A : Type 0} → ℕ → ℕ → Result A LoadFault → Type 0
+CountsLoadReads old new result = MatchResult result (λ _. new ≡ old) (λ fault. new ≡ reads_after_load fault old)

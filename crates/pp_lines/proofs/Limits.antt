@@ -2,7 +2,7 @@
 use Rattle.std.proofs.lemmas.Grind.{common_steps}
 use Rattle.std.proofs.Common.{◌≡◌, ◌∙◌, ℕ, zero, suc, ◌+◌, ◌-◌, ◌<◌, ◌≤◌, ◌⊎◌, Bool, cond, eqb, List, [], ◌∷◌, ◌++◌, length, take, refl, sym, ap, arith, inl, inr, length-append, length-take, append-nil}
 use Rattle.std.proofs.Math.Seq.{take-append_seam, take-append-add}
-use Rattle.pp_lines.specs.Inner.{IsPrefixOf}
+use Rattle.pp_lines.specs.LineCutter.{IsPrefixOf}
 use Rattle.pp_lines.specs.Lines.{lines, extend_first, finished, unfinished, last_line, finished_within, IsWithin}
 use Rattle.pp_lines.proofs.LineCuts.{begin_first, lines_first, lines_split, finished-more}
 

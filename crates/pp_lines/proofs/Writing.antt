@@ -1,10 +1,9 @@
 -- Texts that are written one after the other.
-use Rattle.std.proofs.Common.{◌≡◌, ◌∙◌, ℕ, ◌+◌, ◌-◌, ◌<◌, List, [], ◌++◌, length, take, drop, sym, ap, append_assoc, arith, length-append, append-nil}
+use Rattle.std.proofs.Common.{◌≡◌, ◌∙◌, ℕ, ◌+◌, ◌-◌, List, [], ◌++◌, length, take, drop, sym, ap, append_assoc, arith, length-append, append-nil}
 use Rattle.std.proofs.KnownBytes.{Appends-nil, Appends-trans}
 use Rattle.std.proofs.lemmas.Grind.{common_steps}
 use Rattle.std.proofs.Math.Seq.{take-add}
 use Rattle.pp_lines.specs.Output.{Appends, AppendsPrefix, Written}
-use Rattle.pp_lines.specs.Prefixes.{IsProperPrefix}
 
 -- nothing is written
 pub Appends-nothing : (written : Written) → Appends written written []
@@ -38,11 +37,8 @@ Remains old new whole left = (front : List ℕ) × Appends old new front × (who
 -- one more piece was written
 pub Remains-next : (first second third : Written) (whole piece left : List ℕ) →
     Remains first second whole (piece ++ left) → Appends second third piece → Remains first third whole left
-Remains-next first second third whole piece left p q =
-    (p.0 ++ piece, Appends-again first second third p.0 piece p.1 q, p.2 ∙ sym (append_assoc p.0 piece left))
-
-proper-within : (front whole rest : List ℕ) → whole ≡ front ++ rest → 0 < length rest → IsProperPrefix front whole
-proper-within front whole rest all some = record { rest = rest; all = all; some = some }
+Remains-next first second third whole piece left (front, written, all) q =
+    (front ++ piece, Appends-again first second third front piece written q, all ∙ sym (append_assoc front piece left))
 
 -- the sink failed within a piece
 pub Remains-fails : (first second third : Written) (whole piece left : List ℕ) →
@@ -50,21 +46,33 @@ pub Remains-fails : (first second third : Written) (whole piece left : List ℕ)
 Remains-fails first second third whole piece left (done, written, all) (front, more, proper) = (
   done ++ front,
   Appends-again first second third done front written more,
-  proper-within (done ++ front) whole (proper.rest ++ left) (all ∙ ap (λ text. done ++ (text ++ left)) proper.all ∙ simp append_assoc) (simp length-append (omega (arith, proper.some))),
+  record {
+    rest = proper.rest ++ left;
+    all = all ∙ ap (λ text. done ++ (text ++ left)) proper.all ∙ simp append_assoc;
+    some = simp length-append (omega (arith, proper.some));
+  },
 )
 
 -- nothing is left after the last piece
 pub Remains-none : (first second : Written) (whole : List ℕ) → Remains first second whole [] → Appends first second whole
-Remains-none first second whole p = Appends-same first second p.0 whole (sym (p.2 ∙ append-nil p.0)) p.1
+Remains-none first second whole (front, written, all) = Appends-same first second front whole (sym (all ∙ append-nil front)) written
 
 -- the sink failed, and more text would have followed
 pub front_longer : (first second : Written) (text more : List ℕ) → AppendsPrefix first second text → AppendsPrefix first second (text ++ more)
-front_longer first second text more p =
-    let proper = p.2 in
-    (p.0, p.1, proper-within p.0 _ (proper.rest ++ more) (ap (λ whole. whole ++ more) proper.all ∙ append_assoc p.0 proper.rest more) (simp length-append (omega (arith, proper.some))))
+front_longer first second text more (front, written, proper) = (
+  front,
+  written,
+  record {
+    rest = proper.rest ++ more;
+    all = ap (λ whole. whole ++ more) proper.all ∙ append_assoc front proper.rest more;
+    some = simp length-append (omega (arith, proper.some));
+  },
+)
 
 -- the sink failed after a text
 pub front_after : (first second third : Written) (text more : List ℕ) → Appends first second text → AppendsPrefix second third more → AppendsPrefix first third (text ++ more)
-front_after first second third text more p q =
-    let proper = q.2 in
-    (text ++ q.0, Appends-again first second third text q.0 p q.1, proper-within (text ++ q.0) _ proper.rest (ap (λ rest. text ++ rest) proper.all ∙ sym (append_assoc text q.0 proper.rest)) proper.some)
+front_after first second third text more p (front, written, proper) = (
+  text ++ front,
+  Appends-again first second third text front p written,
+  record { rest = proper.rest; all = ap (λ rest. text ++ rest) proper.all ∙ sym (append_assoc text front proper.rest); some = proper.some },
+)

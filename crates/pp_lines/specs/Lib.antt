@@ -1,6 +1,6 @@
 pub mod Counted
 pub mod Device
-pub mod Inner
+pub mod LineCutter
 pub mod Lines
 pub mod Output
 pub mod Prefixes

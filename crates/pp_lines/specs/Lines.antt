@@ -1,5 +1,5 @@
 -- The lines of a list of bytes, finished and unfinished. The byte 10 (decimal) is the line feed, and 13 is the carriage return.
-use Rattle.std.specs.Prelude.{◌≡◌, ℕ, ◌-◌, ◌≤◌, ◌==◌, if◌then◌else◌, List, [], ◌∷◌, ◌++◌, length, take, slice_index}
+use Rattle.std.specs.Prelude.{ℕ, ◌-◌, ◌≤◌, ◌==◌, if◌then◌else◌, List, [], ◌∷◌, ◌++◌, length, take, slice_index}
 
 -- The lines with a byte added to the start of the first line, if there is one.
 abbrev pub extend_first : ℕ → List (List ℕ) → List (List ℕ)
@@ -11,7 +11,7 @@ abbrev pub finished : List ℕ → List (List ℕ)
 finished [] = []
 finished (byte ∷ bytes) = if byte == 10 then [] ∷ finished bytes else extend_first byte (finished bytes)
 
--- The bytes after the last line feed, with one more byte in front if it is after the last line feed too: no line is finished.
+-- One more byte in front of the bytes after the last line feed, unless a line feed comes in between, so that a line is finished.
 abbrev pub extend_unfinished : ℕ → List (List ℕ) → List ℕ → List ℕ
 extend_unfinished byte [] rest = byte ∷ rest
 extend_unfinished byte (line ∷ lines) rest = rest
@@ -34,7 +34,7 @@ lines bytes = finished bytes ++ last_line (unfinished bytes)
 unfoldable pub finished_within : ℕ → ℕ → List ℕ → List (List ℕ)
 finished_within line_limit byte_limit bytes = take line_limit (finished (take byte_limit bytes))
 
--- A text has no more lines and no more bytes than the limits.
+-- The text has no more lines and no more bytes than the limits.
 pub record IsWithin (line_limit byte_limit : ℕ) (bytes : List ℕ) : Type 0 where
   pub lines_within : length (lines bytes) ≤ line_limit
   pub bytes_within : length bytes ≤ byte_limit

@@ -6,7 +6,7 @@ use Rattle.pp_lines.specs.Lines.{extend_first}
 abbrev pub is_blank : ℕ → Bool
 is_blank byte = byte == 32 || byte == 9
 
--- Whether the bytes begin with a byte of a word.
+-- Whether a word goes on here: the first byte, if there is one, is no blank and no tab.
 abbrev pub goes_on : List ℕ → Bool
 goes_on [] = false
 goes_on (byte ∷ bytes) = not (is_blank byte)

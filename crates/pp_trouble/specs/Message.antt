@@ -1,5 +1,5 @@
 -- The line that the program prints for what ends it early.
-use Rattle.std.specs.Prelude.{ℕ, List, ◌++◌, codes, decimal}
+use Rattle.std.specs.Prelude.{ℕ, List, [], ◌∷◌, ◌++◌, codes, decimal}
 use Rattle.pp_files.specs.declared.fault.LoadFault.{LoadFault}
 use Rattle.pp_files.specs.declared.fault.LoadFault.TheVariants as load
 use Rattle.pp_trouble.specs.declared.trouble.FileKind.{FileKind}
@@ -42,6 +42,6 @@ text_of ReadFailed = codes "pp6600: READ FAILED"
 text_of WriteFailed = codes "pp6600: WRITE FAILED"
 text_of LineLimit = codes "pp6600: LINE LIMIT"
 
--- The line of what ends the program early: its text and a line feed.
+-- The line of what ends the program early: its text and a line feed, byte 10 (decimal).
 abbrev pub line_of : Trouble → List ℕ
-line_of trouble = text_of trouble ++ codes "\n"
+line_of trouble = text_of trouble ++ 10 ∷ []

@@ -6,7 +6,7 @@ use Rattle.pp_console.specs.declared.progress.TheConstants.{LINE_LIMIT, BYTE_LIM
 use Rattle.pp_lines.specs.declared.fault.IoFault.{IoFault}
 use Rattle.pp_lines.specs.declared.fault.IoFault.TheVariants.{ReadFailed, WriteFailed, LineLimit}
 use Rattle.pp_lines.specs.Output.{Written}
-use Rattle.pp_lines.specs.Inner.{IsPrefixOf}
+use Rattle.pp_lines.specs.LineCutter.{IsPrefixOf}
 use Rattle.pp_lines.specs.Lines.{finished, finished_within, IsWithin}
 use Rattle.pp_console.specs.Commands.{State}
 use Rattle.pp_console.specs.Script.{outcome}
