@@ -7,21 +7,21 @@ use Rattle.pp_files.specs.declared.fault.LoadFault.TheVariants.{NoMemory, ReadFa
 use Rattle.pp_files.specs.Rows.{Row, row_of_line}
 use Rattle.pp_files.specs.Files.{Rule, rows_of_lines, file_limit, lines_of_file}
 
--- these lines have no fault
+-- These lines have no fault.
 abbrev pub HasNoFault : Rule → List (List ℕ) → Type 0
 HasNoFault rule done = (rows : List Row) × (rows_of_lines rule done ≡ Ok rows)
 
--- line k has a row
+-- Line k has a row: it is not ignored, and has no fault of its own.
 abbrev pub IsRow : ℕ → List ℕ → Type 0
 IsRow k line = (row : Row) × (row_of_line k line ≡ Ok (Some row))
 
--- one of the file's lines has a row, and there is no fault up to it: memory ran out there
+-- One of the file's lines has a row, and there is no fault up to it and none in it: memory may have run out there.
 abbrev pub RunsOut : Rule → ℕ → List ℕ → Type 0
 RunsOut rule limit bytes =
     (done : List (List ℕ)) × (line : List ℕ) × (later : List (List ℕ)) × (lines_of_file limit bytes ≡ done ++ line ∷ later)
     × HasNoFault rule (done ++ line ∷ []) × IsRow (length done + 1) line
 
--- the bytes that were read are within the limit, and their finished lines have no fault: the source failed there
+-- The bytes that were read are within the limit, and their finished lines have no fault: a read may have failed there.
 abbrev pub BreaksOff : Rule → ℕ → List ℕ → Type 0
 BreaksOff rule limit taken = (length taken ≤ limit) × HasNoFault rule (finished taken)
 

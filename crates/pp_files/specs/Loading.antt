@@ -1,6 +1,7 @@
 -- Definitions for the inner contracts of loading: a file as far as it was read, and the fault that is reported there.
 use Rattle.std.specs.Prelude.{◌≡◌, ℕ, ◌⊎◌, Bool, IsTrue, List, length, Result, Ok, Err}
-use Rattle.pp_lines.specs.Lines.{finished, IsPrefixOf}
+use Rattle.pp_lines.specs.Inner.{IsPrefixOf}
+use Rattle.pp_lines.specs.Lines.{finished}
 use Rattle.pp_files.specs.declared.fault.LoadFault.{LoadFault}
 use Rattle.pp_files.specs.declared.fault.LoadFault.TheVariants.{NoMemory, ReadFailed}
 use Rattle.pp_files.specs.declared.progress.Progress.{Progress}

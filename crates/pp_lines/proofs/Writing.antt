@@ -1,9 +1,10 @@
 -- Texts that are written one after the other.
-use Rattle.std.proofs.Common.{◌≡◌, ◌∙◌, ℕ, ◌+◌, ◌-◌, List, [], ◌++◌, length, take, drop, sym, ap, append_assoc, arith, length-append, append-nil}
+use Rattle.std.proofs.Common.{◌≡◌, ◌∙◌, ℕ, ◌+◌, ◌-◌, ◌<◌, List, [], ◌++◌, length, take, drop, sym, ap, append_assoc, arith, length-append, append-nil}
 use Rattle.std.proofs.KnownBytes.{Appends-nil, Appends-trans}
 use Rattle.std.proofs.lemmas.Grind.{common_steps}
 use Rattle.std.proofs.Math.Seq.{take-add}
 use Rattle.pp_lines.specs.Output.{Appends, AppendsPrefix, Written}
+use Rattle.pp_lines.specs.Prefixes.{IsProperPrefix}
 
 -- nothing is written
 pub Appends-nothing : (written : Written) → Appends written written []
@@ -40,15 +41,16 @@ pub Remains-next : (first second third : Written) (whole piece left : List ℕ) 
 Remains-next first second third whole piece left p q =
     (p.0 ++ piece, Appends-again first second third p.0 piece p.1 q, p.2 ∙ sym (append_assoc p.0 piece left))
 
+proper-within : (front whole rest : List ℕ) → whole ≡ front ++ rest → 0 < length rest → IsProperPrefix front whole
+proper-within front whole rest all some = record { rest = rest; all = all; some = some }
+
 -- the sink failed within a piece
 pub Remains-fails : (first second third : Written) (whole piece left : List ℕ) →
     Remains first second whole (piece ++ left) → AppendsPrefix second third piece → AppendsPrefix first third whole
-Remains-fails first second third whole piece left p q = (
-  p.0 ++ q.0,
-  q.1 ++ left,
-  Appends-again first second third p.0 q.0 p.1 q.2,
-  p.2 ∙ ap (λ text. p.0 ++ (text ++ left)) q.3 ∙ simp append_assoc,
-  simp length-append (omega (arith, q.4)),
+Remains-fails first second third whole piece left (done, written, all) (front, more, proper) = (
+  done ++ front,
+  Appends-again first second third done front written more,
+  proper-within (done ++ front) whole (proper.rest ++ left) (all ∙ ap (λ text. done ++ (text ++ left)) proper.all ∙ simp append_assoc) (simp length-append (omega (arith, proper.some))),
 )
 
 -- nothing is left after the last piece
@@ -58,9 +60,11 @@ Remains-none first second whole p = Appends-same first second p.0 whole (sym (p.
 -- the sink failed, and more text would have followed
 pub front_longer : (first second : Written) (text more : List ℕ) → AppendsPrefix first second text → AppendsPrefix first second (text ++ more)
 front_longer first second text more p =
-    (p.0, p.1 ++ more, p.2, ap (λ whole. whole ++ more) p.3 ∙ append_assoc p.0 p.1 more, simp length-append (omega (arith, p.4)))
+    let proper = p.2 in
+    (p.0, p.1, proper-within p.0 _ (proper.rest ++ more) (ap (λ whole. whole ++ more) proper.all ∙ append_assoc p.0 proper.rest more) (simp length-append (omega (arith, proper.some))))
 
 -- the sink failed after a text
 pub front_after : (first second third : Written) (text more : List ℕ) → Appends first second text → AppendsPrefix second third more → AppendsPrefix first third (text ++ more)
 front_after first second third text more p q =
-    (text ++ q.0, q.1, Appends-again first second third text q.0 p q.2, ap (λ rest. text ++ rest) q.3 ∙ sym (append_assoc text q.0 q.1), q.4)
+    let proper = q.2 in
+    (text ++ q.0, Appends-again first second third text q.0 p q.1, proper-within (text ++ q.0) _ proper.rest (ap (λ rest. text ++ rest) proper.all ∙ sym (append_assoc text q.0 proper.rest)) proper.some)
