@@ -4,8 +4,7 @@
 ghost use Rattle.std.specs.Prelude.{None};
 
 use pp_lines::{Counted, Source};
-use pp_program::{FileLog, FileSystem, System, run, words_of};
-use pp_trouble::FileKind;
+use pp_program::{FileKind, FileLog, FileSystem, System, run, words_of};
 use std::env;
 use std::fs::File;
 use std::process::ExitCode;

@@ -1,5 +1,5 @@
 -- The meaning of the words.
-use Rattle.std.proofs.Common.{◌≡◌, List, [], refl, inl, inr, Ok, Err, ◌⊎◌}
+use Rattle.std.proofs.Common.{◌≡◌, List, [], refl, inl, inr, arith, Ok, Err, ◌⊎◌}
 use Rattle.pp_arguments.specs.CommandLine.{Text, faults_of}
 use Rattle.pp_arguments.specs.Options.{IsCauseOf, asked_by, asked_of}
 use Rattle.pp_arguments.specs.declared.options.ArgFault.{ArgFault}
@@ -10,10 +10,12 @@ use Rattle.pp_trouble.specs.declared.trouble.Trouble.TheVariants.{NoMemory}
 use Rattle.pp_host.specs.Known.{Texts}
 use Rattle.pp_host.specs.Options.{Means}
 
-pub Means-asked : (words : List Text) (options : Options) → asked_by words ≡ Ok (asked_of options) → faults_of words ≡ [] → Means (Texts words) (Ok (asked_of options))
+pub Means-asked : (words : List Text) (options : Options) → asked_by words ≡ Ok (asked_of options) → faults_of words ≡ [] →
+    Means (Texts words) (Ok (asked_of options))
 Means-asked words options asked line = inl (line, rw asked refl)
 
-pub Means-rejected : (words : List Text) (fault : ArgFault) → IsCauseOf words fault → (of_arguments fault ≡ NoMemory) ⊎ Means (Texts words) (Err (of_arguments fault))
+pub Means-rejected : (words : List Text) (fault : ArgFault) → IsCauseOf words fault →
+    (of_arguments fault ≡ NoMemory) ⊎ Means (Texts words) (Err (of_arguments fault))
 Means-rejected words argument.NoMemory cause = inl refl
-Means-rejected words fault (inl cause) = inr (inr (fault, cause, refl))
+Means-rejected words fault (inl cause) = inr (inr (fault, grind arith, cause, refl))
 Means-rejected words fault (inr (line, asked)) = inr (inl (line, rw asked refl))

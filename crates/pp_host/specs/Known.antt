@@ -1,5 +1,5 @@
--- What may be known before a run, and what is found of the words and of a file.
-use Rattle.std.specs.Prelude.{ℕ, List, Option}
+-- What may be known before a run, what is found, and how the two agree.
+use Rattle.std.specs.Prelude.{◌≡◌, ℕ, List, ◌++◌, Option, Some, None, IfSome}
 use Rattle.pp_arguments.specs.CommandLine.{Text}
 
 -- a value that may be known beforehand: `Some` of the value, or `None`
@@ -15,3 +15,19 @@ pub data Found : Type 0 where
 pub data Words : Type 0 where
   NotText : Words
   Texts : List Text → Words
+
+-- a value agrees with a known one, if one is known
+abbrev pub Agrees : {A : Type 0} → Known A → A → Type 0
+Agrees known value = IfSome known (λ same. same ≡ value)
+
+-- All bytes of a source are the known ones, and those that were read begin them. If none are known, all are those that were read.
+abbrev pub IsInput : Known (List ℕ) → List ℕ → List ℕ → Type 0
+IsInput None read bytes = bytes ≡ read
+IsInput (Some known) read bytes = (bytes ≡ known) × ((rest : List ℕ) × (bytes ≡ read ++ rest))
+
+-- What a path names is the known file, and the bytes that were read begin it. If none is known, it is what was read.
+abbrev pub IsContent : Known Found → Found → Found → Type 0
+IsContent None read content = content ≡ read
+IsContent (Some Missing) Missing content = content ≡ Missing
+IsContent (Some (Content known)) (Content read) content = (content ≡ Content known) × ((rest : List ℕ) × (known ≡ read ++ rest))
+IsContent (Some known) read content = ⊥

@@ -1,3 +1,5 @@
+pub mod Calls
+pub mod EventCode
 pub mod Events
 pub mod Failures
 pub mod FileEvent

@@ -1,5 +1,6 @@
 //! What happened to the files of a program, as contracts see it.
-ghost use Rattle.pp_host.specs.Events.{Closed, Event, coded_event, file_event};
+ghost use Rattle.pp_host.specs.EventCode.{coded_event};
+ghost use Rattle.pp_host.specs.Events.{Closed, Event, file_event};
 ghost use Rattle.pp_host.specs.FileEvent.{event_of};
 ghost use Rattle.std.specs.Borrow.{ftrue};
 ghost use Rattle.std.specs.Coded.{coded_list};

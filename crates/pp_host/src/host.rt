@@ -1,8 +1,8 @@
 //! What the program needs of its host.
 ghost use Rattle.pp_arguments.specs.CommandLine.{Text};
 ghost use Rattle.pp_host.specs.Events.{Closed, Event, Missing, Opened};
-ghost use Rattle.pp_host.specs.Host.{Agrees, IsOpened, counted};
-ghost use Rattle.pp_host.specs.Known.{Found, Known, Texts, Words};
+ghost use Rattle.pp_host.specs.Host.{IsOpened, counted};
+ghost use Rattle.pp_host.specs.Known.{Agrees, Found, Known, Texts, Words};
 ghost use Rattle.std.specs.Prelude.{◌≡◌, ◌∷◌, ◌++◌, [], IfSome, List, MatchOption, None, Option, Some, MatchResult, map, ℕ};
 ghost use Rattle.std.specs.String.{string_bytes};
 

@@ -1,12 +1,13 @@
 //! Loads the files that the options name.
 ghost use Rattle.pp_files.specs.Files.{card_rule, panel_rule};
+ghost use Rattle.pp_host.specs.Calls.{Loads};
 ghost use Rattle.pp_host.specs.Events.{Missing, Opened};
-ghost use Rattle.pp_host.specs.Failures.{IsEarly, reads_by};
-ghost use Rattle.pp_host.specs.Host.{Agrees, IsOpened};
-ghost use Rattle.pp_host.specs.Known.{Found};
-ghost use Rattle.pp_host.specs.Loading.{IsLost, Loads, deck_at, panel_at};
+ghost use Rattle.pp_host.specs.Failures.{reads_by, writes_by};
+ghost use Rattle.pp_host.specs.Host.{IsOpened};
+ghost use Rattle.pp_host.specs.Known.{Agrees, Found};
+ghost use Rattle.pp_host.specs.Loading.{IsLost, deck_at, panel_at};
 ghost use Rattle.pp_trouble.specs.declared.trouble.Trouble.TheVariants.{CannotOpen, ReadFailed};
-ghost use Rattle.std.specs.Prelude.{◌≡◌, ◌⊎◌, ◌<◌, ◌≤◌, ◌++◌, ◌∷◌, [], All, Err, IfErr, IfOk, IfSome, MatchResult, Ok, option_map};
+ghost use Rattle.std.specs.Prelude.{◌≡◌, ◌⊎◌, ◌<◌, ◌≤◌, ◌++◌, ◌∷◌, [], All, Err, IfOk, IfSome, MatchResult, Ok, option_map, ℕ};
 ghost use Rattle.std.specs.String.{string_bytes};
 
 use crate::host::Host;
@@ -45,9 +46,10 @@ pub fn deck<H: Host>(
     ensures deck { Loads (H.known_files host.old) (H.log host.old) (H.log host.new) FileKind.Deck (option_map string_bytes path.now)
         (λ read content. MatchResult result
         (λ deck. deck_at (option_map string_bytes path.now) content ≡ Ok deck.items)
-        (λ trouble. (deck_at (option_map string_bytes path.now) content ≡ Err trouble) ⊎ IsLost card_rule read content trouble)) }
+        (λ trouble. (deck_at (option_map string_bytes path.now) content ≡ Err trouble)
+        ⊎ IsLost card_rule (option_map string_bytes path.now) read content trouble)) }
     ensures reads { H.failure_count host.new ≡ reads_by result (H.failure_count host.old) }
-    ensures early { IfErr result IsEarly }
+    ensures early { (count : ℕ) → writes_by result count ≡ count }
     ensures within { IfOk result (λ deck. All (All (λ word. word < 0o10000)) deck.items) }
 {
     let Some(path) = path else {
@@ -69,9 +71,9 @@ pub fn panel<H: Host>(host: &mut H, path: &Option<String>) -> Result<Option<[u16
         (λ read content. MatchResult result
         (λ panel. panel_at (option_map string_bytes path.now) content ≡ Ok panel)
         (λ trouble. (panel_at (option_map string_bytes path.now) content ≡ Err trouble)
-        ⊎ ((trouble ≡ ReadFailed) × IsLost panel_rule read content ReadFailed))) }
+        ⊎ ((trouble ≡ ReadFailed) × IsLost panel_rule (option_map string_bytes path.now) read content ReadFailed))) }
     ensures reads { H.failure_count host.new ≡ reads_by result (H.failure_count host.old) }
-    ensures early { IfErr result IsEarly }
+    ensures early { (count : ℕ) → writes_by result count ≡ count }
     ensures within { IfOk result (λ panel. IfSome panel (All (λ word. word ≤ 0o7777))) }
 {
     let Some(path) = path else {

@@ -1,9 +1,10 @@
 //! Reads the options from the words of the host.
 ghost use Rattle.pp_arguments.specs.Options.{AreInRange};
-ghost use Rattle.pp_host.specs.Failures.{IsEarly, reads_of};
-ghost use Rattle.pp_host.specs.Options.{Means, ReadsWords, asked_of};
+ghost use Rattle.pp_host.specs.Calls.{ReadsWords, asked_of};
+ghost use Rattle.pp_host.specs.Failures.{reads_by, writes_by};
+ghost use Rattle.pp_host.specs.Options.{Means};
 ghost use Rattle.pp_trouble.specs.declared.trouble.Trouble.TheVariants.{NoMemory};
-ghost use Rattle.std.specs.Prelude.{◌≡◌, ◌⊎◌, Err, IfErr, IfOk, MatchResult, Ok, ℕ};
+ghost use Rattle.std.specs.Prelude.{◌≡◌, ◌⊎◌, Err, IfOk, MatchResult, Ok, ℕ};
 
 use crate::host::{Host, WordsFault};
 use pp_arguments::{Options, read_arguments};
@@ -18,8 +19,8 @@ pub fn options_of<H: Host>(alloc: Global, host: &mut H) -> Result<Options, Troub
     ensures files { H.known_files host.new ≡ H.known_files host.old }
     ensures log { H.log host.new ≡ H.log host.old }
     ensures failures { H.failure_count host.new ≡ H.failure_count host.old }
-    ensures early { IfErr result IsEarly }
-    ensures reads { IfErr result (λ trouble. (count : ℕ) → reads_of trouble count ≡ count) }
+    ensures early { (count : ℕ) → writes_by result count ≡ count }
+    ensures reads { (count : ℕ) → reads_by result count ≡ count }
     ensures in_range { IfOk result AreInRange }
     ensures meaning { ReadsWords (H.known_words host.old) (λ words. MatchResult result
         (λ options. Means words (Ok (asked_of options)))

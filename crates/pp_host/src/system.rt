@@ -1,8 +1,8 @@
 //! A host over the files of a system.
 ghost use Rattle.pp_arguments.specs.CommandLine.{Text};
 ghost use Rattle.pp_host.specs.Events.{Closed, Event, Opened};
-ghost use Rattle.pp_host.specs.Host.{Agrees, IsOpened, words_known};
-ghost use Rattle.pp_host.specs.Known.{Found, Known, Missing};
+ghost use Rattle.pp_host.specs.Host.{IsOpened, words_known};
+ghost use Rattle.pp_host.specs.Known.{Agrees, Found, Known, Missing};
 ghost use Rattle.std.specs.Prelude.{◌≡◌, ◌∷◌, ◌++◌, [], IfSome, MatchOption, ℕ, List};
 
 use crate::host::{Host, WordsFault};

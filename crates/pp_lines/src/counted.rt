@@ -9,8 +9,9 @@ use std::io::{Read, Write};
 
 /// A reader or writer that counts its failed calls.
 ///
-/// Every error of the device is `Failed`, including an interrupted call. A write that takes no byte
-/// of a slice that is not empty is `Failed` too.
+/// Every error of the device is `Failed`, also that of a call that was interrupted. A write that takes no byte of a slice
+/// that is not empty is `Failed` too. No failed call is repeated, whatever its error was. The contract does not say so,
+/// since no contract of `Read` and `Write` says when a call fails: tests show it for four kinds of errors.
 #[derive(Drop)]
 pub struct Counted<D> {
     device: D,

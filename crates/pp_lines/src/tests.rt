@@ -10,19 +10,28 @@ use std::io::{self, Error, ErrorKind, Read, Write};
 use std::process::Abort;
 use std::test::Fail;
 
-/// A device whose first call is interrupted. After that it reads the byte `x`, and writes nothing.
+/// A device whose first call fails with an error of this kind. After that it reads the byte `x`, and writes nothing.
 #[derive(Drop)]
 struct Uneasy {
-    interrupted: bool,
+    kind: ErrorKind,
+    has_failed: bool,
 }
 
 impl Uneasy {
+    /// Returns a device that was not called yet.
+    fn new(kind: ErrorKind) -> Self {
+        Uneasy {
+            kind,
+            has_failed: false,
+        }
+    }
+
     fn begin(&mut self) -> io::Result<()> {
-        if self.interrupted {
+        if self.has_failed {
             return Ok(());
         }
-        self.interrupted = true;
-        Err(Error::new(ErrorKind::Interrupted, "interrupted"))
+        self.has_failed = true;
+        Err(Error::new(self.kind, "failed"))
     }
 }
 
@@ -89,25 +98,40 @@ fn a_counted_device_passes_bytes_on(rt: HostRuntime) {
     drop(queue);
 }
 
-const INTERRUPTED: [Option<&[u8]>; 2] = [None, Some(b"x")];
+/// Errors after which a device may be asked again, and one after which it may not.
+const ERRORS: [ErrorKind; 4] = [
+    ErrorKind::Interrupted,
+    ErrorKind::WouldBlock,
+    ErrorKind::TimedOut,
+    ErrorKind::Other,
+];
+
+const FAILED: [Option<&[u8]>; 2] = [None, Some(b"x")];
 
 #[test]
-fn an_interrupted_call_is_a_failure(rt: HostRuntime) {
-    let mut source = Counted::new(Uneasy { interrupted: false });
-    reads_each(&rt, &mut source, &mut [0; 2], &INTERRUPTED);
-    assert!(rt; Source::failures(&source) == 1);
+fn a_failed_read_is_not_repeated(rt: HostRuntime) {
+    for kind in ERRORS {
+        let mut source = Counted::new(Uneasy::new(kind));
+        reads_each(&rt, &mut source, &mut [0; 2], &FAILED);
+        assert!(rt; Source::failures(&source) == 1);
+    }
 }
 
-/// Texts, and how many bytes are taken, or none if the call fails.
-const NOTHING_TAKEN: [(&[u8], Option<usize>); 3] = [(b"a", None), (b"a", None), (b"", Some(0))];
+#[test]
+fn a_failed_write_is_not_repeated(rt: HostRuntime) {
+    for kind in ERRORS {
+        let mut sink = Counted::new(Uneasy::new(kind));
+        assert!(rt; writes(&mut sink, b"", None));
+        assert!(rt; writes(&mut sink, b"", Some(0)));
+        assert!(rt; Sink::failures(&sink) == 1);
+    }
+}
 
 #[test]
 fn a_write_that_takes_nothing_is_a_failure(rt: HostRuntime) {
-    let mut sink = Counted::new(Uneasy { interrupted: false });
-    for i in 0..NOTHING_TAKEN.len() {
-        let (text, count) = NOTHING_TAKEN[i];
-        assert!(rt; writes(&mut sink, text, count), "row {i}");
-    }
+    let mut sink = Counted::new(Uneasy::new(ErrorKind::Interrupted));
+    assert!(rt; writes(&mut sink, b"a", None));
+    assert!(rt; writes(&mut sink, b"a", None));
     assert!(rt; Sink::failures(&sink) == 2);
 }
 

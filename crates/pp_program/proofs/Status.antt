@@ -1,9 +1,8 @@
 -- The exit status of a run that was cut short.
-use Rattle.std.proofs.Common.{◌≡◌, ℕ, ◌≤◌, List, refl, ap, inl, inr, arith, ◌⊎◌}
+use Rattle.std.proofs.Common.{◌≡◌, ℕ, ◌≤◌, List, Option, Some, None, refl, ap, inl, inr, arith, ◌⊎◌}
 use Rattle.pp_arguments.specs.CommandLine.{Text}
 use Rattle.pp_console.specs.Commands.{Value}
 use Rattle.pp_files.specs.Files.{Rule}
-use Rattle.pp_host.specs.Events.{Reading}
 use Rattle.pp_host.specs.Known.{Content, Found, Known, Missing}
 use Rattle.pp_host.specs.Loading.{IsLost}
 use Rattle.pp_host.specs.Options.{Asked}
@@ -13,35 +12,42 @@ use Rattle.pp_program.specs.Outside.{Outside}
 use Rattle.pp_program.specs.Program.{Given, exit_of}
 use Rattle.pp_program.specs.Run.{Follows, IsCutShort, IsRun, IsWhole}
 use Rattle.pp_trouble.specs.Trouble.{status_of}
+use Rattle.pp_trouble.specs.declared.trouble.FileKind.{FileKind}
+use Rattle.pp_trouble.specs.declared.trouble.FileKind.TheVariants.{Deck}
 use Rattle.pp_trouble.specs.declared.trouble.Trouble.{Trouble}
 
-lost : (rule : Rule) (read content : Found) (trouble : Trouble) → IsLost rule read content trouble → (status_of trouble ≡ 2) ⊎ (status_of trouble ≡ 3)
-lost rule Missing content trouble p = absurd p
-lost rule (Content read) Missing trouble p = absurd p
-lost rule (Content read) (Content bytes) trouble (inl (out, runs)) = inl (ap status_of out)
-lost rule (Content read) (Content bytes) trouble (inr (failed, breaks)) = inr (ap status_of failed)
+lost : (rule : Rule) (path : Option Text) (read content : Found) (trouble : Trouble) → IsLost rule path read content trouble →
+    (status_of trouble ≡ 2) ⊎ (status_of trouble ≡ 3)
+lost rule (Some path) (Content read) (Content bytes) trouble (inl (out, runs)) = inl (ap status_of out)
+lost rule (Some path) (Content read) (Content bytes) trouble (inr (failed, breaks)) = inr (ap status_of failed)
+lost rule (Some path) (Content read) Missing trouble p = absurd p
+lost rule (Some path) Missing content trouble p = absurd p
+lost rule None read content trouble p = absurd p
 
 serving : (start : Value) (bytes read : List ℕ) (course : Course) → IsCutServing start bytes read course → exit_of course.ended ≡ 3
 serving start bytes read course (IsCutServing.ByRead e) = rw e
-serving start bytes read course (IsCutServing.ByWrite front prefix e) = rw e
+serving start bytes read course (IsCutServing.ByWrite front rest all some e) = rw e
 
-cut : (asked : Asked) (given : Given) (readings : List Reading) (typed : List ℕ) (course : Course) → IsCut asked given readings typed course →
+cut : (asked : Asked) (given : Given) (readings : FileKind → Found) (typed : List ℕ) (course : Course) →
+    IsCut asked given readings typed course →
     (exit_of course.ended ≡ 2) ⊎ (exit_of course.ended ≡ 3)
-cut asked given readings typed course (IsCut.InDeck at) = rw at.ends (lost _ at.read given.deck at.trouble at.lost)
-cut asked given readings typed course (IsCut.InPanel at) = rw at.ends (inr refl)
-cut asked given readings typed course (IsCut.AtMachine at) = rw at.ends (inl refl)
-cut asked given readings typed course (IsCut.InScript at) =
-    rw at.ends (inr (serving at.start at.cut.bytes at.cut.read at.performed at.cut.cut))
+cut asked given readings typed course (IsCut.InDeck trouble is_lost e) =
+    rw e (lost _ asked.deck (readings Deck) (given.files Deck) trouble is_lost)
+cut asked given readings typed course (IsCut.InPanel cards deck is_lost e) = rw e (inr refl)
+cut asked given readings typed course (IsCut.AtMachine start loaded e) = rw e (inl refl)
+cut asked given readings typed course (IsCut.InScript start bytes read performed loaded all is_read is_cut e) =
+    rw e (inr (serving start bytes read performed is_cut))
 
-cut_short : (files : Text → Known Found) (given : Given) (readings : List Reading) (typed : List ℕ) (course : Course) →
+cut_short : (files : Text → Known Found) (given : Given) (readings : FileKind → Found) (typed : List ℕ) (course : Course) →
     IsCutShort files given readings typed course → (exit_of course.ended ≡ 2) ⊎ (exit_of course.ended ≡ 3)
 cut_short files given readings typed course (IsCutShort.InWords e) = rw e (inl refl)
-cut_short files given readings typed course (IsCutShort.AfterWords at) = cut at.asked given readings typed course at.cut
+cut_short files given readings typed course (IsCutShort.AfterWords asked means named is_cut) =
+    cut asked given readings typed course is_cut
 
 above : (status : ℕ) → (status ≡ 2) ⊎ (status ≡ 3) → status ≤ 1 → ⊥
 above status either small = grind arith
 
-whole : (files : Text → Known Found) (given : Given) (readings : List Reading) (typed : List ℕ) (course : Course) →
+whole : (files : Text → Known Found) (given : Given) (readings : FileKind → Found) (typed : List ℕ) (course : Course) →
     Follows files given readings typed course → exit_of course.ended ≤ 1 → IsWhole files given course
 whole files given readings typed course (Follows.Whole is_whole) small = is_whole
 whole files given readings typed course (Follows.CutShort at) small =
@@ -49,7 +55,8 @@ whole files given readings typed course (Follows.CutShort at) small =
 
 -- ---- runs
 
-pub whole_run : (before after : Outside) (status : ℕ) (run : IsRun before after status) → status ≤ 1 → IsWhole before.files.known run.given run.course
+pub whole_run : (before after : Outside) (status : ℕ) (run : IsRun before after status) → status ≤ 1 →
+    IsWhole before.files.known run.given run.course
 whole_run before after status run small =
     whole before.files.known run.given run.readings run.typed run.course run.follows (rw run.exit at small)
 

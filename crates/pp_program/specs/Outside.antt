@@ -45,16 +45,21 @@ pub record Outside : Type 0 where
 
 -- ---- how the devices of a call show it
 
+-- the files, as the host shows them
 abbrev pub files_of : {H F : Type 0} → HostGhosts H F → H → Files
 files_of H host = record { known = H.known_files host; log = H.log host; failures = H.failure_count host }
 
+-- standard input, as its source shows it
 abbrev pub input_of : {R : Type 0} → SourceGhosts R → R → Input
 input_of R source = record { left = R.rest source; read = R.given source; failures = R.failure_count source }
 
+-- an output, as its sink shows it
 abbrev pub output_of : {W : Type 0} → SinkGhosts W → W → Output
 output_of W sink = record { text = W.text sink; failures = W.failure_count sink }
 
-abbrev pub outside_of : {H F R W E : Type 0} → HostGhosts H F → SourceGhosts R → SinkGhosts W → SinkGhosts E → H → R → W → E → Outside
+-- all that is outside of the program, as the host and the streams show it
+abbrev pub outside_of : {H F R W E : Type 0} → HostGhosts H F → SourceGhosts R → SinkGhosts W → SinkGhosts E →
+    H → R → W → E → Outside
 outside_of H R W E host input output errors = record {
   words = H.known_words host;
   files = files_of H host;

@@ -6,10 +6,12 @@ use Rattle.pp_host.proofs.Meaning.{Means-asked, Means-rejected}
 use Rattle.pp_host.proofs.options.options_of.Goals as goal
 
 pub returns-in-Err-NoMemory-clause-meaning : goal.returns-in-Err-NoMemory-clause-meaning
-returns-in-Err-NoMemory-clause-meaning g c = record { words = unwrap_or (g.H.Host.known_words c.args.host.now) NotText; known = grind arith; follows = inl refl }
+returns-in-Err-NoMemory-clause-meaning g c =
+    record { words = unwrap_or (g.H.Host.known_words c.args.host.now) NotText; known = grind arith; follows = inl refl }
 
 pub returns-clause-meaning : goal.returns-clause-meaning
-returns-clause-meaning g c = record { words = Texts (map string_bytes c.in-Ok.words.items); known = c.in-Ok.ensures.words; follows = search (rules, Means-asked) }
+returns-clause-meaning g c =
+    record { words = Texts (map string_bytes c.in-Ok.words.items); known = c.in-Ok.ensures.words; follows = search (rules, Means-asked) }
 
 pub returns-in_err-read_arguments-clause-meaning : goal.returns-in_err-read_arguments-clause-meaning
 returns-in_err-read_arguments-clause-meaning g c =

@@ -1,5 +1,5 @@
 use Rattle.std.proofs.lemmas.Result.{err_from_is_err_and}
-use Rattle.pp_host.specs.Options.{asked_of}
+use Rattle.pp_host.specs.Calls.{asked_of}
 use Rattle.pp_program.proofs.Coursing.{rig-unmade, session-unmade}
 use Rattle.pp_program.proofs.console.session.Goals as goal
 
