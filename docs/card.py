@@ -43,13 +43,14 @@ def inline(text):
         if part.startswith("`"):
             parts[at] = f"<code>{escape(part[1:-1])}</code>"
         else:
-            part = re.sub(r"\[([^\]]*)\]\(([^)]*)\)", r'<a href="\2">\1</a>', escape(part, quote=False))
-            parts[at] = re.sub(r"\*\*([^*]+)\*\*", r"<strong>\1</strong>", part)
-    return "".join(parts)
+            parts[at] = re.sub(r"\*\*([^*]+)\*\*", r"<strong>\1</strong>", escape(part, quote=False))
+    return re.sub(r"\[((?:<code>[^<]*</code>|[^\]])*)\]\(([^)]*)\)", r'<a href="\2">\1</a>', "".join(parts))
 
 
 def cells(row, kind):
-    return "".join(f"<{kind}>{inline(cell.strip())}</{kind}>" for cell in row.strip("|").split("|"))
+    """Returns the cells of a row; a bar in one has a backslash before it."""
+    found = [cell.strip().replace("\\|", "|") for cell in re.split(r"(?<!\\)\|", row.strip("|"))]
+    return "".join(f"<{kind}>{inline(cell)}</{kind}>" for cell in found)
 
 
 def table(block):
@@ -98,4 +99,5 @@ def main():
     return 0
 
 
-sys.exit(main())
+if __name__ == "__main__":
+    sys.exit(main())

@@ -140,7 +140,7 @@ def faults_of_names(promises, known):
             lacking = [word for word in call.clauses if word not in (clauses or call.clauses)]
             yield from (f"{promise.name}: {call.name} has no clause {word}" for word in lacking)
         for place, _, words in (definition.partition(": ") for definition in promise.definitions if "/" in definition):
-            path = os.path.join(TOP, "crates", place.replace("/", "/specs/") + ".antt")
+            path = os.path.join(TOP, "crates", place.replace("/", "/specs/", 1) + ".antt")
             text = read(path) if os.path.exists(path) else ""
             lacking = [word for word in words.split(", ") if not (defines(text, word) if word else text)]
             yield from (f"{promise.name}: {place} has no {word or 'file in specs/'}" for word in lacking)
@@ -158,7 +158,7 @@ def lines_of(promise, against, known):
         yield f"`{call.name}`{' (theorem)' if call.is_theorem else ''}{quoted(': ', clauses)}.{rejected}{'.' if rejected else ''}"
     places = []
     for place, _, words in (definition.partition(": ") for definition in promise.definitions):
-        link = f"[{place}](../crates/{place.replace('/', '/specs/')}.antt)" if "/" in place else place
+        link = f"[{place}](../crates/{place.replace('/', '/specs/', 1)}.antt)" if "/" in place else place
         places.append(link + quoted(": ", list(filter(None, words.split(", ")))))
     if places:
         yield f"Defined in {'; '.join(places)}."

@@ -104,9 +104,10 @@ class Browser:
             more = text if kind == "keyDown" else {}
             self.ask("Input.dispatchKeyEvent", type=kind, key=key, windowsVirtualKeyCode=code, modifiers=8 if shift else 0, **more)
 
-    def write(self, text):
-        for letter in text:
-            self.key(letter)
+    def fill(self, key, text):
+        """Presses the key of a field, types a text in it, and Enter."""
+        for one in (key, *text, "Enter"):
+            self.key(one)
 
     def click(self, selector):
         """Clicks the middle of an element, with the mouse."""

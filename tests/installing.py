@@ -8,7 +8,7 @@ import subprocess
 import sys
 import tempfile
 
-from tests.support import TOP, Case, Done, program, run
+from tests.support import TOP, Case, Done, program, run, write
 
 TOOLS = sorted(name for name in os.listdir(os.path.join(TOP, "tools")) if os.path.isfile(os.path.join(TOP, "tools", name)))
 INSTALL = os.path.join(TOP, "share", "install")
@@ -21,18 +21,6 @@ LIKE_THE_SIMULATOR = "#!/bin/sh\ncat >/dev/null; echo TURNS 12 SLOT 00\n"
 def alone(*words, env=None, **how):
     """Runs a command without the kit, and without the variables that choose the program or another folder."""
     return run(*words, env={**ALONE, **(env or {})}, **how)
-
-
-def write(path, text="", mode=0o644):
-    os.makedirs(os.path.dirname(path), exist_ok=True)
-    with open(path, "w", encoding="utf-8") as file:
-        file.write(text)
-    os.chmod(path, mode)
-
-
-def text_of(*names):
-    with open(os.path.join(*names), encoding="utf-8") as file:
-        return file.read()
 
 
 def below(folder):

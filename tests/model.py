@@ -276,15 +276,19 @@ class Machine(dict):
         """Performs one action; each step reads what the steps before it have written. Returns the record."""
         old = {}
         for step in steps:
-            what, writes = step(self)
-            seen[what] += 1
-            for place, number in writes.items():
+            for place, number in self.writes_of(step).items():
                 old.setdefault(place, self[place])
                 self[place] = number
         record = {place: (was, self[place]) for place, was in old.items()}
         self.history.append(record)
         self.ahead.clear()
         return record
+
+    def writes_of(self, step):
+        """Returns what a step writes."""
+        what, writes = step(self)
+        seen[what] += 1
+        return writes
 
     def back(self):
         self.ahead.append(self.history.pop())

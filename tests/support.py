@@ -52,9 +52,18 @@ def tool(name, *words, script="", **how):
 
 
 def read(*names):
-    """Returns the text of a file of the repository."""
+    """Returns the text of a file, by its path from the top of the repository."""
     with open(os.path.join(TOP, *names), encoding="utf-8") as file:
         return file.read()
+
+
+def write(path, data="", mode=0o644):
+    """Writes a file of text or bytes, and the folders that it needs. Returns its path."""
+    os.makedirs(os.path.dirname(path), exist_ok=True)
+    with open(path, "wb") as file:
+        file.write(data if isinstance(data, bytes) else data.encode("utf-8"))
+    os.chmod(path, mode)
+    return path
 
 
 class Block(NamedTuple):
@@ -75,6 +84,15 @@ def blocks(page, kind):
     return found
 
 
+def names_of_codes():
+    """Returns the name of each code in the table of docs/MACHINE.md."""
+    names = {}
+    for codes, called in re.findall(r"^\| ([0-7]{2}(?:, [0-7]{2})*) \| ([A-Z]{3}(?:, [A-Z]{3})*) \|", read("docs", "MACHINE.md"), flags=re.M):
+        codes, called = codes.split(", "), called.split(", ")
+        names.update(zip(codes, called * len(codes) if len(called) == 1 else called))
+    return [names[f"{code:02o}"] for code in range(64)]
+
+
 class Case(unittest.TestCase):
     """A test case with a folder of its own where it wants one."""
 
@@ -85,6 +103,16 @@ class Case(unittest.TestCase):
         folder = tempfile.TemporaryDirectory(prefix="pp6600-test-")
         self.addCleanup(folder.cleanup)
         return folder.name
+
+    def file(self, data, name="file"):
+        """Returns the path of a file in a new folder."""
+        return write(os.path.join(self.room(), name), data)
+
+    def check_rows(self, function, *rows):
+        """Checks what a function returns: the last part of each row is what is wanted, and the others are what it is given."""
+        for *given, wanted in rows:
+            with self.subTest(given):
+                self.assertEqual(wanted, function(*given))
 
 
 def add_tests(case, check, named):

@@ -78,23 +78,13 @@ class Machine(model.Machine):
         record = self.starts.setdefault(place, Record(place))
         return Number(0, {(record, None, None)})
 
-    def act(self, *steps):
-        old = {}
+    def writes_of(self, step):
+        before = {TURNS: self[TURNS] + 1} if step is model.processor else {}
+        phases = {n: self["phase", n] for n in range(10)}
         with mock.patch.object(model, "Step", Step):
-            for step in steps:
-                before = {TURNS: self[TURNS] + 1} if step is model.processor else {}
-                phases = {n: self["phase", n] for n in range(10)}
-                what, writes = step(self)
-                model.seen[what] += 1
-                device = {"card": int(self[model.CARD]), "column": int(self[model.CARD_COLUMN]), "mode": self[model.READER_MODE]}
-                stored = {place: self.stored(step, place, number, writes, phases, device) for place, number in {**before, **writes}.items()}
-                for place, number in stored.items():
-                    old.setdefault(place, self[place])
-                    self[place] = number
-        record = {place: (was, self[place]) for place, was in old.items()}
-        self.history.append(record)
-        self.ahead.clear()
-        return record
+            writes = super().writes_of(step)
+        device = {"card": int(self[model.CARD]), "column": int(self[model.CARD_COLUMN]), "mode": self[model.READER_MODE]}
+        return {place: self.stored(step, place, number, writes, phases, device) for place, number in {**before, **writes}.items()}
 
     def stored(self, step, place, number, writes, phases, device):
         """Returns a number as it is stored, with its record."""

@@ -5,10 +5,10 @@ import re
 import shutil
 import time
 
-from tests.installing import InstallCase, alone, below, installation, text_of, write
-from tests.support import TOP, Done, read
+from tests.films import about
+from tests.installing import InstallCase, alone, below, installation
+from tests.support import TOP, Done, read, write
 
-from pp6600.film import data as film_data
 from pp6600.installation import PAGES
 
 EXERCISES = [name for name in os.listdir(f"{TOP}/exercises") if os.path.isdir(f"{TOP}/exercises/{name}/solution")]
@@ -29,9 +29,9 @@ def own_lines(name, part):
 
 def shows_solution(path):
     """Whether a page is a film of a solution: with all lines of its own in the script, or all words of its panel."""
-    text = re.search(r'<script type="text/plain" id="film">\n(.*?)\n</script>', text_of(path), flags=re.S)
-    about = film_data.decode(text[1])[0] if text else {"lines": [], "panel": []}  # a page in place of the film
-    filmed = {*(line["text"] for line in about["lines"]), *about["panel"]}
+    page = read(path)
+    kept = about(page) if 'id="film"' in page else {"lines": [], "panel": []}  # a page in place of the film
+    filmed = {*(line["text"] for line in kept["lines"]), *kept["panel"]}
     panels = ({int(word, 8) for line in own_lines(name, "panel") for word in line.split()} for name in EXERCISES)
     return any(own and own <= filmed for own in (*(own_lines(name, "script") for name in EXERCISES), *panels))
 
@@ -53,7 +53,7 @@ class HandedOut(InstallCase):
                 self.assertEqual(wanted, [path for path in films if shows_solution(f"{top}/docs/films/{path}")])
 
     def test_page(self):
-        page = text_of(self.seat, "README.md")
+        page = read(self.seat, "README.md")
         targets = re.findall(r"\]\(([^)#:\s]+)[^)]*\)", page)
         self.assertEqual([], [name for name in targets if not os.path.exists(os.path.join(self.seat, name))])
         self.assertEqual([], re.findall("<details>|solution|[Ll]ecturer|work/", page))
@@ -100,10 +100,8 @@ class Answers(InstallCase):
         contents = {"long": b"*" * (1 << 20) + b"\n", "bytes": b"\xff\x00\nSTEP", "empty": b"", "solved": read(*SCRIPT).encode()}
         for student in marks:
             os.makedirs(self.path(student, "exchange"))
-            script = self.path(student, "exchange", "script")
-            if student in contents:
-                with open(script, "wb") as file:
-                    file.write(contents[student])
+        for student, data in contents.items():
+            write(self.path(student, "exchange", "script"), data)
         os.mkfifo(self.path("pipe", "exchange", "script"))
         os.symlink(os.path.join(TOP, *SCRIPT), self.path("linked", "exchange", "script"))
         os.mkdir(self.path("folder", "exchange", "script"))

@@ -10,18 +10,17 @@ import stat
 import subprocess
 import tempfile
 import time
-import unittest
 
 from tests.debug_client import ADAPTER, Client, Refusal
-from tests.support import EXAMPLES, PYTHON, Case, program
+from tests.support import PYTHON, Case, program, read, write
+from tests.test_panel_keys import DECK, OVERWRITTEN
 
 from pp6600.debug.breakpoints import Breakpoints, Cell
 from pp6600.debug.machine import Machine
 from pp6600.debug.running import Runner
 from pp6600.run import Run
 
-DECK = os.path.join(EXAMPLES, "overwritten-loader", "deck")
-LOADER = ["SET M 0 100 7712 1 7412 1477 7112 60 7512 100", "SET M 0 110 60", "SET P 0 100", "STEP 1300"]
+LOADER = OVERWRITTEN.splitlines()
 # Two processors that count: PP 00 in cell 0020, PP 03 in cell 0021, in loops of three and two turns.
 LOOPS = ["SET M 0 100 1401 3520 300 375", "SET M 0 102 375", "SET M 3 100 3621 376", "SET P 0 100", "SET P 3 100"]
 REGISTERS, CHANNELS, DEVICES, WATCHES, HISTORY = (scope << 8 for scope in range(1, 6))
@@ -50,14 +49,12 @@ func main() {
 """
 
 
-
 def child_of(parent):
     """Returns a process that another one has started."""
     for path in glob.glob("/proc/[0-9]*/stat"):
         try:
-            with open(path, encoding="latin-1") as file:
-                if file.read().rpartition(") ")[2].split()[1] == str(parent):
-                    return int(path.split("/")[2])
+            if read(path).rpartition(") ")[2].split()[1] == str(parent):
+                return int(path.split("/")[2])
         except OSError:  # it has ended meanwhile
             pass
     raise AssertionError("it has started no process")
@@ -74,10 +71,7 @@ class DebugCase(Case):
 
     @classmethod
     def tearDownClass(cls):
-        text = ""
-        for path in glob.glob(os.path.join(os.path.dirname(cls.logs[0]), "log*")):
-            with open(path, encoding="ascii") as file:
-                text += file.read()
+        text = "".join(map(read, glob.glob(os.path.join(os.path.dirname(cls.logs[0]), "log*"))))
         messages = [json.loads(line[2:]) for line in text.splitlines() if line.startswith("<")]
         assert all(message["type"] in ("response", "event") for message in messages)
         if os.path.isdir(GO) and shutil.which("go"):
@@ -89,10 +83,7 @@ class DebugCase(Case):
         return client
 
     def script(self, lines):
-        path = os.path.join(self.room(), "script")
-        with open(path, "wb") as file:
-            file.write("".join(f"{line}\n" for line in lines).encode("latin-1"))
-        return path
+        return self.file("".join(f"{line}\n" for line in lines).encode("latin-1"))
 
     def session(self, lines, **arguments):
         """Returns a client that has stopped after a script."""
@@ -120,9 +111,7 @@ class DebugCase(Case):
 def check_by_go(text, count):
     """Has go-dap decode each message, unknown fields refused."""
     with tempfile.TemporaryDirectory() as room:
-        path = os.path.join(room, "check.go")
-        with open(path, "w", encoding="ascii") as file:
-            file.write(CHECKER)
+        path = write(os.path.join(room, "check.go"), CHECKER)
         env = {**os.environ, "GO111MODULE": "off", "GOPATH": "/usr/share/gocode", "GOCACHE": os.path.join(room, "cache"), "GOFLAGS": "-p=1"}
         done = subprocess.run(["go", "run", path], input=text.encode(), env=env, stdout=subprocess.PIPE, stderr=subprocess.STDOUT, check=False)
     assert done.stdout.decode() == f"{count}\n", done.stdout.decode()
@@ -207,8 +196,7 @@ class Beginning(DebugCase):
 
 class Listing(DebugCase):
     def lines(self, client, number=0):
-        with open(self.path(client, number), encoding="utf-8") as file:
-            return file.read().split("\n")[:-1]
+        return read(self.path(client, number)).splitlines()
 
     def test_files(self):
         client = self.loader()
@@ -238,8 +226,7 @@ class Listing(DebugCase):
 
     def test_symbols(self):
         """Labels, and texts of a listing of one's own as long as the word is there, on their lines."""
-        own = self.script(["0100 1401 COUNT LDN 1   one", "0101 3520       RAD 20", "0102 0375       UJN COUNT \xe9"])
-        self.utf8(own)
+        own = self.file("0100 1401 COUNT LDN 1   one\n0101 3520       RAD 20\n0102 0375       UJN COUNT \xe9\n")
         client = self.session(LOOPS, symbols={"0": own}, processor="0")
         lines = self.lines(client)
         self.assertEqual(["0100  1401  LDN 01       COUNT  COUNT LDN 1   one", "0101  3520  RAD 20              RAD 20",
@@ -250,14 +237,6 @@ class Listing(DebugCase):
         self.assertEqual("0101  0000  PSN 00", self.lines(client)[0o101].rstrip())
         with self.assertRaisesRegex(Refusal, "can't read /none"):
             self.client().ask("launch", symbols={"0": "/none"})
-
-    @staticmethod
-    def utf8(path):
-        """Turns a file into UTF-8."""
-        with open(path, encoding="latin-1") as file:
-            text = file.read()
-        with open(path, "w", encoding="utf-8") as file:
-            file.write(text)
 
     def test_two_sessions(self):
         first, second = self.loader(), self.loader()
@@ -406,7 +385,7 @@ class Back(DebugCase):
 
     def test_steps_back_over_a_dead_start(self):
         """It begins the barrel anew, so the slots before it say nothing of the turns after it."""
-        client = self.session(["STEP 5", "DEADSTART", "STEP 3"], panel=os.path.join(EXAMPLES, "dead-start", "panel"))
+        client = self.session(["STEP 5", "DEADSTART", "STEP 3"], panel="examples/dead-start/panel")
         for number, turns in ((1, 6), (4, 4), (7, 0)):
             client.stop_after("stepBack", threadId=number + 1)
             self.assertEqual(turns, self.turns(client))
@@ -512,7 +491,7 @@ class Running(DebugCase):
             stops = iter([True] * 400)
             self.assertIsNone(Runner(machine, points, lambda: next(stops, False)).forward(0))
             self.assertGreater(machine.history.turns, 900000)
-            machine.close()
+            machine.run.close()
         finally:
             Run.most_lines = most
 
@@ -717,7 +696,3 @@ class BadHands(DebugCase):
         self.assertNotIn(folder, before)
         client.end()
         self.assertFalse(os.path.exists(folder))
-
-
-if __name__ == "__main__":
-    unittest.main()

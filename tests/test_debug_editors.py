@@ -8,7 +8,7 @@ import subprocess
 import time
 import unittest
 
-from tests.support import EXAMPLES, TOP, Case, program, read
+from tests.support import EXAMPLES, TOP, Case, program, read, write
 
 MODES = "/usr/share/emacs/site-lisp/elpa"
 INIT = """(setq inhibit-startup-screen t make-backup-files nil)
@@ -39,10 +39,12 @@ class EditorCase(Case):
         """Makes the script and the deck, as the page does."""
         self.folder = self.room()
         lines = [line for line in read("examples", "overwritten-loader", "script").splitlines() if not line.startswith("*")]
-        with open(os.path.join(self.folder, "loader"), "w", encoding="ascii") as file:
-            file.write("\n".join(lines[:4]) + "\n")
+        self.write("loader", "\n".join(lines[:4]) + "\n")
         shutil.copy(os.path.join(EXAMPLES, "overwritten-loader", "deck"), self.folder)
         self.environment = {**os.environ, "HOME": self.folder, "PP6600": program(), "TERM": "screen", "PYTHONDONTWRITEBYTECODE": "1"}
+
+    def write(self, name, text):
+        write(os.path.join(self.folder, name), text)
 
 
 @unittest.skipUnless(shutil.which("emacs") and shutil.which("tmux") and has_dap_mode(), "there is no emacs with dap-mode, or no tmux")
@@ -51,8 +53,7 @@ class Emacs(EditorCase):
 
     def setUp(self):
         super().setUp()
-        with open(os.path.join(self.folder, ".emacs"), "w", encoding="utf-8") as file:
-            file.write(INIT.format(top=TOP))
+        self.write(".emacs", INIT.format(top=TOP))
         self.addCleanup(self.tmux, "kill-server")
         self.tmux("new-session", "-d", "-x", "120", "-y", "40", "emacs", "-nw")
         self.assertTrue(self.shows("*scratch*"), self.screen())
@@ -123,12 +124,6 @@ class Kate(EditorCase):
         self.wait_for(lambda: self.xdotool("search", "--onlyvisible", "--class", "kate"))
         time.sleep(2)  # until it takes keys
 
-    def write(self, path, text):
-        path = os.path.join(self.folder, path)
-        os.makedirs(os.path.dirname(path), exist_ok=True)
-        with open(path, "w", encoding="ascii") as file:
-            file.write(text)
-
     def display(self):
         """Starts a screen, and returns its name."""
         reading, writing = os.pipe()
@@ -191,10 +186,7 @@ class Kate(EditorCase):
             time.sleep(0.3)
 
     def logged(self):
-        if not os.path.exists(self.log):
-            return ""
-        with open(self.log, encoding="ascii") as file:
-            return file.read()
+        return read(self.log) if os.path.exists(self.log) else ""
 
     def test_the_culprit(self):
         self.until('"event": "initialized"', lambda: self.menu("s"))  # Start Debugging
@@ -216,6 +208,3 @@ class Files(Case):
         self.assertLessEqual(set(kate["configurations"]["launch"]["request"]) - {"command"}, names)
         self.assertEqual((vscode["runtime"], [vscode["runtime"]]), ("pp6600-debug-adapter", kate["run"]["command"]))
 
-
-if __name__ == "__main__":
-    unittest.main()

@@ -4,7 +4,6 @@ import os
 import random
 import sys
 import time
-import unittest
 
 from tests.debug_client import Client
 from tests.support import Case, program
@@ -148,9 +147,7 @@ class Session(Case):
     def session(self, seed):
         chance = random.Random(seed)
         lines, numbers = script(chance)
-        path = os.path.join(self.room(), "script")
-        with open(path, "w", encoding="ascii") as file:
-            file.write("".join(f"{line}\n" for line in lines))
+        path = self.file("".join(f"{line}\n" for line in lines))
         timeline = Timeline([program()], lines)
         client = Client()
         self.addCleanup(client.end)
@@ -199,6 +196,3 @@ class Session(Case):
         if SESSIONS > 100:
             print(f"{SESSIONS} sessions in {time.monotonic() - began:.0f} s", file=sys.stderr)
 
-
-if __name__ == "__main__":
-    unittest.main()

@@ -3,16 +3,14 @@
 import os
 import shutil
 
-from .support import TOP, Case, read, run
+from .support import TOP, Case, read, run, write
 
 
 class Answers(Case):
     def check(self, name, script, top=TOP):
         """What check-exercise writes about an answer with these lines after those handed out, and its status."""
-        folder = self.room()
-        with open(os.path.join(folder, "script"), "w", encoding="utf-8") as file:
-            file.write(read(os.path.join(top, "exercises", name, "script")) + script)
-        done = run(os.path.join(top, "exercises", "check-exercise"), name, folder)
+        path = self.file(read(top, "exercises", name, "script") + script, "script")
+        done = run(os.path.join(top, "exercises", "check-exercise"), name, os.path.dirname(path))
         self.assertEqual("", done.err)
         return done.out.splitlines(), done.status
 
@@ -53,11 +51,8 @@ class OwnExercise(Case):
         for name in os.listdir(TOP):
             if name not in ("exercises", ".git"):
                 os.symlink(os.path.join(TOP, name), os.path.join(self.top, name))
-        own = os.path.join(self.top, "exercises", "store")
-        os.makedirs(os.path.join(own, "solution"))
-        for name, text in {**self.FILES, os.path.join("solution", "script"): "SET P 0 100\nSET M 0 100 1407 3420 300\n"}.items():
-            with open(os.path.join(own, name), "w", encoding="utf-8") as file:
-                file.write(text)
+        for name, text in {**self.FILES, "solution/script": "SET P 0 100\nSET M 0 100 1407 3420 300\n"}.items():
+            write(os.path.join(self.top, "exercises", "store", name), text)
 
     def test_checked_and_graded(self):
         checker = os.path.join(self.top, "exercises", "check-exercise")
@@ -74,5 +69,4 @@ class OwnExercise(Case):
         done = run(os.path.join(self.top, "exercises", "hand-out"), folder)
         self.assertEqual((f"hand-out: {folder} has 9 exercises\n", "", 0), done)
         self.assertEqual(["check", "expected", "script", "task"], sorted(os.listdir(os.path.join(folder, "store"))))
-        with open(os.path.join(folder, "README.md"), encoding="utf-8") as file:
-            self.assertTrue(file.read().endswith("## store\n\nFolder `store`. Store a 7 in cell 0020, from cell 0100 on.\n"))
+        self.assertTrue(read(folder, "README.md").endswith("## store\n\nFolder `store`. Store a 7 in cell 0020, from cell 0100 on.\n"))

@@ -7,16 +7,14 @@ import os
 import re
 import stat
 import subprocess
-import unittest
 from unittest import mock
 
 from tests.films import FOLDER, SHOWN, FilmCase, PageCase, about, film_text, random_session, shown_film
-from tests.support import TOP, program, read, run, tool
+from tests.support import TOP, Case, program, read, run, tool, write
 
 from pp6600.failure import Failure
 from pp6600.film.camera import JUMP, Film, Transcript, to_film
 from pp6600.film.data import decode
-from pp6600.film.footprint import Footprint
 from pp6600.film.page import SCRIPTS, page
 from pp6600.film.places import LAYOUT
 from pp6600.run import Run
@@ -31,7 +29,7 @@ def filmed(words, lines, *which):
     return film
 
 
-class Camera(unittest.TestCase):
+class Camera(Case):
     """How a run is filmed."""
 
     def setUp(self):
@@ -60,9 +58,7 @@ class Camera(unittest.TestCase):
     def test_around(self):
         """The turn is one in effect: what was undone does not count."""
         transcript = Transcript([program()], ["SET A 0 1", "STEP 10", "BACK 4", "SET A 1 1", "STEP 10"])
-        for turn, moment in ((0, 0), (1, 2), (4, 5), (5, 12), (0o14, 0o23)):
-            with self.subTest(turn=turn):
-                self.assertEqual(moment, transcript.moment_of_turn(turn))
+        self.check_rows(transcript.moment_of_turn, (0, 0), (1, 2), (4, 5), (5, 12), (0o14, 0o23))
         self.assertEqual((0, 0o23), to_film(transcript, None, 1))
         self.assertEqual((0, 0o23), to_film(transcript, None, None))
         with self.assertRaisesRegex(Failure, r"^there is no turn 15: the highest is 14 \(octal\)$"):
@@ -72,7 +68,7 @@ class Camera(unittest.TestCase):
         self.assertEqual((0o100000 - 0o4001, 0o4001), to_film(long, None, 0o77777))
 
     def test_a_change_that_was_not_dumped(self):
-        with mock.patch.object(Footprint, "_add", lambda *_: None), self.assertRaisesRegex(Failure, "^a change was overlooked"):
+        with mock.patch("pp6600.film.footprint.dumps_of", lambda *_: []), self.assertRaisesRegex(Failure, "^a change was overlooked"):
             filmed(self.words, ["SET M 0 0 1405 3420", "STEP 20"])
 
 
@@ -120,8 +116,7 @@ class Tool(FilmCase):
         room = self.room()
         other, target, link = (os.path.join(room, name) for name in ("other", "target.html", "film.html"))
         for path in other, target:
-            with open(path, "w", encoding="ascii") as file:
-                file.write("kept")
+            write(path, "kept")
         os.symlink(other, f"{link}.part")
         os.symlink(target, link)
         self.assertEqual(("", "", 0), tool("film", "-o", link, script="STEP\n"))
@@ -142,8 +137,7 @@ class Tool(FilmCase):
         room = self.room()
         script, odd = os.path.join(room, "a <script>"), os.path.join(room, f"b{BYTE}")
         for path in script, odd:
-            with open(path, "w", encoding="ascii") as file:
-                file.write("STEP\n")
+            write(path, "STEP\n")
         for words, wanted in (((script,), "a &lt;script&gt;"), ((odd,), "b\ufffd"), (("--title", f"c{BYTE}", script), "c\ufffd"),
                               ((), "standard input"), (("--title", "/*--script--*/<!--film-->"), "/*--script--*/&lt;!--film--&gt;")):
             with self.subTest(words=words):
@@ -164,8 +158,7 @@ class Tool(FilmCase):
         room = self.room()
         contents = {"script": b"STEP 3\r\n* caf\xe9 \xff\nGO", "deck": b"* one card\n0001 0002\n", "my panel": b"1 2 3 4 5 6\n7 10 11 12 13 14\n"}
         for name, data in contents.items():
-            with open(os.path.join(room, name), "wb") as file:
-                file.write(data)
+            write(os.path.join(room, name), data)
         words = ("--deck", f"{room}/deck", "--panel", f"{room}/my panel", "--central", "32")
         kept = about(read(self.film(*words, f"{room}/script", status=1)))
         self.assertEqual(contents, {file["name"]: file["bytes"].encode("latin-1") for file in kept["files"]})

@@ -9,6 +9,7 @@ import os
 import re
 
 from tests.films import PageCase, shown_film, text_of
+from tests.test_panel import BLOCKS_GO_ON, COMPLETES
 
 from pp6600.instructions import Processor
 from pp6600.machine_state import Channel
@@ -51,9 +52,7 @@ class Answers(PageCase):
         """README.md: after 1300 turns and a WATCH, BACK W takes back 675 actions, to before a turn of PP 00 in its block input."""
         self.browser.open(shown_film("overwritten-loader"))
         self.click_line("STEP 1300")
-        self.browser.key("/")
-        self.browser.write("m 0 106")
-        self.browser.key("Enter")
+        self.browser.fill("/", "m 0 106")
         turn = 0o1301 - 0o675 + 1
         self.assertIn(f"turn {turn:o}, by PP 00, in the block of IAM 12 at 0104.", self.value(CHOSEN))
         self.browser.key("[")
@@ -107,15 +106,12 @@ class Answers(PageCase):
     def test_each_wait(self):
         """docs/MACHINE.md: in which state of its channel each instruction completes, and each block goes on or ends; what they
         do on channel 14; and that there is no channel 15 to 77."""
-        completes = {0o70: ("F", "full"), 0o72: ("E", "empty"), 0o74: ("I", "inactive"), 0o75: ("EFX", "active"),
-                     0o76: ("I", "inactive"), 0o77: ("I", "inactive")}
-        blocks = {0o71: ("IF", "full"), 0o73: ("IE", "empty")}
         self.browser.open(self.film(script="STEP\n"), "#moment=0")
         cases, wanted = [], []
         for code, channel, state, count, phase in itertools.product(range(0o100), (3, 0o14, 0o15, 0o77), "IEFX", (0, 1), (False, True)):
             if phase and code not in (0o61, 0o63, 0o71, 0o73):
                 continue
-            goes_on, name = (blocks if phase else completes).get(code, ("IEFX", ""))
+            goes_on, name = (BLOCKS_GO_ON if phase else COMPLETES).get(code, ("IEFX", ""))
             if channel == 0o14:
                 waits = code in (0o72, 0o74, 0o76, 0o77) if not phase else code == 0o73
             elif channel > 0o14:
@@ -155,9 +151,7 @@ class Program(PageCase):
 
     def test_symbols(self):
         """Labels are beside addresses, and the text of a listing beside its cell while its word is there."""
-        listing = os.path.join(self.room(), "listing")
-        with open(listing, "w", encoding="ascii") as file:
-            file.write("0104 7112 0060 INPUT IAM 12 60\n0106 7512 DCN 12\n")
+        listing = self.file("0104 7112 0060 INPUT IAM 12 60\n0106 7512 DCN 12\n")
         loader = "examples/overwritten-loader"
         self.browser.open(self.film("--symbols", "0", listing, "--deck", f"{loader}/deck", f"{loader}/script"), "#turn=113")
         self.browser.key("i")
@@ -235,9 +229,7 @@ class Controls(PageCase):
         for word, wanted in (("13", [2 + 0o13, "", "false"]), ("9", [2 + 0o13, "not an octal number", "true"]),
                              ("77777", [self.LAST, "no turn 77777: the highest is 1000", "true"]), ("x", [self.LAST, "not an octal number", "true"]),
                              ("1000", [2 + 0o1000, "", "false"])):
-            self.browser.key("g")
-            self.browser.write(word)
-            self.browser.key("Enter")
+            self.browser.fill("g", word)
             with self.subTest(word):
                 self.assertEqual(wanted, self.value(shown))
             self.browser.key("Escape")
@@ -261,17 +253,13 @@ class Controls(PageCase):
         focus = self.value(outline)
         for word in "M 12 0", "M 0", "nothing":
             self.browser.key("Escape")
-            self.browser.key("/")
-            self.browser.write(word)
-            self.browser.key("Enter")
+            self.browser.fill("/", word)
             with self.subTest(word):
                 self.assertEqual([word, "M 00 0020", "no such place", "true", "place"], self.value(shown))
         self.assertNotEqual(focus, self.value(outline))
         self.browser.click("#processors button[data-place='A 01']")
         self.assertEqual(["A 01", "A 01", "", "false", ""], self.value(shown))
-        self.browser.key("/")
-        self.browser.write("h 5")
-        self.browser.key("Enter")
+        self.browser.fill("/", "h 5")
         self.assertEqual(["H 05", "H 05", "", "false", ""], self.value(shown))
         self.browser.key("Escape")
         self.assertEqual(["", None, "", "false", ""], self.value(shown))
@@ -323,13 +311,9 @@ class Controls(PageCase):
 
     def test_save(self):
         """The buttons save the script and the deck, byte for byte."""
-        room = self.room()
-        deck = os.path.join(room, "my deck")
-        with open(deck, "wb") as file:
-            file.write(b"* caf\xe9\n0001 0002\n")
+        deck = self.file(b"* caf\xe9\n0001 0002\n", "my deck")
         path = self.film("--deck", deck, script="STEP 3\n* \xff\n", status=1)
-        saved = os.path.join(room, "saved")
-        os.mkdir(saved)
+        saved = self.room()
         self.browser.save_into(saved)
         self.browser.open(path)
         texts = self.value("[...document.querySelectorAll('#files button')].map((one) => one.innerText)")
@@ -337,9 +321,8 @@ class Controls(PageCase):
         self.assertEqual("To run it again: pp6600 --deck 'my deck' script", self.value("byId('again').innerText"))
         for at in 1, 2:
             self.browser.click(f"#files button:nth-child({at})")
-        for name, data in (("script", b"STEP 3\n* \xff\n"), ("my deck", b"* caf\xe9\n0001 0002\n")):
-            with self.subTest(name):
-                self.assertEqual(data, self.saved(os.path.join(saved, name)))
+        self.check_rows(lambda name: self.saved(os.path.join(saved, name)),
+                ("script", b"STEP 3\n* \xff\n"), ("my deck", b"* caf\xe9\n0001 0002\n"))
 
     def saved(self, path):
         """Waits for a file that the page saves, and returns its bytes."""
@@ -364,6 +347,7 @@ class Opening(PageCase):
         rows = (("a BACK W", asked, [turn, "M 00 0106"]), ("a second one", again, [turn - 0o75 + 1, "M 00 0100"]),
                 ("a dump after it", f"{asked}DUMP PP 0\n* a note\n", [turn, "M 00 0106"]),
                 ("a watch", asked.removesuffix("BACK W\n"), [turn, "M 00 0106"]),
+                ("a watch with many zeros", f"{COUNTER}STEP 20\nWATCH M 00000000 0000000020\n", [0o13, "M 00 0020"]),
                 ("a watch without a change", f"{COUNTER}STEP 20\nWATCH M 0 777\n", [0o20, "M 00 0777"]),
                 ("a BACK W that is refused", f"{COUNTER}STEP 20\nBACK W\n", [0o20, None]),
                 ("a turn that a watch ended", f"{COUNTER}WATCH A 0\nSTEP 20\n", [1, "A 00"]),

@@ -7,8 +7,8 @@ import subprocess
 import sys
 import time
 
-from tests.installing import ALONE, ANSWERED, INSTALL, TOOLS, InstallCase, alone, below, checkout, installation, write
-from tests.support import TOP, program, read
+from tests.installing import ALONE, ANSWERED, INSTALL, TOOLS, InstallCase, alone, below, checkout, installation
+from tests.support import TOP, program, read, write
 
 from pp6600.installation import OWN, PAGES
 

@@ -1,18 +1,15 @@
 """Tests ./pp6600, the choice of the build that it runs, ./prove and ./check, in a repository of a few files with a stand-in for rt."""
 
 import contextlib
-import fcntl
 import os
-import pty
 import shutil
 import signal
-import struct
 import subprocess
-import termios
 import time
 import unittest
 
-from tests.support import TOP, Case, program
+from tests.support import TOP, Case, program, read, write
+from tests.terminal import Terminal
 
 NEEDED = ("bash", "readlink", "dirname", "find", "sort", "xargs", "sha256sum", "cut", "grep", "awk", "nproc", "rm", "cp", "cmp", "mkdir",
           "mktemp", "tee", "tail", "sleep", "stty", "sed", "cat", "chmod", "python3")
@@ -40,8 +37,7 @@ class Launched(Case):
         self.folder = self.room()
         self.top = os.path.join(self.folder, "repository")
         self.plain, self.kit = os.path.join(self.folder, "plain"), os.path.join(self.folder, "kit")
-        for path in (self.plain, self.kit):
-            os.makedirs(path)
+        os.makedirs(self.plain)
         for name in NEEDED:
             os.symlink(shutil.which(name), os.path.join(self.plain, name))
         for name in ("pp6600", "prove", "check", "share/which-build", "share/commands"):
@@ -57,22 +53,14 @@ class Launched(Case):
         self.write("dist/pp6600", b"")
         shutil.copy2(program(), os.path.join(self.top, "dist/pp6600"))
         self.write("dist/sources", f"program {self.sum_of('dist/pp6600')}\nsources {self.checksum()}\nkit a kit\n")
-        with open(os.path.join(self.kit, "rt"), "w", encoding="ascii") as file:
-            file.write(STAND_IN.format(room=self.folder, program=program()))
-        os.chmod(os.path.join(self.kit, "rt"), 0o755)
+        write(os.path.join(self.kit, "rt"), STAND_IN.format(room=self.folder, program=program()), 0o755)
 
     def write(self, name, text, mode=0o644):
         """Writes a file of the repository."""
-        path = os.path.join(self.top, name)
-        os.makedirs(os.path.dirname(path), exist_ok=True)
-        with open(path, "wb") as file:
-            file.write(text if isinstance(text, bytes) else text.encode())
-        os.chmod(path, mode)
-        return path
+        return write(os.path.join(self.top, name), text, mode)
 
     def text_of(self, name):
-        with open(os.path.join(self.top, name), encoding="utf-8") as file:
-            return file.read()
+        return read(self.top, name)
 
     def sum_of(self, name):
         return subprocess.run(["sha256sum", os.path.join(self.top, name)], capture_output=True, text=True, check=True).stdout[:64]
@@ -84,9 +72,7 @@ class Launched(Case):
     @contextlib.contextmanager
     def marked(self, name, text=""):
         """Makes a file that the stand-in looks for."""
-        path = os.path.join(self.folder, name)
-        with open(path, "w", encoding="utf-8") as file:
-            file.write(text)
+        path = write(os.path.join(self.folder, name), text)
         yield
         os.remove(path)
 
@@ -255,32 +241,22 @@ class Check(Launched):
                 self.assertEqual((last, 1), (out.splitlines()[-1], status), out)
 
 
-class Terminal(Launched):
+class AtTerminal(Launched):
     """What the launcher adds at a terminal."""
 
     def at_terminal(self, typed, words=(), more=(), home=True, folder=None):
         """Returns what a session at a terminal shows, after the last line was answered, and the exit status."""
-        process, terminal = pty.fork()
-        if process == 0:
-            fcntl.ioctl(0, termios.TIOCSWINSZ, struct.pack("HHHH", 24, 80, 0, 0))
-            os.chdir(folder or self.folder)
-            os.execve(self.launcher, [self.launcher, *words], self.environment(False, more, home))
-        shown = b""
-        for text in (*typed, b"\x04"):
-            time.sleep(0.5)
-            os.write(terminal, text)
-        while True:
-            try:
-                piece = os.read(terminal, 4096)
-            except OSError:  # the other end is closed
-                break
-            if not piece:
-                break
-            shown += piece
-        return shown.decode(), os.waitstatus_to_exitcode(os.waitpid(process, 0)[1])
+        names = [f"{name}={value}" for name, value in self.environment(False, more, home).items()]
+        terminal = Terminal(["/usr/bin/env", "-i", *names, self.launcher, *words], folder=folder or self.folder)
+        self.addCleanup(terminal.close)
+        for text in (*typed, "\x04"):
+            terminal.settle(0.5)
+            terminal.type(text)
+        status = terminal.status()
+        return terminal.written.decode(), status
 
     def test_the_greeting_and_an_answer(self):
-        shown, status = self.at_terminal([b"STEP 12\r"])
+        shown, status = self.at_terminal(["STEP 12\r"])
         self.assertEqual((1, 0), (shown.count(GREETING), status), shown)
         self.assertIn("TURNS 12 SLOT 00\r\n", shown)
         self.assertNotIn("> ", shown)
@@ -292,7 +268,7 @@ class Terminal(Launched):
 
     @unittest.skipUnless(shutil.which("rlwrap"), "there is no rlwrap here")
     def test_line_editing(self):
-        shown, status = self.at_terminal([b"DEAD\t", b"\r"], more=["/usr/bin", "/bin"])
+        shown, status = self.at_terminal(["DEAD\t", "\r"], more=["/usr/bin", "/bin"])
         self.assertIn("> DEADSTART", shown)
         self.assertIn("ERR 14 NO PANEL", shown)
         self.assertEqual(1, status)
@@ -301,5 +277,5 @@ class Terminal(Launched):
     @unittest.skipUnless(shutil.which("rlwrap"), "there is no rlwrap here")
     def test_line_editing_without_a_home_folder(self):
         empty = self.room()
-        shown, _ = self.at_terminal([b"STEP 12\r"], more=["/usr/bin", "/bin"], home=False, folder=empty)
+        shown, _ = self.at_terminal(["STEP 12\r"], more=["/usr/bin", "/bin"], home=False, folder=empty)
         self.assertEqual((True, False, []), ("TURNS 12" in shown, "warning" in shown, os.listdir(empty)))

@@ -7,10 +7,10 @@ import shutil
 import sys
 import unittest
 
+from tests.browser import found
 from tests.installing import TOOLS, InstallCase, alone
-from tests.support import TOP, program, read
+from tests.support import TOP, names_of_codes, program, read
 
-BROWSERS = ("chromium", "chromium-browser", "google-chrome", "google-chrome-stable")
 LINES = "| Line | What it does | Answer |"
 
 
@@ -18,15 +18,6 @@ def rows(page, header):
     """Returns the cells of a table of a page."""
     text = read("docs", page).split(f"\n{header}\n", 1)[1].split("\n\n", 1)[0]
     return [[cell.strip() for cell in row.strip("|").split("|")] for row in text.splitlines()[1:]]
-
-
-def codes():
-    """Returns the name of each code in the table of docs/MACHINE.md."""
-    names = {}
-    for numbers, called, _ in rows("MACHINE.md", "| Code | Name | Effect |"):
-        numbers, called = numbers.split(", "), called.split(", ")
-        names.update(zip(numbers, called * len(numbers) if len(called) == 1 else called))
-    return [names[f"{code:02o}"] for code in range(64)]
 
 
 def display_rows(page):
@@ -65,7 +56,7 @@ class ManualPages(InstallCase):
             for first, *_ in rows("CONSOLE.md", head):
                 with self.subTest(first):
                     self.assertIn(re.sub(r"\[([^]]*)\]\(#[^)]*\)|`", r"\1", first), plain)
-        for called in codes():
+        for called in names_of_codes():
             with self.subTest(called):
                 self.assertRegex(page, rf"(?m)^ +[0-7, ]+ [A-Z, ]*{called}")
         for row in display_rows("MACHINE.md"):
@@ -118,7 +109,7 @@ class Card(InstallCase):
 
     def test_codes(self):
         grid = re.findall(r"^[0-7]  ((?:[A-Z]{3}[+ ] ?){8})", read("docs", "CARD.md"), flags=re.M)
-        self.assertEqual(codes(), [word.strip("+") for row in grid for word in row.split()])
+        self.assertEqual(names_of_codes(), [word.strip("+") for row in grid for word in row.split()])
 
     def test_display_code(self):
         symbols = re.findall(r"^[0-3]  (.{15})     [4-7]  (.{15})$", read("docs", "CARD.md"), flags=re.M)
@@ -133,7 +124,7 @@ class Card(InstallCase):
 
     def test_printed(self):
         """It is one sheet of A4 on a printer."""
-        browser = next(filter(None, map(shutil.which, BROWSERS)), None)
+        browser = found()
         if not browser:
             self.skipTest("there is no browser here")
         paper = self.path("card.pdf")

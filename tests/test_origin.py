@@ -4,11 +4,12 @@ sessions, which are compared with a model whose numbers know where they came fro
     PP6600_ORIGIN=SEED:COUNT   runs COUNT random sessions from seed SEED on; the default is 0:30
 """
 
+import copy
 import os
 import random
 
 from . import model, tagged
-from .support import Case, program, tool
+from .support import Case, program, tool, write
 from .test_random import Maker
 
 from pp6600.answers import Place
@@ -355,16 +356,11 @@ class Cases(Case):
     """Whole origins."""
 
     def test_cases(self):
-        for name, (script, place, how, wanted) in CASES.items():
+        for name, (script, place, how, wanted) in copy.deepcopy(CASES).items():
             with self.subTest(name):
-                options, room = list(how.get("options", ())), self.room()
-                for kind in ("deck", "panel"):
-                    if kind in how:
-                        path = os.path.join(room, kind)
-                        with open(path, "w", encoding="ascii") as file:
-                            file.write(how[kind])
-                        options += [f"--{kind}", path]
-                how = {key: value for key, value in how.items() if key not in ("options", "deck", "panel")}
+                options = list(how.pop("options", ()))
+                for kind in {"deck", "panel"} & {*how}:
+                    options += [f"--{kind}", self.file(how.pop(kind))]
                 self.assertEqual(wanted.split("\n"), origin(script, place, *options, **how))
 
     def test_a_long_run(self):
@@ -427,8 +423,7 @@ class Model(Case):
         """Compares the origins of some places at the end of a session. Returns the number of places, and of steps."""
         session, room, choose = Maker(seed).session(), self.room(), random.Random(seed)
         for name, data in session.files.items():
-            with open(os.path.join(room, name), "wb") as file:
-                file.write(data)
+            write(os.path.join(room, name), data)
         words = [os.path.join(room, word) if word in session.files else word for word in session.words if word != "script"]
         try:
             console = self.console(words)

@@ -3,7 +3,6 @@ states. Each place that changed is among the writes, and each moved number is th
 the turn changes a write of which it is a source, in some state, and never another."""
 
 import collections
-import os
 import random
 
 from .support import Case, program
@@ -79,9 +78,7 @@ def number_in(answer, place):
 class TableCase(Case):
     def setUp(self):
         self.choose = random.Random(7)
-        deck = os.path.join(self.room(), "deck")
-        with open(deck, "w", encoding="ascii") as file:
-            file.writelines(" ".join(f"{word:o}" for word in card) + "\n" for card in CARDS)
+        deck = self.file("".join(" ".join(f"{word:o}" for word in card) + "\n" for card in CARDS))
         self.console = Console([program(), "--central", "32", "--deck", deck])
 
     def tearDown(self):

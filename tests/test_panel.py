@@ -11,6 +11,13 @@ from pp6600.panel.text import CHANGED, CURSOR, REFUSED
 from pp6600.panel.view import View, memory_top
 
 
+# By the tables of docs/MACHINE.md: in which states of its channel each instruction completes, and each block goes on or ends, and
+# what it waits for.
+COMPLETES = {0o70: ("F", "full"), 0o72: ("E", "empty"), 0o74: ("I", "inactive"), 0o75: ("EFX", "active"), 0o76: ("I", "inactive"),
+             0o77: ("I", "inactive")}
+BLOCKS_GO_ON = {0o71: ("IF", "full"), 0o73: ("IE", "empty")}
+
+
 def session_of(page, first):
     """Returns the lines of a page's session, with those of the sessions that continue it; `first` is in the first one."""
     sessions = blocks(page, "session")
@@ -131,11 +138,8 @@ class Machine(Case):
 
     def test_each_wait(self):
         """docs/HOWTO.md and docs/MACHINE.md: in which states each instruction waits, and for what."""
-        instructions = {"70": ("F", "full"), "72": ("E", "empty"), "74": ("I", "inactive"), "75": ("EFX", "active"),
-                        "76": ("I", "inactive"), "77": ("I", "inactive")}
-        blocks_of_words = {"71": ("IF", "full"), "73": ("IE", "empty")}
-        cases = [(code, f"{code}03" if of_block else "0000", letter, "" if letter in completes else f"03 {name}")
-                 for of_block, table in enumerate((instructions, blocks_of_words))
+        cases = [(f"{code:o}", f"{code:o}03" if of_block else "0000", letter, "" if letter in completes else f"03 {name}")
+                 for of_block, table in enumerate((COMPLETES, BLOCKS_GO_ON))
                  for code, (completes, name) in table.items() for letter in "IEFX"]
         for code, phase, letter, wanted in cases:
             dumps = Dumps()
@@ -253,9 +257,8 @@ class Parts(Case):
         lines = [line[82:] for line in texts(shown_of(Dumps().state(), log=log), 120, 30)]
         self.assertEqual(["> SET M 0 100 7712 1 7412 1477 7112 6\u2026", "> " + "X" * 36],
                          [line for line in lines if line.startswith("> ")])
-        for message, wanted in ("X" * 81, "X" * 79 + "\u2026"), ("X" * 80, "X" * 80), ("X" * 80 + "   ", "X" * 80):
-            with self.subTest(length=len(message)):
-                self.assertEqual(wanted, texts(shown_of(Dumps().state(), message=message))[-1])
+        self.check_rows(lambda message: texts(shown_of(Dumps().state(), message=message))[-1],
+                ("X" * 81, "X" * 79 + "\u2026"), ("X" * 80, "X" * 80), ("X" * 80 + "   ", "X" * 80))
         whole = "".join(texts(shown_of(page_state("README.md", "STEP 1300", "BACK W"))))
         self.assertEqual(0, whole.count("\u2026"), "nothing of a small screen is cut")
 
@@ -281,8 +284,7 @@ class Parts(Case):
 
     def test_windows(self):
         """A window stays where it is while its cursor is in it; round the end of a memory too."""
-        for top, address, wanted in ((0o100, 0o147, 0o100), (0o100, 0o150, 0o110), (0o100, 0o77, 0o70), (0o7770, 0o3, 0o7770)):
-            with self.subTest(top=oct(top), address=oct(address)):
-                self.assertEqual(wanted, memory_top(top, address, 5))
+        self.check_rows(lambda top, address: memory_top(top, address, 5),
+                (0o100, 0o147, 0o100), (0o100, 0o150, 0o110), (0o100, 0o77, 0o70), (0o7770, 0o3, 0o7770))
         top = memory_top(0o100, 0o4000, 5)
         self.assertTrue(top % 8 == 0 and top <= 0o4000 < top + 5 * 8, top)

@@ -67,13 +67,11 @@ def facts(slot=0, processor=0, place="P 0", watched=(), history=None):
 class Lines(Case):
     def test_lines(self):
         """The lines of README.md and docs/HOWTO.md, and turns counted by the barrel's order."""
-        for key, slot, processor, count, wanted in (
+        self.check_rows(lambda key, slot, processor, count: LINES[key](facts(slot, processor), count),
                 ("s", 0, 0, 1, ["STEP"]), ("s", 0, 0, 0o12, ["STEP 12"]), ("S", 3, 0, 1, ["STEP 12"]), ("S", 0, 0, 3, ["STEP 36"]),
                 ("n", 0, 3, 1, ["STEP 3"]), ("n", 0, 0, 1, ["STEP 12"]), ("n", 9, 0, 1, ["STEP"]), ("n", 4, 0, 2, ["STEP 20"]),
                 ("W", 0, 0, 1, ["WATCH P 0", "BACK W"]), ("b", 0, 0, 1, ["BACK"]), ("b", 0, 0, 0o675, ["BACK 675"]),
-                (" ", 0, 0, 1, ["STEP"])):
-            with self.subTest(key, slot=slot, processor=processor, count=count):
-                self.assertEqual(wanted, LINES[key](facts(slot, processor), count))
+                (" ", 0, 0, 1, ["STEP"]))
         self.assertEqual(["STEP 1000000"], step_lines(0o1000000), "as many turns as a line may make")
         self.assertEqual(["STEP 1000000", "STEP 1000000", "STEP"], step_lines(0o2000001))
 
@@ -417,9 +415,7 @@ class Program(PanelCase):
 
     def test_symbols(self):
         """Labels and the listing's own text, and g with a label."""
-        path = os.path.join(self.room(), "listing")
-        with open(path, "w", encoding="ascii") as file:
-            file.write("0100 7712 0001 START FNC 12 1\n0102 7412 ACN 12\n0103 1477 LDN 77\n0104 7112 0060 INPUT IAM 12 60\n")
+        path = self.file("0100 7712 0001 START FNC 12 1\n0102 7412 ACN 12\n0103 1477 LDN 77\n0104 7112 0060 INPUT IAM 12 60\n")
         panel = Panel(Session([PROGRAM, "--deck", DECK]), AllSymbols([(0, path)]))
         self.addCleanup(panel.session.close)
         panel.resize(160, 24)
@@ -431,6 +427,7 @@ class Program(PanelCase):
         self.assertEqual("M 0 106", panel.view.place())
         self.assertEqual("TURN 405 PP 00 P 0106 INPUT+2 IAM WAS 7512 NOW 0027", bottom(panel, "]"))
         self.assertIn("neither an octal address nor a place", bottom(panel, "gNOWHERE<Enter>"))
+        self.assertEqual("TURN 405 PP 00 P 0106 INPUT+2 IAM WAS 7512 NOW 0027", bottom(panel, "G0<Enter>uM 0 input+2 = 27<Enter>"))
 
     def test_sizes(self):
         """Every size has lines of its width, with the sentence below memory."""
@@ -463,11 +460,10 @@ class Typed(PanelCase):
     def test_lines(self):
         panel = self.panel(FIRST_PROGRAM)
         self.assertEqual("ERR 15 NOTHING WATCHED; t watches the number at the cursor", bottom(panel, ":BACK W<Enter>"))
-        for line, wanted in (("SET M 0 9 1", "ERR 03 NUMBER; word 4: 9 is not octal"), ("DUMP M 0", "ERR 02 WORDS; the form is DUMP M n a b"),
-                             ("SET C 400000 1", "ERR 04 RANGE; word 3: 400000 is not 0 to 377777"),
-                             ("GO", "ERR 01 NOT A COMMAND; GO is no command: they are SET, STEP, BACK, FORWARD, WATC\u2026")):
-            with self.subTest(line):
-                self.assertEqual(wanted, bottom(panel, f":{line}<Enter>"))
+        self.check_rows(lambda line: bottom(panel, f":{line}<Enter>"),
+                ("SET M 0 9 1", "ERR 03 NUMBER; word 4: 9 is not octal"), ("DUMP M 0", "ERR 02 WORDS; the form is DUMP M n a b"),
+                ("SET C 400000 1", "ERR 04 RANGE; word 3: 400000 is not 0 to 377777"),
+                ("GO", "ERR 01 NOT A COMMAND; GO is no command: they are SET, STEP, BACK, FORWARD, WATC\u2026"))
         press(panel, ":dump pp 0<Enter>:<Up><Up><Enter>")
         self.assertEqual(["GO", "dump pp 0", "GO"], [line for line, _ in panel.session.log[-3:]])
         press(panel, ":SET A 0<Home><Right><Right><Right><Delete> <End><Backspace>1 77<Ctrl-W>5<Enter>")

@@ -7,7 +7,7 @@ import subprocess
 import sys
 import time
 
-from .support import PYTHON, TOP, read, run
+from .support import PYTHON, TOP, read, run, write
 from .terminal import Terminal
 from .test_panel_keys import DECK, OVERWRITTEN, PROGRAM, PanelCase, press
 
@@ -32,10 +32,7 @@ class TerminalCase(PanelCase):
 
     def loader(self):
         """Returns the path of a script: the loader of README.md."""
-        path = os.path.join(self.room(), "loader")
-        with open(path, "w", encoding="ascii") as file:
-            file.write(OVERWRITTEN)
-        return path
+        return self.file(OVERWRITTEN)
 
     def assert_shows(self, terminal, text, seconds=10):
         self.assertIsNotNone(terminal.shows(text, seconds), f"{text!r} is not shown:\n" + "\n".join(terminal.screen.text()))
@@ -167,10 +164,8 @@ class Failures(TerminalCase):
 
     def test_killed_simulator(self):
         room = self.room()
-        wrapper, saved = os.path.join(room, "simulator"), os.path.join(room, "saved")
-        with open(wrapper, "w", encoding="ascii") as file:
-            file.write(f"#!/bin/bash\necho $$ >{room}/pid\nexec {PROGRAM} \"$@\"\n")
-        os.chmod(wrapper, 0o755)
+        saved = os.path.join(room, "saved")
+        wrapper = write(os.path.join(room, "simulator"), f"#!/bin/bash\necho $$ >{room}/pid\nexec {PROGRAM} \"$@\"\n", 0o755)
         terminal = self.terminal([*TOOL, "--program", wrapper])
         terminal.shows("q quit")
         terminal.type("s")
@@ -186,9 +181,7 @@ class Failures(TerminalCase):
         self.assertEqual(1, sum("panel: the simulator ended early, by signal 9" in line for line in terminal.screen.text()))
 
     def test_one_line(self):
-        without = self.room()
-        with open(os.path.join(without, "curses.py"), "w", encoding="ascii") as file:
-            file.write("raise ImportError\n")
+        without = os.path.dirname(self.file("raise ImportError\n", "curses.py"))
         for words, environment, wanted in (
                 ([], {"TERM": "dumb"}, "a terminal of the kind dumb can't show a screen"),
                 ([], {"TERM": "no-such"}, "a terminal of the kind no-such can't show a screen"),
@@ -257,10 +250,7 @@ class Talk(TerminalCase):
         self.assertEqual(["ERR 03 NUMBER", "  word 4: 9 is not octal"], lines[1:3])
         self.assertEqual(["ERR 02 WORDS", "  the form is DUMP M n a b"], lines[4:6])
         self.assertEqual(["ERR 04 RANGE", "  word 3: 100000 is not 0 to 77777"], lines[7:9])
-        path = os.path.join(self.room(), "script")
-        with open(path, "w", encoding="ascii") as file:
-            file.write("STEPP\n")
-        show = [*PYTHON, os.path.join(TOP, "tools", "show"), "--program", PROGRAM, path]
+        show = [*PYTHON, os.path.join(TOP, "tools", "show"), "--program", PROGRAM, self.file("STEPP\n")]
         terminal = self.terminal(show, kind="dumb")
         self.assertEqual(1, terminal.status())
         self.assertEqual(["> STEPP", "ERR 01 NOT A COMMAND", "  STEPP is no command; STEP is"], terminal.lines()[:3])

@@ -17,7 +17,7 @@ import subprocess
 import sys
 import time
 
-from tests.support import EXAMPLES, PATIENCE, TOP, Case, add_tests, program, read
+from tests.support import EXAMPLES, PATIENCE, TOP, Case, add_tests, program, read, write
 
 PLAIN = ("args", "stdin", "stdout", "stderr", "status", "how")
 # The functions of a turn that stand in the loops over many turns, and so have no name of their own in the built program.
@@ -66,8 +66,7 @@ class Ways:
         if name == "stdin":
             self.script = b"\n" * int(count)
         else:
-            with open(os.path.join(self.folder, name), "wb") as file:
-                file.write(b"\n" * int(count))
+            write(os.path.join(self.folder, name), b"\n" * int(count))
         return self.plain()
 
     def closed_output(self):
@@ -165,9 +164,7 @@ class System(Case):
         self.assertEqual((b"OK\n0001 1405 3420\nCR H 12 CARD 0000 OF 0001 COLUMN 000 MODE IDLE\n", b"", 0), (out, err, process.returncode))
 
     def test_with_a_script_file_nothing_of_standard_input_is_read(self):
-        path = os.path.join(self.room(), "script")
-        with open(path, "wb") as file:
-            file.write(b"STEP\n")
+        path = self.file(b"STEP\n")
         reader, end = os.pipe()
         os.write(end, b"STEP 2\n")
         done = subprocess.run([program(), path], stdin=reader, capture_output=True, timeout=60, check=False)

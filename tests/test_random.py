@@ -2,7 +2,6 @@
 written is compared byte for byte.
 
     PP6600_RANDOM=SEED:COUNT   runs COUNT sessions from seed SEED on; SEED:1 repeats one. The default is 0:2000
-    PP6600_PROGRAM=PATH        the program under test
 
 The first difference ends the run. Its session is made small and printed as commands for the shell. With -v each test
 ends with how often each instruction, case, form of a line, error and fault has occurred; by default each must occur.
@@ -14,18 +13,10 @@ import random
 import shlex
 import subprocess
 import sys
-import tempfile
 import unittest
 
 from tests import model
-
-TOP = os.path.dirname(os.path.dirname(os.path.abspath(__file__)))
-
-
-def program():
-    """Returns the path of the program under test."""
-    paths = os.path.join(TOP, 'dist', 'pp6600'), os.path.join(TOP, 'crates', 'pp6600', 'out', 'pp6600')
-    return os.path.abspath(os.environ.get('PP6600_PROGRAM') or next(filter(os.path.exists, paths), paths[0]))
+from tests.support import Case, program
 
 
 @dataclasses.dataclass
@@ -348,13 +339,11 @@ EXPECTED = [
 EXPECTED_LIMITS = ['printer status False', 'DECK FILE TOO LONG', 'PANEL FILE TOO LONG', 'DECK TOO LONG', 'LINE LIMIT']
 
 
-class RandomSessions(unittest.TestCase):
+class RandomSessions(Case):
     def setUp(self):
         self.program = program()
-        folder = tempfile.TemporaryDirectory(prefix='pp6600-')
-        self.addCleanup(folder.cleanup)
         self.addCleanup(os.chdir, os.getcwd())
-        os.chdir(folder.name)
+        os.chdir(self.room())
         model.seen.clear()
 
     def outcomes(self, session):
@@ -419,6 +408,3 @@ class RandomSessions(unittest.TestCase):
             self.compare(f'limit {number}', session, make_small=False)
         self.check_seen(EXPECTED_LIMITS)
 
-
-if __name__ == '__main__':
-    unittest.main()

@@ -1,10 +1,9 @@
 """Tests tests/refusals.py on lines that rt printed, and on edits of its own."""
 
 import os
-import shutil
 import subprocess
 
-from tests.support import PYTHON, TOP, Case
+from tests.support import PYTHON, Case, read, write
 
 LABEL = "rt: must-fail pp_arith/{}.edit: {}\n"
 GOAL = "refused, as it must be: note: src/accumulator.rt:8:1: it is not proved that what the function ensures holds when it returns (`returns`)"
@@ -25,13 +24,9 @@ class Refusals(Case):
     def judged(self, edits, said):
         """Returns what is said at the end of what rt printed, in a repository with these edits of one crate, and the status."""
         room = self.room()
-        for folder in ("tests", "crates/pp_arith/src", "crates/pp_arith/must-fail"):
-            os.makedirs(os.path.join(room, folder))
-        files = {"src/sums.rt": SOURCE, **{f"must-fail/{name}.edit": text for name, text in edits.items()}}
-        for path, text in files.items():
-            with open(os.path.join(room, "crates", "pp_arith", path), "w", encoding="utf-8") as file:
-                file.write(text)
-        script = shutil.copy(os.path.join(TOP, "tests", "refusals.py"), os.path.join(room, "tests"))
+        for path, text in {"src/sums.rt": SOURCE, **{f"must-fail/{name}.edit": text for name, text in edits.items()}}.items():
+            write(os.path.join(room, "crates", "pp_arith", path), text)
+        script = write(os.path.join(room, "tests", "refusals.py"), read("tests", "refusals.py"))
         done = subprocess.run([*PYTHON, script], input=said, cwd=room, capture_output=True, text=True, check=False)
         self.assertEqual("", done.stderr)
         return done.stdout.splitlines()[-1], done.returncode
@@ -44,9 +39,8 @@ class Refusals(Case):
                 self.assertEqual((f"{1 - wanted} passed, {wanted} failed", wanted), self.judged({"wrong_sum": WRONG_SUM}, said))
 
     def test_kept_line_is_judged(self):
-        for text, wanted in ((GOAL, 0), (LOST, 1)):
-            with self.subTest(text):
-                self.assertEqual(wanted, self.judged({"wrong_sum": WRONG_SUM}, KEPT + LABEL.format("wrong_sum", text))[1])
+        self.check_rows(lambda text: self.judged({"wrong_sum": WRONG_SUM}, KEPT + LABEL.format("wrong_sum", text))[1],
+                (GOAL, 0), (LOST, 1))
 
     def test_mutant_without_a_line(self):
         edits = {"wrong_sum": WRONG_SUM, "other_sum": WRONG_SUM}
@@ -55,7 +49,7 @@ class Refusals(Case):
 
     def test_edit_that_only_renames(self):
         """rt shows a goal for it too, if an answer was written for the goal's old name."""
-        for pairs, wanted in (
+        self.check_rows(lambda pairs: self.judged({"edit": EDIT + pairs}, LABEL.format("edit", GOAL))[1],
                 ("old: let sum = a + b;\nnew: let total = a + b;\nold: if sum < 7 { sum } else { sum - 7 }\nnew: if total < 7 { total } else { total - 7 }\n", 1),
                 ("old: ensures fits {\nnew: ensures small {\n", 1),
                 ("old: add(a: u32\nnew: add(c: u32\nold: a + b\nnew: c + b\n", 1),
@@ -63,6 +57,4 @@ class Refusals(Case):
                 ("old: a + b\nnew: a - b\n", 0),
                 ("old: sum - 7 }\nnew: sum - 8 }\n", 0),
                 ("old: a + b\nnew: a.wrapping_add(b)\n", 0),
-                ("old: let sum = a + b;\nnew: let total = a + a; let sum = total;\n", 0)):
-            with self.subTest(pairs):
-                self.assertEqual(wanted, self.judged({"edit": EDIT + pairs}, LABEL.format("edit", GOAL))[1])
+                ("old: let sum = a + b;\nnew: let total = a + a; let sum = total;\n", 0))

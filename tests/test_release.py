@@ -5,16 +5,14 @@ import glob
 import os
 import re
 import shutil
-import subprocess
 import sys
 import sysconfig
 import tarfile
 import time
 import unittest
 
-from tests.installing import (
-    LIKE_THE_SIMULATOR, PATH, InstallCase, alone, below, checkout, commit, installation, lasting_room, text_of, write)
-from tests.support import Done, read
+from tests.installing import LIKE_THE_SIMULATOR, PATH, InstallCase, alone, below, checkout, commit, installation, lasting_room
+from tests.support import Done, read, write
 
 from pp6600.installation import OWN, PAGES
 
@@ -73,8 +71,7 @@ class Program(ReleaseCase):
                 self.assertEqual((False, False), (os.path.exists(self.path("new")), os.path.exists(f"{self.top}/out")))
 
     def test_edit_with_an_old_time(self):
-        with open(f"{self.top}/{SOURCE}", "a", encoding="utf-8") as file:
-            file.write("\n")
+        write(f"{self.top}/{SOURCE}", read(self.top, SOURCE) + "\n")
         os.utime(f"{self.top}/{SOURCE}", (LONG_AGO, LONG_AGO))
         commit(self.top)
         self.check_not_run("the sources are not those of dist/pp6600", ("share/release",), ("make", "-s", "release"),
@@ -99,7 +96,7 @@ class Program(ReleaseCase):
             with self.subTest(name):
                 self.assertEqual(0, alone(*words, self.path(name), cwd=self.top).status)
                 self.assertEqual(Done("", "", 0), alone("cmp", f"{self.top}/dist/pp6600", self.path(name, installed, "pp6600")))
-        _, *others = text_of(self.top, "dist", "sources").splitlines(keepends=True)
+        _, *others = read(self.top, "dist", "sources").splitlines(keepends=True)
         write(f"{self.top}/{BUILT}.proved", f"program {alone('sha256sum', BUILT, cwd=self.top).out[:64]}\n{''.join(others)}")
         self.assertEqual((f"{self.top}/{BUILT}\nhere\n", "", 0), alone("share/which-build", cwd=self.top))
         os.utime(f"{self.top}/{SOURCE}")
@@ -156,13 +153,13 @@ class Unpacked(InstallCase):
 
     def test_version(self):
         version = read("VERSION").strip()
-        self.assertEqual(f"# pp6600 {version}:", text_of(self.top, "README.md")[:len(f"# pp6600 {version}:")])
+        self.assertEqual(f"# pp6600 {version}:", read(self.top, "README.md")[:len(f"# pp6600 {version}:")])
         self.assertEqual(f"pp6600 {version}\n", alone("./pp6600", "--version", cwd=self.top).out)
 
     def test_links(self):
         for page in ("README.md", "docs/HOWTO.md", f"{PAGES}/README.md"):
             folder = os.path.dirname(os.path.realpath(os.path.join(self.top, page)))
-            targets = re.findall(r"\]\(([^)#:\s]+)[^)]*\)", text_of(self.top, page))
+            targets = re.findall(r"\]\(([^)#:\s]+)[^)]*\)", read(self.top, page))
             with self.subTest(page):
                 self.assertEqual([], [name for name in targets if not os.path.exists(os.path.join(folder, name))])
 

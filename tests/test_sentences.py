@@ -27,7 +27,7 @@ def sentence_of(words, p="0100", a="000051", q="0002", phase="0000", states="", 
 class Sentences(Case):
     def test_each_code(self):
         """The rows of the table of docs/MACHINE.md, with P 0100, A 000051, cell 0020 1234 and cell 1234 0017."""
-        for words, wanted in (
+        self.check_rows(sentence_of,
                 ("0000 0", "PSN 00: passes"), ("0100 0300", "LJM 00 0300: jumps to 0300"),
                 ("0120 7000", "LJM 20 7000: jumps to 0235"), ("0200 0300", "RJM 00 0300: cell 0300 gets 0102; jumps to 0301"),
                 ("0305 0", "UJN 05: jumps to 0105"), ("0373 0", "UJN 73: jumps to 0074"), ("0300 0", "UJN 00: jumps to itself"),
@@ -61,16 +61,12 @@ class Sentences(Case):
                 ("7205 0", "OAN 05: channel 05 gets 0051 from A and becomes full"),
                 ("7405 0", "ACN 05: waits for channel 05 to be inactive; it is empty"),
                 ("7505 0", "DCN 05: disconnects channel 05"), ("7514 0", "DCN 14: passes"),
-                ("7414 0", "ACN 14: waits for ever: channel 14 is never inactive")):
-            with self.subTest(words):
-                self.assertEqual(wanted, sentence_of(words))
-        for state, words, wanted in (
+                ("7414 0", "ACN 14: waits for ever: channel 14 is never inactive"))
+        self.check_rows(lambda state, words: sentence_of(words, states=state),
                 ("F", "7005 0", "IAN 05: A gets 4321 from channel 05, which becomes empty"), ("I", "7405 0", "ACN 05: activates channel 05"),
                 ("I", "7605 0", "FAN 05: channel 05 gets function code 0051 from A"), ("I", "7705 1", "FNC 05 1: channel 05 gets function code 1"),
                 ("X", "7705 1", "FNC 05 1: waits for channel 05 to be inactive; it has a function code"),
-                ("X", "6605 300", "FJM 05 300: channel 05 is full: jumps to 300")):
-            with self.subTest(words, state=state):
-                self.assertEqual(wanted, sentence_of(words, states=state))
+                ("X", "6605 300", "FJM 05 300: channel 05 is full: jumps to 300"))
 
     def test_blocks(self):
         """The cases of docs/MACHINE.md, of an instruction at 0104 to which cell 0000 returns; the first is IAM of README.md."""

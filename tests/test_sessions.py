@@ -1,8 +1,8 @@
 """Runs every session and every shell command that a page shows, and every exercise with its solution.
 
 A block of a page that begins with `session` has typed lines after > and their answers; the words after `session` are the program's,
-and `continued` goes on with the session before. A block `shell` has commands after $ and what they write; a block `python NAME` is the
-file NAME for all later commands of the page. A block `tools` has the sessions of the tools, which tests/test_tools.py runs.
+and `continued` goes on with the session before. A block `shell` has commands after $ and what they write, and so have the blocks
+`tools`, which go on in one folder; a block `python NAME` is the file NAME for all later commands of the page.
 
 An exercise is a folder: script (the lines to begin with), check (the lines that follow the finished script), expected (the last lines
 that the program must then write), args, and solution, a folder with the files that replace those of the same name.
@@ -13,7 +13,7 @@ import os
 import re
 import shutil
 
-from tests.support import EXAMPLES, TOP, Case, add_tests, blocks, program, read, run
+from tests.support import EXAMPLES, TOP, Case, add_tests, blocks, program, read, run, write
 
 PAGES = ["README.md", *sorted(os.path.relpath(path, TOP) for path in glob.glob(os.path.join(TOP, "docs", "*.md")))]
 EXERCISES = [path for path in sorted(glob.glob(os.path.join(TOP, "exercises", "*"))) if os.path.isdir(os.path.join(path, "solution"))]
@@ -36,10 +36,10 @@ def shell_blocks():
     found = []
     for page in PAGES:
         files = {block.words[1]: block.text for block in blocks(page, "python") if len(block.words) == 2}
-        for block in blocks(page, "shell"):
-            lines = block.text.splitlines(keepends=True)
+        for some in filter(None, [*([block] for block in blocks(page, "shell")), blocks(page, "tools")]):
+            lines = "".join(block.text for block in some).splitlines(keepends=True)
             commands = "".join(line[2:] for line in lines if line.startswith("$ "))
-            found.append((block.place, (commands, "".join(line for line in lines if not line.startswith("$ ")), files)))
+            found.append((some[0].place, (commands, "".join(line for line in lines if not line.startswith("$ ")), files)))
     return found
 
 
@@ -65,8 +65,7 @@ class Commands(Case):
         for name in ("examples", "exercises", "tools"):
             os.symlink(os.path.join(TOP, name), os.path.join(folder, name))
         for name, text in files.items():
-            with open(os.path.join(folder, name), "w", encoding="utf-8") as file:
-                file.write(text)
+            write(os.path.join(folder, name), text)
         done = run("bash", "-c", f"exec 2>&1\n{commands}", cwd=folder)
         self.assertEqual(wanted, done.out)
 
@@ -81,8 +80,8 @@ class Exercises(Case):
         done = run(*words, os.path.join(case, "solution"))
         self.assertEqual(0, done.status, done.out)
         files = os.listdir(case)
-        with open(os.path.join(case, "args") if "args" in files else os.devnull, encoding="utf-8") as file:
-            arguments = "".join(f" {name}/{word}" if word in files else f" {word}" for word in file.read().splitlines())
+        given = read(case, "args").splitlines() if "args" in files else []
+        arguments = "".join(f" {name}/{word}" if word in files else f" {word}" for word in given)
         self.assertIn(f"    cat {name}/script - | ./pp6600{arguments}", read("docs", "EXERCISES.md").splitlines())
 
 

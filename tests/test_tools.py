@@ -1,72 +1,38 @@
-"""The tools: every session of docs/TOOLS.md, what the other pages say, and their messages. Expected values are those of README.md,
+"""The tools: what the pages say, and their messages. Expected values are those of README.md,
 docs/TUTORIAL.md, docs/TUTORIAL-2.md and docs/MACHINE.md."""
 
-import fcntl
 import os
-import pty
 import random
 import re
-import select
 import subprocess
-import termios
-import time
 from unittest import mock
 
-from .support import EXAMPLES, PYTHON, TOP, Case, blocks, program, read, run, tool
+from .films import random_line, random_session
+from .installing import TOOLS
+from .support import EXAMPLES, PYTHON, TOP, Case, blocks, names_of_codes, program, read, run, tool
+from .terminal import Terminal
+from .test_panel import COMPLETES
+from .test_panel_keys import FIRST_PROGRAM, OVERWRITTEN
 
 from pp6600 import Console
 from pp6600.changes import place_changes
 from pp6600.answers import ANSWER, Place
 from pp6600.history import History
-from pp6600.listing import Symbols
+from pp6600.listing import AllSymbols, Symbols
 from pp6600.run import Replay, Run, performed
-from pp6600.trace import lines_from
+from pp6600.trace import last_lines, lines_from
 
 LOADER = ("--deck", os.path.join(EXAMPLES, "overwritten-loader", "deck"))
-# The loader of README.md up to its first question.
-OVERWRITTEN = """\
-SET M 0 100 7712 1 7412 1477 7112 60 7512 100
-SET M 0 110 60
-SET P 0 100
-STEP 1300
-"""
-FIRST_PROGRAM = "SET M 0 100 1405 3420 300\nSET P 0 100\n"
 # docs/TUTORIAL-2.md: two processors that wait for each other.
 DEADLOCK = "SET M 0 100 1407 7205 300\nSET P 0 100\nSET M 1 100 7005 300\nSET P 1 100\nSTEP 40\n"
-NAMES = ("changes", "compare", "deck", "film", "load", "origin", "panel", "save", "show", "state", "symbols", "talk", "trace", "until", "waits", "words")
 
 
 def setUpModule():
     os.environ.pop("PYTHONDONTWRITEBYTECODE", None)  # a tool that has been compiled starts sooner
 
 
-def random_line(choose):
-    """A line of a script: a number set, turns, watches, steps back and forward, a note or a refused line."""
-    number = choose.randrange(10)
-    return choose.choice((
-        f"SET M {number:o} {choose.randrange(16):o} {choose.randrange(4096):o} {choose.randrange(4096):o}",
-        f"SET A {number:o} {choose.randrange(1 << 18):o}", f"set p {number:o} {choose.randrange(16):o}", "SET H 5 F 7",
-        f"STEP {choose.randrange(1, 40):o}", f"STEP {choose.randrange(1, 40):o}", f"WATCH A {number:o}", "WATCH P 0",
-        f"UNWATCH A {number:o}", "DEADSTART", "BACK", "BACK W", f"BACK {choose.randrange(1, 60):o}", "FORWARD",
-        f"FORWARD {choose.randrange(1, 30):o}", "DUMP CR", "* a note", "GO"))
-
-
 def lines_of(done):
     return done.out.splitlines()
-
-
-class Pages(Case):
-    """Each command of docs/TOOLS.md and what it writes."""
-
-    def test_sessions(self):
-        room = self.room()  # ./pp6600 of the page is the program under test
-        for name, path in (("pp6600", program()), *((name, os.path.join(TOP, name)) for name in ("tools", "examples", "exercises"))):
-            os.symlink(path, os.path.join(room, name))
-        for block in blocks("docs/TOOLS.md", "tools"):
-            for session in re.split(r"^\$ ", block.text, flags=re.M)[1:]:
-                command, _, wanted = session.partition("\n")
-                with self.subTest(command, at=block.place):
-                    self.assertEqual(wanted, run("bash", "-c", f"{command} 2>&1", cwd=room).out)
 
 
 class Changes(Case):
@@ -118,15 +84,9 @@ class Trace(Case):
 
     def test_names_of_the_codes(self):
         """Each name and code as in the table of docs/MACHINE.md."""
-        row = re.compile(r"^\| ([0-7]{2}(?:, [0-7]{2})*) \| ([A-Z]{3}(?:, [A-Z]{3})*) \|", flags=re.M)
-        names = {}
-        for codes, got in row.findall(read("docs", "MACHINE.md")):
-            codes, got = codes.split(", "), got.split(", ")
-            names.update(zip(codes, got * len(codes) if len(got) == 1 else got))
-        self.assertEqual(0o100, len(names))
-        script = "".join(f"SET M 0 0 {code}17 0\nSET P 0 0\nSET A 0 0\nSTEP 12\n" for code in sorted(names))
+        script = "".join(f"SET M 0 0 {code:02o}17 0\nSET P 0 0\nSET A 0 0\nSTEP 12\n" for code in range(0o100))
         got = self.trace("--processor", "0", script=script)
-        self.assertEqual([names[code] for code in sorted(names)], [name_in(line) for line in got])
+        self.assertEqual(names_of_codes(), [name_in(line) for line in got])
 
     def test_processors(self):
         got = self.trace("--processor", "3", "--processor", "0", script="STEP 16\n")
@@ -148,7 +108,20 @@ class Trace(Case):
         self.assertEqual(wanted[2:4], [(name_in(line), line.partition(" H ")[2]) for line in got])
         got = self.trace("--channel", "14", "--last", "1", script="STEP 100\n")
         self.assertEqual(["F 0005 -> F 0006"], [line.partition(" H 14 ")[2] for line in got])
+        got = self.trace("--channel", "5", "--last", "1", script=script + "STEP 1000000\n")
+        self.assertEqual([f"TURN 51 PP 00 P 0105 7505      DCN A 000007 H {wanted[-1][1]}"], got)
 
+    def test_last_turns_that_touch_a_channel(self):
+        """They are the last of all that do, in random sessions."""
+        words = [program(), "--deck", "examples/read-a-deck/deck", "--panel", "examples/dead-start/panel"]
+        for seed in range(8):
+            actions = performed(words, random_session(seed)).actions
+            for channel in (5, 6, 0o12, 0o13, 0o14):
+                processors = (range(10), [0, 1], [3])[(seed + channel) % 3]
+                touches = list(lines_from(words, actions, processors, channel, 9 * seed))
+                with self.subTest(seed=seed, channel=channel):
+                    for count in (2, 0o1000):
+                        self.assertEqual(touches[-count:], list(last_lines(words, actions, processors, channel, count, 9 * seed, AllSymbols())))
 
     def test_words_that_nobody_reads(self):
         """docs/MACHINE.md: a word on a channel that is disconnected is lost; an input of a block ends and leaves one."""
@@ -160,9 +133,7 @@ class Trace(Case):
         self.assertEqual(["H 05 F 0007", "H 05 F 0007 WORD LEFT"], got)
 
     def test_listing(self):
-        path = os.path.join(self.room(), "listing")
-        with open(path, "w", encoding="ascii") as file:
-            file.write("0100 1407 START LDN 7\n0101 7205 OUT OAN 5 . a word\n0102 0301 UJN 1\n")
+        path = self.file("0100 1407 START LDN 7\n0101 7205 OUT OAN 5 . a word\n0102 0301 UJN 1\n")
         got = self.trace("--symbols", "0", path, "--processor", "0", script=DEADLOCK)[:2]
         self.assertEqual(["TURN 1 PP 00 P 0100 START 1407      LDN A 000000 Q 0000 PHASE 0000  START LDN 7",
                           "TURN 13 PP 00 P 0101 OUT 7205      OAN A 000007 Q 0000 PHASE 0000 WAITS  OUT OAN 5 . a word"], got)
@@ -176,10 +147,7 @@ class State(Case):
         self.assertEqual(" TURN 40", lines_of(tool("state", script=DEADLOCK))[10][:40].rstrip())
 
     def test_labels(self):
-        path = os.path.join(self.room(), "symbols")
-        with open(path, "w", encoding="ascii") as file:
-            file.write("* names\nVERYLONG 0057\n")
-        got = lines_of(tool("state", "--symbols", "0", path, script=DEADLOCK))
+        got = lines_of(tool("state", "--symbols", "0", self.file("* names\nVERYLONG 0057\n"), script=DEADLOCK))
         self.assertEqual(" PP 00 P 0101 A 000007 Q 0000 PHASE 0000  AT VERYLONG+22 OAN WAITS  H 00 I 0000", got[0])
 
     def test_deadlock(self):
@@ -257,7 +225,7 @@ class Load(Case):
         for option, data in texts.items():
             done = tool("load", *option.split(), "3", "7000", script=data.decode("latin-1"))
             console = Console([program()])
-            console.perform_all(lines_of(done))
+            console.ask_all([*lines_of(done), "DUMP CR"])
             with self.subTest(option):
                 self.assertEqual([f"{word:04o}" for word in words], console.cells(3, 0o7000, 0o7777) + console.cells(3, 0, 0))
             console.end()
@@ -289,19 +257,15 @@ class Listings(Case):
                 self.assertEqual("SET M 3 100 1405 3420 7112 0200 0300\n", saved if option == "--set" else tool("load", *words, script=saved).out)
 
     def test_ways_to_name_addresses(self):
-        folder = self.room()
-        path = os.path.join(folder, "listing")
-        with open(path, "w", encoding="ascii") as file:
-            file.write("0100 1407 START LDN 7\n0101 7205 OUT OAN 5\n")
-        symbols = ("--symbols", "0", path)
+        symbols = ("--symbols", "0", self.file("0100 1407 START LDN 7\n0101 7205 OUT OAN 5\n"))
         self.assertEqual("PP 00 AT 0101 OUT OAN P 0101 OUT H 05", tool("waits", *symbols, script=DEADLOCK).out[:37])
         self.assertEqual("TURN 13 PP 00 P 0101 OUT OAN\n", tool("until", "PP 0 waits", *symbols, script=DEADLOCK).out)
+        got = tool("until", "P 0 = out and M 0 START+1 != 0", *symbols, script=DEADLOCK)
+        self.assertEqual(("TURN 1 PP 00 P 0100 START LDN P 00 WAS 0100 NOW 0101 M 00 0101 WAS 7205 NOW 7205\n", "", 0), got)
 
 
 class Waits(Case):
     """docs/TUTORIAL-2.md: two processors that wait for each other; docs/HOWTO.md: after a dead start, in a block, alone."""
-
-    CODES = {0o70: "F", 0o72: "E", 0o74: "I", 0o75: "EF", 0o76: "I", 0o77: "I"}  # by the table of docs/MACHINE.md
 
     def waits(self, *words, script):
         """The lines of processors, without what comes after the turn."""
@@ -355,9 +319,9 @@ class Waits(Case):
     def test_each_state(self):
         """Each code on a channel of its own in the same state; channel 14, and one that is none."""
         for state in "IEF":
-            script = "".join(f"SET M {n:o} 0 {code:o}{n:02o} 17\nSET H {n:o} {state}\n" for n, code in enumerate(self.CODES))
+            script = "".join(f"SET M {n:o} 0 {code:o}{n:02o} 17\nSET H {n:o} {state}\n" for n, code in enumerate(COMPLETES))
             got = self.waits(script=script + "SET M 6 0 7214\nSET M 7 0 7014\nSET M 10 0 7515\nSET M 11 0 6615\n")
-            wanted = [f"PP {n:02o}" for n, completes in enumerate(self.CODES.values()) if state not in completes]
+            wanted = [f"PP {n:02o}" for n, (completes, _) in enumerate(COMPLETES.values()) if state not in completes]
             with self.subTest(state):
                 self.assertEqual([*wanted, "PP 06", "PP 10"], [line[:5] for line in got])
         self.assertEqual("PP 10 AT 0000 DCN P 0000 H 15 NONE FROM TURN 11", got[-1], "a channel that is none")
@@ -368,34 +332,19 @@ class Waits(Case):
         self.assertEqual(["PP 00 AT 0000 ACN", "PP 01 AT 0000 FAN", "PP 02 AT 0000 FNC"], [line[:17] for line in got])
 
 
-def typed(words, keys, environment):
-    """What a tool writes at a terminal where these lines are typed, each after a prompt."""
-    master, end = pty.openpty()
-    process = subprocess.Popen(words, stdin=end, stdout=end, stderr=end, cwd=TOP, env=environment, start_new_session=True,
-                               preexec_fn=lambda: fcntl.ioctl(0, termios.TIOCSCTTY, 0))
-    os.close(end)
-    seen, deadline = b"", time.monotonic() + 30
-    while time.monotonic() < deadline:
-        if not select.select([master], [], [], 0.1)[0]:
-            continue
-        try:
-            seen += os.read(master, 1000)
-        except OSError:  # the tool has ended
-            break
-        if keys and seen.endswith(b"> "):
-            os.write(master, keys.pop(0))
-    os.close(master)
-    return seen.decode().replace("\r\n", "\n"), process.wait(10)
-
-
 class Talk(Case):
     """A script, then what is typed, with a prompt."""
 
     SCRIPT = "examples/first-steps/script"
 
     def test_at_a_terminal(self):
-        environment = {**os.environ, "TERM": "dumb", "PP6600": program()}
-        got, status = typed([os.path.join(TOP, "tools", "talk"), self.SCRIPT], [b"STEP 12\n", b"\x03SET M 0 9 1\n", b"\x04"], environment)
+        terminal = Terminal([os.path.join(TOP, "tools", "talk"), self.SCRIPT], kind="dumb", folder=TOP, environment={"PP6600": program()})
+        self.addCleanup(terminal.close)
+        for text in "STEP 12\r", "\x03SET M 0 9 1\r", "\x04":
+            terminal.wait_until(lambda one: one.written.endswith(b"> "))
+            terminal.type(text)
+            terminal.read(1)  # the echo
+        status, got = terminal.status(), terminal.written.decode().replace("\r\n", "\n")
         # The terminal shows the interrupt, which does nothing, as ^C.
         shown = tool("show", self.SCRIPT).out
         before, _, after = got.replace("^C", "").partition("13> STEP")
@@ -417,20 +366,14 @@ def machine(console):
 class Compare(Case):
     def compare(self, *texts, more=(), status=1):
         """What compare writes of scripts with these texts."""
-        paths = [os.path.join(self.room(), "script") for _ in texts]
-        for path, text in zip(paths, texts):
-            with open(path, "w", encoding="ascii") as file:
-                file.write(text)
-        done = tool("compare", *more, *paths)
+        done = tool("compare", "--central", "32", *more, *map(self.file, texts))
         self.assertEqual(("", status), done[1:])
         return lines_of(done)
 
     def test_decks(self):
         """examples/read-a-deck: the reader puts the second column of the first card, 0102, on channel 12."""
-        folder, script = self.room(), read("examples", "read-a-deck", "script")
-        deck = os.path.join(folder, "deck")
-        with open(deck, "w", encoding="ascii") as file:
-            file.write(read("examples", "read-a-deck", "deck").replace("0101 0102", "0101 7777", 1))
+        script = read("examples", "read-a-deck", "script")
+        deck = self.file(read("examples", "read-a-deck", "deck").replace("0101 0102", "0101 7777", 1))
         words = ("--deck", "examples/read-a-deck/deck", "--other-deck", deck)
         got = self.compare(script, more=words)
         turn = int(got[0].split()[2], 8)
@@ -522,7 +465,7 @@ class Replays(Case):
             start.reset_mock()
             wanted = [f"TURN {turn:o} PP 03 P {at:04o} PSN WAS {at:04o} NOW {at + 1:04o}"
                       for at, turn in enumerate(range(4, turns + 1, 10))]
-            self.assertEqual(wanted, list(place_changes(Replay(words), Place.parse("P 3"), actions)))
+            self.assertEqual(wanted, list(place_changes(words, Place.parse("P 3"), actions)))
             self.assertGreater(start.call_count, 2)
 
 
@@ -618,7 +561,7 @@ class Messages(Case):
         self.assertEqual("state: one line was refused: line 1 (decimal), ERR 06 NOT ASCII: \\x1b[0mGO\n", tool("state", script="\x1b[0mGO\n").err)
 
     def test_help_and_version(self):
-        for name in NAMES:
+        for name in TOOLS:
             with self.subTest(name):
                 got = tool(name, "--help")
                 self.assertEqual(("", 0, "usage: "), (got.err, got.status, got.out[:7]))

@@ -7,7 +7,7 @@ import signal
 import subprocess
 import time
 
-from .support import PYTHON, TOP, Case, program
+from .support import PYTHON, TOP, Case, program, write
 from .terminal import Terminal
 
 # Each tool with words that are right.
@@ -76,11 +76,7 @@ class HandsCase(Case):
 
     def program_file(self, name, text):
         """Writes a shell program into the room."""
-        path = os.path.join(self.folder, name)
-        with open(path, "w", encoding="ascii") as file:
-            file.write(f"#!/bin/sh\n{text}\n")
-        os.chmod(path, 0o755)
-        return path
+        return write(os.path.join(self.folder, name), f"#!/bin/sh\n{text}\n", 0o755)
 
     def treated(self, name, words, how, data, **environment):
         """What a tool writes to standard error, and its status, under a treatment."""

@@ -73,15 +73,12 @@ class Pythons(HandsCase):
 class SlowPrograms(HandsCase):
     def test_launcher(self):
         """The choice of a build may take longer than an answer may."""
-        top = os.path.join(self.folder, "checkout")
-        os.makedirs(os.path.join(top, "share"))
-        launcher = os.path.join(top, "pp6600")
-        for path, text in ((os.path.join("checkout", "crates.txt"), ""), (os.path.join("checkout", "pp6600"), "exit 3")):
-            self.program_file(path, text)
+        self.program_file("checkout/crates.txt", "")
+        launcher = self.program_file("checkout/pp6600", "exit 3")
         for text, wanted in ((f"sleep 2; echo '{program()}'; echo here", ("WATCHES NONE\n", "", 0)),
                              ("echo not built >&2; exit 2",
                               ("", f"not built\nstate: {launcher} has no simulator to run; the line above says why\n", 2))):
-            self.program_file(os.path.join("checkout", "share", "which-build"), text)
+            self.program_file("checkout/share/which-build", text)
             done = run(os.path.join(TOP, "tools", "state"), "--program", launcher, script="STEP\n", env={"PP6600_PATIENCE": "1"})
             with self.subTest(text):
                 self.assertEqual(wanted, ("".join(done.out.splitlines(keepends=True)[-1:]), done.err, done.status))
@@ -101,12 +98,10 @@ class SlowPrograms(HandsCase):
 
 class Example(HandsCase):
     def test_bad_hands(self):
-        for words, script, wanted in (
+        self.check_rows(lambda words, script: run(SHOW, *words, script=script),
                 ([], "", ("", "show.py: give the simulator and its options, as in show.py ./pp6600 <SCRIPT\n", 2)),
                 ([program(), "--none"], "STEP\n", ("> STEP\n", "pp6600: BAD ARGUMENTS\n", 2)),
                 ([program()], "* \xff\n", ("> * \ufffd\nERR 06 NOT ASCII\n", "", 1)),
-                (["true"], "STEP\n", ("> STEP\n", "show.py: the simulator ended before it answered\n", 2))):
-            with self.subTest(words=words):
-                self.assertEqual(wanted, run(SHOW, *words, script=script))
+                (["true"], "STEP\n", ("> STEP\n", "show.py: the simulator ended before it answered\n", 2)))
         done = run("bash", "-c", '"$0" "$@" >/dev/full', SHOW, program(), script="STEP\n")
         self.assertEqual(("", "show.py: [Errno 28] No space left on device\n", 2), done)

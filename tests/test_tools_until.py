@@ -4,7 +4,8 @@ import random
 from unittest import mock
 
 from .support import Case, program, tool
-from .test_tools import DEADLOCK, FIRST_PROGRAM, LOADER, OVERWRITTEN
+from .test_panel_keys import FIRST_PROGRAM, OVERWRITTEN
+from .test_tools import DEADLOCK, LOADER
 
 from pp6600 import Console, Failure
 from pp6600.answers import REGISTERS
@@ -38,11 +39,10 @@ class Places(Case):
     def test_none_and_all(self):
         self.assertEqual(["NONE"], self.until("PP 0 in a block", script=FIRST_PROGRAM + "STEP 100\n", status=1))
         clock = [f"TURN {10 * turn:o} PP 11 P {turn - 1:04o} PSN WAS {turn - 1:04o} NOW {turn:04o}" for turn in range(1, 6)]
-        for words, wanted in ((["--all"], clock), (["--count", "2"], clock[:2]), (["--last"], clock[4:]), ([], clock[:1]),
-                              (["--last", "--count", "2"], clock[3:]), (["--last", "--all"], clock), (["--from", "13"], clock[1:2]),
-                              (["--from", "12"], clock[:1]), (["--last", "--from", "37", "--all"], clock[3:])):
-            with self.subTest(words):
-                self.assertEqual(wanted, self.until("H 14 changes", *words, script="STEP 62\n"))
+        self.check_rows(lambda words: self.until("H 14 changes", *words, script="STEP 62\n"),
+                (["--all"], clock), (["--count", "2"], clock[:2]), (["--last"], clock[4:]), ([], clock[:1]),
+                (["--last", "--count", "2"], clock[3:]), (["--last", "--all"], clock), (["--from", "13"], clock[1:2]),
+                (["--from", "12"], clock[:1]), (["--last", "--from", "37", "--all"], clock[3:]))
 
     def test_channel(self):
         """docs/TUTORIAL-2.md: a word is sent from PP 00 to PP 01."""

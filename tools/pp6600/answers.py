@@ -111,3 +111,11 @@ FORMS = {name: re.sub("n+", lambda digits: f"[0-7]{{{len(digits[0])}}}", form) f
     "W": f"W (NONE|{PLACES})",
 }.items()}
 ANSWER = re.compile("|".join(FORMS.values()))
+
+
+def dumps_from(dump, first, count, addresses, size):
+    """Returns the lines that show so many numbers from the first on. After so many addresses comes address 0 again, and from the
+    size on there is nothing."""
+    last = first + count - 1
+    lines = [f"{dump} {first:o} {min(last, size - 1):o}"] if first < size else []
+    return lines + ([f"{dump} 0 {last - addresses:o}"] if last >= addresses else [])

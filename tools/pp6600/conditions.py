@@ -6,11 +6,13 @@ from typing import NamedTuple, Optional
 
 from .answers import CLOCK, FORMS, PROCESSORS, REGISTERS, ROW, STATES, Place
 from .failure import Failure
+from .listing import AllSymbols
 
 FORM = ("a condition is PLACE = 105 (also != < > <= >=), PLACE outside 100 117, PLACE inside 100 117, PLACE changes, "
         "M 0 100 117 changes, H 12 is F, H 12 changes state, PP 3 waits, PP 3 in a block or PP 3 not in a block; conditions are joined by and")
 COMPARISONS = {"=": operator.eq, "!=": operator.ne, "<": operator.lt, ">": operator.gt, "<=": operator.le, ">=": operator.ge}
 ALL = tuple(range(PROCESSORS))
+OF_A_PROCESSOR = ("M", "A", "P", "Q")
 REGISTER_GROUPS = {name: group for group, name in enumerate(REGISTERS, 2)}  # of the form of DUMP PP
 
 
@@ -62,12 +64,18 @@ class Subject(NamedTuple):
     def span(self, lines):
         """Returns where the number is in a line, from the lines of an answer: they have the same widths in each."""
         form = re.fullmatch(FORMS[self.form], lines[self.rows[0]])
-        return form.start(self.groups[0]), form.end(self.groups[1])
+        return form.start(self.groups[0]) + (self.form == "M"), form.end(self.groups[1])  # without the blank before the words
+
+    def column(self, answers, first, width):
+        """Returns the digits of the number at looks, each of so many lines of answers; those to the dump begin at the first line."""
+        start, end = self.span(answers[first:first + self.lines])
+        columns = [[line[start:end] for line in answers[first + row::width]] for row in self.rows]
+        return columns[0] if len(columns) == 1 else list(map(" ".join, zip(*columns)))
 
     def value(self, lines):
         """Returns the digits of the number in the lines of an answer."""
         start, end = self.span(lines)
-        return " ".join(lines[row][start:end].strip() for row in self.rows)
+        return " ".join(lines[row][start:end] for row in self.rows)
 
 
 class Memo(dict):
@@ -138,19 +146,19 @@ class Condition:
         self.is_change = any(isinstance(test, Changes) for test in tests)  # so that it never holds for two turns
 
     @classmethod
-    def parse(cls, text):
-        """Returns the condition of a text."""
-        condition, rest = cls.first_of(text.split())
+    def parse(cls, text, symbols=AllSymbols()):
+        """Returns the condition of a text. An address may be a label of its processor."""
+        condition, rest = cls.first_of(text.split(), symbols)
         if rest:
             raise Failure(f"{' '.join(rest)} is too much: {FORM}")
         return condition
 
     @classmethod
-    def first_of(cls, words):
+    def first_of(cls, words, symbols=AllSymbols()):
         """Returns the condition that the words begin with, and the words after it."""
         tests, words = [], ["and", *words]
         while words and words[0].lower() == "and":
-            test, words = first_test(words[1:])
+            test, words = first_test(words[1:], symbols)
             tests.append(test)
         return cls(tests), words
 
@@ -167,13 +175,21 @@ class Condition:
             subject.form == "PP" for subject in self.subjects) else []
 
 
-def first_test(words):
+def first_place(words, symbols):
+    """Returns the place that the words begin with, and the words after it."""
+    if words[:1] in (["M"], ["m"]) and len(words) > 2 and re.fullmatch("[0-7]+", words[1]):
+        address = symbols.address(int(words[1], 8), words[2])
+        words = words if address is None else [*words[:2], f"{address:o}", *words[3:]]
+    return Place.first_of(words) if words else (None, [])
+
+
+def first_test(words, symbols):
     """Returns the test that the words begin with, and the words after it."""
     if words[:1] and words[0].upper() == "PP":
         return processor_test(words)
-    place, rest = Place.first_of(words) if words else (None, [])
+    place, rest = first_place(words, symbols)
     if place and place.kind == "M" and rest[1:2] == ["changes"]:
-        last = number_of(rest[0])
+        last = number_of(rest[0], place, symbols)
         if last < place.numbers[1]:
             raise Failure(f"{rest[0]} is before the first cell of {place.short}")
         return Changes(Subject.of_cells(*place.numbers, last)), rest[2:]
@@ -187,7 +203,7 @@ def first_test(words):
     count = 1 if kind in COMPARISONS else 2 if kind in ("outside", "inside") else None
     if count is None or len(rest) <= count:
         raise Failure(FORM)
-    numbers = [number_up_to(text, place) for text in rest[1:count + 1]]
+    numbers = [number_up_to(text, place, symbols) for text in rest[1:count + 1]]
     return Is(Subject.of_place(place), test_of(kind, numbers)), rest[count + 1:]
 
 
@@ -225,15 +241,19 @@ def state_test(place, words):
     return Is(Subject.of_place(place)._replace(groups=(2, 2), watch=None), lambda state: state == letter), words[2:]
 
 
-def number_of(text):
+def number_of(text, place=None, symbols=AllSymbols()):
+    """Returns a number. Beside a place of a processor it may be a label."""
+    address = symbols.address(place.numbers[0], text) if place and place.kind in OF_A_PROCESSOR else None
+    if address is not None:
+        return address
     if not re.fullmatch("[0-7]+", text):
         raise Failure(f"{text} is not octal")
     return int(text, 8)
 
 
-def number_up_to(text, place):
+def number_up_to(text, place, symbols):
     """Returns a number that may be at a place."""
-    number = number_of(text)
+    number = number_of(text, place, symbols)
     if number >= 8 ** place.digits:
         raise Failure(f"{text} is more than {place.short} can be")
     return number

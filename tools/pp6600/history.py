@@ -150,9 +150,13 @@ class History:
         """Returns the actions that were not taken back, or were performed again."""
         return list(Actions([*self.older.runs, *self.kept.runs]).runs)
 
+    def redo_list(self):
+        """Returns the actions ahead, the next one first."""
+        return [*reversed(self.ahead.runs), *reversed(self.later.runs)]
+
     def all(self):
         """Returns the actions in effect and those ahead, in their order."""
-        return list(Actions([*self.in_effect(), *reversed(self.ahead.runs), *reversed(self.later.runs)]).runs)
+        return list(Actions([*self.in_effect(), *self.redo_list()]).runs)
 
     def take(self, line, answer):
         """Counts a line by the lines of its answer. Returns whether it changed the machine, the history or the list."""

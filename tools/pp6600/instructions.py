@@ -125,7 +125,10 @@ COMPLETES = {code: one.goes_on_in for code, one in enumerate(INSTRUCTIONS) if on
 BLOCK_GOES_ON = {code: one.goes_on_in for code, one in IN_BLOCK.items() if one.goes_on_in}
 WAITS_FOR = {code: STATES_WORDS[states] for code, states in {**COMPLETES, **BLOCK_GOES_ON}.items()}
 RELATIVE_JUMPS = range(0o03, 0o10)
+CHANNEL_JUMPS = range(0o64, 0o70)
 CHANNEL_CODES = range(0o64, 0o100)
+# Whose operand's address is in cell d; and m, to which cell d is added if d is not 0. Of all others it is d.
+INDIRECT, INDEXED = range(0o40, 0o50), (0o01, 0o02, *range(0o50, 0o60))
 # The state of a channel that is not there: to a block it is inactive, and no other instruction completes on it.
 NOT_THERE, NOT_THERE_IN_BLOCK = "-", "I"
 
@@ -208,8 +211,8 @@ class Processor:
 
     def operand(self, cell):
         """Returns the address of the operand cell: d, or that in cell d, or m indexed by cell d."""
-        if 0o30 <= self.code < 0o50:
-            return self.channel if self.code < 0o40 else cell(self.channel)
+        if self.code not in INDEXED:
+            return cell(self.channel) if self.code in INDIRECT else self.channel
         address = int(self.words[1], 8) + (cell(self.channel) if self.channel else 0)
         return address if address < CELLS else address - (CELLS - 1)
 

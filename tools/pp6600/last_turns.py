@@ -1,7 +1,7 @@
 """What each of the last turns changed: the registers of the processor whose turn it is and all its cells, the channels and the
 clock, the frame, both devices, and the central words from A to A+17, for a turn changes no others."""
 
-from .answers import CENTRAL_ADDRESSES, FRAME_WORDS, REGISTERS
+from .answers import CENTRAL_ADDRESSES, FRAME_WORDS, REGISTERS, dumps_from
 from .history import turns_of
 from .run import Replay
 from .whole import device
@@ -9,14 +9,8 @@ from .whole import device
 
 def central_words(run, registers, size):
     """Returns the central words that a turn may change, by their addresses, which go round: as many as the frame has."""
-    first = int(registers["A"], 8)
-    last = first + FRAME_WORDS - 1
-    lines = []
-    if first < size:
-        lines += run.central(first, min(last, size - 1))
-    if last >= CENTRAL_ADDRESSES:
-        lines += run.central(0, last - CENTRAL_ADDRESSES)
-    return {f"C {address}": word for _, address, word in (line.split() for line in lines)}
+    dumps = dumps_from("DUMP C", int(registers["A"], 8), FRAME_WORDS, CENTRAL_ADDRESSES, size)
+    return {line[:8]: line[9:] for dump in dumps for line in run.demand(dump)}
 
 
 def look(run, slot, size, old_registers=None):

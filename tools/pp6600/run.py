@@ -5,7 +5,7 @@ from .answers import PROCESSORS
 from .console import MARK, Console
 from .ending import complain, flush
 from .failure import Failure
-from .history import STEP, History, room_of, without_watches
+from .history import STEP, Actions, History, room_of, without_watches
 from .text_files import shown
 
 MOST_SHOWN = 60  # characters of a line that was refused
@@ -91,6 +91,13 @@ class Run(Console):
         answer = self.ask_all([line, *dumps, MARK]) if dumps else self.ask(line)
         if self.history.take(line, answer):
             self.next_slot = int(answer[0][-2:], 8) if "SLOT" in answer[0] else self.slot_after(line)
+        return answer
+
+    def act_again(self, line):
+        """As `act`, of an action that was ahead and that the simulator no longer has: what comes after it stays ahead."""
+        later, self.history.later = self.history.later, Actions()
+        answer = self.act(line)
+        self.history.later = later
         return answer
 
     def slot_after(self, line):

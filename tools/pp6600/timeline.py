@@ -52,18 +52,17 @@ class Timeline(Run):
 
     def go_over(self, count):
         """Performs so many actions again, more than the simulator has ahead."""
-        ahead, later = self.history.ahead.count, self.history.later
+        ahead = self.history.ahead.count
         if ahead:
             self.act(f"FORWARD {ahead:o}")
-        for action in later.pop(count - ahead):
+        for action in self.history.later.pop(count - ahead):
             self.perform_again(*action)
-        self.history.later = later
         return [f"FORWARD {count:o} SLOT {self.next_slot:02o}"]
 
     def perform_again(self, line, times):
         """Performs an action so many times. Turns do not end where a watched number changes."""
         while times:
-            answer = self.act(f"STEP {min(times, MOST_TURNS):o}" if line == STEP else line)
+            answer = self.act_again(f"STEP {min(times, MOST_TURNS):o}" if line == STEP else line)
             if not answer or answer[0].split()[0] not in ("OK", "TURNS"):
                 raise self.nonsense(" ".join(answer))
             times -= int(answer[0].split()[1], 8) if line == STEP else 1

@@ -2,10 +2,11 @@
 
 from .answers import PROCESSORS, REGISTERS
 from .command_line import add_script, arguments, channel, count, processor, script_lines, simulator, write_lines
-from .history import turns_of, up_to_turn
+from .history import STEP, turns_of, up_to_turn
 from .instructions import TWO_WORDS, Processor
 from .listing import AllSymbols, add_symbols, symbols_of
 from .run import Replay, performed
+from .touches import last_touches
 
 DESCRIPTION = """Shows each turn of a script, as the processor stood before it: the turn, counted in octal from 1, the
 processor, P, the one or two words of the instruction, its name, A, Q and the phase; and WAITS if the turn was a wait.
@@ -97,16 +98,22 @@ def lines_from(words, actions, processors, channel, first, symbols=AllSymbols())
     run.end()
 
 
+def lines_at(words, actions, turns, channel, symbols):
+    """Yields the lines of some turns that touched a channel."""
+    run = Replay(words)
+    for turn in turns:
+        actions = run.to_turn(actions, turn - 1)
+        yield Tracer(run, channel, symbols).turn(run.next_slot)
+        actions = [(STEP, actions[0][1] - 1), *actions[1:]]
+    run.end()
+
+
 def last_lines(words, actions, processors, channel, last, first, symbols):
-    """Returns the last lines. It looks at some turns at the end, and at more while these have too few."""
-    total = turns_of(actions)
-    span = last * PROCESSORS
-    while True:
-        start = max(total - span, first)
-        lines = list(lines_from(words, actions, processors, channel, start, symbols))
-        if start == first or len(lines) >= last:
-            return lines[-last:]
-        span *= 8
+    """Returns the last lines."""
+    if channel is not None:
+        return lines_at(words, actions, last_touches(words, actions, channel, processors, last, first), channel, symbols)
+    start = max(turns_of(actions) - last * PROCESSORS, first)
+    return list(lines_from(words, actions, processors, channel, start, symbols))[-last:]
 
 
 def trace(words, actions, asked, symbols):

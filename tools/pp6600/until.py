@@ -8,7 +8,6 @@ from itertools import accumulate
 from typing import NamedTuple
 
 from .answers import CLOCK, PROCESSORS
-from .changes import CLOSE_STEPS, CLOSE_TURNS, NEAR, TOO_FEW
 from .command_line import Failure, arguments, count, script_lines, simulator, words_after, write
 from .conditions import Condition
 from .console import MARK, MOST_TURNS
@@ -20,11 +19,15 @@ from .run import Replay, performed
 DESCRIPTION = """Shows the first turn at whose end a condition holds and at whose beginning it did not. A condition is PLACE = 105,
 also != < > <= >= (in quotation marks, for the shell), PLACE outside 100 117 or inside, PLACE changes, M 0 100 117 changes,
 H 12 is F, H 12 changes state, PP 3 waits, PP 3 in a block or not in a block; conditions are joined by and. A place is
-M n a, A n, P n, Q n, C a or H c. All numbers are octal. A line has the turn, counted from 1, the processor whose turn it was, its P before the turn, the name of its
-instruction, and the numbers before and after. A processor waits if its latest turn was a wait. If there is no such turn, the
-tool writes NONE and ends with 1."""
+M n a, A n, P n, Q n, C a or H c. All numbers are octal; with --symbols a label may be in the place of an address. A line has
+the turn, counted from 1, the processor whose turn it was, its P before the turn, the name of its instruction, and the numbers
+before and after. A processor waits if its latest turn was a wait. If there is no such turn, the tool writes NONE and ends with
+1."""
 
 ROUNDS = 256  # of the barrel, looked at at once; all their turns are kept
+CLOSE_STEPS, CLOSE_TURNS = 128, 64  # at most 8192 turns at once, which are all kept
+NEAR = 256  # turns to a change after which the next is expected soon
+TOO_FEW = 8  # changes of close steps
 FIRST_SPAN = 0o10000  # of turns at the end that are searched first
 
 
@@ -68,13 +71,17 @@ class Looks:
 class Search:
     """A search over a replay, for the turns after `first` up to `last`."""
 
-    def __init__(self, words, actions, condition, first=0, last=None, progress=None):
-        """The function `progress` is called with a number of turns after each batch; it may raise an exception to end the search."""
+    def __init__(self, words, actions, condition, first=0, last=None, progress=None, watches=None):
+        """The function `progress` is called with a number of turns after each batch; it may raise an exception to end the search. The
+        watches are places whose changes end a STEP, if not those of the condition."""
         self.run = Replay(words)
+        self.watches = condition.watches if watches is None else watches
         self.actions, self.condition = actions, condition
         self.first, self.last = first, turns_of(actions) if last is None else last
         self.progress = progress
-        self.questions = list(dict.fromkeys(subject.question for subject in condition.subjects))
+        lines = {subject.question: subject.lines for subject in condition.subjects}
+        *firsts, self.width = accumulate(lines.values(), initial=1)  # lines of the answers to a STEP and to the dumps after it
+        self.layout = dict(zip(lines, firsts))
         self.slots = sorted(set().union(*(subject.slots for subject in condition.subjects)))
         self.close = self.held = False
         self.batches = {}
@@ -83,8 +90,7 @@ class Search:
         """Yields each turn at which the condition comes to hold."""
         try:
             rest = self.run.to_turn(self.actions, max(self.first - PROCESSORS, 0))  # what waits is known after a round
-            for place in self.condition.watches:
-                self.run.watch(place)
+            self.watch()
             for line, times in rest:
                 if line != STEP:
                     self.run.perform(line)
@@ -93,22 +99,21 @@ class Search:
                 if self.run.turn >= self.last:
                     break
         finally:
-            self.close_run()
+            self.run.close()  # the failure that ended the search is the one to be told
 
-    def close_run(self):
-        try:
-            self.run.end()
-        except Failure:  # the failure that ended the search is the one to be told
-            pass
+    def watch(self):
+        for place in self.watches:
+            self.run.watch(place)
 
     def turns(self, turns):
         """Makes so many turns, and yields those that are found."""
         self.look_first()
         while turns > 0:
             self.run.renew()
-            looks, verdicts = self.batch(turns)
-            found = self.those_found(looks, verdicts) if True in verdicts else []
-            self.held = verdicts[-1]
+            looks, columns = self.batch(turns)
+            verdicts = self.verdicts(columns, looks)
+            found = self.those_found(looks, verdicts, columns[0]) if True in verdicts else []
+            self.held, self.number = verdicts[-1], columns[0][-1]
             self.run.made(looks.ends[-1])
             turns -= looks.ends[-1]
             yield from found
@@ -117,36 +122,39 @@ class Search:
 
     def look_first(self):
         """Looks at the machine before turns."""
-        answers = [self.run.demand(question) for question in self.questions]
-        self.layout = {}
-        at = 1  # after the answer to STEP
-        for question, lines in zip(self.questions, answers):
-            self.layout[question] = at, lines
-            at += len(lines)
-        self.width = at
-        looks = Looks(self.run, [0], are_first=True)
-        self.held = self.verdicts(["", *(line for lines in answers for line in lines)], looks)[0]
+        columns = self.columns(["", *(line for question in self.layout for line in self.run.demand(question))])
+        self.held, self.number = self.verdicts(columns, Looks(self.run, [0], are_first=True))[0], columns[0][0]
 
     def batch(self, turns):
-        """Makes turns, at most so many, and returns the looks at them and whether the condition holds at each."""
-        watched = bool(self.condition.watches)
-        steps, lines = self.watched_steps(turns) if watched else self.polled_steps(turns)
-        answers = self.run.ask_all(lines)
-        if watched:
-            answers = [line for line in answers if not line.startswith("HIT ")]
-        if len(answers) != len(steps) * self.width + 1 or not answers[0].startswith("TURNS "):
-            raise self.run.nonsense(answers[0])
-        made = [int(line.split()[1], 8) for line in answers[:-1:self.width]] if watched else steps
-        looks = Looks(self.run, list(accumulate(made)))
-        verdicts = self.verdicts(answers[:-1], looks)
-        if watched:
-            self.close = sum(map(int.__lt__, made, steps)) >= TOO_FEW if len(steps) > 1 else made[0] < min(NEAR, steps[0])
-        return looks, verdicts
+        """Makes turns, at most so many. Returns the looks at them, and for each test the digits of its number at each."""
+        steps, lines = self.watched_steps(turns) if self.watches else self.polled_steps(turns)
+        answers = self.run.ask_all(lines)[:-1]
+        if not self.watches:
+            if len(answers) != len(steps) * self.width or not answers[0].startswith("TURNS "):
+                raise self.run.nonsense(answers[0])
+            return Looks(self.run, list(accumulate(steps))), self.columns(answers)
+        made, numbers = self.hits(answers)
+        self.close = sum(map(int.__lt__, made, steps)) >= TOO_FEW if len(steps) > 1 else made[0] < min(NEAR, steps[0])
+        return Looks(self.run, list(accumulate(made))), [numbers] * len(self.condition.tests)
+
+    def hits(self, answers):
+        """Returns how many turns each STEP made, and the digits at the watched place after it."""
+        made, numbers = [], [self.number]
+        for line in answers:
+            kind, *words = line.split()
+            if kind == "TURNS":
+                made.append(int(words[0], 8))
+                numbers.append(numbers[-1])
+            elif kind == "HIT":
+                numbers[-1] = words[-1]
+            else:
+                raise self.run.nonsense(line)
+        return made, numbers[1:]
 
     def watched_steps(self, turns):
         steps = [CLOSE_TURNS] * min(CLOSE_STEPS, turns // CLOSE_TURNS) if self.close else []
         steps = steps or [min(turns, MOST_TURNS)]
-        return steps, self.lines_of(steps)
+        return steps, [*(f"STEP {step:o}" for step in steps), MARK]
 
     def polled_steps(self, turns):
         """Returns the turns of each STEP, up to the end of a turn that may change the condition, and the lines."""
@@ -164,27 +172,28 @@ class Search:
 
     def lines_of(self, steps):
         """Returns the lines of looks after so many turns each."""
-        return [line for step in steps for line in (f"STEP {step:o}", *self.questions)] + [MARK]
+        return [line for step in steps for line in (f"STEP {step:o}", *self.layout)] + [MARK]
 
-    def verdicts(self, answers, looks):
+    def verdicts(self, columns, looks):
         """Returns whether the condition holds at each look."""
-        columns = [test.verdicts(self.values(test.subject, answers), looks) for test in self.condition.tests]
-        return columns[0] if len(columns) == 1 else [all(column) for column in zip(*columns)]
+        found = [test.verdicts(values, looks) for test, values in zip(self.condition.tests, columns)]
+        return found[0] if len(found) == 1 else [all(verdicts) for verdicts in zip(*found)]
 
-    def values(self, subject, answers):
-        """Returns the digits of a number at each look."""
-        first, lines = self.layout[subject.question]
-        start, end = subject.span(lines)
-        columns = [[line[start:end] for line in answers[first + row::self.width]] for row in subject.rows]
-        return columns[0] if len(columns) == 1 else list(map(" ".join, zip(*columns)))
+    def columns(self, answers):
+        """Returns for each test the digits of its number at each look."""
+        return [subject.column(answers, self.layout[subject.question], self.width) for subject in self.condition.subjects]
 
-    def those_found(self, looks, verdicts):
-        """Yields the turns at which the condition comes to hold."""
+    def those_found(self, looks, verdicts, numbers):
+        """Returns the turns at which the condition comes to hold. The numbers are the digits of the first test's at each look."""
         comes = [at for at, (was, now) in enumerate(zip([self.held, *verdicts], verdicts))
                  if now and (self.condition.is_change or not was) and self.run.turn + looks.ends[at] > self.first]
         befores = self.look_back(looks, comes)
-        return [Found(self.run.turn + looks.ends[at], looks.slot(at), processor, *self.difference(before, after))
-                for at, (registers, before), (processor, after) in zip(comes, befores, self.look_forward(looks, comes, befores))]
+        found = []
+        for at, (registers, before), (processor, after) in zip(comes, befores, self.look_forward(looks, comes, befores)):
+            if self.is_told:
+                before, after = ([(self.condition.numbers[0].name, digits)] for digits in [self.number, *numbers][at:at + 2])
+            found.append(Found(self.run.turn + looks.ends[at], looks.slot(at), processor, *self.difference(before, after)))
+        return found
 
     def look_back(self, looks, comes):
         """Goes back to before the first of these turns. Returns the registers and the numbers before each."""
@@ -213,13 +222,22 @@ class Search:
             processor = Processor(registers, next(answers)[0].split()[1:])
             yield processor, self.numbers(answers)
 
+    @property
+    def is_told(self):
+        """Whether a HIT tells all that is shown: of a channel the state is shown too."""
+        return bool(self.watches) and not (self.watches[0][0] == "H" and self.condition.numbers[0].rows[0] < CLOCK)
+
     def dumps(self):
         """Returns the questions for the numbers that are shown."""
-        return [(subject.question, [""] * subject.lines) for subject in self.condition.numbers]
+        return [] if self.is_told else [(subject.question, [""] * subject.lines) for subject in self.condition.numbers]
 
     def numbers(self, answers):
         """Returns the names and the digits of the numbers that are shown, from the answers."""
-        return [pair for subject in self.condition.numbers for pair in shown_numbers(subject, next(answers))]
+        return [] if self.is_told else [pair for subject in self.condition.numbers for pair in shown_numbers(subject, next(answers))]
+
+    def shown(self, subject):
+        """Returns the names and the digits of the numbers of a subject as it is now."""
+        return shown_numbers(subject, self.run.demand(subject.question))
 
     def difference(self, before, after):
         """Returns the numbers before and after a turn, of a range of cells those that differ; and whether they have names."""
@@ -257,10 +275,10 @@ def last_found(words, actions, condition, first=0, most=1, last=None, progress=N
     return found[-most:]
 
 
-def condition_and_script(words):
+def condition_and_script(words, symbols=AllSymbols()):
     """Returns the condition and the script of a command line. The condition may be one word or several."""
     tokens = [(token, at) for at, word in enumerate(words) for token in word.split() or [word]]
-    condition, rest = Condition.first_of([token for token, _ in tokens])
+    condition, rest = Condition.first_of([token for token, _ in tokens], symbols)
     if rest:
         at = tokens[-len(rest)][1]
         if len(rest) < len(tokens) and tokens[-len(rest) - 1][1] == at:
@@ -286,8 +304,8 @@ def main():
     add_symbols(parser)
     parser.add_argument("words", nargs="*", metavar="CONDITION [SCRIPT]", help="without a script, standard input is it")
     asked = parser.parse()
-    condition, path = condition_and_script(asked.words)
     symbols, words = symbols_of(asked), simulator(asked)
+    condition, path = condition_and_script(asked.words, symbols)
     script = performed(words, script_lines(path))
     is_found = False
     for found in turns_found(asked, condition, words, script.actions):

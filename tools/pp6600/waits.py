@@ -19,8 +19,10 @@ or nobody."""
 
 FIRST_SPAN = 0o10000  # of turns at the end that are searched first
 MOST_WATCHED = 8
-# After so many turns the clock is as it was, and so are loops of most lengths, and those of one or two rounds that count in a cell.
-ROUND_TRIP = PROCESSORS * CELLS * 2 * 9 * 5 * 7
+# After so many turns the clock is as it was, and so are processors that pass through their memories.
+CLOCK_TRIP = PROCESSORS * CELLS
+# After so many also loops of most lengths are, and those of one or two rounds that count in a cell.
+ROUND_TRIP = CLOCK_TRIP * 2 * 9 * 5 * 7
 
 
 class Waiting:
@@ -90,9 +92,15 @@ def address_of_instruction(console, number, processor):
     return "NONE" if address is None else f"{address:04o}"
 
 
-def hit_processor(line):
-    """Returns the processor of a HIT of its P."""
-    return int(line.split()[2], 8)
+def drop_moved(run, turns, numbers):
+    """Makes so many turns, and drops the processors that move from the watched ones, up to the last of them."""
+    for _, answer in run.step(turns):
+        for line in answer[1:]:
+            number = int(line.split()[2], 8)
+            numbers.discard(number)
+            run.question(f"UNWATCH P {number:o}", ["OK"])
+        if not numbers:
+            return
 
 
 def waiting_for_ever(words, actions, numbers):
@@ -100,16 +108,13 @@ def waiting_for_ever(words, actions, numbers):
     and meanwhile they have not moved. Then it does so again and again."""
     run = Replay(words)
     run.to_turn(actions, turns_of(actions))
-    before, staying = (look(run), look_at_central(run)), set(numbers)
+    before, staying, is_back = (look(run), look_at_central(run)), set(numbers), False
     for number in numbers:
         run.watch(f"P {number:o}")
-    for _, answer in run.step(ROUND_TRIP):
-        for line in answer[1:]:
-            staying.discard(hit_processor(line))
-            run.question(f"UNWATCH P {hit_processor(line):o}", ["OK"])
-        if not staying:
-            break
-    is_back = bool(staying) and before == (look(run), look_at_central(run))
+    for turns in (CLOCK_TRIP, ROUND_TRIP - CLOCK_TRIP):
+        if staying and not is_back:
+            drop_moved(run, turns, staying)
+            is_back = bool(staying) and before == (look(run), look_at_central(run))
     run.end()
     return staying if is_back else set()
 

@@ -5,17 +5,15 @@ is computed here but addresses: each is read from the simulator."""
 from typing import NamedTuple, Optional
 
 from .answers import CELLS, CENTRAL_ADDRESSES, CLOCK, FRAME_WORDS, Place
-from .instructions import END_OF_BLOCK, END_OF_INPUT, Effect
+from .instructions import CHANNEL_JUMPS, END_OF_BLOCK, END_OF_INPUT, INDEXED, INDIRECT, RELATIVE_JUMPS, Effect
 
 AT_END_OF_BLOCK, AT_END_OF_INPUT = Effect.all_of(END_OF_BLOCK), Effect.all_of(END_OF_INPUT)
-RELATIVE_JUMPS = range(0o3, 0o10)
-CHANNEL_JUMPS = range(0o64, 0o70)
 BLOCK_INPUT = 0o71
 EXCHANGE, BLOCKS_OF_CENTRAL = 0o26, (0o61, 0o63)
 A_IS_AN_ADDRESS = (EXCHANGE, 0o60, 0o62)
-P_OF_FRAME = (0, 1)  # the parts of word 0 that have the central processor's P
+# Parts of a word of sixty bits, of twelve each; part 0 is the leftmost.
+P_OF_FRAME = (0, 1)  # those of word 0 that have the central processor's P
 WITHOUT_B_FIELD = (0, 1, 2, 3)  # what word 0 of the frame gets of a central word
-PARTS = 5  # of twelve bits in a word of sixty; part 0 is the leftmost
 
 # Constants: what a write has that is no number of a place. d, m and dm are fields of the instruction.
 RETURN, WORD, ZERO, NO_WORD = "return", "word", "zero", "no central word"
@@ -163,7 +161,7 @@ class Turn:
 def address_is_in_cell(word):
     """Returns whether the instruction of a word has its operand's address, or a part of it, in cell d."""
     code, d = word >> 6, word & 0o77
-    return 0o40 <= code < 0o50 or d != 0 and (code in (0o01, 0o02) or 0o50 <= code < 0o60)
+    return code in INDIRECT or d != 0 and code in INDEXED
 
 
 def may_write(number, processor):

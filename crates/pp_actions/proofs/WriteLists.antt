@@ -7,7 +7,7 @@ use Rattle.pp_machine.specs.Prelude.{Machine, over, old_values, Has, number, Wri
 use Rattle.pp_machine.specs.declared.place.Write.{Write}
 use Rattle.pp_machine.specs.declared.place.Place.TheVariants.{Cell, WatchEntry}
 use Rattle.pp_actions.specs.Deadstart.{all_waiting, waiting}
-use Rattle.pp_actions.specs.Ranges.{IsInRange}
+use Rattle.pp_machine.specs.Ranges.{IsInRange}
 use Rattle.pp_actions.specs.Settings.{AreSettings, IsSetting, IsSetting-at, AreSettings-append, HasAll-settings}
 use Rattle.pp_actions.specs.WatchCodes.{watch_code}
 use Rattle.pp_actions.specs.declared.watched.Watched.{Watched}

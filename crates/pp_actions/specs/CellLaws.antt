@@ -1,7 +1,7 @@
 -- Lists of consecutive cells.
 use Rattle.std.proofs.Common.{arith, suc, ℕ, ◌+◌, ◌<◌, ◌≤◌, List, [], ◌∷◌, All}
 use Rattle.pp_actions.specs.WriteLists.{cell_writes}
-use Rattle.pp_actions.specs.Ranges.{twelve_bits}
+use Rattle.pp_machine.specs.Ranges.{twelve_bits}
 use Rattle.pp_actions.specs.Settings.{AreSettings}
 
 pub AreSettings-cell_writes : (size n a : ℕ) (vs : List ℕ) → n < 10 → All (λ v. v ≤ twelve_bits) vs → AreSettings size (cell_writes n a vs)

@@ -2,40 +2,46 @@
 use Rattle.std.specs.Prelude.{ℕ, zero, suc, ◌+◌, List, [], ◌∷◌, ◌++◌, Option, Some, None, replicate}
 use Rattle.pp_machine.specs.Writes.{Writes}
 use Rattle.pp_machine.specs.declared.place.Place.{Place}
-use Rattle.pp_machine.specs.declared.place.Place.TheVariants.{Cell, Slot}
-use Rattle.pp_actions.specs.WriteLists.{cell_writes, register_writes, state_writes}
+use Rattle.pp_machine.specs.declared.place.Place.TheVariants.{Cell, Phase, RegA, RegP, RegQ, Slot}
+use Rattle.pp_actions.specs.WriteLists.{cell_writes, state_writes}
 
--- processor 0 has the panel in its cells 0001 to 0014, between two zeros, and begins at the panel
+-- Processor 00 has the twelve words of the panel (the manual, peripheral processor instructions) in its cells 0001 to 0014, between
+-- two zeros, and begins at the panel, with P = 0001 (this project's choice).
 abbrev pub loading : List ℕ → Writes Place
-loading panel = cell_writes 0 0 (0 ∷ []) ++ cell_writes 0 1 panel ++ cell_writes 0 0o15 (0 ∷ []) ++ register_writes 0 0 1 0 0
+loading panel =
+    cell_writes 0 0 (0 ∷ []) ++ cell_writes 0 1 panel ++ cell_writes 0 0o15 (0 ∷ []) ++
+    (RegA 0, 0) ∷ (RegP 0, 1) ∷ (RegQ 0, 0) ∷ (Phase 0, 0) ∷ []
 
--- processor n reads 10000 words from channel n into its memory
+-- Processor n is in the input of a block, 71nn: 10000 words from channel n into its cells from 0000 on (this project's choice).
 abbrev pub waiting : ℕ → Writes Place
-waiting n = (Cell n 0, 0) ∷ register_writes n 0o10000 0 0 (0o7100 + n)
+waiting n = (Cell n 0, 0) ∷ (RegA n, 0o10000) ∷ (RegP n, 0) ∷ (RegQ n, 0) ∷ (Phase n, 0o7100 + n) ∷ []
 
--- this many processors, from n on, do that
+-- This many processors, from n on, do that (this project's choice).
 unfoldable pub all_waiting : ℕ → ℕ → Writes Place
 all_waiting n zero = []
 all_waiting n (suc count) = waiting n ++ all_waiting (n + 1) count
 
--- channels 01 to 11 are active and empty, the others inactive
+-- Channels 00 to 13 in their order: 01 to 11 are active and empty, 1, and the others inactive, 0 (this project's choice).
 abbrev pub states : List ℕ
 states = 0 ∷ 1 ∷ 1 ∷ 1 ∷ 1 ∷ 1 ∷ 1 ∷ 1 ∷ 1 ∷ 1 ∷ 0 ∷ 0 ∷ []
 
+-- the states of all channels (this project's choice)
 unfoldable pub all_states : Writes Place
 all_states = state_writes 0 states
 
+-- What a dead start with this panel writes: processor 00, processors 01 to 11, the channels and the slot (this project's choice).
 unfoldable pub deadstart_write_list : List ℕ → Writes Place
-deadstart_write_list panel = loading panel ++ all_waiting 1 9 ++ all_states ++ (Slot, 0) ∷ []
+deadstart_write_list panel = loading panel ++ all_waiting 1 0o11 ++ all_states ++ (Slot, 0) ∷ []
 
--- what a dead start of a machine with this panel writes
+-- What a dead start writes: without a panel nothing (this project's choice).
 abbrev pub deadstart_writes : Option (List ℕ) → Writes Place
 deadstart_writes None = []
 deadstart_writes (Some panel) = deadstart_write_list panel
 
 -- the same places, for any panel
 abbrev pub deadstart_places : Writes Place
-deadstart_places = deadstart_write_list (replicate 12 0)
+deadstart_places = deadstart_write_list (replicate 0o14 0)
 
+-- 14 cells and 4 registers of processor 00, 5 places of each other one, 12 states and the slot (all decimal)
 abbrev pub deadstart_place_count : ℕ
 deadstart_place_count = 76

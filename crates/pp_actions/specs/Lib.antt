@@ -2,7 +2,6 @@ pub mod Admitting
 pub mod CellLaws
 pub mod Deadstart
 pub mod Padding
-pub mod Ranges
 pub mod RecordLists
 pub mod Settings
 pub mod Unwatching

@@ -1,7 +1,7 @@
 -- Definitions about records: watch entries put back, and a list without its places. What an action writes does not need
 -- them. The contracts of inner functions and the proofs need them for the places of a record and for the machines that
 -- it fits.
-use Rattle.std.specs.Prelude.{ℕ, ◌+◌, List, [], ◌∷◌, get_or, set}
+use Rattle.std.specs.Prelude.{ℕ, ◌+◌, List, [], ◌∷◌, slice_index, set}
 use Rattle.pp_machine.specs.Writes.{Writes}
 use Rattle.pp_machine.specs.declared.place.Place.{Place}
 
@@ -13,7 +13,7 @@ with_entries entries i (code ∷ codes) = set (with_entries entries (i + 1) code
 -- the codes in the entries from i on, as many as there are codes in the list
 abbrev pub entries_at : List ℕ → ℕ → List ℕ → List ℕ
 entries_at entries i [] = []
-entries_at entries i (code ∷ codes) = get_or entries i 0 ∷ entries_at entries (i + 1) codes
+entries_at entries i (code ∷ codes) = slice_index entries i ∷ entries_at entries (i + 1) codes
 
 -- the numbers of a list
 abbrev pub numbers : Writes Place → List ℕ

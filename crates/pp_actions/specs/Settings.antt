@@ -1,15 +1,15 @@
 -- Numbers that an action sets or may set, and lists of such settings.
-use Rattle.std.proofs.Common.{arith, zero, suc, ℕ, ◌<◌, List, [], ◌∷◌, ◌++◌, length, get_or, Some, None}
+use Rattle.std.proofs.Common.{arith, zero, suc, ℕ, ◌<◌, List, [], ◌∷◌, ◌++◌, length, slice_index_or, Some, None}
 use Rattle.pp_machine.specs.Prelude.{Writes, write_list, Has, HasAll, state_number}
 use Rattle.pp_machine.specs.declared.place.Write.{Write}
 use Rattle.pp_machine.specs.declared.place.Place.{Place}
 use Rattle.pp_machine.specs.declared.place.Place.TheVariants.{Cell, RegA, RegP, RegQ, Phase, ChannelMode, ChannelWord, Central, Slot}
-use Rattle.pp_actions.specs.Ranges.{IsInRange}
+use Rattle.pp_machine.specs.Ranges.{IsInRange}
 use Rattle.pp_actions.specs.WriteLists.{cell_writes}
 use Rattle.pp_actions.specs.declared.action.Action.{Action}
 use Rattle.pp_actions.specs.declared.action.Action.TheVariants as action
 
--- the numbers that an action sets, whatever the machine
+-- What an action sets, whatever the machine. A new P ends the processor's block transfer (this project's choice).
 abbrev pub set_list : Action → Writes Place
 set_list (action.SetCells n a values) = cell_writes n a values
 set_list (action.SetA n v) = (RegA n, v) ∷ []
@@ -48,7 +48,8 @@ AreSettings-append size [] b h k = k
 AreSettings-append size (pair ∷ a) b h k = (h.0, AreSettings-append size a b h.1 k)
 
 -- one pair of a list of settings
-pub IsSetting-at : (size : ℕ) (ks : List Write) (i : ℕ) (d : Write) → AreSettings size (write_list ks) → i < length ks → IsSetting size (get_or ks i d).place (get_or ks i d).number
+pub IsSetting-at : (size : ℕ) (ks : List Write) (i : ℕ) (d : Write) → AreSettings size (write_list ks) → i < length ks →
+    IsSetting size (slice_index_or ks i d).place (slice_index_or ks i d).number
 IsSetting-at size [] i d h l = absurd (omega arith)
 IsSetting-at size (k ∷ ks) zero d h l = h.0
 IsSetting-at size (k ∷ ks) (suc i) d h l = IsSetting-at size ks i d h.1 (omega arith)

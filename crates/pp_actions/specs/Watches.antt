@@ -2,13 +2,14 @@
 use Rattle.std.specs.Prelude.{ℕ, ◌/◌, ◌%◌, ◌==◌, ◌≡◌, ◌≢◌, Bool, List, [], ◌∷◌, ◌≤◌, All, length, if◌then◌else◌}
 use Rattle.std.specs.List.{list_any, AllPairs}
 use Rattle.pp_machine.specs.Prelude.{Machine, Has}
+use Rattle.pp_machine.specs.Ranges.{watch_count}
 use Rattle.pp_machine.specs.declared.place.Place.{Place}
 use Rattle.pp_machine.specs.declared.place.Place.TheVariants as place
 use Rattle.pp_actions.specs.WatchCodes.{watch_code, watch_entries}
 use Rattle.pp_actions.specs.declared.watched.Watched.{Watched}
 use Rattle.pp_actions.specs.declared.watched.Watched.TheVariants.{Cell, RegA, RegP, RegQ, Central, Register}
 
--- the place of the machine that is watched; register 14 (octal) is the clock
+-- The place of the machine that is watched; register 14 is the clock (this project's choice).
 abbrev pub watched_place : Watched → Place
 watched_place (Cell n a) = place.Cell n a
 watched_place (RegA n) = place.RegA n
@@ -17,35 +18,36 @@ watched_place (RegQ n) = place.RegQ n
 watched_place (Central a) = place.Central a
 watched_place (Register c) = if c == 0o14 then place.Clock else place.ChannelWord c
 
--- the watched place of a kind, by the rest of its code
+-- The watched place of a kind, by the rest of its code (this project's choice).
 abbrev pub watched_of_kind : ℕ → ℕ → Watched
 watched_of_kind kind rest =
-    if kind == 1 then Cell (rest / 4096) (rest % 4096)
+    if kind == 1 then Cell (rest / 0o10000) (rest % 0o10000)
     else (if kind == 2 then RegA rest
     else (if kind == 3 then RegP rest
     else (if kind == 4 then RegQ rest
     else (if kind == 5 then Central rest
     else Register rest))))
 
--- the watched place with a code
+-- The watched place with a code (this project's choice).
 abbrev pub watched_at : ℕ → Watched
-watched_at code = watched_of_kind (code / 2097152) (code % 2097152)
+watched_at code = watched_of_kind (code / 0o10000000) (code % 0o10000000)
 
--- the watched places in their order: those of the entries before the first zero
+-- The watched places in their order: those of the entries before the first zero (this project's choice).
 abbrev pub watched_in : List ℕ → List Watched
 watched_in [] = []
 watched_in (code ∷ codes) = if code == 0 then [] else watched_at code ∷ watched_in codes
 
+-- the watched places of a machine (this project's choice)
 abbrev pub watches_of : Machine → List Watched
 watches_of s = watched_in s.watches
 
--- whether the machine watches the place
+-- Whether the machine watches the place (this project's choice).
 abbrev pub is_watched : Machine → Watched → Bool
 is_watched s watched = list_any (λ code. code == watch_code watched) s.watches
 
 -- at most eight places, each determined by its code
 pub record HaveCodes (places : List Watched) : Type 0 where
-  pub at_most : length places ≤ 8
+  pub at_most : length places ≤ watch_count
   pub read_back : All (λ watched. watched_at (watch_code watched) ≡ watched) places
 
 -- well formed watch entries: the codes of distinct places that a machine with this many central words has, then zeros

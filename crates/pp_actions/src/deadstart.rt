@@ -7,6 +7,7 @@ ghost use Rattle.pp_machine.specs.Prelude.{write_list};
 ghost use Rattle.pp_actions.specs.Deadstart.{all_states, all_waiting, deadstart_write_list, deadstart_places, states, waiting};
 ghost use Rattle.pp_actions.specs.RecordLists.{with_new_numbers, numbers};
 ghost use Rattle.pp_actions.specs.WriteLists.{register_writes, state_writes};
+ghost use Rattle.pp_machine.specs.Ranges.{channel_count};
 
 use crate::lists::append;
 use crate::settings::push_cells;
@@ -43,7 +44,7 @@ const STATES: [u64; 12] = [0, 1, 1, 1, 1, 1, 1, 1, 1, 1, 0, 0];
 
 /// Appends the states of the channels.
 fn push_states(list: &mut ArrayVec<Write, 76>, states: &[u64])
-    requires at_most { length states.now ≤ 12 }
+    requires at_most { length states.now ≤ channel_count }
     requires room { array_vec_len list.old + length states.now ≤ 76 }
     ensures items { write_list list.new.items ≡ write_list list.old.items ++ state_writes 0 states.now }
     ensures len { array_vec_len list.new ≡ array_vec_len list.old + length states.now }
@@ -57,7 +58,7 @@ fn push_states(list: &mut ArrayVec<Write, 76>, states: &[u64])
 #[tactic(auto, using(crate::proofs::WriteLists::pair_lists), unfolding(crate::specs::Deadstart::deadstart_write_list, crate::specs::Deadstart::all_states))]
 pub fn deadstart_settings(panel: &[u16; 12]) -> ArrayVec<Write, 76>
     ensures list { write_list result.items ≡ deadstart_write_list panel.now }
-    ensures words { length panel.now ≡ 12 }
+    ensures words { length panel.now ≡ channel_count }
 {
     let mut list = ArrayVec::new();
     push_cells(&mut list, 0, 0, &[0]);

@@ -4,6 +4,7 @@ ghost use Rattle.arrayvec.specs.ArrayVec.{array_vec_len};
 ghost use Rattle.pp_machine.specs.Prelude.{write_list};
 ghost use Rattle.pp_actions.specs.Settings.{set_list};
 ghost use Rattle.pp_actions.specs.WriteLists.{cell_writes};
+ghost use Rattle.pp_machine.specs.Ranges.{cell_count};
 
 use crate::action::Action;
 use crate::lists::list_of;
@@ -18,7 +19,7 @@ pub(crate) fn push_cells<const N: usize>(
     a: u16,
     values: &[u16],
 )
-    requires at_most { length values.now ≤ 4096 }
+    requires at_most { length values.now ≤ cell_count }
     requires room { array_vec_len list.old + length values.now ≤ N }
     ensures items { write_list list.new.items ≡ write_list list.old.items ++ cell_writes pp a values.now }
     ensures len { array_vec_len list.new ≡ array_vec_len list.old + length values.now }

@@ -29,10 +29,10 @@ pub fn sub18(a: u32, b: u32) -> u32
 
 /// Returns `a` rotated left by `n` bits within 18 bits. `a` is 0 to 0o777777, and `n` is 0 to 17.
 #[tactic(auto, using(crate::proofs::Turning::turned, crate::proofs::Turning::turned_fits))]
-fn turn_left18(a: u32, n: u8) -> u32
+fn rotate_left18(a: u32, n: u8) -> u32
     requires a_in { a ≤ 0o777777 }
     requires n_in { n < 18 }
-    ensures value { result ≡ spec.turn_left18 a n }
+    ensures value { result ≡ spec.rotate_left18 a n }
     ensures fits { result ≤ 0o777777 }
 {
     let wide = u64::from(a) << n;
@@ -51,7 +51,7 @@ pub fn shift18(a: u32, d: u8) -> u32
     ensures fits { result ≤ 0o777777 }
 {
     if d < 0o40 {
-        turn_left18(a, d % 18)
+        rotate_left18(a, d % 18)
     } else {
         a >> (0o77 - d)
     }

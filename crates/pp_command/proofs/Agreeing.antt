@@ -5,7 +5,7 @@ use Rattle.std.specs.List.{list_all}
 use Rattle.std.proofs.lemmas.Bool.Decides.{nat_tests, Decides-and, Decides-by_and, Decides-ltb}
 use Rattle.pp_command.specs.Ranges.{CanBeAsked, IsActionInRange, IsPlaceInRange, IsPlaceWithin, IsWithin, most_central_words}
 use Rattle.pp_actions.specs.Admitting.{is_in_range, is_watchable}
-use Rattle.pp_actions.specs.Ranges.{past_sixty_bits, twelve_bits}
+use Rattle.pp_machine.specs.Ranges.{past_sixty_bits, twelve_bits}
 use Rattle.pp_actions.specs.declared.action.Action.{Action}
 use Rattle.pp_actions.specs.declared.action.Action.TheVariants.{SetWord, Watch, Unwatch}
 use Rattle.pp_actions.specs.declared.watched.Watched.{Watched}

@@ -1,7 +1,7 @@
 -- The ranges of a request's numbers, and what separates them from the ranges of a machine.
 use Rattle.std.specs.Prelude.{ℕ, ◌<◌, ◌≤◌, IsTrue, length}
 use Rattle.pp_actions.specs.Admitting.{is_in_range, is_watchable}
-use Rattle.pp_actions.specs.Ranges.{processor_count, cell_count}
+use Rattle.pp_machine.specs.Ranges.{processor_count, cell_count}
 use Rattle.pp_actions.specs.declared.action.Action.{Action}
 use Rattle.pp_actions.specs.declared.action.Action.TheVariants as action
 use Rattle.pp_actions.specs.declared.watched.Watched.{Watched}

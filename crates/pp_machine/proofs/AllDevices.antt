@@ -3,10 +3,10 @@ use Rattle.std.proofs.Common.{refl, ◌≡◌, ℕ}
 use Rattle.pp_machine.proofs.DevicesLaws.{no-laws, on-laws}
 use Rattle.pp_machine.proofs.PrinterLaws.{printer-device, same-printer}
 use Rattle.pp_machine.proofs.ReaderLaws.{reader-device, same-reader}
-use Rattle.pp_machine.specs.AllDevices.{all_model, devices_of}
+use Rattle.pp_machine.specs.Inner.AllDevices.{all_model, devices_of}
 use Rattle.pp_machine.proofs.Prelude.{AreDevices, AreJoined, no_devices, on, Machine, number, Has, IsShaped, Place}
-use Rattle.pp_machine.specs.Printer.{printer_model}
-use Rattle.pp_machine.specs.Reader.{reader_model}
+use Rattle.pp_machine.specs.Inner.Printer.{printer_model}
+use Rattle.pp_machine.specs.Inner.Reader.{reader_model}
 
 pub printer_joined : AreJoined printer_model no_devices
 printer_joined = record { device = printer-device; others = no-laws; apart = λ m c n others. refl }

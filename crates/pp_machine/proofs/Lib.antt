@@ -1,6 +1,7 @@
 pub mod AllDevices
 pub mod ChannelRanges
 pub mod DeviceLaws
+pub mod DeviceSteps
 pub mod DevicesLaws
 pub mod Joined
 pub mod MachineStore

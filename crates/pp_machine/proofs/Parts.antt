@@ -10,15 +10,12 @@ over-parts [] s = refl
 over-parts (part ∷ parts) s = over-append put s (parts_writes parts (over s (part s))) (part s) ∙ over-parts parts (over s (part s))
 
 -- their old values lead back
-back-after : (parts : List Part) (s : Machine) → over (after_parts parts s) (parts_old_values parts s) ≡ s
+pub back-after : (parts : List Part) (s : Machine) → over (after_parts parts s) (parts_old_values parts s) ≡ s
 back-after [] s = refl
 back-after (part ∷ parts) s =
     let s1 = over s (part s) in
     over-append put (after_parts parts s1) (old_values s (part s)) (parts_old_values parts s1)
     ∙ (ap (λ m. over m (old_values s (part s))) (back-after parts s1) ∙ taken_back s (part s))
-
-pub parts-taken_back : (parts : List Part) (s : Machine) → over (over s (parts_writes parts s)) (parts_old_values parts s) ≡ s
-parts-taken_back parts s = ap (λ m. over m (parts_old_values parts s)) (over-parts parts s) ∙ back-after parts s
 
 -- their old values are at the places that they write
 pub same_places : (parts : List Part) (s : Machine) → IsPermutation (places (parts_old_values parts s)) (places (parts_writes parts s))

@@ -2,7 +2,7 @@
 use Rattle.std.proofs.Common.{ℕ, [], ◌≡◌, ◌≢◌, ◌≤◌, ◌<◌, length, lit≤, refl, arith, unwrap_or}
 use Rattle.std.specs.List.{AllPairs}
 use Rattle.pp_machine.proofs.Prelude.{IsAttached, IsDevice, device_old_values, number-over, Machine, Writes, over, number, lookup, renamed, places, Has, HasAll, IsShaped, Place}
-use Rattle.pp_machine.specs.Reader.{ReaderPlace, ReaderView, Card, Column, Mode, name_own, reader_model, reader_pairs, reader_place, reader_writes}
+use Rattle.pp_machine.specs.Inner.Reader.{ReaderPlace, ReaderView, Card, Column, Mode, name_own, reader_model, reader_pairs, reader_place, reader_writes}
 use Rattle.pp_machine.specs.declared.reader.ReaderRecord.{ReaderRecord}
 use Rattle.pp_machine.specs.declared.reader.ReaderRecord.TheVariants as back
 use Rattle.pp_machine.proofs.DeviceLaws.{IsSound, old_places, sound, sound-has, sound-if, sound-once}

@@ -2,7 +2,7 @@
 use Rattle.std.proofs.Common.{◌≡◌, ◌∙◌, ℕ, ◌<◌, List, length, get_or, sym}
 use Rattle.std.proofs.lemmas.List.{ext_get_or}
 use Rattle.pp_machine.proofs.AllDevices.{same-devices}
-use Rattle.pp_machine.specs.AllDevices.{machine_with}
+use Rattle.pp_machine.specs.Inner.AllDevices.{machine_with}
 use Rattle.pp_machine.proofs.Prelude.{Machine, number, processor, no_processor, Has, IsShaped, Place, Cell, RegA, RegP, RegQ, Phase, ChannelMode, ChannelWord, Clock, Central, FrameWord, Slot, WatchEntry}
 
 module _ (size : ℕ) (m m' : Machine) (shaped : IsShaped size m) (shaped' : IsShaped size m') (each : (p : Place) → Has size p → number m p ≡ number m' p) where

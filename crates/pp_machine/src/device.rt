@@ -1,6 +1,6 @@
 //! What the machine asks of a device.
 ghost use Rattle.std.specs.Prelude.{◌≡◌};
-ghost use Rattle.pp_machine.specs.Device.{DeviceModel, device_place, device_view, device_old_values, over_device};
+ghost use Rattle.pp_machine.specs.Inner.Device.{DeviceModel, device_place, device_view, device_old_values, over_device};
 ghost use Rattle.pp_machine.specs.Prelude.{renamed, lookup};
 
 use crate::channel::Channel;

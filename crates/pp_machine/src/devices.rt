@@ -1,8 +1,9 @@
 //! The devices of a machine, one after another, each on a channel of its own.
 ghost use Rattle.std.specs.Prelude.{◌≡◌, ◌<◌, false};
-ghost use Rattle.pp_machine.specs.Devices.{AreJoined, AreStepped, DevicesModel, attached, no_devices, on};
-ghost use Rattle.pp_machine.specs.Parts.{AreIdle};
+ghost use Rattle.pp_machine.specs.Inner.Devices.{AreJoined, AreStepped, DevicesModel, attached, no_devices, on};
+ghost use Rattle.pp_machine.specs.Inner.PartWrites.{AreIdle};
 ghost use Rattle.pp_machine.specs.Prelude.{Machine, over, lookup};
+ghost use Rattle.pp_machine.specs.Ranges.{channel_count};
 
 mod all;
 
@@ -65,19 +66,20 @@ pub struct OnRecords<D, R> {
 
 impl<D: Device, R: Devices> Model for On<D, R> {
     ghost use Rattle.std.specs.Prelude.{◌<◌};
-    ghost use Rattle.pp_machine.specs.Devices.{AreJoined, OnNumbers};
+    ghost use Rattle.pp_machine.specs.Inner.Devices.{AreJoined, OnNumbers};
+    ghost use Rattle.pp_machine.specs.Ranges.{channel_count};
 
     ghost Value = { OnNumbers D R };
 
     ghost view = { λ o. record { channel = o.channel; device = o.device; others = o.others } };
 
-    ghost invariant = { λ o. (o.channel < 12) × AreJoined D.model R.model };
+    ghost invariant = { λ o. (o.channel < channel_count) × AreJoined D.model R.model };
 }
 
 impl<D: Device, R: Devices> On<D, R> {
     /// Puts a device on a channel, 0 to 0o13, before other devices.
     pub fn new(channel: u8, device: D, others: R) -> On<D, R>
-        requires channel { channel < 12 }
+        requires channel { channel < channel_count }
         requires joined { AreJoined D.model R.model }
         ensures { result ≡ record { channel = channel; device = device; others = others } }
     {
@@ -92,7 +94,7 @@ impl<D: Device, R: Devices> On<D, R> {
     #[inline(always)]
     pub fn channel(&self) -> u8
         ensures value { result ≡ self.now.channel }
-        ensures in_range { result < 12 }
+        ensures in_range { result < channel_count }
     {
         self.channel
     }

@@ -1,3 +1,4 @@
+//! Why a part of the machine could not be made.
 ghost use Rattle.std.specs.Prelude.{◌≡◌};
 ghost use Rattle.pp_machine.specs.declared.fault.MakeFault.TheVariants.{NoMemory};
 

@@ -4,11 +4,11 @@ use Rattle.std.proofs.Common.{arith, ℕ, ◌≡◌, ◌≢◌, ◌<◌, ◌≤�
 use Rattle.std.proofs.lemmas.Grind.{common_steps}
 use Rattle.std.proofs.lemmas.Bool.Decides.{nat_tests}
 use Rattle.pp_machine.specs.Prelude.{Machine, old_values, Has}
-use Rattle.pp_rig.specs.Action.{writes, old_values_of, most_places}
+use Rattle.pp_rig.specs.Inner.ActionRecords.{writes, old_values_of, most_places}
 use Rattle.pp_actions.specs.Settings.{set_list, AreSettings}
 use Rattle.pp_actions.specs.Admitting.{first_fault, state_fault, is_in_range, is_watchable}
 use Rattle.pp_actions.specs.CellLaws.{AreSettings-cell_writes}
-use Rattle.pp_actions.specs.Ranges.{twelve_bits}
+use Rattle.pp_machine.specs.Ranges.{twelve_bits}
 use Rattle.pp_actions.specs.Watches.{is_watched, watched_place}
 use Rattle.pp_actions.specs.WatchCodes.{first_zero}
 use Rattle.pp_actions.proofs.WatchCodes.{length-watched_in}

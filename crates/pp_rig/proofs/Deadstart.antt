@@ -9,7 +9,7 @@ use Rattle.pp_machine.specs.declared.place.Place.{Place}
 use Rattle.pp_machine.specs.declared.place.Place.TheVariants.{Central, Slot}
 use Rattle.pp_actions.specs.CellLaws.{AreSettings-cell_writes}
 use Rattle.pp_actions.specs.Deadstart.{loading, all_waiting, all_states, deadstart_write_list, deadstart_place_count, deadstart_places}
-use Rattle.pp_actions.specs.Ranges.{IsInRange, twelve_bits}
+use Rattle.pp_machine.specs.Ranges.{IsInRange, twelve_bits}
 use Rattle.pp_actions.specs.Settings.{IsSettable, AreSettings, AreSettings-append, HasAll-settings}
 use Rattle.pp_actions.specs.RecordLists.{numbers, with_new_numbers}
 use Rattle.pp_actions.specs.WriteLists.{cell_writes, register_writes}

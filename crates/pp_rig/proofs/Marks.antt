@@ -3,14 +3,14 @@ use Rattle.std.proofs.Common.{ℕ, true, false, ◌≡◌, ◌==◌, ◌≤◌, 
 use Rattle.std.proofs.lemmas.Bool.Decides.{nat_tests}
 use Rattle.pp_history.specs.Marks.{covers, is_marked, is_set}
 use Rattle.pp_history.specs.declared.marks.Marks.{Marks}
-use Rattle.pp_machine.specs.AllDevices.{all_model}
+use Rattle.pp_machine.specs.Inner.AllDevices.{all_model}
 use Rattle.pp_machine.specs.Prelude.{Writes, renamed, lookup, same_place, words_of}
 use Rattle.pp_machine.specs.Writes.{AllPlaces}
 use Rattle.pp_machine.specs.WriteLaws.{AllPlaces-append, AllPlaces-if, AllPlaces-renamed}
 use Rattle.pp_machine.specs.declared.place.Place.{Place}
 use Rattle.pp_machine.specs.declared.place.Place.TheVariants.{Clock, Slot}
-use Rattle.pp_rig.specs.Marks.{cell_mark, central_mark, marks_of, AreUnmarked}
-use Rattle.pp_rig.specs.Turn.{clock_old_values, rest_pairs, turn_pairs}
+use Rattle.pp_rig.specs.Inner.Marks.{cell_mark, central_mark, marks_of, AreUnmarked}
+use Rattle.pp_rig.specs.Inner.TurnRecords.{clock_old_values, rest_pairs, turn_pairs}
 use Rattle.pp_rig.specs.declared.rig.TurnRecord.{TurnRecord}
 use Rattle.pp_step.specs.Exchange.{frame_pairs, word_pairs}
 use Rattle.pp_step.specs.Pairs.{pairs_as, target_pairs}

@@ -1,24 +1,32 @@
 -- The old values of an action lead back, and are at the places that it writes.
-use Rattle.std.proofs.Common.{arith, IsPermutation, ◌≡◌, ◌≤◌, length}
+use Rattle.std.proofs.Common.{arith, IsPermutation, ◌≡◌, ◌≤◌, length, refl, sym}
 use Rattle.std.proofs.lemmas.List.{length-append}
 use Rattle.std.proofs.lemmas.List.Sorted.{IsPermutation-refl}
 use Rattle.pp_machine.specs.Prelude.{Machine, over, number, places, places-old_values}
 use Rattle.pp_step.specs.Step.{pp_pairs, most_step_places}
 use Rattle.pp_step.specs.View.{pp_place}
-use Rattle.pp_rig.specs.Action.{writes, next, old_values_of}
-use Rattle.pp_rig.specs.Turn.{most_turn_places, rest_pairs, turn_old_values, turn_pairs, turn_parts, turn_writes}
+use Rattle.pp_rig.specs.Inner.ActionRecords.{writes, old_values_of}
+use Rattle.pp_rig.specs.Action.{next}
+use Rattle.pp_rig.specs.Inner.TurnRecords.{most_turn_places, rest_pairs, turn_old_values, turn_pairs, turn_writes}
+use Rattle.pp_rig.specs.Turn.{turn, turn_parts}
 use Rattle.pp_actions.specs.declared.action.Action.{Action}
 use Rattle.pp_actions.specs.declared.action.Action.TheVariants.{Turn}
 use Rattle.pp_rig.specs.declared.rig.TurnRecord.{TurnRecord}
 use Rattle.pp_rig.proofs.Devices.{devices-at_most}
 use Rattle.pp_machine.proofs.MachineStore.{taken_back}
-use Rattle.pp_machine.proofs.Parts.{parts-taken_back, same_places}
+use Rattle.pp_machine.proofs.Parts.{back-after, over-parts, same_places}
 use Rattle.pp_machine.specs.WriteLaws.{length-renamed}
+
+-- an action leads to the machine after its write list
+pub next_by_writes : (m : Machine) (action : Action) → next m action ≡ over m (writes m action)
+unfolding turn turn_writes
+next_by_writes m Turn = sym (over-parts turn_parts m)
+next_by_writes m action = refl
 
 -- the old values lead back to the machine before the action
 pub action_taken_back : (m : Machine) (action : Action) → over (next m action) (old_values_of m action) ≡ m
-unfolding turn_writes turn_old_values
-action_taken_back m Turn = parts-taken_back turn_parts m
+unfolding turn turn_old_values
+action_taken_back m Turn = back-after turn_parts m
 action_taken_back m action = taken_back m (writes m action)
 
 -- the old values are at the places of the write list

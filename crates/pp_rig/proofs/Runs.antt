@@ -6,14 +6,14 @@ use Rattle.std.specs.List.{AllByRecursion}
 use Rattle.std.specs.Option.{is_some}
 use Rattle.pp_machine.specs.NumberLaws.{number-over}
 use Rattle.pp_machine.specs.Prelude.{Machine, number, lookup}
-use Rattle.pp_rig.specs.Action.{FitsRecord, before, record_pairs}
+use Rattle.pp_rig.specs.Inner.ActionRecords.{FitsRecord, before, record_pairs}
 use Rattle.pp_rig.specs.declared.rig.RigRecord.{RigRecord}
 use Rattle.pp_history.specs.Marks.{AreCovered, covers}
 use Rattle.pp_history.specs.declared.marks.Marks.{Marks}
 use Rattle.pp_history.specs.SessionLaws.{machine_at}
 use Rattle.pp_history.specs.Repeating.{AreUnmarked, after_acts}
 use Rattle.pp_history.specs.SessionValue.{SessionValue, after_act, replay}
-use Rattle.pp_rig.specs.Marks.{marks_of}
+use Rattle.pp_rig.specs.Inner.Marks.{marks_of}
 use Rattle.pp_rig.specs.Rules.{rules}
 use Rattle.pp_rig.specs.Stopping.{after_turns, first_change, hit_of, hit_or, one_turn_more, stopped, turned}
 use Rattle.pp_rig.specs.Turn.{turn}

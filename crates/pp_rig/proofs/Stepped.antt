@@ -2,26 +2,29 @@
 use Rattle.std.proofs.Common.{ℕ, Bool, true, false, [], ◌∷◌, ◌<◌, ◌≡◌, ◌==◌, ◌∙◌, refl, ap, get_or, subst, sym}
 use Rattle.std.proofs.lemmas.List.{get_or_read}
 use Rattle.pp_machine.proofs.AllDevices.{all-laws}
-use Rattle.pp_machine.specs.AllDevices.{all_model}
+use Rattle.pp_machine.specs.Inner.AllDevices.{all_model}
 use Rattle.pp_machine.specs.NumberLaws.{setup-over}
-use Rattle.pp_machine.specs.Parts.{AreIdle, ArePerformed, after_parts, parts_old_values}
+use Rattle.pp_machine.specs.Inner.PartWrites.{AreIdle, ArePerformed, parts_old_values}
+use Rattle.pp_machine.specs.Parts.{after_parts}
 use Rattle.pp_machine.specs.Prelude.{Machine, ProcessorNumbers, over, put, no_processor, Writes, renamed, Has, HasAll}
 use Rattle.pp_step.specs.Step.{pp_pairs, pp_writes, FitsPp, IsStep}
-use Rattle.pp_step.specs.View.{PpPlace, PpView, over as over_pp, pp_place}
+use Rattle.pp_step.specs.View.{PpPlace, PpView, over as over_pp, pp_place, view_of as step_view}
 use Rattle.pp_step.specs.declared.record.PpRecord.{PpRecord}
-use Rattle.pp_rig.specs.IsMachine.{IsMachine}
-use Rattle.pp_rig.specs.Lift.{pp_of, step_view, with_pp}
-use Rattle.pp_rig.specs.LiftLaws.{step-pp, record-pp}
-use Rattle.pp_rig.specs.MachineLaws.{has_processor, IsMachine-with_pp}
+use Rattle.pp_rig.specs.Inner.IsMachine.{IsMachine}
+use Rattle.pp_rig.specs.Turn.{pp_of, processor_step, turn, turn_parts}
+use Rattle.pp_rig.specs.Inner.Lift.{with_pp}
+use Rattle.pp_rig.specs.Inner.LiftLaws.{step-pp, record-pp}
+use Rattle.pp_rig.specs.Inner.MachineLaws.{has_processor, IsMachine-with_pp}
 use Rattle.pp_machine.specs.WriteLaws.{AllPlaces-append, AllPlaces-if, over-append}
 use Rattle.pp_step.specs.PpPlaces.{HasAll-pp}
 use Rattle.pp_rig.specs.IsSetup.{IsSetup}
-use Rattle.pp_rig.specs.Short.{IsTurned}
-use Rattle.pp_rig.specs.Turn.{FitsRest, FitsTurn, IsSlotStep, device_parts, devices_old_values, end_old_values, end_parts, pp_step_writes, rest_of_turn, rest_pairs, turn_old_values, turn_pairs, turn_parts, turn_writes}
+use Rattle.pp_rig.specs.Inner.Short.{IsTurned}
+use Rattle.pp_rig.specs.Inner.TurnRecords.{FitsRest, FitsTurn, IsSlotStep, device_parts, devices_old_values, end_old_values, end_parts, rest_of_turn, rest_pairs, turn_old_values, turn_pairs, turn_writes}
 use Rattle.pp_rig.specs.declared.rig.TurnRecord.{TurnRecord}
 use Rattle.pp_rig.specs.declared.rig.TurnRest.{TurnRest}
+use Rattle.pp_rig.proofs.Devices.{by_models}
 use Rattle.pp_rig.proofs.Overwritten.{at_most-turn}
-use Rattle.pp_machine.proofs.Parts.{both-performed, led_back, none-performed, one-performed, over-parts}
+use Rattle.pp_machine.proofs.Parts.{both-performed, led_back, none-performed, one-performed}
 
 -- processor n, as it is read from the list, and as it is put back
 module _ (m : Machine) (n : ℕ) (x : ProcessorNumbers) (ok : IsMachine m) (in_slot : n < 10) (read : x ≡ get_or m.processors n x) where
@@ -93,13 +96,13 @@ HasAll-turn r s ok f =
     (AllPlaces-append (Has size) _ _ (AllPlaces-if (Has size) (r.rest.slot == 9) _ _ (λ last. (tt, tt)) (λ other. tt)) (tt, tt)))
 
 pub turned : (m m1 new : Machine) (r : TurnRecord) → IsSlotStep m m1 r.pp → ArePerformed rest_of_turn m1 new (rest_pairs r.rest) → FitsRest r.rest new → r.rest.slot ≡ m1.slot → new.setup ≡ m1.setup → IsMachine new → IsTurned m new r
-unfolding turn_writes turn_old_values turn_pairs
+unfolding turn turn_old_values turn_pairs
 turned m m1 new r step rest fits slot setup ok =
-    let first = one-performed pp_step_writes m m1 _ step.step (rw (slot ∙ step.kept.slot) step.old_values) in
-    let performed = both-performed (pp_step_writes ∷ []) rest_of_turn m m1 new _ _ first rest in
+    let first = one-performed processor_step m m1 _ step.step (rw (slot ∙ step.kept.slot) step.old_values) in
+    let performed = subst (λ parts. ArePerformed parts m new (turn_pairs r)) by_models (both-performed (processor_step ∷ []) rest_of_turn m m1 new _ _ first rest) in
     let fits_turn : FitsTurn r new = record { rest = fits; pp = rw setup step.fits } in
     record {
-      step = performed.step ∙ sym (over-parts turn_parts m);
+      step = performed.step;
       old_values = performed.old_values;
       fits = record { part = fits_turn; shaped = ok.shaped; places = HasAll-turn r new ok.setup fits_turn };
       at_most = at_most-turn r step.at_most;
@@ -109,6 +112,3 @@ turned m m1 new r step rest fits slot setup ok =
 pub turn-undone : (r : TurnRecord) (s s1 s0 : Machine) → s1 ≡ over s (rest_pairs r.rest) → s0 ≡ over s1 (renamed (pp_place r.rest.slot) (pp_pairs r.pp)) → s0 ≡ over s (turn_pairs r)
 unfolding turn_pairs
 turn-undone r s s1 s0 rest pp = simp (pp, rest, over-append)
-
--- what the parts of a turn need
-pub ruleset parts = (over-append, over-parts)

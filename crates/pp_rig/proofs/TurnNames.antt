@@ -1,11 +1,11 @@
 -- Which parts of a turn's record may have a place.
 use Rattle.std.proofs.Common.{arith, ℕ, false, ◌≡◌, Option, Some, None, if◌then◌else◌, refl}
-use Rattle.pp_machine.specs.Attached.{of_device}
+use Rattle.pp_machine.specs.Inner.Attached.{of_device}
 use Rattle.pp_machine.specs.Prelude.{renamed, first_of_two, lookup, same_place}
 use Rattle.pp_machine.specs.WriteLaws.{lookup-append}
 use Rattle.pp_machine.specs.declared.place.Place.{Place}
 use Rattle.pp_machine.specs.declared.place.Place.TheVariants.{Clock, Slot}
-use Rattle.pp_rig.specs.Turn.{devices_old_values, end_old_values, rest_pairs, turn_pairs}
+use Rattle.pp_rig.specs.Inner.TurnRecords.{devices_old_values, end_old_values, rest_pairs, turn_pairs}
 use Rattle.pp_rig.specs.declared.rig.TurnRecord.{TurnRecord}
 use Rattle.pp_rig.proofs.Devices.{not_by_devices}
 use Rattle.pp_rig.specs.declared.rig.TurnRest.{TurnRest}

@@ -8,7 +8,7 @@ use Rattle.pp_machine.specs.declared.place.Place.TheVariants.{Cell, WatchEntry}
 use Rattle.pp_machine.proofs.DeviceLaws.{same-self}
 use Rattle.pp_machine.proofs.Once.{once, each-once}
 use Rattle.pp_rig.proofs.Deadstart.{length-cell_writes, length-deadstart_write_list}
-use Rattle.pp_rig.specs.Action.{most_places, writes}
+use Rattle.pp_rig.specs.Inner.ActionRecords.{most_places, writes}
 use Rattle.pp_actions.specs.Unwatching.{without_entry, moved_up}
 use Rattle.pp_actions.specs.Deadstart.{all_states, all_waiting, deadstart_place_count, deadstart_writes, deadstart_write_list}
 use Rattle.pp_actions.specs.WatchCodes.{watch_code}

@@ -1,24 +1,26 @@
 -- An admitted action writes only places that the machine has.
-use Rattle.std.proofs.Common.{◌≡◌, ℕ, ◌+◌, ◌<◌, ◌≤◌, ◌==◌, Bool, List, [], ◌∷◌, drop, length, position, refl, arith, length-drop, Option, Some, None, IfSome}
+use Rattle.std.proofs.Common.{◌≡◌, ℕ, ◌+◌, ◌<◌, ◌≤◌, ◌==◌, Bool, List, [], ◌∷◌, drop, length, position, refl, subst, arith, length-drop, Option, Some, None, IfSome}
 use Rattle.std.proofs.lemmas.List.Quantifiers.{position-Some}
 use Rattle.pp_machine.specs.Prelude.{Machine, over, processor, no_processor, Has, HasAll}
 use Rattle.pp_machine.specs.WriteLaws.{AllPlaces-if}
 use Rattle.pp_step.proofs.StepPlaces.{HasAll-step}
 use Rattle.pp_rig.proofs.Admitting.{settings_fit, is_watch}
 use Rattle.pp_rig.proofs.Deadstart.{AreSettings-deadstart}
+use Rattle.pp_rig.proofs.Devices.{by_models}
 use Rattle.pp_machine.proofs.AllDevices.{all-laws}
 use Rattle.pp_machine.proofs.Parts.{HasAll-parts, each-append}
 use Rattle.pp_actions.proofs.Unwatching.{HasAll-entries}
-use Rattle.pp_rig.specs.Action.{writes}
+use Rattle.pp_rig.specs.Inner.ActionRecords.{writes}
 use Rattle.pp_actions.specs.Unwatching.{moved_up, without_entry}
 use Rattle.pp_actions.specs.Settings.{set_list, HasAll-settings}
 use Rattle.pp_actions.specs.Admitting.{first_fault}
 use Rattle.pp_actions.specs.Deadstart.{deadstart_writes, deadstart_write_list}
 use Rattle.pp_rig.specs.IsSetup.{IsPanel}
-use Rattle.pp_rig.specs.Lift.{pp_of}
+use Rattle.pp_rig.specs.Turn.{pp_of, processor_step, turn_parts}
 use Rattle.pp_machine.specs.NumberLaws.{setup-over}
+use Rattle.pp_machine.specs.Inner.PartWrites.{EachPart}
 use Rattle.pp_machine.specs.Parts.{after_parts}
-use Rattle.pp_rig.specs.Turn.{device_parts, end_parts, pp_step_writes, turn_parts, turn_writes}
+use Rattle.pp_rig.specs.Inner.TurnRecords.{device_parts, end_parts, turn_writes}
 use Rattle.pp_actions.specs.WatchCodes.{watch_code}
 use Rattle.pp_rig.specs.WellFormed.{IsProcessor, IsWellFormed}
 use Rattle.pp_actions.specs.declared.action.Action.{Action}
@@ -30,17 +32,17 @@ HasAll-turn_writes : (s : Machine) → IsWellFormed s → HasAll s.setup.central
 unfolding turn_writes
 HasAll-turn_writes s ok =
     let size = s.setup.central_words in
-    let s1 = over s (pp_step_writes s) in
+    let s1 = over s (processor_step s) in
     let s3 = after_parts device_parts s1 in
     let here : s.slot < length s.processors = omega (arith, ok.slot, ok.sizes.processors) in
     let stepped : IsProcessor (processor s s.slot) = ok.processors s.slot no_processor here in
     let low : (processor s s.slot).p < 4096 = omega (arith, stepped.p) in
-    HasAll-parts size turn_parts s (
+    HasAll-parts size turn_parts s (subst (λ parts. EachPart (λ part m. HasAll size (part m)) parts s) by_models (
       HasAll-step size s.slot ok.slot (pp_of s.slot s) low stepped.cells ok.sizes.central,
       each-append (λ part m. HasAll size (part m)) device_parts end_parts s1
-          (all-laws.writes_has size s1 (rw (setup-over s (pp_step_writes s)) ok.setup.channels))
-          (AllPlaces-if (Has size) (s3.slot == 9) _ _ (λ last. (tt, tt)) (λ other. tt), ((tt, tt), tt)),
-    )
+          (all-laws.writes_has size s1 (rw (setup-over s (processor_step s)) ok.setup.channels))
+          (AllPlaces-if (Has size) (s3.slot == 0o11) _ _ (λ last. (tt, tt)) (λ other. tt), ((tt, tt), tt)),
+    ))
 
 -- ---- watches
 

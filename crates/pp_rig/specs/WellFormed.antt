@@ -1,12 +1,12 @@
 -- A well formed machine: every number is in its range.
 use Rattle.std.specs.Prelude.{◌<◌, ◌≤◌, All, IsTrue}
-use Rattle.pp_machine.specs.AllDevices.{AreInRange}
+use Rattle.pp_machine.specs.Inner.AllDevices.{AreInRange}
 use Rattle.pp_machine.specs.ChannelNumbers.{IsChannels}
 use Rattle.pp_machine.specs.Frame.{IsPackage}
 use Rattle.pp_machine.specs.Prelude.{Machine, ProcessorNumbers, IsShaped}
 use Rattle.pp_machine.specs.Phase.{is_phase}
 use Rattle.pp_rig.specs.IsSetup.{IsSetup}
-use Rattle.pp_actions.specs.Ranges.{processor_count, twelve_bits, eighteen_bits, past_sixty_bits}
+use Rattle.pp_machine.specs.Ranges.{processor_count, twelve_bits, eighteen_bits, past_sixty_bits}
 use Rattle.pp_actions.specs.Watches.{AreWatches}
 
 -- registers, phase and cells of a processor

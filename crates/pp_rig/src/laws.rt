@@ -2,8 +2,9 @@
 ghost use Rattle.std.specs.Prelude.{◌≡◌, ◌≢◌, ◌≤◌, ℕ, ◌++◌, length, None, replicate};
 ghost use Rattle.std.specs.List.{AllPairs};
 ghost use Rattle.pp_history.specs.SessionValue.{SessionValue};
-ghost use Rattle.pp_machine.specs.Prelude.{Machine, places, HasAll};
-ghost use Rattle.pp_rig.specs.Action.{most_places, next, writes};
+ghost use Rattle.pp_machine.specs.Prelude.{Machine, over, places, HasAll};
+ghost use Rattle.pp_rig.specs.Inner.ActionRecords.{most_places, writes};
+ghost use Rattle.pp_rig.specs.Action.{next};
 ghost use Rattle.pp_actions.specs.Admitting.{first_fault};
 ghost use Rattle.pp_machine.specs.Parts.{after_parts};
 ghost use Rattle.pp_rig.specs.Stopping.{stopped, after_turns, IsShortest};
@@ -45,7 +46,10 @@ pub fn actions_write_places_of_the_machine()
 /// A turn performs its parts one after another, each on the machine that the parts before it left: the step of the
 /// processor in the slot, the steps of the reader and of the printer, the clock and the slot (the manual, peripheral
 /// processors; the devices are this project's own).
-#[tactic(auto, unfolding(crate::specs::Turn::turn_writes), using(crate::proofs::Stepped::parts))]
+///
+/// So every action, a turn too, leads to the machine after its write list.
+#[tactic(auto, unfolding(crate::specs::Turn::turn), using(crate::proofs::Overwritten::next_by_writes))]
 pub fn turns_perform_their_parts()
-    ensures { (s : Machine) → next s Turn ≡ after_parts turn_parts s }
+    ensures parts { (s : Machine) → next s Turn ≡ after_parts turn_parts s }
+    ensures writes { (s : Machine) (action : Action) → next s action ≡ over s (writes s action) }
 {}

@@ -5,10 +5,10 @@ ghost use Rattle.pp_history.specs.SessionValue.{SessionValue, IsAt, Moves, after
 ghost use Rattle.pp_history.specs.UndoRecord.{whole_record};
 ghost use Rattle.pp_machine.specs.Machine.{Machine};
 ghost use Rattle.pp_machine.specs.Prelude.{lookup};
-ghost use Rattle.pp_rig.specs.Action.{FitsRecord, before, record_pairs};
-ghost use Rattle.pp_rig.specs.Marks.{marks_of};
+ghost use Rattle.pp_rig.specs.Inner.ActionRecords.{FitsRecord, before, record_pairs};
+ghost use Rattle.pp_rig.specs.Inner.Marks.{marks_of};
 ghost use Rattle.pp_rig.specs.Rules.{rules};
-ghost use Rattle.pp_rig.specs.Short.{unpacked};
+ghost use Rattle.pp_rig.specs.Inner.Short.{unpacked};
 ghost use Rattle.pp_rig.specs.Stopping.{after_turns, first_change, stopped, turned};
 ghost use Rattle.pp_actions.specs.Watches.{watched_place, watches_of};
 

@@ -7,11 +7,12 @@ use Rattle.pp_machine.specs.Writes.{Writes, places}
 use Rattle.pp_machine.proofs.Once.{once, IsOnce, either, each-once}
 use Rattle.pp_arith.specs.Words60.{split60}
 use Rattle.pp_machine.specs.declared.channel.ChannelState.TheVariants.{Inactive, Empty, Full}
-use Rattle.pp_step.specs.Blocks.{block}
+use Rattle.pp_step.specs.Blocks.{block_writes}
 use Rattle.pp_step.specs.Channels.{is_clock, is_in, is_active}
+use Rattle.pp_step.specs.Codes.{number_of}
 use Rattle.pp_step.specs.Exchange.{exchange, pairs_from, word_pairs, loaded}
 use Rattle.pp_step.specs.Instruction.{InstructionNumbers}
-use Rattle.pp_step.specs.InstructionTable.{effect, code_of, instruction_at}
+use Rattle.pp_step.specs.InstructionTable.{Row, row_of, instruction_at}
 use Rattle.pp_step.specs.Rows.{five_cells}
 use Rattle.pp_step.specs.Seen.{same_place, lookup}
 use Rattle.pp_step.specs.Step.{pp_writes}
@@ -20,6 +21,7 @@ use Rattle.pp_step.specs.Words.{cell_after, central_after}
 use Rattle.pp_step.specs.declared.code.Code.{Code}
 use Rattle.pp_step.specs.declared.code.Code.TheVariants as code
 use Rattle.pp_step.proofs.ExchangeLookup.{absent, none, in_neither}
+use Rattle.pp_step.proofs.Numbers.{each_row}
 
 self : (x : PpPlace) → same_place x x ≡ true
 self A = refl
@@ -54,7 +56,7 @@ exchange-once next a words frame size =
     (λ k. none (λ i. Central (central_after a i)) (λ i. nat_lt (central_after a i) (length words)) 0 frame (FrameWord k) (λ j low high. refl))
     (words-once (length words) a frame (omega (arith, size))))
 
-effect-once : (c : Code) (i : InstructionNumbers) (s : PpView) → length s.frame ≡ 16 → IsOnce same_place (effect c i s)
+effect-once : (c : Code) (i : InstructionNumbers) (s : PpView) → length s.frame ≡ 16 → IsOnce same_place ((row_of (number_of c)).effect i s)
 effect-once code.Exn i s size = record { holds = exchange-once i.next s.a s.central s.frame size }
 effect-once code.Crd i s size = record { holds = five-once i.d (split60 (slice_index s.central s.a)) }
 effect-once code.Cwd i s size = either same_place (nat_lt s.a (length s.central)) _ _ (record { holds = refl }) (record { holds = refl })
@@ -66,19 +68,26 @@ effect-once code.Fan i s size = either same_place (is_in Inactive i.d s.states) 
 effect-once code.Fnc i s size = either same_place (is_in Inactive i.d s.states) _ _ (record { holds = refl }) (record { holds = refl })
 effect-once _ i s size = record { holds = refl }
 
-block-once : (c : Code) (d : ℕ) (s : PpView) → IsOnce same_place (block c d s)
-block-once code.Crm d s = either same_place (s.q == 0) _ _ (record { holds = refl }) (record { holds = five-once s.p (split60 (slice_index s.central s.a)) })
-block-once code.Cwm d s = either same_place (s.q == 0) _ _ (record { holds = refl }) (either same_place (nat_lt s.a (length s.central)) _ _ (record { holds = refl }) (record { holds = refl }))
-block-once code.Iam d s = either same_place (s.a == 0) _ _ (record { holds = refl }) (either same_place (is_clock d) _ _ (record { holds = refl }) (either same_place (not (is_active d s.states)) _ _ (record { holds = refl }) (either same_place (is_in Full d s.states) _ _ (record { holds = refl }) (record { holds = refl }))))
-block-once code.Oam d s = either same_place (s.a == 0 || not (is_active d s.states)) _ _ (record { holds = refl }) (either same_place (is_in Empty d s.states) _ _ (record { holds = refl }) (record { holds = refl }))
-block-once _ d s = record { holds = refl }
+block-once : (s : PpView) → IsOnce same_place (block_writes s)
+block-once s =
+    let code = s.phase / 0o100 in
+    let d = s.phase % 0o100 in
+    either same_place (code == 0o61) _ _
+    (either same_place (s.q == 0) _ _ (record { holds = refl }) (record { holds = five-once s.p (split60 (slice_index s.central s.a)) }))
+    (either same_place (code == 0o63) _ _
+    (either same_place (s.q == 0) _ _ (record { holds = refl }) (either same_place (nat_lt s.a (length s.central)) _ _ (record { holds = refl }) (record { holds = refl })))
+    (either same_place (code == 0o71) _ _
+    (either same_place (s.a == 0) _ _ (record { holds = refl }) (either same_place (is_clock d) _ _ (record { holds = refl }) (either same_place (not (is_active d s.states)) _ _ (record { holds = refl }) (either same_place (is_in Full d s.states) _ _ (record { holds = refl }) (record { holds = refl })))))
+    (either same_place (code == 0o73) _ _
+    (either same_place (s.a == 0 || not (is_active d s.states)) _ _ (record { holds = refl }) (either same_place (is_in Empty d s.states) _ _ (record { holds = refl }) (record { holds = refl })))
+    (record { holds = refl }))))
 
 step-once : (s : PpView) → length s.frame ≡ 16 → IsOnce same_place (pp_writes s)
 unfolding pp_writes
 step-once s size =
     either same_place (s.phase == 0) _ _
-    (effect-once (instruction_at s.p s.cells).code (instruction_at s.p s.cells) s size)
-    (block-once (code_of (s.phase / 0o100)) (s.phase % 0o100) s)
+    (let i = instruction_at s.p s.cells in each_row (λ (r : Row). IsOnce same_place (r.effect i s)) (λ c. effect-once c i s size) (record { holds = refl }) i.code)
+    (block-once s)
 
 pub step_each_once : (s : PpView) → length s.frame ≡ 16 → AllPairs (λ one other. one ≢ other) (places (pp_writes s))
 step_each_once s size = each-once same_place self (pp_writes s) (step-once s size).holds

@@ -9,12 +9,14 @@ use Rattle.pp_machine.specs.WriteLaws.{AllPlaces-if}
 use Rattle.pp_machine.specs.Prelude.{Writes, renamed, Has, HasAll, AllPlaces-append, AllPlaces-renamed}
 use Rattle.pp_machine.specs.declared.channel.ChannelState.{ChannelState}
 use Rattle.pp_machine.specs.declared.channel.ChannelState.TheVariants.{Inactive, Empty, Full}
+use Rattle.pp_step.proofs.Numbers.{each_row}
 use Rattle.pp_step.proofs.Swapped.{length-loaded}
-use Rattle.pp_step.specs.Blocks.{block}
+use Rattle.pp_step.specs.Blocks.{block_writes}
 use Rattle.pp_step.specs.Channels.{is_clock, is_in, is_active}
+use Rattle.pp_step.specs.Codes.{number_of}
 use Rattle.pp_step.specs.Exchange.{frame_pairs, word_pairs, loaded}
-use Rattle.pp_step.specs.Instruction.{InstructionNumbers, Mode, NoAddress, Direct, Indirect, Memory, Constant, address_of}
-use Rattle.pp_step.specs.InstructionTable.{row, effect, code_of, instruction_at}
+use Rattle.pp_step.specs.Instruction.{InstructionNumbers, Mode, NoAddress, Direct, Indirect, Memory, Unindexed, address_of}
+use Rattle.pp_step.specs.InstructionTable.{Row, row_of, instruction_at}
 use Rattle.pp_step.specs.PpPlaces.{Held, five_held, frame_held, words_held}
 use Rattle.pp_step.specs.Step.{pp_writes}
 use Rattle.pp_step.specs.View.{PpView, PpPlace, pp_place}
@@ -40,7 +42,7 @@ address_in Direct d m cells at_most low small = omega (arith, at_most)
 address_in Indirect d m cells at_most low small = cell_in cells d small
 address_in Memory d m cells at_most low small =
     either_below (d == 0) m (index12 m (slice_index cells d)) 4096 low (index_in m (slice_index cells d) low (cell_in cells d small))
-address_in Constant d m cells at_most low small = low
+address_in Unindexed d m cells at_most low small = low
 
 -- ---- channels of a step
 
@@ -55,7 +57,7 @@ module _ (size n : ℕ) (is_processor : n < 10) where
   either = AllPlaces-if (λ x. Has size (pp_place n x))
 
   -- outside a block transfer
-  effect_held : (c : Code) (i : InstructionNumbers) (s : PpView) → i.address < 4096 → length s.central ≡ size → Held size n (effect c i s)
+  effect_held : (c : Code) (i : InstructionNumbers) (s : PpView) → i.address < 4096 → length s.central ≡ size → Held size n ((row_of (number_of c)).effect i s)
   effect_held code.Exn i s h words = (
     is_processor,
     AllPlaces-append (λ x. Has size (pp_place n x)) (frame_pairs 0 (loaded s.a s.central)) (word_pairs (length s.central) s.a 0 s.frame)
@@ -80,33 +82,37 @@ module _ (size n : ℕ) (is_processor : n < 10) where
   effect_held _ i s h words = search (is_processor, arith)
 
   -- in a block transfer
-  block_held : (c : Code) (d : ℕ) (s : PpView) → s.p < 4096 → length s.central ≡ size → Held size n (block c d s)
-  block_held code.Crm d s h words =
-      either (s.q == 0) _ _ (λ ended. (is_processor, (is_processor, tt))) (λ moves. (is_processor, (is_processor, (is_processor, five_held size n is_processor s.p (split60 (slice_index s.central s.a))))))
-  block_held code.Cwm d s h words =
-      either (s.q == 0) _ _ (λ ended. (is_processor, (is_processor, tt))) (λ moves. either (nat_lt s.a (length s.central)) _ _
+  block_held : (s : PpView) → s.p < 4096 → length s.central ≡ size → Held size n (block_writes s)
+  block_held s h words =
+      let code = s.phase / 0o100 in
+      let d = s.phase % 0o100 in
+      either (code == 0o61) _ _
+      (λ input. either (s.q == 0) _ _ (λ ended. (is_processor, (is_processor, tt))) (λ moves. (is_processor, (is_processor, (is_processor, five_held size n is_processor s.p (split60 (slice_index s.central s.a)))))))
+      (λ other. either (code == 0o63) _ _
+      (λ output. either (s.q == 0) _ _ (λ ended. (is_processor, (is_processor, tt))) (λ moves. either (nat_lt s.a (length s.central)) _ _
       (λ below. (is_processor, (is_processor, (is_processor, (grind (arith, nat_tests, below, words), tt)))))
-      (λ past. (is_processor, (is_processor, (is_processor, tt)))))
-  block_held code.Iam d s h words =
-      either (s.a == 0) _ _ (λ ended. (is_processor, (is_processor, tt))) (λ moves. either (is_clock d) _ _
+      (λ past. (is_processor, (is_processor, (is_processor, tt))))))
+      (λ other. either (code == 0o71) _ _
+      (λ input. either (s.a == 0) _ _ (λ ended. (is_processor, (is_processor, tt))) (λ moves. either (is_clock d) _ _
       (λ clock. (is_processor, (is_processor, ((is_processor, h), tt))))
       (λ other. either (not (is_active d s.states)) _ _
       (λ inactive. (is_processor, (is_processor, ((is_processor, h), tt))))
-      (λ active. either (is_in Full d s.states) _ _ (λ ready. (is_processor, (is_processor, ((is_processor, h), (data_channel Full d s.states ready, tt))))) (λ waits. tt))))
-  block_held code.Oam d s h words =
-      either (s.a == 0 || not (is_active d s.states)) _ _ (λ ended. (is_processor, (is_processor, tt))) (λ moves. either (is_in Empty d s.states) _ _
-      (λ ready. let c = data_channel Empty d s.states ready in (is_processor, (is_processor, (c, (c, tt))))) (λ waits. tt))
-  block_held _ d s h words = tt
+      (λ active. either (is_in Full d s.states) _ _ (λ ready. (is_processor, (is_processor, ((is_processor, h), (data_channel Full d s.states ready, tt))))) (λ waits. tt)))))
+      (λ other. either (code == 0o73) _ _
+      (λ output. either (s.a == 0 || not (is_active d s.states)) _ _ (λ ended. (is_processor, (is_processor, tt))) (λ moves. either (is_in Empty d s.states) _ _
+      (λ ready. let c = data_channel Empty d s.states ready in (is_processor, (is_processor, (c, (c, tt))))) (λ waits. tt)))
+      (λ other. tt))))
 
   step_held : (s : PpView) → s.p < 4096 → All (λ cell. cell ≤ 0o7777) s.cells → length s.central ≡ size → Held size n (pp_writes s)
   unfolding pp_writes
   step_held s low small words =
       let first = slice_index s.cells s.p in
       let at_most : first % 0o100 < 64 = omega arith in
-      let address = address_in (row (code_of (first / 0o100))).mode (first % 0o100) _ s.cells at_most (cell_in s.cells _ small) small in
+      let i = instruction_at s.p s.cells in
+      let address = address_in (row_of i.code).mode (first % 0o100) _ s.cells at_most (cell_in s.cells _ small) small in
       either (s.phase == 0) _ _
-      (λ outside. effect_held (code_of (first / 0o100)) (instruction_at s.p s.cells) s address words)
-      (λ inside. block_held (code_of (s.phase / 0o100)) (s.phase % 0o100) s low words)
+      (λ outside. each_row (λ (r : Row). Held size n (r.effect i s)) (λ c. effect_held c i s address words) tt i.code)
+      (λ inside. block_held s low words)
 
   -- the places of a step's write list, as places of the machine
   pub HasAll-step : (s : PpView) → s.p < 4096 → All (λ cell. cell ≤ 0o7777) s.cells → length s.central ≡ size → HasAll size (renamed (pp_place n) (pp_writes s))

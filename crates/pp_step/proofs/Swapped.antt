@@ -6,8 +6,8 @@ use Rattle.std.proofs.lemmas.List.FromFn.{get_or-map-range_with_len}
 use Rattle.pp_machine.specs.Frame.{frame_word}
 use Rattle.pp_step.proofs.FewPlaces.{few_exchanged}
 use Rattle.pp_step.proofs.Exchanged.{over-exchange, over-swap, length-stored_over}
-use Rattle.pp_step.specs.Exchange.{exchange, frame_pairs, loaded, loaded_word, word_pairs}
-use Rattle.pp_step.specs.Inner.{stored_over}
+use Rattle.pp_step.specs.Exchange.{exchange, frame_pairs, loaded, word_pairs}
+use Rattle.pp_step.specs.Inner.{loaded_word, stored_over}
 use Rattle.pp_step.specs.View.{PpView, FrameWord, Central, number, over}
 use Rattle.pp_step.specs.Words.{central_after}
 

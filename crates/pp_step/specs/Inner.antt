@@ -1,8 +1,9 @@
 -- For the contracts of inner functions only: no definition of a step, and no contract of a public call, needs these.
 use Rattle.std.specs.Prelude.{ℕ, ◌/◌, ◌%◌, ◌≤◌, List, [], ◌∷◌, ◌+◌, ◌≡◌, length, slice_index, slice_set}
+use Rattle.pp_machine.specs.Frame.{frame_word}
 use Rattle.pp_machine.specs.Writes.{Writes}
 use Rattle.pp_machine.specs.declared.pp.Pp.{Pp}
-use Rattle.pp_step.specs.InstructionTable.{code_of, number_of}
+use Rattle.pp_step.specs.Codes.{code_of, number_of}
 use Rattle.pp_step.specs.Pairs.{pairs, Fits}
 use Rattle.pp_step.specs.View.{PpView, PpPlace, over, old_values}
 use Rattle.pp_step.specs.Words.{cell_after, central_after}
@@ -27,6 +28,16 @@ pub record Performs (old new : PpView) (back : StepRecord) (writes : Writes PpPl
 abbrev pub AreFields : Op → ℕ → Type 0
 AreFields op word = (op.code ≡ code_of (word / 0o100)) × (number_of op.code ≡ word / 0o100) × (op.d ≡ word % 0o100) × (op.d ≤ 0o77)
 
+-- the numbers of the five cells from an address on
+abbrev pub five_from : ℕ → List ℕ → List ℕ
+five_from address cells =
+    slice_index cells (cell_after address 0)
+    ∷ slice_index cells (cell_after address 1)
+    ∷ slice_index cells (cell_after address 2)
+    ∷ slice_index cells (cell_after address 3)
+    ∷ slice_index cells (cell_after address 4)
+    ∷ []
+
 -- the cells with five numbers written from an address on
 abbrev pub five_over : ℕ → List ℕ → List ℕ → List ℕ
 five_over address parts cells =
@@ -41,3 +52,7 @@ five_over address parts cells =
 abbrev pub stored_over : ℕ → ℕ → List ℕ → List ℕ → List ℕ
 stored_over a i words [] = words
 stored_over a i words (w ∷ ws) = slice_set (stored_over a (i + 1) words ws) (central_after a i) w
+
+-- the new frame word i of an exchange at a
+abbrev pub loaded_word : ℕ → List ℕ → ℕ → ℕ
+loaded_word a words i = frame_word i (slice_index words (central_after a i))

@@ -3,8 +3,7 @@
 
 ghost use Rattle.std.specs.Prelude.{◌≡◌, ◌≤◌, ◌<◌, ◌^◌, length, slice_index, slice_set};
 ghost use Rattle.pp_machine.specs.ChannelNumbers.{state_number, with_channel};
-ghost use Rattle.pp_step.specs.Inner.{five_over};
-ghost use Rattle.pp_step.specs.Words.{five_from};
+ghost use Rattle.pp_step.specs.Inner.{five_from, five_over};
 ghost use Rattle.pp_step.specs.Words as words;
 ghost use Rattle.pp_arith.specs.Words60 as words60;
 

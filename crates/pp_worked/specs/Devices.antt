@@ -1,8 +1,8 @@
 -- Rows of the devices: one step leads from some numbers to others.
 use Rattle.std.specs.Prelude.{ℕ, List, [], ◌∷◌, ◌≡◌, ◌++◌, ◌-◌, length, replicate}
-use Rattle.pp_machine.specs.Device.{DeviceModel, DevicePlace, DeviceView, device_old_values, over_device}
-use Rattle.pp_machine.specs.Printer.{PrinterPlace, PrinterView, printer_model}
-use Rattle.pp_machine.specs.Reader.{ReaderPlace, ReaderView, reader_model}
+use Rattle.pp_machine.specs.Inner.Device.{DeviceModel, DevicePlace, DeviceView, device_old_values, over_device}
+use Rattle.pp_machine.specs.Inner.Printer.{PrinterPlace, PrinterView, printer_model}
+use Rattle.pp_machine.specs.Inner.Reader.{ReaderPlace, ReaderView, reader_model}
 use Rattle.pp_machine.specs.Writes.{Writes}
 
 -- One step of a device leads from the first numbers, with those of `blank` at all other places, to the second.

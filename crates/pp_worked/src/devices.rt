@@ -1,9 +1,9 @@
 //! The card reader and the printer, in single steps.
 
 ghost use Rattle.std.specs.Prelude.{[], ◌∷◌};
-ghost use Rattle.pp_machine.specs.Device.{AtOwn, AtState, AtWord};
-ghost use Rattle.pp_machine.specs.Printer.{Length, Symbol, Column as PaperColumn, Mode as PrinterMode};
-ghost use Rattle.pp_machine.specs.Reader.{Card, Column, Mode};
+ghost use Rattle.pp_machine.specs.Inner.Device.{AtOwn, AtState, AtWord};
+ghost use Rattle.pp_machine.specs.Inner.Printer.{Length, Symbol, Column as PaperColumn, Mode as PrinterMode};
+ghost use Rattle.pp_machine.specs.Inner.Reader.{Card, Column, Mode};
 ghost use Rattle.pp_worked.specs.Devices.{PrinterLeads, ReaderLeads, card, one_card};
 
 /// Function 0001 starts the reader at the first column of a card. The rest of a card that was begun is skipped.

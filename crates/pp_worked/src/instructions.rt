@@ -1,5 +1,5 @@
 //! Single instructions: numbers in A, stores and jumps.
-#![tactic(auto, unfolding(pp_step::specs::Step::pp_writes, pp_arith::specs::Arith::turn_left18))]
+#![tactic(auto, unfolding(pp_step::specs::Step::pp_writes, pp_arith::specs::Arith::rotate_left18))]
 
 ghost use Rattle.std.specs.Prelude.{[], ◌∷◌};
 ghost use Rattle.pp_step.specs.View.{A, Cell, P};

@@ -17,7 +17,7 @@ pub fn sums_of_18_bits()
 
 /// A shift by 00 to 37 is left circular. A shift by d from 40 to 77 is right by 77 - d, end off and without sign
 /// extension.
-#[tactic(auto, unfolding(pp_arith::specs::Arith::turn_left18))]
+#[tactic(auto, unfolding(pp_arith::specs::Arith::rotate_left18))]
 pub fn shifts()
     ensures leftmost_bit_comes_round { shift18 0o400000 0o01 ≡ 0o000001 }
     ensures two_digits_come_round { shift18 0o123456 0o06 ≡ 0o345612 }

@@ -179,7 +179,7 @@ class Adapter(Requests):
 
     def end_simulator(self):
         if self.machine:
-            self.machine.close()
+            self.machine.run.close()
             self.machine = None
 
     def close(self):
@@ -217,18 +217,15 @@ class Adapter(Requests):
         self.begin(threadId, self.run_back)
 
     def do_stepIn(self, threadId, **_):
-        number = self.number(threadId)
-        self.begin(threadId, lambda: self.step(number))
+        self.begin(threadId, lambda: self.step(self.paused))
 
     do_next = do_stepIn
 
     def do_stepOut(self, threadId, **_):
-        number = self.number(threadId)
-        self.begin(threadId, lambda: self.step_out(number))
+        self.begin(threadId, lambda: self.step(self.paused, is_out=True))
 
     def do_stepBack(self, threadId, **_):
-        number = self.number(threadId)
-        self.begin(threadId, lambda: self.step_back(number))
+        self.begin(threadId, lambda: self.step_back(self.paused))
 
     def runner(self):
         return Runner(self.machine, self.points, self.goes_on)
@@ -264,25 +261,16 @@ class Adapter(Requests):
         reason = "step" if not ids else "breakpoint" if ids[0] & LINE_ID else "instruction breakpoint"
         self.stopped(reason, stop.number, f"PP {cell.number:02o} is at {cell.address:04o}" if ids else "", ids)
 
-    def step(self, number):
-        """Makes one turn of a processor, and those before it. Returns whether a change ended it before."""
-        runner = self.runner()
-        stop = runner.step(number)
+    def step(self, number, is_out=False):
+        """Makes one turn of a processor, and those before it. If it is to be outside a block transfer, it runs on to before the turn
+        that follows that."""
+        stop = self.runner().step(number)
         if stop:
             self.report(stop)
-        else:
-            self.stopped("step", number)
-
-    def step_out(self, number):
-        """Runs until a processor is outside a block transfer: to before the turn that follows it."""
-        runner = self.runner()
-        stop = runner.step(number)
-        if stop:
-            self.report(stop)
-        elif self.machine.run.registers(number)["PHASE"] == "0000":
-            self.stopped("step", number)
-        else:
+        elif is_out and self.machine.run.registers(number)["PHASE"] != "0000":
             self.run(lambda one: one.forward(None, {number: OUTSIDE_BLOCKS}), "pause", "")
+        else:
+            self.stopped("step", number)
 
     def step_back(self, number):
         moved = self.machine.back_over_turn(number)

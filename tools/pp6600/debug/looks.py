@@ -5,29 +5,18 @@ no block transfer, and before its latest turn it was elsewhere. So a processor t
 setting, at which the same processor is where it was before that, is not another one.
 """
 
+from itertools import accumulate
 from typing import NamedTuple
 
-from ..answers import CLOCK, PROCESSORS
+from ..answers import PROCESSORS
+from ..conditions import Subject
 
-P, A, Q, PHASE = slice(8, 12), slice(15, 21), slice(24, 28), slice(35, 39)  # in the answer to DUMP PP
-REGISTERS = {"A": A, "P": P, "Q": Q}
+P, PHASE = slice(8, 12), slice(35, 39)  # in the answer to DUMP PP
 
 
 def key(line):
     """Returns P and the phase of an answer to DUMP PP."""
     return line[P] + line[PHASE]
-
-
-def digits_of(place):
-    """Returns the line that asks for a place, how many lines answer it, which of them has the number, and where."""
-    kind, numbers = place
-    if kind == "M":
-        return f"DUMP M {numbers[0]:o} {numbers[1]:o} {numbers[1]:o}", 1, 0, slice(5, 9)
-    if kind == "C":
-        return f"DUMP C {numbers[0]:o} {numbers[0]:o}", 1, 0, slice(9, 29)
-    if kind == "H":
-        return "DUMP H", CLOCK + 1, numbers[0], slice(7, 11)
-    return f"DUMP PP {numbers[0]:o}", 1, 0, REGISTERS[kind]
 
 
 class Trace(NamedTuple):
@@ -68,20 +57,16 @@ class Looks:
 
     def __init__(self, numbers, places):
         self.numbers = sorted(numbers)
-        asked = [(f"DUMP PP {number:o}", 1) for number in self.numbers] + [digits_of(place)[:2] for place in places]
-        self.rows, at = [], 1
-        for place, (_, lines) in zip([None] * len(self.numbers) + places, asked):
-            self.rows.append((at + digits_of(place)[2], digits_of(place)[3]) if place else (at, None))
-            at += lines
-        self.lines = [line for line, _ in asked]
-        self.width = at  # lines of the answers to an action and the looks after it
+        self.subjects = [*(Subject.of_registers(number, "P", "PHASE", "PP") for number in self.numbers), *map(Subject.of_place, places)]
+        self.lines = [subject.question for subject in self.subjects]
+        *self.firsts, self.width = accumulate((subject.lines for subject in self.subjects), initial=1)  # lines of the answers
 
     def trace(self, answers):
         """Returns the moments from the answers to actions, each with those to the looks after it."""
         slots = [int(line[-2:], 8) for line in answers[::self.width]]
-        columns = [(answers[row::self.width], where) for row, where in self.rows]
-        keys = {number: [key(line) for line in column] for number, (column, _) in zip(self.numbers, columns)}
-        return Trace(slots, keys, [[line[where] for line in column] for column, where in columns[len(self.numbers):]])
+        keys = {number: list(map(key, answers[first::self.width])) for number, first in zip(self.numbers, self.firsts)}
+        places = list(zip(self.subjects, self.firsts))[len(self.numbers):]
+        return Trace(slots, keys, [subject.column(answers, first, self.width) for subject, first in places])
 
 
 def come(slot, numbers):

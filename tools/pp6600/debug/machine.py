@@ -1,7 +1,6 @@
 """The machine that is debugged: a simulator with its history, what is ahead beyond its redo list, and its state."""
 
 from ..answers import PROCESSORS, Place
-from ..failure import Failure
 from ..history import STEP, Actions
 from ..machine_state import MachineState, questions
 from ..run import Run
@@ -29,24 +28,23 @@ def perform(run, actions):
 
 class Machine:
     """A session of the simulator. Going back may be beyond what it keeps: then a fresh one is in its place, in which the script is
-    performed up to there, and the actions after that are `later`, beyond its redo list."""
+    performed up to there, and the actions after that are beyond its redo list."""
 
     def __init__(self, words, done=(), later=()):
         """The actions are those to be performed first, and those after these."""
         self.words = words
-        self.run = perform(Run(words), done)
-        self.later = Actions(reversed(later))  # the next one last
+        self.begin(done, later)
         self.lent = set()  # places that are watched for data breakpoints alone
         self.look()
+
+    def begin(self, done, later):
+        """Begins a fresh simulator, in which some actions are performed, and others are ahead."""
+        self.run = perform(Run(self.words), done)
+        self.history.later = Actions(reversed(later))  # the next one last
 
     @property
     def history(self):
         return self.run.history
-
-    @property
-    def ahead(self):
-        """How many actions are ahead."""
-        return self.history.ahead.count + self.later.count
 
     @property
     def is_ended(self):
@@ -68,10 +66,7 @@ class Machine:
         """Performs a line of the user, and returns its answer. An action discards what is ahead."""
         if self.lent and line.upper().split()[:1] == [STEP]:
             self.lend([])  # going back may have left a watch that is not the user's
-        answer = self.run.act(line)
-        if answer and answer[0].split()[0] in ("OK", "TURNS"):
-            self.later = Actions()
-        return answer
+        return self.run.act(line)
 
     def move(self, word, count):
         """Goes by so many actions: BACK or FORWARD."""
@@ -95,7 +90,7 @@ class Machine:
     def keep_ahead(self):
         """Keeps what is in the redo list, which an action will empty."""
         for action in self.history.ahead.runs:
-            self.later.push(*action)
+            self.history.later.push(*action)
         self.history.ahead = Actions()
 
     def claim(self, line):
@@ -118,14 +113,13 @@ class Machine:
     def actions(self):
         """Returns the actions in effect, and those ahead, without the watches for data breakpoints."""
         done = [action for action in self.history.in_effect() if not self.is_lending(action)]
-        ahead = [*reversed(self.history.ahead.runs), *reversed(self.later.runs)]
-        return done, [action for action in ahead if not self.is_lending(action)]
+        return done, [action for action in self.history.redo_list() if not self.is_lending(action)]
 
     def go_to(self, done, ahead):
         """Goes to where these actions are in effect, and these are ahead, in a fresh simulator."""
-        fresh = perform(Run(self.words), done)
-        self.close()
-        self.run, self.later = fresh, Actions(reversed(ahead))
+        old = self.run
+        self.begin(done, ahead)
+        old.close()
 
     def reach_back(self):
         """Goes to where what is kept begins, so that what comes before is kept. Returns whether anything does."""
@@ -144,13 +138,6 @@ class Machine:
         if history.kept.turns < turns and history.older.turns and history.room > 2 * turns:
             self.go_to(*self.actions())
 
-    def close(self):
-        """Ends the simulator. What it still had to say no longer matters."""
-        try:
-            self.run.end()
-        except Failure:
-            pass
-
     # ---- steps
 
     def back_over_turn(self, number):
@@ -166,11 +153,11 @@ class Machine:
 
     def perform_later(self):
         """Performs the next action that is beyond the redo list and no turn. A watch may be there already."""
-        self.run.act(self.later.pop(1)[0].line)
+        self.run.act_again(self.history.later.pop(1)[0].line)
 
     def new_turns(self, turns):
         """Makes so many turns, up to a HIT. Returns how many, and the line of the HIT or None."""
-        first, *rest = self.run.act(f"STEP {turns:o}")
+        first, *rest = self.run.act_again(f"STEP {turns:o}")
         if not first.startswith("TURNS "):
             raise self.run.nonsense(first)
         made = int(first.split()[1], 8)
@@ -184,4 +171,4 @@ class Machine:
 
     def were_later(self, turns):
         """Notes that turns were those beyond the redo list, if there are any."""
-        self.later.pop(min(turns, self.later.count))
+        self.history.later.pop(min(turns, self.history.later.count))

@@ -76,7 +76,7 @@ class Requests:
 
     def act(self, line):
         """Performs a line, and returns its answer. What was ahead may be lost by it: that is said."""
-        ahead, answer = self.machine.ahead, self.machine.act(line)
+        ahead, answer = self.machine.history.to_redo, self.machine.act(line)
         if ahead and answer and answer[0].split()[0] in ("OK", "TURNS"):
             self.wire.say(f"{ahead:o} actions (octal) that were ahead are so no longer")
         return answer

@@ -58,7 +58,7 @@ class Runner:
         """Runs to the next stop, over what is ahead first. The processor that is shown may be at a breakpoint: that is reported.
         Returns the stop, or None if the client ended it, or if nothing is ahead any more and no new turns are wanted."""
         is_reported, stop = self.machine.slot == shown, None
-        while not stop and self.goes_on() and (self.machine.ahead or not only_ahead):
+        while not stop and self.goes_on() and (self.machine.history.to_redo or not only_ahead):
             stop = self.part(self.search(dict(targets)), is_reported)
             is_reported = True
         self.machine.lend([])
@@ -78,7 +78,7 @@ class Runner:
     def step_part(self, search, turns):
         """Makes at most so many turns, or performs another action that is ahead. Returns a stop or None, and how many turns."""
         machine = self.machine
-        ahead = (machine.history.ahead if machine.history.ahead.count else machine.later).runs
+        ahead = (machine.history.ahead if machine.history.ahead.count else machine.history.later).runs
         made = turns if not ahead else min(turns, ahead[-1].times) if ahead[-1].line == STEP else 0
         if machine.history.ahead.count:
             return search.over_ahead(True, made or 1), made
@@ -95,7 +95,7 @@ class Runner:
         if machine.history.ahead.count:
             return search.over_ahead(is_reported)
         machine.lend(self.places())
-        later = machine.later.runs
+        later = machine.history.later.runs
         if later and later[-1].line != STEP:
             return search.over_setting()
         limit = later[-1].times if later else math.inf
@@ -141,10 +141,10 @@ class Runner:
         runner = Runner(other, self.points, self.goes_on)
         total = Actions(actions).count
         try:
-            while other.ahead and (stop := runner.forward(shown, only_ahead=True)):
-                if other.ahead or stop.place:
-                    found = total - other.ahead - bool(stop.place), stop._replace(is_next=True)  # before the change
+            while other.history.to_redo and (stop := runner.forward(shown, only_ahead=True)):
+                if other.history.to_redo or stop.place:
+                    found = total - other.history.to_redo - bool(stop.place), stop._replace(is_next=True)  # before the change
                 shown = stop.number if stop.number == other.slot else None
         finally:
-            other.close()
+            other.run.close()
         return found

@@ -43,7 +43,7 @@ def variables(machine, scope, number, places):
         return devices(state)
     if scope == WATCH_SCOPE:
         return [variable(place.short, value_of(machine, place), place.short) for place in places]
-    counts = {"turns": machine.history.turns, "kept": machine.history.kept.count, "ahead": machine.ahead, "slot": state.slot}
+    counts = {"turns": machine.history.turns, "kept": machine.history.kept.count, "ahead": machine.history.to_redo, "slot": state.slot}
     return [variable(name, f"{count:o}") for name, count in counts.items()]
 
 

@@ -3,12 +3,12 @@
 What a turn may change is dumped after it. At intervals and at the end all numbers are dumped and compared: a change that was
 not dumped ends the tool."""
 
-from ..answers import CELLS, PROCESSORS
+from ..answers import CELLS, PROCESSORS, dumps_from
 from ..console import MARK, MOST_TURNS, Console
 from ..failure import Failure
 from ..history import History, room_of
 from ..run import Run, Script
-from .footprint import Footprint
+from .footprint import dumps_of_turn
 from .machine import Machine
 from .places import LAYOUT
 from .sources import TurnWritten, Written
@@ -67,7 +67,6 @@ class Transcript:
 
     def moments(self):
         return sum(count if kind == TURN else 1 for _, kind, count in self.actions())
-
 
     def moment_of_turn(self, turn):
         """Returns the last moment in which so many turns came to be in effect: 0 is the opening."""
@@ -188,13 +187,13 @@ class Film:
         self._add(kind, written)
 
     def _turn(self):
-        processor = self.machine.numbers[LAYOUT["slot"]]
-        footprint = Footprint(self.machine, processor, self.printer)
-        written = TurnWritten(self.machine, processor, footprint.processor, (self.reader, self.printer))
-        answer = self.run.act("STEP 1", footprint.dumps(self.size))
+        number = self.machine.numbers[LAYOUT["slot"]]
+        processor = self.machine.processor(number)
+        written = TurnWritten(self.machine, number, processor, (self.reader, self.printer))
+        answer = self.run.act("STEP 1", dumps_of_turn(self.machine, number, processor, self.printer, self.size))
         if not answer[0].startswith("TURNS 1 "):
             raise Failure(f"the simulator answers {answer[0]} to STEP 1")
-        self.machine.read(answer, processor)
+        self.machine.read(answer, number)
         self._done(TURN, written.after(self.size))
 
     def _line(self, line):
@@ -220,9 +219,7 @@ class Film:
         if words[0] == "DEADSTART":
             return [*REGISTER_DUMPS, "DUMP H", "DUMP LP"]
         if words[1] == "M":
-            first, last = int(words[3], 8), int(words[3], 8) + len(words) - 5
-            wrapped = [f"DUMP M {words[2]} 0 {last - CELLS:o}"] if last >= CELLS else []
-            return [f"DUMP M {words[2]} {first:o} {min(last, CELLS - 1):o}", *wrapped]
+            return dumps_from(f"DUMP M {words[2]}", int(words[3], 8), len(words) - 4, CELLS, CELLS)
         if words[1] == "C":
             return [f"DUMP C {words[2]} {words[2]}"]
         return ["DUMP H"] if words[1] == "H" else [f"DUMP PP {words[2]}"]

@@ -1,6 +1,7 @@
 """All numbers of the machine, taken from the simulator's dumps."""
 
 from ..answers import CHANNELS, REGISTERS, STATES
+from ..instructions import Processor
 from .places import LAYOUT, MODES, cell, register
 
 ZERO = "0" * 20  # a central word
@@ -42,6 +43,24 @@ class Machine:
                  if was != self.numbers[place]]
         self.changes = {}
         return taken
+
+    # ---- a processor and a channel
+
+    def word(self, number, address):
+        return self.numbers[cell(number, address)]
+
+    def registers(self, number):
+        """Returns the registers of a processor, each as its digits."""
+        first = register(number, "P")
+        return {name: f"{value:0{6 if name == 'A' else 4}o}" for name, value in zip(REGISTERS, self.numbers[first:first + len(REGISTERS)])}
+
+    def processor(self, number):
+        """Returns a processor as it is now."""
+        p = self.numbers[register(number, "P")]
+        return Processor(self.registers(number), [f"{self.word(number, p + at):04o}" for at in (0, 1)])
+
+    def state(self, channel):
+        return STATES[self.numbers[LAYOUT["states"] + channel]]
 
     # ---- the answers of the simulator
 

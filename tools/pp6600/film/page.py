@@ -9,7 +9,7 @@ import shlex
 from ..display_code import SYMBOLS
 from ..failure import Failure
 from ..instructions import (
-    BLOCK_GOES_ON, COMPLETES, IN_BLOCK, NAMES, NOT_THERE, NOT_THERE_IN_BLOCK, RELATIVE_JUMPS, TWO_WORDS, WAITS_FOR)
+    BLOCK_GOES_ON, COMPLETES, IN_BLOCK, INDEXED, INDIRECT, NAMES, NOT_THERE, NOT_THERE_IN_BLOCK, RELATIVE_JUMPS, TWO_WORDS, WAITS_FOR)
 from ..listing import symbols_of
 from ..options import OPTIONS
 from ..sentences import ROWS, STATE_NAMES, WAITS, WAITS_EVER
@@ -83,7 +83,7 @@ def tables():
     """What the page has to know of the machine."""
     return {"layout": LAYOUT, "names": NAMES, "two_words": TWO_WORDS, "block_codes": list(IN_BLOCK), "completes": COMPLETES,
             "blocks": BLOCK_GOES_ON, "waits_for": WAITS_FOR, "not_there": [NOT_THERE, NOT_THERE_IN_BLOCK], "symbols": SYMBOLS,
-            "relative_jumps": list(RELATIVE_JUMPS), "sentences": ROWS, "wait_sentences": [WAITS, WAITS_EVER],
+            "relative_jumps": list(RELATIVE_JUMPS), "indirect": list(INDIRECT), "indexed": INDEXED, "sentences": ROWS, "wait_sentences": [WAITS, WAITS_EVER],
             "state_texts": STATE_NAMES, "modes": MODES, "constants": CONSTANT_NAMES,
             "first_central": CENTRAL}
 

@@ -57,22 +57,16 @@ class TurnWritten:
     def __init__(self, machine, number, processor, devices):
         """The devices are their channels."""
         self.machine, self.number, self.processor, self.devices = machine, number, processor, devices
-        self.pointer = machine.numbers[cell(number, processor.channel)]
-        self.states = [self.state(channel) for channel in devices]
-
-    def state(self, channel):
-        return "IEFX"[self.machine.numbers[LAYOUT["states"] + channel]]
+        self.pointer = machine.word(number, processor.channel)
+        self.states = list(map(machine.state, devices))
 
     def after(self, size):
         """Returns what was written, after the turn; the size is that of central memory."""
-        first = register(self.number, "P")
-        registers = {name: f"{number:0{6 if name == 'A' else 4}o}"
-                     for name, number in zip(("P", "A", "Q", "PHASE"), self.machine.numbers[first:first + 4])}
-        writes = Turn(self.number, self.processor, registers, lambda address: self.pointer, size).writes()
+        writes = Turn(self.number, self.processor, self.machine.registers(self.number), lambda address: self.pointer, size).writes()
         written = Written()
         for write in writes:
             written.add_write(write)
         for channel, before in zip(self.devices, self.states):
-            if device_put_a_word(channel, writes, before, self.state(channel)):
+            if device_put_a_word(channel, writes, before, self.machine.state(channel)):
                 written.add(Place("H", (channel,)), 2)
         return written

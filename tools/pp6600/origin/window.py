@@ -176,6 +176,10 @@ class Window:
         """Returns the position after a turn."""
         return self.first + self.turns[at] + 1
 
+    def number(self, at):
+        """Returns the processor whose turn it was."""
+        return int(self.keys[at][:2], 8)
+
     def relevant(self, places):
         """Returns the keys of the turns that may write one of these places."""
         groups = [group for place in places for one in (place, all_of(place)) for group in self.writers.get(one, ())]
@@ -212,16 +216,25 @@ class Window:
         self.replayer.goto(self.first)
         if self.replayer.printer()[0].split()[-1] == "IDLE" and not self._has_function(channel):
             return {}
-        before, count = self.replayer.channels()[channel][5], 1 + len(CHANNEL_LINES)
-        lines = self._answers(["STEP\nDUMP H\n"] * len(self.turns), 2 * len(self.turns), count * len(self.turns))[1 + channel::count]
-        self.replayer.passed(self.last)
         found = {}
-        for at, line in enumerate(lines):
-            after = line[5]
+        states = [line[5] for line in self.lines_of(channel)]
+        for at, (before, after) in enumerate(zip(states, states[1:])):
             if after == "F" and device_put_a_word(channel, self.turn(at).writes(), before, after):
                 found[at] = None
-            before = after
         return found
+
+    def devices(self, position, channel):
+        """Returns the lines of a channel and of the devices at a position."""
+        self.replayer.goto(position)
+        return self.replayer.channels()[channel], self.replayer.reader(), self.replayer.printer()[0]
+
+    def lines_of(self, channel):
+        """Returns the line of a channel before the first turn and after each."""
+        self.replayer.goto(self.first)
+        before, count = self.replayer.channels()[channel], 1 + len(CHANNEL_LINES)
+        lines = self._answers(["STEP\nDUMP H\n"] * len(self.turns), 2 * len(self.turns), count * len(self.turns))
+        self.replayer.passed(self.last)
+        return [before, *lines[1 + channel::count]]
 
 
 def registers_of(line):

@@ -11,7 +11,7 @@ from ..keyboard import FIRST_WORDS, card
 from ..timeline import REPLAYED
 from ..listing import AllSymbols
 from .keys import LINES, Facts, help_lines
-from .origins import Origin, OriginPage, Stopped
+from .origins import Origin, OriginPage
 from .page import Page
 from .prompt import Prompt
 from .remarks import in_width, remarks
@@ -71,11 +71,17 @@ class Panel:
 
     def stops(self, done, total):
         """Shows now and then how many lines are done. Returns whether the operator stops them."""
-        if time.monotonic() - self.shown_at > BETWEEN_REPORTS:
-            self.message = f"{done} of {total} (decimal) lines are done; Ctrl-C stops after the next one"
-            self.show()
-            self.shown_at = time.monotonic()
+        self.report(f"{done} of {total} (decimal) lines are done; Ctrl-C stops after the next one")
         return self.is_stopped()
+
+    def report(self, text):
+        """Shows a text, if the last one was shown a while ago. Returns whether it did."""
+        if time.monotonic() - self.shown_at <= BETWEEN_REPORTS:
+            return False
+        self.message = text
+        self.show()
+        self.shown_at = time.monotonic()
+        return True
 
     # ---- what is shown
 
@@ -304,7 +310,7 @@ class Panel:
             raise Failure("give a condition, as P 0 = 105 or M 0 106 changes")
         self.shown_at = time.monotonic()
         try:
-            found = find(self.session, text, self.report_search)
+            found = find(self.session, text, self.symbols, self.report_search)
         except Stopped:
             self.message = "the search was stopped"
             return
@@ -315,12 +321,8 @@ class Panel:
 
     def report_search(self, turn):
         """Shows now and then how far a search is, and ends it if the operator stops it."""
-        if time.monotonic() - self.shown_at > BETWEEN_REPORTS:
-            self.message = f"searched to turn {turn:o}; Ctrl-C stops"
-            self.show()
-            self.shown_at = time.monotonic()
-            if self.is_stopped():
-                raise Stopped
+        if self.report(f"searched to turn {turn:o}; Ctrl-C stops") and self.is_stopped():
+            raise Stopped
 
     def show_log(self):
         self.page = Page("All lines and answers", log_lines(self.session.log, None), at_end=True)
@@ -337,10 +339,7 @@ class Panel:
 
     def searched(self, turn, turns):
         """Shows now and then how far back a search is, and ends it if the operator stops it."""
-        if time.monotonic() - self.shown_at > BETWEEN_REPORTS:
-            self.message = f"searched back to turn {turn:o} of {turns:o}; Ctrl-C stops"
-            self.show()
-            self.shown_at = time.monotonic()
+        self.report(f"searched back to turn {turn:o} of {turns:o}; Ctrl-C stops")
         if self.is_stopped():
             raise Stopped
 

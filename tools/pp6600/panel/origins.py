@@ -12,16 +12,12 @@ from .text import HEAD, Line
 MOST_STEPS = 0o40
 
 
-class Stopped(Exception):
-    """The operator has stopped the search."""
-
-
 class Origin:
     """The steps of the origin of a number as it is now: a line each, and the actions after which it was written."""
 
     def __init__(self, session, place, progress):
         """The place is named as on a console line. The function `progress` is called with the turn that is reached, and the
-        number of turns; it may raise Stopped."""
+        number of turns; it may raise an exception to end the search."""
         history = session.history
         self.history, self.place = history, Place.parse(place)
         replayer = Replayer(session.simulator.words, history.in_effect())

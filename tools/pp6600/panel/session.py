@@ -167,11 +167,7 @@ class Session:
         return False
 
     def close(self):
-        """Ends the simulator. What it still had to say no longer matters."""
-        try:
-            self.simulator.end()
-        except Failure:
-            pass
+        self.simulator.close()
 
     # ---- the file of what was sent
 

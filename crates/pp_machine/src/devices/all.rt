@@ -2,10 +2,11 @@
 ghost use Rattle.std.specs.Prelude.{◌≡◌, ◌≢◌, ◌<◌, ℕ, unwrap_or};
 ghost use Rattle.std.specs.List.{AllPairs};
 ghost use Rattle.pp_machine.specs.Prelude.{Machine, over, number, renamed, places, IsShaped, lookup};
-ghost use Rattle.pp_machine.specs.Printer.{PrinterView, FitsPrinter, printer_pairs, printer_place, printer_writes};
+ghost use Rattle.pp_machine.specs.Inner.Printer.{PrinterView, FitsPrinter, printer_pairs, printer_place, printer_writes};
 ghost use Rattle.pp_machine.specs.PrinterNumbers.{IsPrinter};
-ghost use Rattle.pp_machine.specs.Reader.{ReaderView, reader_pairs, reader_place, reader_writes};
+ghost use Rattle.pp_machine.specs.Inner.Reader.{ReaderView, reader_pairs, reader_place, reader_writes};
 ghost use Rattle.pp_machine.specs.ReaderNumbers.{IsReader};
+ghost use Rattle.pp_machine.specs.Ranges.{channel_count};
 
 use super::{NoDevices, On, OnRecords};
 use crate::place::Place;
@@ -26,8 +27,8 @@ pub fn all_devices(
     printer_channel: u8,
     printer: Printer,
 ) -> AllDevices
-    requires reads { reader_channel < 12 }
-    requires prints { printer_channel < 12 }
+    requires reads { reader_channel < channel_count }
+    requires prints { printer_channel < channel_count }
     ensures { result ≡ record { channel = reader_channel; device = reader; others = record { channel = printer_channel; device = printer; others = record {} } } }
 {
     let others = On::new(printer_channel, printer, NoDevices);

@@ -3,7 +3,7 @@
 
 ghost use Rattle.std.specs.Prelude.{◌≡◌, ◌≤◌, length};
 ghost use Rattle.pp_machine.specs.Prelude.{over, old_values};
-ghost use Rattle.pp_rig.specs.Action.{FitsRecord, record_pairs};
+ghost use Rattle.pp_rig.specs.Inner.ActionRecords.{FitsRecord, record_pairs};
 ghost use Rattle.pp_actions.specs.Deadstart.{deadstart_writes, deadstart_place_count};
 
 use super::{Rig, RigRecord};

@@ -1,9 +1,9 @@
 //! The calls of a machine that name its devices: how it is made, and how they are read.
 ghost use Rattle.std.specs.Prelude.{◌≡◌, ◌<◌, ◌≤◌, true, All, IfErr, IfOk, IfSome, None, OnOk, length, take, unwrap_or};
-ghost use Rattle.pp_machine.specs.Attached.{of_device};
+ghost use Rattle.pp_machine.specs.Inner.Attached.{of_device};
 ghost use Rattle.pp_machine.specs.Prelude.{number, Has};
 ghost use Rattle.pp_machine.specs.ReaderNumbers.{IsCard};
-ghost use Rattle.pp_actions.specs.Ranges.{IsInRange};
+ghost use Rattle.pp_machine.specs.Ranges.{IsInRange, channel_count, twelve_bits};
 ghost use Rattle.pp_rig.specs.Starting.{setup_fault, starting};
 
 use super::Rig;
@@ -23,7 +23,7 @@ impl Rig {
         requires reads { setup.reader ≤ 0o13 }
         requires prints { setup.printer ≤ 0o13 }
         requires cards { All IsCard setup.deck.items }
-        requires panel { IfSome setup.panel (λ panel. All (λ word. word ≤ 0o7777) panel) }
+        requires panel { IfSome setup.panel (λ panel. All (λ word. word ≤ twelve_bits) panel) }
         ensures returns { IfOk result (λ rig. rig ≡ starting setup) }
         ensures admitted { OnOk result (setup_fault setup ≡ None) }
         ensures fails { IfErr result (λ fault. fault ≡ unwrap_or (setup_fault setup) SetupFault.NoMemory) }
@@ -77,7 +77,7 @@ impl Rig {
     /// Returns the channel of the reader, 0 to 0o13.
     pub fn reader_channel(&self) -> u8
         ensures value { result ≡ self.now.setup.reader_channel }
-        ensures in_range { result < 12 }
+        ensures in_range { result < channel_count }
     {
         self.devices.channel()
     }
@@ -85,7 +85,7 @@ impl Rig {
     /// Returns the channel of the printer, 0 to 0o13.
     pub fn printer_channel(&self) -> u8
         ensures value { result ≡ self.now.setup.printer_channel }
-        ensures in_range { result < 12 }
+        ensures in_range { result < channel_count }
     {
         self.devices.others().channel()
     }

@@ -4,10 +4,10 @@
 ghost use Rattle.std.specs.Prelude.{◌≡◌, ◌||◌, ℕ, true, false, None, Some, IfSome};
 ghost use Rattle.pp_history.specs.Marks.{covers};
 ghost use Rattle.pp_machine.specs.Prelude.{lookup};
-ghost use Rattle.pp_rig.specs.Marks as spec;
-ghost use Rattle.pp_rig.specs.Marks.{AreUnmarked, marks_of};
-ghost use Rattle.pp_rig.specs.Short.{whole_turn};
-ghost use Rattle.pp_rig.specs.Turn.{turn_pairs};
+ghost use Rattle.pp_rig.specs.Inner.Marks as spec;
+ghost use Rattle.pp_rig.specs.Inner.Marks.{AreUnmarked, marks_of};
+ghost use Rattle.pp_rig.specs.Inner.Short.{whole_turn};
+ghost use Rattle.pp_rig.specs.Inner.TurnRecords.{turn_pairs};
 ghost use Rattle.pp_step.specs.Exchange.{word_pairs};
 ghost use Rattle.pp_step.specs.Pairs.{target_pairs};
 

@@ -2,9 +2,10 @@
 ghost use Rattle.std.specs.Prelude.{◌≡◌, ◌≤◌, None, IsPermutation, length};
 ghost use Rattle.pp_history.specs.Tails.{IsKept};
 ghost use Rattle.pp_machine.specs.Prelude.{places};
-ghost use Rattle.pp_rig.specs.Action.{FitsRecord, before, most_places, next, old_values_of, record_pairs, writes};
+ghost use Rattle.pp_rig.specs.Inner.ActionRecords.{FitsRecord, before, most_places, old_values_of, record_pairs, writes};
+ghost use Rattle.pp_rig.specs.Action.{next};
 ghost use Rattle.pp_actions.specs.Admitting.{first_fault};
-ghost use Rattle.pp_rig.specs.Short.{unpacked};
+ghost use Rattle.pp_rig.specs.Inner.Short.{unpacked};
 
 use super::{Rig, RigRecord, TurnRecord};
 use pp_actions::{Action, settings_of};

@@ -1,7 +1,7 @@
 //! Calls that read the machine.
 ghost use Rattle.std.specs.Prelude.{◌≡◌, ◌<◌, ◌↔◌, IsSome, IsTrue};
 ghost use Rattle.pp_machine.specs.Prelude.{number, Has, words_of};
-ghost use Rattle.pp_actions.specs.Ranges.{IsInRange};
+ghost use Rattle.pp_machine.specs.Ranges.{IsInRange, processor_count};
 
 use super::Rig;
 use pp_machine::{CentralSize, Place};
@@ -10,7 +10,7 @@ impl Rig {
     /// Returns the processor whose turn is next, 0 to 0o11.
     pub fn slot(&self) -> u8
         ensures value { result ≡ self.now.slot }
-        ensures in_range { result < 10 }
+        ensures in_range { result < processor_count }
     {
         self.slot
     }

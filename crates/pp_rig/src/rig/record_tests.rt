@@ -1,7 +1,7 @@
 //! Each undo record of the machine, rebuilt from its fields: the records of the three parts, places, numbers, and short
 //! lists. The rebuilt record leads back to the whole machine as it was before.
 ghost use Rattle.pp_machine.specs.Machine.{Machine};
-ghost use Rattle.pp_rig.specs.Action.{FitsRecord};
+ghost use Rattle.pp_rig.specs.Inner.ActionRecords.{FitsRecord};
 
 mod whole;
 

@@ -1,7 +1,7 @@
 //! Undoing an action by its record, and the old numbers in the record.
 ghost use Rattle.std.specs.Prelude.{◌≡◌, ◌≤◌, length, map};
 ghost use Rattle.pp_machine.specs.Prelude.{over, lookup};
-ghost use Rattle.pp_rig.specs.Action.{FitsRecord, before, record_pairs};
+ghost use Rattle.pp_rig.specs.Inner.ActionRecords.{FitsRecord, before, record_pairs};
 ghost use Rattle.pp_actions.specs.WatchCodes.{watch_code};
 ghost use Rattle.pp_actions.specs.Deadstart.{deadstart_places};
 ghost use Rattle.pp_actions.specs.Settings.{AreSettings};

@@ -3,8 +3,9 @@
 
 ghost use Rattle.std.specs.Prelude.{◌≡◌, ◌<◌, ◌≤◌, length};
 ghost use Rattle.pp_machine.specs.Prelude.{over, old_values, put, write_list, IsShaped};
-ghost use Rattle.pp_rig.specs.Action.{FitsRecord, record_pairs};
+ghost use Rattle.pp_rig.specs.Inner.ActionRecords.{FitsRecord, record_pairs};
 ghost use Rattle.pp_actions.specs.Settings.{AreSettings, IsSetting};
+ghost use Rattle.pp_machine.specs.Ranges.{channel_count};
 
 use super::{Rig, RigRecord};
 use arrayvec::ArrayVec;
@@ -35,7 +36,7 @@ impl Rig {
     }
 
     fn set_state(&mut self, c: u8, value: u64)
-        requires place { c < 12 }
+        requires place { c < channel_count }
         requires small { value < 4 }
         ensures { self.new ≡ put self.old (Place.ChannelMode c) value }
     {

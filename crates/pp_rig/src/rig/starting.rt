@@ -2,6 +2,7 @@
 ghost use Rattle.std.specs.Prelude.{◌≡◌, IfOk, replicate};
 ghost use Rattle.pp_machine.specs.CentralSizes.{words_of};
 ghost use Rattle.pp_rig.specs.Starting.{blank_processor};
+ghost use Rattle.pp_machine.specs.Ranges.{processor_count};
 
 use crate::processor::Processor;
 use pp_machine::{Central, CentralSize, MakeFault};
@@ -9,7 +10,7 @@ use std::alloc::Global;
 
 /// Creates ten processors whose numbers are all 0.
 fn blank_processors(alloc: Global) -> Result<Vec<Processor>, MakeFault>
-    ensures { IfOk result (λ v. v.items ≡ replicate 10 blank_processor) }
+    ensures { IfOk result (λ v. v.items ≡ replicate processor_count blank_processor) }
 {
     let mut processors = Vec::new(alloc);
     for _i in 0..10u8 {
@@ -23,7 +24,7 @@ pub(super) fn allocate(
     alloc: Global,
     central_size: CentralSize,
 ) -> Result<(Vec<Processor>, Central), MakeFault>
-    ensures processors { IfOk result (λ parts. parts.0.items ≡ replicate 10 blank_processor) }
+    ensures processors { IfOk result (λ parts. parts.0.items ≡ replicate processor_count blank_processor) }
     ensures central { IfOk result (λ parts. parts.1 ≡ replicate (words_of central_size) 0) }
 {
     let processors = blank_processors(alloc)?;

@@ -1,9 +1,9 @@
 //! The undo records of a turn, and the old numbers in them.
 ghost use Rattle.std.specs.Prelude.{◌≡◌};
-ghost use Rattle.pp_machine.specs.AllDevices.{all_model};
+ghost use Rattle.pp_machine.specs.Inner.AllDevices.{all_model};
 ghost use Rattle.pp_machine.specs.Prelude.{lookup};
-ghost use Rattle.pp_rig.specs.Short.{whole, whole_turn};
-ghost use Rattle.pp_rig.specs.Turn.{devices_old_values, rest_pairs, turn_pairs};
+ghost use Rattle.pp_rig.specs.Inner.Short.{whole, whole_turn};
+ghost use Rattle.pp_rig.specs.Inner.TurnRecords.{devices_old_values, rest_pairs, turn_pairs};
 
 use super::{RigRecord, ShortTurn, TurnRecord, TurnRest};
 use pp_actions::Action;

@@ -1,15 +1,16 @@
 //! One turn of the barrel, and its undoing.
 ghost use Rattle.std.specs.Prelude.{◌≡◌, ◌<◌, ◌≤◌, IsTrue, false, None};
 ghost use Rattle.pp_history.specs.Tails.{IsKept};
-ghost use Rattle.pp_machine.specs.AllDevices.{all_model};
-ghost use Rattle.pp_machine.specs.Parts.{ArePerformed};
+ghost use Rattle.pp_machine.specs.Inner.AllDevices.{all_model};
+ghost use Rattle.pp_machine.specs.Inner.PartWrites.{ArePerformed};
 ghost use Rattle.pp_machine.specs.Prelude.{over, renamed};
-ghost use Rattle.pp_rig.specs.IsMachine.{IsMachine};
-ghost use Rattle.pp_rig.specs.Lift.{pp_of};
-ghost use Rattle.pp_rig.specs.Short.{IsTurned, unpacked, whole_turn};
-ghost use Rattle.pp_rig.specs.Turn.{AreDevicesStepped, FitsRest, FitsTurn, IsSlotStep, KeepsSlot, device_parts, end_old_values, end_parts, rest_of_turn, rest_pairs, turn_pairs};
+ghost use Rattle.pp_rig.specs.Inner.IsMachine.{IsMachine};
+ghost use Rattle.pp_rig.specs.Turn.{pp_of};
+ghost use Rattle.pp_rig.specs.Inner.Short.{IsTurned, unpacked, whole_turn};
+ghost use Rattle.pp_rig.specs.Inner.TurnRecords.{AreDevicesStepped, FitsRest, FitsTurn, IsSlotStep, KeepsSlot, device_parts, end_old_values, end_parts, rest_of_turn, rest_pairs, turn_pairs};
 ghost use Rattle.pp_step.specs.Step.{FitsPp, IsExchange, pp_pairs};
 ghost use Rattle.pp_step.specs.View.{pp_place};
+ghost use Rattle.pp_machine.specs.Ranges.{cell_count, o, processor_count};
 
 use super::{Rig, RigRecord, ShortTurn, TurnRecord, TurnRest};
 use pp_actions::Action;
@@ -56,8 +57,8 @@ impl Rig {
         ensures called { back.new.are_devices_called ≡ back.old.are_devices_called }
         ensures devices { back.new.devices ≡ back.old.devices }
         ensures slot { back.new.slot ≡ self.old.slot }
-        ensures small_slot { back.new.slot < 10 }
-        ensures small_clock { back.new.slot ≡ 9 → back.new.clock < 4096 }
+        ensures small_slot { back.new.slot < processor_count }
+        ensures small_clock { back.new.slot ≡ 0o11 → back.new.clock < cell_count }
         ensures setup { self.new.setup ≡ self.old.setup }
         ensures machine { IsMachine self.new }
     {
@@ -89,8 +90,8 @@ impl Rig {
 
     #[inline(always)]
     fn undo_end(&mut self, back: &TurnRest)
-        requires slot { back.now.slot < 10 }
-        requires clock { back.now.slot ≡ 9 → back.now.clock < 4096 }
+        requires slot { back.now.slot < processor_count }
+        requires clock { back.now.slot ≡ 0o11 → back.now.clock < cell_count }
         ensures undoes { self.new ≡ over self.old (end_old_values back.now) }
         ensures setup { self.new.setup ≡ self.old.setup }
     {

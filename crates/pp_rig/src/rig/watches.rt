@@ -1,7 +1,7 @@
 //! The watched places of a machine: which they are, and how they change.
 ghost use Rattle.std.specs.Prelude.{◌≡◌, ◌<◌, ◌≤◌, [], ◌∷◌, All, false, length, map};
 ghost use Rattle.pp_machine.specs.Prelude.{over, old_values, number, Has};
-ghost use Rattle.pp_rig.specs.Action.{FitsRecord, record_pairs};
+ghost use Rattle.pp_rig.specs.Inner.ActionRecords.{FitsRecord, record_pairs};
 ghost use Rattle.pp_actions.specs.Unwatching.{unwatch_writes};
 ghost use Rattle.pp_actions.specs.WatchCodes.{first_zero, watch_code};
 ghost use Rattle.pp_actions.specs.Watches.{is_watched, watched_place, watches_of};

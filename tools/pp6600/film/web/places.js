@@ -29,7 +29,7 @@ function centralPlaces(address) {
 function placeNamed(text) {
   const [kind, ...words] = text.trim().toUpperCase().split(/\s+/);
   const widths = WIDTHS[kind] || [];
-  if (!NAMED[kind] || words.length !== widths.length || !words.every((word) => /^[0-7]{1,7}$/.test(word))) return null;
+  if (!NAMED[kind] || words.length !== widths.length || !words.every((word) => /^[0-7]+$/.test(word))) return null;
   const numbers = words.map((word) => parseInt(word, 8));
   const places = NAMED[kind](...numbers);
   return places && { kind, name: [kind, ...numbers.map((number, at) => octal(number, widths[at]))].join(" "), numbers, places };
@@ -98,7 +98,7 @@ function makerText(moment, place) {
   const device = kind === "H" || kind === "STATE" ? film.devices[parseInt(name.split(" ")[1], 8)] : "";
   if (!device) return turnText(moment);
   const word = film.word[moment], channel = parseInt(name.split(" ")[1], 8);
-  const touched = word >> 9 === 7 && (word & 0o77) === channel && film.did[moment] !== WAITING;
+  const touched = (word >> 6) in film.waits_for && (word & 0o77) === channel && film.did[moment] !== WAITING;
   return touched ? `${turnText(moment)}; or the ${device} in that turn` : `the ${device}`;
 }
 

@@ -1,7 +1,7 @@
 use Rattle.std.proofs.Common.{◌≡◌, drop}
 use Rattle.pp_history.specs.UndoRecord.{whole_record}
-use Rattle.pp_rig.specs.Action.{before}
-use Rattle.pp_rig.specs.Short.{unpacked}
+use Rattle.pp_rig.specs.Inner.ActionRecords.{before}
+use Rattle.pp_rig.specs.Inner.Short.{unpacked}
 use Rattle.pp_rig.specs.Stopping.{first_change}
 use Rattle.pp_actions.specs.Watches.{watches_of}
 use Rattle.pp_rig.proofs.stopping.first_changed.Given as goal

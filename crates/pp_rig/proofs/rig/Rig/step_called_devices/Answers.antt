@@ -1,10 +1,10 @@
 use Rattle.std.proofs.Common.{◌∙◌, arith, refl, sym}
 use Rattle.pp_machine.proofs.Parts.{over-parts}
 use Rattle.pp_machine.specs.NumberLaws.{setup-over}
-use Rattle.pp_machine.specs.Parts.{parts_writes}
-use Rattle.pp_rig.specs.MachineLaws.{IsMachine-over}
-use Rattle.pp_rig.specs.RigView.{machine_of}
-use Rattle.pp_rig.specs.Turn.{device_parts}
+use Rattle.pp_machine.specs.Inner.PartWrites.{parts_writes}
+use Rattle.pp_rig.specs.Inner.MachineLaws.{IsMachine-over}
+use Rattle.pp_rig.specs.Inner.RigView.{machine_of}
+use Rattle.pp_rig.specs.Inner.TurnRecords.{device_parts}
 use Rattle.pp_rig.proofs.rig.Rig.step_called_devices.Goals as goal
 
 pub invariant_of-self : goal.invariant_of-self

@@ -1,5 +1,5 @@
 use Rattle.std.proofs.Common.{arith}
-use Rattle.pp_rig.specs.RigView.{machine_of}
+use Rattle.pp_rig.specs.Inner.RigView.{machine_of}
 use Rattle.pp_rig.proofs.Stepped.{idle}
 use Rattle.pp_rig.proofs.rig.Rig.step_devices.Goals as goal
 

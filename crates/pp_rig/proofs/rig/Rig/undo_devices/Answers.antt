@@ -1,8 +1,8 @@
 use Rattle.std.proofs.Common.{arith, refl}
-use Rattle.pp_machine.specs.AllDevices.{all_model}
+use Rattle.pp_machine.specs.Inner.AllDevices.{all_model}
 use Rattle.pp_machine.specs.NumberLaws.{setup-over}
-use Rattle.pp_rig.specs.MachineLaws.{IsMachine-over}
-use Rattle.pp_rig.specs.RigView.{machine_of}
+use Rattle.pp_rig.specs.Inner.MachineLaws.{IsMachine-over}
+use Rattle.pp_rig.specs.Inner.RigView.{machine_of}
 use Rattle.pp_rig.proofs.rig.Rig.undo_devices.Goals as goal
 
 pub undo-requires : goal.undo-requires

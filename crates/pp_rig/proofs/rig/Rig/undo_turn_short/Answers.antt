@@ -1,8 +1,8 @@
 use Rattle.std.proofs.Common.{◌∙◌}
 use Rattle.pp_step.specs.Step.{pp_pairs}
 use Rattle.pp_step.specs.declared.record.PpRecord.TheVariants.{Step}
-use Rattle.pp_rig.specs.RigView.{machine_of}
-use Rattle.pp_rig.specs.Short.{whole_turn}
+use Rattle.pp_rig.specs.Inner.RigView.{machine_of}
+use Rattle.pp_rig.specs.Inner.Short.{whole_turn}
 use Rattle.pp_rig.proofs.Stepped.{IsMachine-over, slot-over, turn-undone}
 use Rattle.pp_rig.proofs.rig.Rig.undo_turn_short.Goals as goal
 

@@ -1,6 +1,6 @@
 use Rattle.std.proofs.Common.{arith, ◌≡◌, false, inl, inr}
 use Rattle.pp_history.specs.Marks.{is_set}
-use Rattle.pp_rig.specs.Marks.{cell_mark}
+use Rattle.pp_rig.specs.Inner.Marks.{cell_mark}
 use Rattle.pp_rig.proofs.Marks.{cells_unmarked}
 use Rattle.pp_rig.proofs.rig.marks.is_target_marked.Goals as goal
 

@@ -1,8 +1,9 @@
 -- The undo records of turns, short and long.
 use Rattle.std.specs.Prelude.{◌≡◌, ◌≤◌, length}
 use Rattle.pp_machine.specs.Machine.{Machine}
-use Rattle.pp_rig.specs.Action.{FitsRecord}
-use Rattle.pp_rig.specs.Turn.{most_turn_places, turn, turn_old_values, turn_pairs}
+use Rattle.pp_rig.specs.Inner.ActionRecords.{FitsRecord}
+use Rattle.pp_rig.specs.Inner.TurnRecords.{most_turn_places, turn_old_values, turn_pairs}
+use Rattle.pp_rig.specs.Turn.{turn}
 use Rattle.pp_step.specs.declared.record.PpRecord.TheVariants.{Step}
 use Rattle.pp_actions.specs.declared.action.Action.{Action}
 use Rattle.pp_actions.specs.declared.action.Action.TheVariants.{Turn}

@@ -1,5 +1,5 @@
 -- A device as the machine sees it: numbers of its own, and the state and register of its channel.
-use Rattle.std.specs.Prelude.{ℕ, ◌≡◌, get_or}
+use Rattle.std.specs.Prelude.{ℕ, ◌≡◌, slice_index}
 use Rattle.pp_machine.specs.Prelude.{ChannelNumbers, state_number, with_channel, Machine, Setup, Writes, over_by, old_values_by, renamed, Place, ChannelMode, ChannelWord}
 use Rattle.pp_machine.specs.declared.channel.Channel.{Channel}
 
@@ -37,7 +37,7 @@ device_view d c = record { device = d; state = state_number c.state; word = c.wo
 
 -- the same, for a device on channel c
 abbrev pub view_on : {Numbers : Type 0} → ℕ → Numbers → ChannelNumbers → DeviceView Numbers
-view_on c d channels = record { device = d; state = get_or channels.states c 0; word = get_or channels.registers c 0 }
+view_on c d channels = record { device = d; state = slice_index channels.states c; word = slice_index channels.registers c }
 
 -- the number at a place, from the numbers at the device's own places
 abbrev pub number_at : {Numbers Own : Type 0} → (Numbers → Own → ℕ) → DeviceView Numbers → DevicePlace Own → ℕ

@@ -1,10 +1,10 @@
 -- The devices that every machine has, and a machine with them.
 use Rattle.std.specs.Prelude.{ℕ, List, Option}
 use Rattle.pp_machine.specs.Prelude.{ChannelNumbers, Machine, ProcessorNumbers}
-use Rattle.pp_machine.specs.Devices.{DevicesModel, OnNumbers, no_devices, on}
-use Rattle.pp_machine.specs.Printer.{printer_model}
+use Rattle.pp_machine.specs.Inner.Devices.{DevicesModel, OnNumbers, no_devices, on}
+use Rattle.pp_machine.specs.Inner.Printer.{printer_model}
 use Rattle.pp_machine.specs.PrinterNumbers.{PrinterNumbers, IsPrinter}
-use Rattle.pp_machine.specs.Reader.{reader_model}
+use Rattle.pp_machine.specs.Inner.Reader.{reader_model}
 use Rattle.pp_machine.specs.ReaderNumbers.{ReaderNumbers, IsReader}
 use Rattle.pp_machine.specs.declared.devices.NoDevices.{NoDevices}
 use Rattle.pp_machine.specs.declared.devices.OnRecords.{OnRecords}

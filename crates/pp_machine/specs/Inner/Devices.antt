@@ -1,10 +1,11 @@
 -- The devices of a machine, one after another, each on a channel of its own.
 use Rattle.std.specs.Prelude.{ℕ, ◌≡◌, ◌≢◌, ◌+◌, ◌≤◌, ◌<◌, false, List, [], ◌∷◌, ◌++◌, length, None}
 use Rattle.std.specs.List.{AllByRecursion}
-use Rattle.pp_machine.specs.Attached.{IsDevice, of_device, with_channels}
+use Rattle.pp_machine.specs.Inner.Attached.{IsDevice, of_device, with_channels}
 use Rattle.pp_machine.specs.Prelude.{ChannelNumbers, Machine, Setup, over, lookup, HasAll, Writes, Place}
-use Rattle.pp_machine.specs.Device.{DeviceModel, device_pairs, device_step_writes, view_of}
-use Rattle.pp_machine.specs.Parts.{ArePerformed, EachPart, Part}
+use Rattle.pp_machine.specs.Inner.Device.{DeviceModel, device_pairs, device_step_writes, view_of}
+use Rattle.pp_machine.specs.Inner.PartWrites.{ArePerformed, EachPart}
+use Rattle.pp_machine.specs.Parts.{Part}
 use Rattle.pp_machine.specs.declared.devices.OnRecords.{OnRecords}
 use Rattle.pp_machine.specs.declared.devices.NoDevices.{NoDevices}
 

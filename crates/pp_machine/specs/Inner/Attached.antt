@@ -1,7 +1,8 @@
 -- What holds of a device in a machine.
 use Rattle.std.specs.Prelude.{ℕ, Bool, true, false, [], ◌≡◌, ◌<◌, ◌≤◌, length}
-use Rattle.pp_machine.specs.Prelude.{ChannelNumbers, inactive, Machine, number, put, HasAll, renamed, Place, Cell, RegA, RegP, RegQ, Phase, Clock, Central, FrameWord, Slot, WatchEntry}
-use Rattle.pp_machine.specs.Device.{DeviceModel, DeviceView, device_pairs, device_place}
+use Rattle.pp_machine.specs.Prelude.{ChannelNumbers, state_number, Machine, number, put, HasAll, renamed, Place, Cell, RegA, RegP, RegQ, Phase, Clock, Central, FrameWord, Slot, WatchEntry}
+use Rattle.pp_machine.specs.declared.channel.ChannelState.TheVariants.{Inactive}
+use Rattle.pp_machine.specs.Inner.Device.{DeviceModel, DeviceView, device_pairs, device_place}
 
 -- whether a device may have the place: it is a device's own, or its channel's
 abbrev pub of_device : Place → Bool
@@ -36,7 +37,7 @@ pub record IsAttached {Numbers Own Record : Type 0} (d : DeviceModel Numbers Own
 -- A device in a machine: on an inactive channel it does nothing, and it writes only places of the machine.
 pub record IsDevice {Numbers Own Record : Type 0} (d : DeviceModel Numbers Own Record) : Type 0 where
   pub attached : IsAttached d
-  pub idle : (s : DeviceView Numbers) → s.state ≡ inactive → d.writes s ≡ []
+  pub idle : (s : DeviceView Numbers) → s.state ≡ state_number Inactive → d.writes s ≡ []
   pub writes_has : (size c : ℕ) (s : DeviceView Numbers) → c < 12 → HasAll size (renamed (device_place d c) (d.writes s))
   pub pairs_has : (size c : ℕ) (r : Record) (s : DeviceView Numbers) → c < 12 → d.Fits r s → HasAll size (device_pairs d c r)
   pub at_most : (r : Record) → length (d.pairs r) ≤ d.most

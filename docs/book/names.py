@@ -1,0 +1,274 @@
+"""Finds what each name in a definition stands for: another definition, a word of the kit, or a field that is read."""
+
+import collections
+import glob
+import os
+import re
+
+from book.sources import VARIANT, Definition, Scope, parsed_rust, parsed_spec
+
+TOKEN = re.compile(r'"(?:\\.|[^"\\])*"|(?<!\S)(?:--|//)[^\n]*|\[\]|[(){};,\[\]]|[^\s(){};,\[\]"]+')
+VARIABLE = re.compile(r"[^\s(){};,\[\]=.→×λ]+")
+NUMBER = re.compile(r"(?:0o)?\d+")
+OURS = re.compile(r"Rattle\.(pp_\w+)\.specs\.(?:declared\.)?(.*)")
+BUILT_IN = set("→ × = : . , λ | ↦ _ ⊥ Type Unit tt absurd record data where let in pub abbrev unfoldable module".split())
+RUST = set("bool u8 u16 u32 u64 usize Self Option Vec String".split())
+SMALL_CONSTRUCTORS = ("zero", "suc", "true", "false", "[]", "◌∷◌", "inl", "inr")
+NAMED = "named"  # the guard of a type that is only named, as an argument of Ghosts
+
+# A word of the kit; a field that is read; and the use of one of these or of a definition, from one place of a text to another.
+# A use with a guard is in a field of a record of ghost members, and counts if that field is read somewhere.
+Library = collections.namedtuple("Library", "module name")
+Field = collections.namedtuple("Field", "name")
+Use = collections.namedtuple("Use", "start end guard target")
+
+
+class Unresolved(Exception):
+    """A name that stands for nothing."""
+
+
+def is_trait(target):
+    return isinstance(target, Definition) and target.kind == "trait"
+
+
+class Sources:
+    """Every definition of the repository."""
+
+    def __init__(self, top):
+        self.top, self.scopes = top, {}
+        for pattern, parsed in (("specs/**/*.antt", parsed_spec), ("src/**/*.rt", parsed_rust)):
+            for path in sorted(glob.glob(os.path.join(top, "crates", "pp_*", pattern), recursive=True)):
+                relative = os.path.relpath(path, top)
+                crate, kind, *names = os.path.splitext(relative)[0].split(os.sep)[1:]
+                scope = Scope((crate, kind, ".".join(names)), relative.replace(os.sep, "/"))
+                with open(path, encoding="utf-8") as file:
+                    parsed(file.read(), scope)
+                self.scopes[scope.module] = scope
+
+    def find(self, module, name):
+        """Returns what a name of a module stands for."""
+        ours = OURS.match(module)
+        if not ours:
+            return Library(module, name)
+        if ".declared." in module:
+            return self.declared(ours[1], ours[2].split("."), name)
+        scope = self.scopes.get((ours[1], "specs", ours[2]))
+        if scope and name in scope.definitions:
+            return scope.definitions[name]
+        if scope and name in scope.public:
+            return self.find(*scope.imports[name])
+        raise Unresolved(f"{module}.{name}")
+
+    def declared(self, crate, parts, name):
+        """Returns the Rust definition of FILE.TYPE.TheVariants.NAME, FILE.TheConstants.NAME, FILE.TYPE.Ghosts or FILE.TYPE.NAME."""
+        if parts[-1] == "TheConstants":
+            parts = parts[:-1] + [name]
+        *file, name = parts[:-1] if parts[-1] in ("TheVariants", "TheInside") else parts
+        scope = self.scopes.get((crate, "src", ".".join(file)))
+        if not scope or name not in scope.definitions:
+            raise Unresolved(".".join([crate, *file, name]))
+        return scope.definitions[name]
+
+    def rust_type(self, scope, name):
+        """Returns the type with a name in a Rust file: that of this file or crate, or of the crate that the file uses it from."""
+        crates = (scope.module[0], scope.crates.get(name))
+        others = [other for crate in crates for other in self.scopes.values() if other.module[:2] == (crate, "src")]
+        for other in [scope, *others]:
+            if name in other.definitions:
+                return other.definitions[name]
+        raise Unresolved(name)
+
+
+class Names:
+    """What the names of a scope stand for."""
+
+    def __init__(self, sources, scope):
+        self.sources, self.scope = sources, scope
+        names = [*scope.imports, *scope.definitions]
+        self.whole = {part: name for name in names for part in name.split("◌") if part}  # of an operator, each part
+
+    def target(self, word):
+        """Returns what a name or a part of an operator stands for, or None."""
+        name = self.whole.get(word)
+        if name in self.scope.definitions:
+            return self.scope.definitions[name]
+        return self.sources.find(*self.scope.imports[name]) if name else None
+
+    def resolved(self, word, bound=()):
+        """Returns what a word stands for, and the fields that it reads of that: of a bound name only these."""
+        if word not in bound and word in self.whole:
+            return self.target(word), []
+        head, *fields = word.split(".")
+        if not head or head in bound or head in BUILT_IN or NUMBER.fullmatch(head):
+            return None, fields
+        found = self.target(head)
+        if isinstance(found, Definition) and fields and fields[0] in found.members:
+            return found, fields[1:]
+        if not found and head in self.scope.modules and fields:
+            return self.sources.find(self.scope.modules[head], fields[0]), fields[1:]
+        if not found:
+            raise Unresolved(head)
+        return found, fields
+
+    def constructor(self, word):
+        """Returns the type or the word of the kit whose constructor a word of a pattern is, or None if the word is a variable."""
+        try:
+            target, fields = self.resolved(word)
+        except Unresolved:
+            return None
+        if isinstance(target, Library):
+            return target if target.name[:1].isupper() or target.name in SMALL_CONSTRUCTORS else None
+        return target if target and not fields and word.split(".")[-1] in target.members else None
+
+
+class Walk:
+    """A walk over a part of a text, which keeps the names that are bound at each place."""
+
+    def __init__(self, names, text, bound, has_members=False, is_guarded=False):
+        self.names, self.text, self.has_members, self.is_guarded = names, text, has_members, is_guarded
+        self.bound = [set(bound)]  # one set for each open bracket
+        self.outside = self.guard = None  # what is bound outside the present member; the present field
+        self.lambda_depth = 0  # the number of brackets around the arguments of a λ, while they are read
+        self.uses, self.unresolved = [], set()
+
+    def over(self, start, end):
+        """Walks from one place to another."""
+        tokens = [token for token in TOKEN.finditer(self.text, start, end) if not re.match(r'"|--|//', token.group())]
+        words = ["", *(token.group() for token in tokens), ""]
+        for at, token in enumerate(tokens, 1):
+            self.step(token, words, at)
+        return self
+
+    def step(self, token, words, at):
+        """Reads one word; those before and after it say whether it is a label."""
+        word, depth = words[at], len(self.bound)
+        if word in ("(", "[", "{"):
+            self.bound[-1].update(self.binder(words[at + 1:]))
+            self.bound.append(set())
+        elif word in (")", "]", "}"):
+            self.bound.pop()
+            self.guard = self.guard if len(self.bound) > 1 else None
+        elif word == ";":
+            self.bound[-1] = set()
+        elif word == "λ":
+            self.lambda_depth = depth
+        elif self.lambda_depth == depth:
+            self.bound[-1].add(word.rstrip("."))
+            self.lambda_depth = 0 if word.endswith(".") else depth
+        elif words[at - 1] == "let":
+            self.bound[-1].add(word)
+        elif words[at + 1] == "=" and words[at - 1] in ("{", ";"):
+            self.guard = word if self.is_guarded and depth == 2 else self.guard
+        elif self.has_members and depth == 1 and words[at + 1] == ":":
+            self.outside = (self.outside or self.bound[0]) | {word}
+            self.bound[0] = set(self.outside)
+        else:
+            self.add(token, word)
+
+    def binder(self, words):
+        """Returns the names that a bracket binds: those before a colon, as in (x y : A), or all of a pattern, as in λ (x, y)."""
+        is_pattern = self.lambda_depth == len(self.bound)
+        names = []
+        for word in words:
+            if word == ":" or word == ")" and is_pattern:
+                return names
+            if word != "," and not VARIABLE.fullmatch(word) or word == "," and not is_pattern:
+                return []
+            names.append(word)
+        return []
+
+    def add(self, token, word):
+        """Adds what a word stands for, and the fields that it reads."""
+        try:
+            target, fields = self.names.resolved(word, set().union(*self.bound))
+        except Unresolved as name:
+            self.unresolved.add(str(name))
+            return
+        end = token.end() - sum(len(field) + 1 for field in fields)
+        self.uses += [Use(token.start(), end, self.guard, target)] if target else []
+        self.uses += [Use(end, token.end(), self.guard, Field(field)) for field in fields if field and not field.isdigit()]
+
+
+def find_token(text, start, wanted):
+    """Returns where a token is, from a place on, outside of the brackets that are opened after it."""
+    depth = 0
+    for token in TOKEN.finditer(text, start):
+        if not depth and token.group() == wanted:
+            return token.start()
+        depth += (token.group() in "([{") - (token.group() in ")]}")
+    raise Unresolved(f"{wanted} after {text[start:start + 40]!r}")
+
+
+class Reading:
+    """What a definition uses, and the names in it that stand for nothing."""
+
+    def __init__(self, sources, definition):
+        self.definition, self.text = definition, definition.text
+        self.names = Names(sources, definition.scope)
+        self.uses, self.unresolved, self.is_guarded = [], set(), False
+        header = Walk(self.names, definition.header, ()).over(0, len(definition.header))
+        self.keep(header, [use._replace(start=0, end=0) for use in header.uses])
+        bound = header.bound[0]
+        if definition.kind == "contract":
+            self.contract()
+        elif definition.kind == "ghost":
+            self.keep(Walk(self.names, self.text, {"Self"}).over(self.text.index("{"), len(self.text)))
+        elif definition.kind in ("record", "data"):
+            self.keep(Walk(self.names, self.text, bound, has_members=True).over(0, len(self.text)))
+        elif definition.scope.module[1] == "specs":
+            self.equations(bound)
+        elif not is_trait(definition):
+            self.rust(sources)
+
+    def keep(self, walk, uses=None):
+        self.uses += walk.uses if uses is None else uses
+        self.unresolved |= walk.unresolved
+
+    def contract(self):
+        """Reads the clauses of a function."""
+        bound = {"result", *re.findall(r"\b(\w+):", self.text)}
+        for clause in re.finditer(r"^ +(?:ensures|requires)\*? *\w* \{", self.text, re.M):
+            self.keep(Walk(self.names, self.text, bound).over(clause.end(), find_token(self.text, clause.end(), "}")))
+
+    def equations(self, bound):
+        """Reads a signature and its clauses."""
+        starts = [line.start() for line in re.finditer(r"^(?!--|[\])}])\S", self.text, re.M)] + [len(self.text)]
+        result = self.text[:starts[1]].rpartition("→")[2].rpartition(" : ")[2].split()[0]
+        self.is_guarded = is_trait(self.names.target(result))
+        signature = Walk(self.names, self.text, bound).over(self.text.index(" : "), starts[1])
+        named = [use if is_trait(use.target) else use._replace(guard=NAMED) for use in signature.uses]
+        self.keep(signature, named if self.is_guarded else None)
+        for start, end in zip(starts[1:], starts[2:]):
+            if not self.text.startswith("unfolding ", start):
+                equals = find_token(self.text, start, "=")
+                variables = bound | self.variables(start, equals)
+                self.keep(Walk(self.names, self.text, variables, is_guarded=self.is_guarded).over(equals, end))
+
+    def variables(self, start, end):
+        """Reads the patterns of a clause, and returns the names that they bind."""
+        own, bound = {self.definition.name, *self.definition.name.split("◌")}, set()
+        for token in TOKEN.finditer(self.text, start, end):
+            word = token.group()
+            if word not in own | BUILT_IN and VARIABLE.match(word):
+                target = self.names.constructor(word)
+                self.uses += [Use(token.start(), token.end(), None, target)] if target else []
+                bound |= set() if target else {word}
+        return bound
+
+    def rust(self, sources):
+        """Reads the types that a Rust definition names, and its ghost fields."""
+        text = re.sub(r"//[^\n]*", lambda comment: " " * len(comment.group()), self.text)
+        for ghost in re.finditer(r"\bghost \w+: \{", text):
+            end = find_token(text, ghost.end(), "}")
+            self.keep(Walk(self.names, self.text, {"Self"}).over(ghost.end(), end))
+            text = text[:ghost.start()] + " " * (end - ghost.start()) + text[end:]
+        generics = re.match(r"[^({;]*?\w+<([^>]*)>", text)
+        known = {self.definition.name, *RUST, *re.findall(r"\w+", generics[1] if generics else "")}
+        variants = {variant.start(1) for variant in VARIANT.finditer(text) if self.definition.kind == "enum"}
+        for token in re.finditer(r"\b[A-Z]\w*", text):
+            if token.start() not in variants and token.group() not in known:
+                try:
+                    target = sources.rust_type(self.definition.scope, token.group())
+                    self.uses.append(Use(token.start(), token.end(), None, target))
+                except Unresolved as name:
+                    self.unresolved.add(str(name))

@@ -1,0 +1,112 @@
+"""Reads the definitions of the sources: those of specs/*.antt, and the types, constants and ghost members of src/*.rt."""
+
+import re
+
+BLOCK_COMMENT = re.compile(r"^ *(?:--|//+)!? ?", re.M)
+USE = re.compile(r"^\s*(?:ghost )?((?:unfoldable )?pub )?(?:ghost )?use ([^\s;{]+?)(?:\.\{(.*)\})?(?: as (\S+?))?;?$")
+START = re.compile(r"(?=(?:abbrev|unfoldable|irreducible|pub|record|data) |\S+ : )"
+                   r"(?:(?:abbrev|unfoldable|irreducible) )?(?:pub )?(?:(record|data) )?(\S+)")
+MEMBER = re.compile(r"^  (?:pub )?(\S+) :", re.M)
+RUST_ITEM = re.compile(r"(?P<above>(?:^(?:///|#\[).*\n)*)^(?:pub(?:\([^)\n]*\))? )?"
+                       r"(?P<kind>enum|struct|trait|type|const) (?P<name>\w+)", re.M)
+GHOST = re.compile(r"(?P<above>(?:^ +//.*\n)*)^ +(?P<text>ghost (?P<name>\w+):[^;]*;)$", re.M)
+VARIANT = re.compile(r"^    ([A-Z]\w*)", re.M)
+
+
+class Scope:
+    """A source file: what it defines, and what it calls the definitions of other files."""
+
+    def __init__(self, module, path):
+        self.module, self.path = module, path
+        self.definitions = {}  # by each name that is declared, constructors too
+        self.imports = {}  # the name here: the module and the name there
+        self.modules = {}  # the name of a module here: the module
+        self.public = set()  # the imports that other files may import from here
+        self.crates = {}  # a type of another crate that a Rust file uses: that crate
+
+    def add_use(self, line):
+        is_public, module, names, alias = USE.match(line).groups()
+        if names is None:
+            self.modules[alias or module.rsplit(".", 1)[-1]] = module
+        for part in filter(None, map(str.strip, (names or "").split(","))):
+            there, _, here = part.partition(" as ")
+            self.imports[here or there] = (module, there)
+            self.public |= {here or there} if is_public else set()
+
+
+class Definition:
+    """A definition as it is written, without the attributes for the compiler."""
+
+    def __init__(self, kind, name, scope, line, comment, text, header="", fixity=""):
+        self.kind, self.name, self.scope, self.line = kind, name, scope, line
+        self.comment, self.text, self.header, self.fixity = comment, text, header, fixity
+        self.members = ()  # constructors of a type
+        self.ghosts = {}  # ghost members of a trait
+
+    crate = property(lambda self: self.scope.path.split("/")[1])
+    place = property(lambda self: re.sub(r"^crates/(\w+)/(?:specs/)?(.*)\.\w+$", r"\1/\2", self.scope.path))
+
+    def sentence(self):
+        """Returns the comment above the definition as a sentence."""
+        text = " ".join(BLOCK_COMMENT.sub("", self.comment).split())
+        if re.match(r"(?:a|[a-z][a-z']+)[ ,;:]", text):
+            text = text[0].upper() + text[1:]
+        return text if not text or text[-1] in ".:?" else text + "."
+
+
+def parsed_spec(text, scope):
+    """Adds what a spec file defines and imports to its scope."""
+    header, comment, fixity, current, is_header_open = "", [], "", None, False
+    for number, raw in enumerate(text.splitlines(), 1):
+        if is_header_open or raw.startswith("module _"):
+            header = header + "\n" + raw if is_header_open else raw
+            is_header_open, comment, current = not raw.endswith("where"), [], None
+            continue
+        header = "" if raw[:1].strip() else header
+        line = raw[2:] if header else raw
+        start = START.match(line)
+        if not line.strip() or line.startswith("-- ----"):
+            comment, current = [], current if not line.strip() else None
+        elif line.startswith("--"):
+            comment.append(line)
+        elif USE.match(line):
+            scope.add_use(line)
+        elif line.startswith("infix"):
+            fixity = line
+        elif start and not line.startswith("pub mod "):
+            current = Definition(start[1] or "function", start[2], scope, number, "\n".join(comment), line, header, fixity)
+            scope.definitions[start[2]] = current
+            comment, fixity = [], ""
+        elif current:
+            current.text += "\n" + "\n".join(comment + [line])
+            comment = []
+    for definition in list(scope.definitions.values()):
+        if definition.kind == "data":
+            definition.members = tuple(MEMBER.findall(definition.text))
+            scope.definitions.update(dict.fromkeys(definition.members, definition))
+
+
+def rust_end(text, start):
+    """Returns the end of a Rust item: its last brace, or the semicolon of an item on one line."""
+    line = text.find("\n", start)
+    return line if text[line - 1] in ";}" else text.index("\n}", start) + 2
+
+
+def parsed_rust(text, scope):
+    """Adds the types, constants and traits of a source file to its scope, and what it imports for its clauses."""
+    for line in re.findall(r"^\s*ghost use .*", text, re.M):
+        scope.add_use(line)
+    for crate, names in re.findall(r"^use (pp_\w+)::([^;]*);", text, re.M):
+        scope.crates.update(dict.fromkeys(re.findall(r"\b[A-Z]\w*", names), crate))
+    for item in RUST_ITEM.finditer(text):
+        start, end = item.end("above"), rust_end(text, item.end())
+        written = re.sub(r"^ *#\[.*\n", "", text[start:end], flags=re.M)
+        comment = "\n".join(re.findall(r"^///.*", item["above"], re.M))
+        found = Definition(item["kind"], item["name"], scope, text.count("\n", 0, start) + 1, comment, written)
+        scope.definitions[found.name] = found
+        if found.kind == "enum":
+            found.members = tuple(VARIANT.findall(written))
+        for ghost in GHOST.finditer(text, start, end) if found.kind == "trait" else ():
+            at = text.count("\n", 0, ghost.start("text")) + 1
+            written = re.sub(r"^    ", "", ghost["text"], flags=re.M)
+            found.ghosts[ghost["name"]] = Definition("ghost", f"{found.name}.{ghost['name']}", scope, at, ghost["above"], written)
