@@ -10,7 +10,7 @@ use Rattle.clap.specs.declared.error.Error.{Error}
 use Rattle.clap.specs.declared.parser.matches.ArgMatches.{ArgMatches}
 use Rattle.clap.proofs.OnLiterals.{clap_on_literals}
 use Rattle.clap.proofs.WalkLemmas.{first_value-rows}
-use Rattle.pp_arguments.specs.CommandLine.{pp6600, given, are_taken, faults_of}
+use Rattle.pp_arguments.specs.CommandLine.{pp6600, value_of, are_taken, faults_of}
 
 is_simple-pp6600 : is_simple pp6600 ≡ true
 unfolding pp6600 clap_on_literals
@@ -18,8 +18,8 @@ is_simple-pp6600 = refl
 
 -- the value that the matches of this command have for a name
 pub given-of_matches : (app : App) (words : List (List ℕ)) (matches : ArgMatches) → app ≡ pp6600 → HasMatchesOf app words matches →
-    (name : List ℕ) → first_value (found_of matches) name ≡ given words name
-unfolding given
+    (name : List ℕ) → first_value (found_of matches) name ≡ value_of words name
+unfolding value_of
 given-of_matches app words matches is_app has name =
     first_value-rows (found_of matches) name
     ∙ ap (first_of name) ((has (ap is_simple is_app ∙ is_simple-pp6600)).0 ∙ ap (λ (a : App). matches_of a words) is_app)

@@ -1,5 +1,6 @@
 -- The command line of the program, as clap reads it:
 -- pp6600 [--history N] [--central K] [--deck F] [--reader C] [--printer C] [--panel F] [SCRIPT]
+-- What clap does with words is in the library's own definitions.
 use Rattle.std.specs.Prelude.{◌≢◌, ℕ, Bool, List, Option, Some, codes}
 use Rattle.clap.specs.Faults.{fault_of}
 use Rattle.clap.specs.Kinds.{IsAmong, Kinds}
@@ -12,37 +13,38 @@ use Rattle.clap.specs.declared.error.kind.ErrorKind.TheVariants.{DisplayHelp}
 use Rattle.pp_arguments.specs.declared.options.ArgFault.{ArgFault}
 use Rattle.pp_arguments.specs.declared.options.ArgFault.TheVariants.{BadArguments, BadChannel, Help, NoMemory}
 
+-- A word, a name or a text, as bytes.
 abbrev pub Text : Type 0
 Text = List ℕ
 
--- an option with one value
+-- An option with one value: --name VALUE, or --name=VALUE, at most once.
 abbrev pub option_rule : Text → Rule
 option_rule name = record (new_rule name) { long = Some name; action = Some Set }
 
--- the word that belongs to no option
+-- The word that belongs to no option is the name of the script's file.
 abbrev pub script_rule : Rule
 script_rule = record (new_rule (codes "script")) { action = Some Set }
 
--- six options and the script
+-- The command line has six options and the script, in any order.
 unfoldable pub pp6600 : App
 pp6600 = with_rule (with_rule (with_rule (with_rule (with_rule (with_rule (with_rule (new_app (codes "pp6600"))
     (option_rule (codes "history"))) (option_rule (codes "central"))) (option_rule (codes "deck")))
     (option_rule (codes "reader"))) (option_rule (codes "printer"))) (option_rule (codes "panel")))
     script_rule
 
--- the value that the words have for the option of this name, or for the script
-unfoldable pub given : List Text → Text → Option Text
-given words name = first_of name (matches_of pp6600 words)
+-- The value that the words have for the option of this name, or for the script.
+unfoldable pub value_of : List Text → Text → Option Text
+value_of words name = first_of name (matches_of pp6600 words)
 
--- the command line accepts the words
+-- The command line accepts the words.
 unfoldable pub are_taken : List Text → Bool
 are_taken words = takes pp6600 words
 
--- the errors that the command line may report for the words; there are none if it accepts them
+-- The errors that the command line may report for the words. There are none if it accepts them.
 unfoldable pub faults_of : List Text → Kinds
 faults_of words = fault_of pp6600 words
 
--- the faults that report an error of one of these kinds, or that memory ran out
+-- A fault reports an error of one of these kinds: help that was asked for, or any other error as bad arguments.
 abbrev pub IsFaultOf : Kinds → ArgFault → Type 0
 IsFaultOf kinds NoMemory = Unit {0}
 IsFaultOf kinds Help = IsAmong DisplayHelp kinds

@@ -1,7 +1,7 @@
 //! The command line of the program, as `clap` reads it.
 ghost use Rattle.clap.specs.Kinds.{IsAmong, Kinds};
 ghost use Rattle.clap.specs.Words.{app_of, first_value, found_of, rule_of};
-ghost use Rattle.pp_arguments.specs.CommandLine.{IsFaultOf, are_taken, faults_of, given, option_rule, pp6600, script_rule};
+ghost use Rattle.pp_arguments.specs.CommandLine.{IsFaultOf, are_taken, faults_of, option_rule, pp6600, script_rule, value_of};
 ghost use Rattle.std.specs.Prelude.{◌≡◌, ◌⊎◌, [], ℕ, List, false, map, IfOk, IfErr, IsTrue, MatchResult};
 ghost use Rattle.std.specs.String.{string_bytes};
 
@@ -57,7 +57,7 @@ fn fault_of(kind: ErrorKind) -> ArgFault
 /// line, as `clap` reads it.
 pub fn read_words<'a>(alloc: Global, words: &'a [String]) -> Result<ArgMatches<'a>, ArgFault>
     ensures matches { IfOk result (λ matches. (name : List ℕ) →
-        first_value (found_of matches) name ≡ given (map string_bytes words.entry.now) name) }
+        first_value (found_of matches) name ≡ value_of (map string_bytes words.entry.now) name) }
     ensures takes_words { IfErr result (λ fault.
         IsTrue (are_taken (map string_bytes words.entry.now)) → fault ≡ ArgFault.NoMemory) }
     ensures faults { MatchResult result (λ _. faults_of (map string_bytes words.entry.now) ≡ [])

@@ -1,8 +1,9 @@
 //! The options of the program: what the words of the command line ask for, or why they are rejected.
 ghost use Rattle.pp_arguments.specs.CommandLine.{Text, faults_of};
 ghost use Rattle.pp_arguments.specs.Inner.{AreGiven};
-ghost use Rattle.pp_arguments.specs.Options.{AreAskedBy, AreInRange, IsCauseOf, IsMemoryOrChannel, are_admitted, asked_or, central_read, channel_read, history_read};
-ghost use Rattle.std.specs.Prelude.{◌≡◌, ◌≤◌, [], List, map, option_map, IfErr, IfOk, IfSome, IsTrue, OnOk};
+ghost use Rattle.pp_arguments.specs.Options.{AreInRange, IsCauseOf, IsMemoryOrChannel, are_admitted, asked_by, asked_of};
+ghost use Rattle.pp_arguments.specs.Options.{asked_or, central_read, channel_read, history_read};
+ghost use Rattle.std.specs.Prelude.{◌≡◌, ◌≤◌, [], List, Ok, map, option_map, IfErr, IfOk, IfSome, IsTrue, OnOk};
 ghost use Rattle.std.specs.String.{string_bytes};
 
 use crate::command_line::read_words;
@@ -107,8 +108,10 @@ fn file(alloc: Global, word: Option<&str>) -> Result<Option<String>, ArgFault>
 ///
 /// # Errors
 /// `NoMemory`, `BadArguments` and `BadChannel`.
+#[tactic(auto, unfolding(crate::specs::Options::asked_by))]
 fn options_of(alloc: Global, matches: &ArgMatches) -> Result<Options, ArgFault>
-    ensures asked { (words : List Text) → AreGiven words matches.now → IfOk result (AreAskedBy words) }
+    ensures asked { (words : List Text) → AreGiven words matches.now →
+        IfOk result (λ options. asked_by words ≡ Ok (asked_of options)) }
     ensures ranges { IfOk result AreInRange }
     ensures cause { (words : List Text) → AreGiven words matches.now → faults_of words ≡ [] → IfErr result (IsCauseOf words) }
     ensures admitted { (words : List Text) → AreGiven words matches.now → IsTrue (are_admitted words) → IfErr result IsMemoryOrChannel }
@@ -137,7 +140,7 @@ fn options_of(alloc: Global, matches: &ArgMatches) -> Result<Options, ArgFault>
 /// `NoMemory` if memory runs out. `Help` or `BadArguments` if the words are not those of this command line, as `clap`
 /// reads it. Otherwise `BadArguments` if N or K is out of range, and otherwise `BadChannel` if a channel is.
 pub fn read_arguments(alloc: Global, words: Vec<String>) -> Result<Options, ArgFault>
-    ensures asked { IfOk result (AreAskedBy (map string_bytes words.items)) }
+    ensures asked { IfOk result (λ options. asked_by (map string_bytes words.items) ≡ Ok (asked_of options)) }
     ensures ranges { IfOk result AreInRange }
     ensures line { OnOk result (faults_of (map string_bytes words.items) ≡ []) }
     ensures cause { IfErr result (IsCauseOf (map string_bytes words.items)) }

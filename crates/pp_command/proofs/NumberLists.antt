@@ -2,7 +2,8 @@
 use Rattle.std.proofs.Common.{◌≡◌, ℕ, List, [], ◌∷◌, ◌++◌, refl, sym, ap, append_assoc, Result, Ok, Err, append-nil}
 use Rattle.std.proofs.lemmas.Grind.{common_steps, elements}
 use Rattle.pp_command.specs.declared.fault.LineFault.{LineFault}
-use Rattle.pp_command.specs.Numbers.{number, numbers, ◌>>=◌}
+use Rattle.pp_lines.specs.Results.{◌>>=◌}
+use Rattle.pp_command.specs.Numbers.{number_read, numbers}
 
 -- the numbers after those already read
 abbrev pub with_front : List ℕ → Result (List ℕ) LineFault → Result (List ℕ) LineFault
@@ -13,12 +14,12 @@ front-next front value (Ok values) = ap Ok (sym (append_assoc front (value ∷ [
 front-next front value (Err fault) = refl
 
 -- a word is read
-pub numbers-next : (most : ℕ) (front : List ℕ) (word : List ℕ) (others : List (List ℕ)) (value : ℕ) → number most word ≡ Ok value →
+pub numbers-next : (most : ℕ) (front : List ℕ) (word : List ℕ) (others : List (List ℕ)) (value : ℕ) → number_read most word ≡ Ok value →
     with_front front (numbers most (word ∷ others)) ≡ with_front (front ++ value ∷ []) (numbers most others)
 numbers-next most front word others value e = rw e (front-next front value (numbers most others))
 
 -- a word is not a number in range
-pub numbers-fails : (most : ℕ) (front : List ℕ) (word : List ℕ) (others : List (List ℕ)) (fault : LineFault) → number most word ≡ Err fault →
+pub numbers-fails : (most : ℕ) (front : List ℕ) (word : List ℕ) (others : List (List ℕ)) (fault : LineFault) → number_read most word ≡ Err fault →
     with_front front (numbers most (word ∷ others)) ≡ Err fault
 numbers-fails most front word others fault e = rw e refl
 

@@ -1,4 +1,4 @@
--- The request of a line, or why it is rejected: the command lines, one by one.
+-- The request of a line, or why it is rejected: the command lines, one by one. All numbers of a line are octal.
 use Rattle.std.specs.Prelude.{ℕ, ◌-◌, ◌^◌, nat_lt, nat_le, ◌==◌, ◌&&◌, ◌||◌, Bool, false, if◌then◌else◌, List, [], ◌∷◌, length, Option, Some, None, Result, Ok, Err, codes}
 use Rattle.std.specs.List.{list_all}
 use Rattle.std.specs.Str.{str_eq_ignore_ascii_case}
@@ -9,44 +9,48 @@ use Rattle.pp_machine.specs.declared.channel.ChannelState.TheVariants.{Inactive,
 use Rattle.pp_actions.specs.declared.action.Action.TheVariants.{SetCells, SetA, SetP, SetQ, SetWord, SetChannel, Watch, Unwatch, Deadstart}
 use Rattle.pp_actions.specs.declared.watched.Watched.{Watched}
 use Rattle.pp_actions.specs.declared.watched.Watched.TheVariants.{Cell, RegA, RegP, RegQ, Central, Register}
-use Rattle.pp_command.specs.Numbers.{Words, ◌>>=◌, number, if_octal, none, one, pair, two, three, numbers, count}
+use Rattle.pp_lines.specs.Results.{◌>>=◌}
+use Rattle.pp_command.specs.Numbers.{WordList, number_read, if_octal, none, one, two, three, numbers, count}
 use Rattle.pp_command.specs.declared.fault.LineFault.{LineFault}
 use Rattle.pp_command.specs.declared.fault.LineFault.TheVariants.{NotACommand, WordCount, OutOfRange, TooLong, NotAscii}
 use Rattle.pp_command.specs.declared.request.Request.{Request}
 use Rattle.pp_command.specs.declared.request.Request.TheVariants.{Act, Step, Back, BackToChange, Forward, DumpCells, DumpProcessor, DumpChannels, DumpCentral, DumpFrame, DumpReader, DumpPrinter, DumpWatches}
 
--- a keyword, and the request made by the words after it
-abbrev pub Row : Type 0 → Type 0
-Row A = List ℕ × (Words → Result A LineFault)
+-- An entry of a table of commands: a keyword, and what the words after it ask for.
+pub record Entry (A : Type 0) : Type 0 where
+  pub keyword : List ℕ
+  pub reading : WordList → Result A LineFault
 
+-- The entry with this keyword and this reading.
 infix 70 ◌⇒◌
-abbrev pub ◌⇒◌ : {A : Type 0} → List ℕ → (Words → Result A LineFault) → Row A
-keyword ⇒ reading = (keyword, reading)
+abbrev pub ◌⇒◌ : {A : Type 0} → List ℕ → (WordList → Result A LineFault) → Entry A
+keyword ⇒ reading = record { keyword = keyword; reading = reading }
 
--- the row whose keyword is this word, in letters of either case
-abbrev pub row_of : {A : Type 0} → List (Row A) → List ℕ → Words → Result A LineFault
-row_of [] word given = Err NotACommand
-row_of (row ∷ rows) word given = if str_eq_ignore_ascii_case word row.0 then row.1 given else row_of rows word given
+-- The entry whose keyword is this word, in letters of either case, reads the words after it. Without one it is no command, 01.
+abbrev pub read_by : {A : Type 0} → List (Entry A) → List ℕ → WordList → Result A LineFault
+read_by [] word given = Err NotACommand
+read_by (entry ∷ entries) word given =
+    if str_eq_ignore_ascii_case word entry.keyword then entry.reading given else read_by entries word given
 
--- the row of the first word, applied to the words after it
-abbrev pub choose : {A : Type 0} → List (Row A) → Words → Result A LineFault
-choose rows [] = Err WordCount
-choose rows (kind ∷ given) = row_of rows kind given
+-- The first word is the keyword. Without a word there are too few, 02.
+abbrev pub choose : {A : Type 0} → List (Entry A) → WordList → Result A LineFault
+choose entries [] = Err WordCount
+choose entries (kind ∷ given) = read_by entries kind given
 
--- what is made of what the words say
-abbrev pub makes : {A B : Type 0} → (A → B) → (Words → Result A LineFault) → Words → Result B LineFault
+-- What is made of what the words ask for.
+abbrev pub makes : {A B : Type 0} → (A → B) → (WordList → Result A LineFault) → WordList → Result B LineFault
 makes make read given = read given >>= λ x. Ok (make x)
 
--- SET M n a v ..
-unfoldable pub set_cells : Words → Result Request LineFault
+-- SET M n a v .. sets the cells of processor n from cell a on to one to eight numbers v.
+unfoldable pub set_cells : WordList → Result Request LineFault
 set_cells (n ∷ a ∷ v ∷ more) =
     if nat_lt 7 (length more) then Err WordCount
     else if_octal (n ∷ a ∷ v ∷ more)
-    (number 0o11 n >>= λ pp. number 0o7777 a >>= λ cell. numbers 0o7777 (v ∷ more) >>= λ values.
+    (number_read 0o11 n >>= λ pp. number_read 0o7777 a >>= λ cell. numbers 0o7777 (v ∷ more) >>= λ values.
     Ok (Act (SetCells pp cell values)))
 set_cells _ = Err WordCount
 
--- I (inactive), E (active, empty) or F (active, full)
+-- The state of a channel: I (inactive), E (active and empty) or F (active and full with data).
 unfoldable pub state : List ℕ → Result ChannelState LineFault
 state word =
     if str_eq_ignore_ascii_case word (codes "I") then Ok Inactive
@@ -54,32 +58,27 @@ state word =
     else (if str_eq_ignore_ascii_case word (codes "F") then Ok Full
     else Err NotACommand))
 
--- a channel with its state, and with its register if that is given
-unfoldable pub channel_in : ChannelState → List ℕ → Words → Result Request LineFault
-channel_in s c [] = number 0o13 c >>= λ channel. Ok (Act (SetChannel channel s None))
-channel_in s c (v ∷ []) = pair 0o13 0o7777 c v >>= λ n. Ok (Act (SetChannel n.0 s (Some n.1)))
-channel_in s c _ = Err WordCount
-
--- SET H c s [v]
-unfoldable pub set_channel : Words → Result Request LineFault
-set_channel (c ∷ s ∷ more) = state s >>= λ found. channel_in found c more
+-- SET H c s [v] sets channel c to state s, and its register to v if v is present.
+unfoldable pub set_channel : WordList → Result Request LineFault
+set_channel (c ∷ s ∷ []) = state s >>= λ found. makes (λ n. Act (SetChannel n found None)) (one 0o13) (c ∷ [])
+set_channel (c ∷ s ∷ more) = state s >>= λ found. makes (λ (n, v). Act (SetChannel n found (Some v))) (two 0o13 0o7777) (c ∷ more)
 set_channel _ = Err WordCount
 
--- the words after SET
-unfoldable pub set : Words → Result Request LineFault
+-- SET, by the kind of number: M for cells, A, P or Q for a register of a processor, C for a central word, H for a channel.
+unfoldable pub set : WordList → Result Request LineFault
 set = choose (
     codes "M" ⇒ set_cells
-    ∷ codes "A" ⇒ makes (λ n. Act (SetA n.0 n.1)) (two 0o11 0o777777)
-    ∷ codes "P" ⇒ makes (λ n. Act (SetP n.0 n.1)) (two 0o11 0o7777)
-    ∷ codes "Q" ⇒ makes (λ n. Act (SetQ n.0 n.1)) (two 0o11 0o7777)
-    ∷ codes "C" ⇒ makes (λ n. Act (SetWord n.0 n.1)) (two 0o377777 (2 ^ 60 - 1))
+    ∷ codes "A" ⇒ makes (λ (n, v). Act (SetA n v)) (two 0o11 0o777777)
+    ∷ codes "P" ⇒ makes (λ (n, v). Act (SetP n v)) (two 0o11 0o7777)
+    ∷ codes "Q" ⇒ makes (λ (n, v). Act (SetQ n v)) (two 0o11 0o7777)
+    ∷ codes "C" ⇒ makes (λ (a, v). Act (SetWord a v)) (two 0o377777 (2 ^ 60 - 1))
     ∷ codes "H" ⇒ set_channel
     ∷ [])
 
--- a place, by its kind; register 14 is the clock
-unfoldable pub place : Words → Result Watched LineFault
+-- A place of WATCH and UNWATCH: a cell, A, P or Q of a processor, a central word, or a channel's register. H 14 is the clock.
+unfoldable pub place : WordList → Result Watched LineFault
 place = choose (
-    codes "M" ⇒ makes (λ n. Cell n.0 n.1) (two 0o11 0o7777)
+    codes "M" ⇒ makes (λ (n, a). Cell n a) (two 0o11 0o7777)
     ∷ codes "A" ⇒ makes RegA (one 0o11)
     ∷ codes "P" ⇒ makes RegP (one 0o11)
     ∷ codes "Q" ⇒ makes RegQ (one 0o11)
@@ -87,29 +86,30 @@ place = choose (
     ∷ codes "H" ⇒ makes Register (one 0o14)
     ∷ [])
 
--- whether the only word is W
-abbrev pub is_change : Words → Bool
+-- Whether the only word is W.
+abbrev pub is_change : WordList → Bool
 is_change (word ∷ []) = str_eq_ignore_ascii_case word (codes "W")
 is_change _ = false
 
--- BACK W, or BACK [count]
-unfoldable pub back : Words → Result Request LineFault
+-- BACK W goes back to a change, and BACK [count] undoes actions.
+unfoldable pub back : WordList → Result Request LineFault
 back given = if is_change given then Ok BackToChange else makes Back count given
 
--- the request, if the first address is not above the last
+-- A dump is rejected with 04 if its first address is above its last.
 abbrev pub ordered : ℕ → ℕ → Request → Result Request LineFault
 ordered first last request = if nat_le first last then Ok request else Err OutOfRange
 
--- DUMP M n a b
-unfoldable pub dump_cells : Words → Result Request LineFault
-dump_cells given = three 0o11 0o7777 0o7777 given >>= λ n. ordered n.1 n.2 (DumpCells n.0 n.1 n.2)
+-- DUMP M n a b shows cells a to b of processor n.
+unfoldable pub dump_cells : WordList → Result Request LineFault
+dump_cells given = three 0o11 0o7777 0o7777 given >>= λ (n, a, b). ordered a b (DumpCells n a b)
 
--- DUMP C a b
-unfoldable pub dump_central : Words → Result Request LineFault
-dump_central given = two 0o377777 0o377777 given >>= λ n. ordered n.0 n.1 (DumpCentral n.0 n.1)
+-- DUMP C a b shows the central words a to b.
+unfoldable pub dump_central : WordList → Result Request LineFault
+dump_central given = two 0o377777 0o377777 given >>= λ (a, b). ordered a b (DumpCentral a b)
 
--- the words after DUMP
-unfoldable pub dump : Words → Result Request LineFault
+-- DUMP, by what is shown: M cells, PP a processor, H the channels, C central words, XP the exchange package, CR the card reader, LP
+-- the line printer, W the watches.
+unfoldable pub dump : WordList → Result Request LineFault
 dump = choose (
     codes "M" ⇒ dump_cells
     ∷ codes "PP" ⇒ makes DumpProcessor (one 0o11)
@@ -121,9 +121,9 @@ dump = choose (
     ∷ codes "W" ⇒ none DumpWatches
     ∷ [])
 
--- the command that the first word names
-unfoldable pub request_of : List ℕ → Words → Result Request LineFault
-request_of = row_of (
+-- The eight commands, by the first word of the line. STEP has a count of turns, and BACK and FORWARD one of actions.
+unfoldable pub request_of : List ℕ → WordList → Result Request LineFault
+request_of = read_by (
     codes "SET" ⇒ set
     ∷ codes "STEP" ⇒ makes Step count
     ∷ codes "BACK" ⇒ back
@@ -134,23 +134,21 @@ request_of = row_of (
     ∷ codes "DUMP" ⇒ dump
     ∷ [])
 
--- the request of a line of words, or nothing if the line is ignored
-abbrev pub sentence : Words → Result (Option Request) LineFault
+-- The request of a line with these words, or nothing if the line is ignored. The first word names the command.
+abbrev pub sentence : WordList → Result (Option Request) LineFault
 sentence [] = Ok None
 sentence (first ∷ given) =
     if is_ignored (first ∷ given) then Ok None
     else (request_of first given >>= λ request. Ok (Some request))
 
--- a tab or a printable ASCII character
+-- A tab, byte 9, or a printing ASCII character, bytes 32 to 126 (decimal).
 abbrev pub is_printable : ℕ → Bool
 is_printable byte = byte == 9 || (nat_le 32 byte && nat_le byte 126)
 
--- the request of the text of a line; its length and its bytes are checked first
-unfoldable pub command_of_text : List ℕ → Result (Option Request) LineFault
-command_of_text text =
+-- The request of a line: nothing if it is ignored, or why it is rejected. One carriage return at its end is dropped. Its length is
+-- tested first, at most 255 (decimal) bytes, and then each byte.
+unfoldable pub command : List ℕ → Result (Option Request) LineFault
+command line =
+    let text = without_return line in
     if nat_lt 255 (length text) then Err TooLong
     else (if list_all is_printable text then sentence (words text) else Err NotAscii)
-
--- the request of a line
-abbrev pub command : List ℕ → Result (Option Request) LineFault
-command line = command_of_text (without_return line)

@@ -82,7 +82,7 @@ fn are_printable(text: &[u8]) -> bool
 ///
 /// # Errors
 /// The first `LineFault` that applies.
-#[tactic(auto, unfolding(crate::specs::CommandLine::command_of_text))]
+#[tactic(auto, unfolding(crate::specs::CommandLine::command))]
 pub fn parse(line: &[u8]) -> Result<Option<Command>, LineFault>
     ensures { result ≡ spec.command line.now }
 {

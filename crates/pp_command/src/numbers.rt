@@ -1,5 +1,5 @@
 //! The numbers of a command line.
-ghost use Rattle.std.specs.Prelude.{◌≡◌, ◌≤◌, IfOk};
+ghost use Rattle.std.specs.Prelude.{◌≡◌, ◌≤◌, ◌∷◌, [], IfOk};
 ghost use Rattle.pp_lines.specs.Words.{words};
 ghost use Rattle.pp_command.specs.Numbers as spec;
 
@@ -13,7 +13,7 @@ use pp_lines::next_word;
 /// # Errors
 /// `NotANumber` if the word is not octal, and `OutOfRange` if its value is above `most`.
 pub fn number(word: &[u8], most: u64) -> Result<u64, LineFault>
-    ensures value { result ≡ spec.number most word.now }
+    ensures value { result ≡ spec.number_read most word.now }
     ensures within { IfOk result (λ value. value ≤ most) }
 {
     match read_octal(word, most) {
@@ -41,9 +41,9 @@ pub fn one(text: &[u8], most: u64) -> Result<u64, LineFault>
 ///
 /// # Errors
 /// `NotANumber` if either word is not octal. Otherwise `OutOfRange` if either value is above its maximum.
-#[tactic(auto, unfolding(crate::specs::Numbers::pair))]
+#[tactic(auto, unfolding(crate::specs::Numbers::two))]
 pub fn pair(x: &[u8], y: &[u8], first: u64, second: u64) -> Result<(u64, u64), LineFault>
-    ensures value { result ≡ spec.pair first second x.now y.now }
+    ensures value { result ≡ spec.two first second (x.now ∷ y.now ∷ []) }
     ensures within { IfOk result (λ values. (values.0 ≤ first) × (values.1 ≤ second)) }
 {
     if !is_octal(x) || !is_octal(y) {

@@ -85,7 +85,7 @@ fn state(word: &[u8]) -> Result<ChannelState, LineFault>
 }
 
 /// Parses `SET H c s [v]`.
-#[tactic(auto, unfolding(crate::specs::CommandLine::set_channel, crate::specs::CommandLine::channel_in))]
+#[tactic(auto, unfolding(crate::specs::CommandLine::set_channel, crate::specs::Numbers::one, crate::specs::Numbers::two))]
 fn set_channel(text: &[u8]) -> Result<Request, LineFault>
     ensures value { result ≡ spec.set_channel (words text.now) }
     ensures in_range { IfOk result IsInRange }

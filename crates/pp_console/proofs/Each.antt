@@ -1,10 +1,14 @@
 -- Lines for the numbers of a range, one after another.
-use Rattle.std.proofs.Common.{add-one, ◌≡◌, ◌∙◌, ℕ, zero, suc, ◌+◌, ◌-◌, ◌<◌, ◌≤◌, List, [], ◌∷◌, ◌++◌, refl, sym, ap, arith, append_assoc, add-zero, append-nil, codes}
+use Rattle.std.proofs.Common.{add-one, ◌≡◌, ◌∙◌, ℕ, zero, suc, ◌+◌, ◌-◌, ◌*◌, ◌<◌, ◌≤◌, List, [], ◌∷◌, ◌++◌, refl, sym, ap, arith, append_assoc, add-zero, append-nil, codes}
 use Rattle.std.proofs.lemmas.Grind.{common_steps}
 use Rattle.pp_machine.specs.Prelude.{Machine, number}
 use Rattle.pp_machine.specs.declared.place.Place.TheVariants.{Cell, ChannelMode, ChannelWord, FrameWord}
-use Rattle.pp_console.specs.Dumps.{each, cell_text, channel_line, frame_line, state_text}
+use Rattle.pp_console.specs.Dumps.{each, cell_text, cell_row, channel_line, frame_line, state_text}
 use Rattle.pp_console.specs.Text.{field}
+
+-- the rows one after another
+abbrev pub row_at : Machine → ℕ → ℕ → ℕ → ℕ → List ℕ
+row_at s n first last row = cell_row s n last (first + 8 * row)
 
 -- a range that is longer by one
 each-more : (line : ℕ → List ℕ) (first count : ℕ) → each line first (suc count) ≡ each line first count ++ line (first + count)

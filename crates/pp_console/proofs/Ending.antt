@@ -10,11 +10,12 @@ use Rattle.pp_console.proofs.Reading.{HasRead-within}
 pub Interrupts-more : (fault : IoFault) (session : State) (text : Written) (origin : Origin) (bytes more : List ℕ) →
     Interrupts fault session text origin bytes → Interrupts fault session text origin (bytes ++ more)
 Interrupts-more ReadFailed session text origin bytes more p = p
-Interrupts-more LineLimit session text origin bytes more p =
-    (p.0, p.1 ++ more, ap (λ front. front ++ more) p.2 ∙ append_assoc p.0 p.1 more, simp length-append (omega (arith, p.3)), p.4, p.5, p.6)
-Interrupts-more WriteFailed session text origin bytes more p =
-    let further = finished_within-more LINE_LIMIT BYTE_LIMIT bytes more in
-    (p.0, p.1, p.2 ++ further.0, rw (further.1, p.3, append_assoc), p.4)
+Interrupts-more LineLimit session text origin bytes more (kept, rest, is, some, within, full, performed) =
+    let all = ap (λ front. front ++ more) is ∙ append_assoc kept rest more in
+    (kept, rest ++ more, all, simp length-append (omega (arith, some)), within, full, performed)
+Interrupts-more WriteFailed session text origin bytes more (done, line, later, is, breaks) =
+    let (extra, grown) = finished_within-more LINE_LIMIT BYTE_LIMIT bytes more in
+    (done, line, later ++ extra, rw (grown, is, append_assoc), breaks)
 
 -- the whole script, if its lines have ended
 Serves-ended : (summary : Summary) (session : State) (text : Written) (origin : Origin) (bytes : List ℕ) (done : List (List ℕ)) → lines bytes ≡ done →
@@ -51,10 +52,9 @@ Stops-limit line_limit byte_limit session text origin bytes kept more e h within
 pub Stops-interrupted : (fault : IoFault) (session : State) (text : Written) (origin : Origin) (bytes : List ℕ) (left : Option (List ℕ)) →
     Interrupts fault session text origin bytes → Stops fault session text origin bytes left
 Stops-interrupted ReadFailed session text origin bytes left p = absurd p
-Stops-interrupted LineLimit session text origin bytes left p =
-    Stops-limit LINE_LIMIT BYTE_LIMIT session text origin bytes p.0 p.1 p.2 p.3 p.4 p.5 p.6
-Stops-interrupted WriteFailed session text origin bytes left p =
-    (p.0, p.1, p.2, inl p.3, p.4)
+Stops-interrupted LineLimit session text origin bytes left (kept, more, is, some, within, full, performed) =
+    Stops-limit LINE_LIMIT BYTE_LIMIT session text origin bytes kept more is some within full performed
+Stops-interrupted WriteFailed session text origin bytes left (done, line, later, is, breaks) = (done, line, later, inl is, breaks)
 
 -- a result that holds at any end of input holds at this one
 pub at-end : {T E : Type 0} (result : Result T E) (left : Option (List ℕ)) (P : T → Type 0) (Q : E → Option (List ℕ) → Type 0) → IsAtEnd left →

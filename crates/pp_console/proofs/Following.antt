@@ -1,28 +1,37 @@
 -- One more line of a script.
-use Rattle.std.proofs.Common.{◌≡◌, ℕ, ◌+◌, List, [], ◌∷◌, ◌++◌, take, refl, ap, arith, append_assoc, ◌∙◌, Bool, true, false, Ok, Err, not, ◌<◌, length, length-append}
+use Rattle.std.proofs.Common.{◌≡◌, ℕ, ◌+◌, List, [], ◌∷◌, ◌++◌, take, refl, ap, arith, append_assoc, ◌∙◌, Bool, true, false, Result, Ok, Err, Option, not, ◌<◌, length, length-append, if◌then◌else◌, nat_lt}
 use Rattle.std.proofs.lemmas.List.Sums.{fold-append}
 use Rattle.std.specs.Int.{from_bool}
-use Rattle.pp_console.proofs.Prelude.{KEPT, Ghosts, State, Value, Performs, answer_line, run, Origin, Breaks, HasEnded}
+use Rattle.pp_console.proofs.Prelude.{KEPT, Ghosts, State, Value, Performs, answer_line, outcome, Origin, Breaks, HasEnded}
 use Rattle.pp_console.specs.declared.progress.Summary.{Summary}
-use Rattle.pp_console.specs.Script.{answer_parsed, begin, follow, refusals}
+use Rattle.pp_console.specs.Script.{answer_parsed, follow}
 use Rattle.pp_lines.proofs.Writing.{Appends-again}
 use Rattle.std.proofs.lemmas.Bool.Decides.{nat_tests}
 use Rattle.pp_lines.proofs.LongLines.{read-kept}
-use Rattle.pp_command.specs.declared.fault.LineFault.TheVariants.{TooLong}
-use Rattle.pp_command.specs.CommandLine.{command, command_of_text}
+use Rattle.pp_lines.specs.Words.{words}
+use Rattle.pp_command.specs.declared.fault.LineFault.{LineFault}
+use Rattle.pp_command.specs.declared.fault.LineFault.TheVariants.{TooLong, NotAscii}
+use Rattle.pp_command.specs.declared.request.Request.{Request}
+use Rattle.pp_command.specs.CommandLine.{command, is_printable, sentence}
+use Rattle.std.specs.List.{list_all}
 
 -- one more line is one more step
-pub run-line : (start : Value) (done : List (List ℕ)) (line : List ℕ) → run start (done ++ line ∷ []) ≡ follow (run start done) line
-unfolding run
-run-line start done line = fold-append follow (begin start) done (line ∷ [])
+pub outcome-line : (start : Value) (done : List (List ℕ)) (line : List ℕ) → outcome start (done ++ line ∷ []) ≡ follow (outcome start done) line
+unfolding outcome
+outcome-line start done line = fold-append follow (record { text = []; value = start; refused = 0 }) done (line ∷ [])
+
+-- the request of a line, after its carriage return was dropped
+abbrev command_of_text : List ℕ → Result (Option Request) LineFault
+command_of_text text =
+    if nat_lt 255 (length text) then Err TooLong else (if list_all is_printable text then sentence (words text) else Err NotAscii)
 
 -- a line that is too long is as good as its kept prefix
 too_long : (text : List ℕ) → 255 < length text → command_of_text text ≡ Err TooLong
-unfolding command_of_text
 too_long text h = grind (arith, nat_tests)
 
 -- a prefix of more than 256 bytes parses as the line does
 pub command-kept : (most : ℕ) (line : List ℕ) → 256 < most → command (take most line) ≡ command line
+unfolding command
 command-kept most line long = read-kept command_of_text (Err TooLong) 255 most line too_long long
 
 -- the kept prefix of a line has the same answer as the line
@@ -31,7 +40,7 @@ unfolding answer_line
 answer_line-kept value line = ap (answer_parsed value) (command-kept KEPT line (omega arith))
 
 -- a `bool` as a number counts a rejected line
-bool-counts : (refused : Bool) → from_bool refused ≡ refusals refused
+bool-counts : (refused : Bool) → from_bool refused ≡ (if refused then 1 else 0)
 bool-counts true = refl
 bool-counts false = refl
 
@@ -41,18 +50,24 @@ module _ {W E : Type 0} (sink : Ghosts W) (old new : State) (second third : W) (
       next.lines ≡ summary.lines + 1 → next.refused ≡ summary.refused + from_bool (not performed) → HasEnded next new (sink.text third) origin (done ++ line ∷ [])
   line-ended performed next performs one_more same = record {
     performed = record {
-      leaves = rw (run-line origin.start done line) (performs.session _ ended.performed.leaves);
-      writes = rw (run-line origin.start done line) (Appends-again _ _ _ _ _ ended.performed.writes (performs.text _ ended.performed.leaves));
+      leaves = rw (outcome-line origin.start done line) (performs.session _ ended.performed.leaves);
+      writes = rw (outcome-line origin.start done line) (Appends-again _ _ _ _ _ ended.performed.writes (performs.text _ ended.performed.leaves));
     };
     counts_lines = one_more ∙ rw (length-append done (line ∷ [])) (ap (λ n. n + 1) ended.counts_lines);
-    counts_refused = same ∙ rw (run-line origin.start done line, bool-counts, ended.counts_refused, performs.performed _ ended.performed.leaves) refl;
+    counts_refused = same ∙ rw (outcome-line origin.start done line, bool-counts, ended.counts_refused, performs.performed _ ended.performed.leaves) refl;
   }
 
   -- the line was performed, and a proper prefix of its answer was written
   pub line-breaks : {fault : E} → Performs sink old new second third (Err fault) (λ v. answer_line v line) → Breaks new (sink.text third) origin done line
-  line-breaks performs = record {
-    leaves = rw (run-line origin.start done line) (performs.session _ ended.performed.leaves);
-    writes =
-        let answer = performs.text _ ended.performed.leaves in
-        (answer.0, answer.1, Appends-again _ _ _ _ _ ended.performed.writes answer.2, rw (run-line origin.start done line, append_assoc, ← answer.3) refl, answer.4);
-  }
+  line-breaks performs =
+      let (front, written, proper) = performs.text _ ended.performed.leaves in
+      record {
+        leaves = rw (outcome-line origin.start done line) (performs.session _ ended.performed.leaves);
+        front = front;
+        writes = Appends-again _ _ _ _ _ ended.performed.writes written;
+        prefix = record {
+          rest = proper.rest;
+          all = rw (outcome-line origin.start done line, append_assoc, ← proper.all) refl;
+          some = proper.some;
+        };
+      }

@@ -6,7 +6,7 @@ use Rattle.pp_lines.proofs.OpenTexts.{open-first, feed-cut, feed-none, feed-open
 use Rattle.pp_lines.specs.Lines.{finished, unfinished, last_line}
 use Rattle.pp_console.specs.DisplayCode.{character}
 use Rattle.pp_console.specs.Paper.{marked, lines_of_paper, paper_text}
-use Rattle.pp_console.specs.PaperCuts.{is_line_end, rest_text}
+use Rattle.pp_console.specs.Inner.PaperCuts.{is_line_end, rest_text}
 
 -- a line feed after a text without one ends the first line
 feed-first : (line later : List ℕ) → finished line ≡ [] → (finished (line ++ 10 ∷ later) ≡ line ∷ finished later) × (unfinished (line ++ 10 ∷ later) ≡ unfinished later)

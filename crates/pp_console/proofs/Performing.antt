@@ -1,5 +1,5 @@
 -- The answers to commands, by the results of the session's calls.
-use Rattle.std.proofs.Common.{◌≡◌, ℕ, ◌<◌, ◌≤◌, length, List, [], ◌∷◌, refl, arith, Bool, true, false, ap, sym, ◌∙◌, Some, None, Result, IfOk, not, map}
+use Rattle.std.proofs.Common.{◌≡◌, ℕ, ◌<◌, ◌≤◌, length, List, [], ◌∷◌, refl, arith, Bool, true, false, ap, sym, ◌∙◌, Some, None, Result, IfOk, not, map, codes}
 use Rattle.std.proofs.lemmas.Bool.Decides.{nat_tests}
 use Rattle.std.proofs.lemmas.Result.{IfOk-weaker}
 use Rattle.pp_console.proofs.Prelude.{IsAt, rules, Ghosts, Puts, State, Value, Performs}
@@ -8,8 +8,8 @@ use Rattle.pp_history.specs.Change.{change}
 use Rattle.pp_machine.specs.Machine.{Machine}
 use Rattle.pp_machine.specs.declared.place.Place.{Place}
 use Rattle.pp_actions.specs.Watches.{watched_place, watches_of}
-use Rattle.pp_console.specs.Moves.{back_name, forward_name}
-use Rattle.pp_console.specs.Refusals.{range_text, no_change_text, nothing_watched_text}
+use Rattle.pp_command.specs.declared.fault.LineFault.TheVariants.{OutOfRange}
+use Rattle.pp_console.specs.Refusals.{fault_text}
 use Rattle.pp_console.specs.Commands.{Answer, present, answered, rejected, moved, back_answer, forward_answer, central_answer, change_answer}
 
 module _ {W E : Type 0} (sink : Ghosts W) (old new : State) (before after : W) (result : Result Bool E) (answer_of : Value → Answer) (written : List ℕ) (puts : Puts sink before after result written) where
@@ -46,34 +46,34 @@ module _ {W E : Type 0} {sink : Ghosts W} {old new : State} {before after : W} {
     unchanged = p.unchanged;
   }
 
-pub back-within : (actions : ℕ) (v : Value) → actions ≤ v.kept → back_answer actions v ≡ moved back_name actions (after_back v actions)
+pub back-within : (actions : ℕ) (v : Value) → actions ≤ v.kept → back_answer actions v ≡ moved (codes "BACK ") actions (after_back v actions)
 unfolding back_answer
 back-within actions v within = grind (arith, nat_tests)
 
-pub forward-within : (actions : ℕ) (v : Value) → actions ≤ length v.ahead → forward_answer actions v ≡ moved forward_name actions (after_forward v actions)
+pub forward-within : (actions : ℕ) (v : Value) → actions ≤ length v.ahead → forward_answer actions v ≡ moved (codes "FORWARD ") actions (after_forward v actions)
 unfolding forward_answer
 forward-within actions v within = grind (arith, nat_tests)
 
 -- nothing is watched
-pub change-unwatched : (v : Value) (places : List Place) → places ≡ map watched_place (watches_of (present v)) → length places ≡ 0 → change_answer v ≡ rejected v nothing_watched_text
+pub change-unwatched : (v : Value) (places : List Place) → places ≡ map watched_place (watches_of (present v)) → length places ≡ 0 → change_answer v ≡ rejected v (codes "ERR 15 NOTHING WATCHED\n")
 unfolding change_answer
 change-unwatched v [] same none = rw (← same) refl
 change-unwatched v (place ∷ places) same none = absurd (omega arith)
 
 -- the undo history has a change
-pub change-found : (v : Value) (places : List Place) (actions : ℕ) → places ≡ map watched_place (watches_of (present v)) → 0 < length places → change rules v places ≡ Some actions → change_answer v ≡ moved back_name actions (after_back v actions)
+pub change-found : (v : Value) (places : List Place) (actions : ℕ) → places ≡ map watched_place (watches_of (present v)) → 0 < length places → change rules v places ≡ Some actions → change_answer v ≡ moved (codes "BACK ") actions (after_back v actions)
 unfolding change_answer
 change-found v [] actions same some found = absurd (omega arith)
 change-found v (place ∷ places) actions same some found = rw (← same, found) refl
 
 -- the undo history has no change
-pub change-none : (v : Value) (places : List Place) → places ≡ map watched_place (watches_of (present v)) → 0 < length places → change rules v places ≡ None → change_answer v ≡ rejected v no_change_text
+pub change-none : (v : Value) (places : List Place) → places ≡ map watched_place (watches_of (present v)) → 0 < length places → change rules v places ≡ None → change_answer v ≡ rejected v (codes "ERR 10 NO CHANGE KEPT\n")
 unfolding change_answer
 change-none v [] same some found = absurd (omega arith)
 change-none v (place ∷ places) same some found = rw (← same, found) refl
 
 -- the machine does not have the last of the words
-pub central-beyond : (first last : ℕ) (v : Value) (sized : Machine) → sized ≡ present v → sized.setup.central_words ≤ last → central_answer first last v ≡ rejected v range_text
+pub central-beyond : (first last : ℕ) (v : Value) (sized : Machine) → sized ≡ present v → sized.setup.central_words ≤ last → central_answer first last v ≡ rejected v (fault_text OutOfRange)
 unfolding central_answer
 central-beyond first last v sized same beyond =
     let more = rw same at beyond in

@@ -57,8 +57,8 @@ pub Interrupts-bytes : (progress : Progress) (session : State) (written : Writte
     HasRead progress session written origin bytes → BYTE_LIMIT - progress.bytes ≤ length text → BYTE_LIMIT - progress.bytes < length text + length rest → progress.summary.lines < LINE_LIMIT →
     Interrupts LineLimit session written origin ((bytes ++ text) ++ rest)
 Interrupts-bytes progress session written origin bytes text rest none has_read reached over lines_within =
-    let cut = over-bytes LINE_LIMIT BYTE_LIMIT bytes text rest none (rw (← has_read.counts_bytes) progress.bytes_within) (rw (← has_read.counts_bytes) reached) (rw (← has_read.counts_bytes) over) (rw (← has_read.ended.counts_lines) lines_within) in
-    (cut.0, cut.1, cut.2, cut.3, cut.4, inl cut.5, rw cut.6 has_read.ended.performed)
+    let (kept, more, is, some, within, full, done) = over-bytes LINE_LIMIT BYTE_LIMIT bytes text rest none (rw (← has_read.counts_bytes) progress.bytes_within) (rw (← has_read.counts_bytes) reached) (rw (← has_read.counts_bytes) over) (rw (← has_read.ended.counts_lines) lines_within) in
+    (kept, more, is, some, within, inl full, rw done has_read.ended.performed)
 
 -- if no byte of a line was kept, the text that ends it is the whole line
 begun-nothing : (most : ℕ) (rest : List ℕ) → 0 < most → length (take most rest) ≡ 0 → rest ≡ []

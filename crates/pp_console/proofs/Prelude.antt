@@ -2,7 +2,8 @@
 pub use Rattle.std.proofs.lemmas.Result.{err_from_is_err_and}
 pub use Rattle.pp_history.specs.SessionValue.{IsAt}
 pub use Rattle.pp_rig.specs.Rules.{rules}
-pub use Rattle.pp_lines.specs.Lines.{lines, finished, unfinished, finished_within, IsWithin, IsPrefixOf}
+pub use Rattle.pp_lines.specs.LineCutter.{IsPrefixOf}
+pub use Rattle.pp_lines.specs.Lines.{lines, finished, unfinished, finished_within, IsWithin}
 pub use Rattle.pp_lines.specs.Output.{Appends, Written}
 pub use Rattle.pp_lines.specs.Puts.{Puts}
 pub use Rattle.pp_lines.proofs.Writing.{Appends-again, Remains, Remains-fails, Remains-next, Remains-none, front_longer}
@@ -12,6 +13,6 @@ pub use Rattle.pp_lines.specs.declared.fault.IoFault.TheVariants.{ReadFailed, Wr
 pub use Rattle.pp_console.specs.declared.progress.Progress.{Progress}
 pub use Rattle.pp_console.specs.declared.progress.TheConstants.{KEPT, LINE_LIMIT, BYTE_LIMIT}
 pub use Rattle.pp_console.specs.Commands.{State, Value, Performs}
-unfoldable pub use Rattle.pp_console.specs.Script.{run, answer_line}
+unfoldable pub use Rattle.pp_console.specs.Script.{outcome, answer_line}
 pub use Rattle.pp_console.specs.Serving.{Origin, Performed, Breaks, Serves, Stops, origin_of}
-pub use Rattle.pp_console.specs.ServingSteps.{HasEnded, HasRead, Interrupts}
+pub use Rattle.pp_console.specs.Inner.ServingSteps.{HasEnded, HasRead, Interrupts}

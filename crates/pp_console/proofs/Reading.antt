@@ -1,7 +1,7 @@
 -- The progress of a script: at its start, and after more bytes.
 use Rattle.std.proofs.Common.{◌≡◌, ◌∙◌, ℕ, ◌+◌, ◌-◌, ◌<◌, List, [], ◌∷◌, ◌++◌, length, ap, arith, append_assoc, length-append}
 use Rattle.std.proofs.lemmas.Grind.{common_steps}
-use Rattle.pp_console.proofs.Prelude.{IsAt, rules, Written, finished, unfinished, finished_within, IsWithin, Progress, KEPT, LINE_LIMIT, BYTE_LIMIT, State, Value, run, Origin, Performed, origin_of, HasRead}
+use Rattle.pp_console.proofs.Prelude.{IsAt, rules, Written, finished, unfinished, finished_within, IsWithin, Progress, KEPT, LINE_LIMIT, BYTE_LIMIT, State, Value, outcome, Origin, Performed, origin_of, HasRead}
 use Rattle.pp_lines.proofs.Writing.{Appends-nothing}
 use Rattle.pp_lines.proofs.LineCuts.{finished-feed}
 use Rattle.pp_lines.proofs.OpenTexts.{finished-text}
@@ -10,7 +10,7 @@ use Rattle.pp_lines.proofs.Limits.{last_line-one, kept-begun, lines-count, finis
 -- before the first byte
 pub HasRead-new : (progress : Progress) (session : State) (text : Written) (start : Value) → IsAt rules session start →
     progress.line ≡ [] → progress.bytes ≡ 0 → progress.summary.lines ≡ 0 → progress.summary.refused ≡ 0 → HasRead progress session text (origin_of start text) []
-unfolding run
+unfolding outcome
 HasRead-new progress session text start at empty no_bytes no_lines no_refused = record {
   keeps = rw empty (grind (arith, common_steps));
   counts_bytes = no_bytes;

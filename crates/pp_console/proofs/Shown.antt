@@ -24,12 +24,15 @@ module _ {W T E : Type 0} (sink : Ghosts W) (first second third : W) where
 
   -- the rest is written, or a prefix of it
   pub IsPartWritten-last : (result : Result T E) (whole left : List ℕ) → IsPartWritten sink first second whole left → Puts sink second third result left → Puts sink first third result whole
-  IsPartWritten-last (Ok value) whole left p q = record {
-    text = Appends-same _ _ (p.text.0 ++ left) whole (sym p.text.2) (Appends-again _ (sink.text second) _ p.text.0 left p.text.1 q.text);
-    counts = q.counts ∙ p.counted;
-  }
+  IsPartWritten-last (Ok value) whole left p q =
+      let (front, written, all) = p.text in
+      record {
+        text = Appends-same _ _ (front ++ left) whole (sym all) (Appends-again _ (sink.text second) _ front left written q.text);
+        counts = q.counts ∙ p.counted;
+      }
   IsPartWritten-last (Err fault) whole left p q =
-      IsPartWritten-fails whole left [] (record { text = (p.text.0, p.text.1, rw append-nil p.text.2); counted = p.counted }) q
+      let (front, written, all) = p.text in
+      IsPartWritten-fails whole left [] (record { text = (front, written, rw append-nil all); counted = p.counted }) q
 
   -- a text, and then another one or a prefix of it
   pub Puts-after : {U F : Type 0} {value : U} (result : Result T E) (text more : List ℕ) → Puts {E = F} sink first second (Ok value) text →

@@ -1,12 +1,11 @@
 pub mod Commands
 pub mod DisplayCode
 pub mod Dumps
+pub mod Inner
 pub mod Moves
 pub mod Paper
-pub mod PaperCuts
 pub mod Refusals
 pub mod Script
 pub mod Serving
-pub mod ServingSteps
 pub mod Text
 pub mod Watches

@@ -8,8 +8,9 @@ use Rattle.pp_lines.specs.declared.fault.IoFault.TheVariants.{ReadFailed, WriteF
 use Rattle.pp_lines.specs.Device.{one_more}
 use Rattle.pp_lines.specs.Output.{Appends, Written}
 use Rattle.pp_lines.specs.Lines.{lines, finished_within, IsWithin}
+use Rattle.pp_lines.specs.Prefixes.{IsProperPrefix}
 use Rattle.pp_console.specs.Commands.{State, Value}
-use Rattle.pp_console.specs.Script.{run, script}
+use Rattle.pp_console.specs.Script.{outcome, script}
 use Rattle.pp_history.specs.SessionValue.{IsAt}
 use Rattle.pp_rig.specs.Rules.{rules}
 
@@ -23,14 +24,15 @@ origin_of start before = record { start = start; before = before }
 
 -- these lines were performed, and their whole text was written
 pub record Performed (session : State) (text : Written) (origin : Origin) (done : List (List ℕ)) : Type 0 where
-  pub leaves : IsAt rules session (run origin.start done).value
-  pub writes : Appends origin.before text (run origin.start done).text
+  pub leaves : IsAt rules session (outcome origin.start done).value
+  pub writes : Appends origin.before text (outcome origin.start done).text
 
 -- these lines and the one after them were performed, and a proper prefix of the last answer was written
 pub record Breaks (session : State) (text : Written) (origin : Origin) (done : List (List ℕ)) (line : List ℕ) : Type 0 where
-  pub leaves : IsAt rules session (run origin.start (done ++ line ∷ [])).value
-  pub writes : (front rest : List ℕ) × Appends origin.before text ((run origin.start done).text ++ front)
-      × ((run origin.start (done ++ line ∷ [])).text ≡ ((run origin.start done).text ++ front) ++ rest) × (0 < length rest)
+  pub leaves : IsAt rules session (outcome origin.start (done ++ line ∷ [])).value
+  pub front : List ℕ
+  pub writes : Appends origin.before text ((outcome origin.start done).text ++ front)
+  pub prefix : IsProperPrefix ((outcome origin.start done).text ++ front) (outcome origin.start (done ++ line ∷ [])).text
 
 -- the whole script was performed, its text was written, and its lines were counted
 pub record Serves (summary : Summary) (session : State) (text : Written) (origin : Origin) (bytes : List ℕ) : Type 0 where

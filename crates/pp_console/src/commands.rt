@@ -27,7 +27,7 @@ fn reject<W: Sink>(out: &mut W, text: &[u8]) -> Result<bool, Failed>
 }
 
 /// Performs an action, if the machine admits it.
-#[tactic(auto, unfolding(crate::specs::Commands::act_answer, crate::specs::Refusals::ok_text))]
+#[tactic(auto, unfolding(crate::specs::Commands::act_answer))]
 fn act<W: Sink>(session: &mut Session<Rig>, action: Action, out: &mut W) -> Result<bool, Failed>
     ensures { Performs ⟦<W as Sink>⟧ session.old session.new out.old out.new result (act_answer action) }
 {
@@ -64,7 +64,7 @@ fn write_moved<W: Sink>(
 }
 
 /// Makes turns, up to the first change of a watched number.
-#[tactic(auto, unfolding(crate::specs::Commands::step_answer, crate::specs::Moves::stopped_text, crate::specs::Moves::turns_name))]
+#[tactic(auto, unfolding(crate::specs::Commands::step_answer))]
 fn step<W: Sink>(session: &mut Session<Rig>, most: u32, out: &mut W) -> Result<bool, Failed>
     ensures { Performs ⟦<W as Sink>⟧ session.old session.new out.old out.new result (step_answer most) }
 {
@@ -74,7 +74,7 @@ fn step<W: Sink>(session: &mut Session<Rig>, most: u32, out: &mut W) -> Result<b
 }
 
 /// Undoes actions, if the undo history has as many.
-#[tactic(auto, unfolding(crate::specs::Commands::back_answer, crate::specs::Moves::back_name, crate::specs::Refusals::too_few_text))]
+#[tactic(auto, unfolding(crate::specs::Commands::back_answer))]
 fn back<W: Sink>(session: &mut Session<Rig>, actions: u32, out: &mut W) -> Result<bool, Failed>
     ensures { Performs ⟦<W as Sink>⟧ session.old session.new out.old out.new result (back_answer actions) }
 {
@@ -85,7 +85,7 @@ fn back<W: Sink>(session: &mut Session<Rig>, actions: u32, out: &mut W) -> Resul
 }
 
 /// Redoes actions, if the redo list has as many.
-#[tactic(auto, unfolding(crate::specs::Commands::forward_answer, crate::specs::Moves::forward_name, crate::specs::Refusals::too_few_ahead_text))]
+#[tactic(auto, unfolding(crate::specs::Commands::forward_answer))]
 fn forward<W: Sink>(session: &mut Session<Rig>, actions: u32, out: &mut W) -> Result<bool, Failed>
     ensures { Performs ⟦<W as Sink>⟧ session.old session.new out.old out.new result (forward_answer actions) }
 {
@@ -96,7 +96,7 @@ fn forward<W: Sink>(session: &mut Session<Rig>, actions: u32, out: &mut W) -> Re
 }
 
 /// Undoes the latest change of a watched number, if there is one.
-#[tactic(auto, unfolding(crate::specs::Commands::change_answer, crate::specs::Moves::back_name, crate::specs::Refusals::no_change_text, crate::specs::Refusals::nothing_watched_text))]
+#[tactic(auto, unfolding(crate::specs::Commands::change_answer))]
 #[inline(never)]
 fn back_to_change<W: Sink>(session: &mut Session<Rig>, out: &mut W) -> Result<bool, Failed>
     ensures { Performs ⟦<W as Sink>⟧ session.old session.new out.old out.new result change_answer }
@@ -112,7 +112,7 @@ fn back_to_change<W: Sink>(session: &mut Session<Rig>, out: &mut W) -> Result<bo
 }
 
 /// Writes central words, if the machine has them.
-#[tactic(auto, unfolding(crate::specs::Commands::central_answer, crate::specs::Refusals::range_text))]
+#[tactic(auto, unfolding(crate::specs::Commands::central_answer, crate::specs::Refusals::fault_text))]
 #[inline(never)]
 fn dump_central<W: Sink>(
     session: &mut Session<Rig>,

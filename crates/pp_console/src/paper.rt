@@ -4,7 +4,7 @@ ghost use Rattle.pp_lines.specs.Puts.{Puts};
 ghost use Rattle.pp_console.specs.DisplayCode.{character};
 ghost use Rattle.pp_console.specs.Dumps.{printer_text};
 ghost use Rattle.pp_console.specs.Paper.{marked, paper_text};
-ghost use Rattle.pp_console.specs.PaperCuts.{is_line_end, rest_text};
+ghost use Rattle.pp_console.specs.Inner.PaperCuts.{is_line_end, rest_text};
 
 use crate::dumps::printer_line;
 use arrayvec::ArrayVec;

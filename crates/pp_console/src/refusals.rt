@@ -21,7 +21,7 @@ pub fn fault_text(fault: LineFault) -> &'static [u8]
 }
 
 /// Returns the answer to an action that the machine does not admit.
-#[tactic(auto, unfolding(crate::specs::Refusals::action_fault_text))]
+#[tactic(auto, unfolding(crate::specs::Refusals::action_fault_text, crate::specs::Refusals::fault_text))]
 pub fn action_fault_text(fault: ActionFault) -> &'static [u8]
     ensures { result.now ≡ action_fault_text fault }
 {

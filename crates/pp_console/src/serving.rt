@@ -5,10 +5,11 @@ ghost use Rattle.pp_lines.specs.Device.{Counts};
 ghost use Rattle.pp_history.specs.SessionValue.{IsAt};
 ghost use Rattle.pp_rig.specs.Rules.{rules};
 ghost use Rattle.pp_lines.specs.Output.{Written};
-ghost use Rattle.pp_lines.specs.Lines.{IsPrefixOf, finished, unfinished};
+ghost use Rattle.pp_lines.specs.LineCutter.{IsPrefixOf};
+ghost use Rattle.pp_lines.specs.Lines.{finished, unfinished};
 ghost use Rattle.pp_console.specs.Commands.{State, Value};
 ghost use Rattle.pp_console.specs.Serving.{Origin, Breaks, Serves, Stops, CountsReads, CountsWrites, origin_of};
-ghost use Rattle.pp_console.specs.ServingSteps.{HasEnded, HasRead, Interrupts, IsNoReadFault};
+ghost use Rattle.pp_console.specs.Inner.ServingSteps.{HasEnded, HasRead, Interrupts, IsNoReadFault};
 
 #[cfg(test)]
 mod limit_tests;

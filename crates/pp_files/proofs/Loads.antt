@@ -11,10 +11,10 @@ use Rattle.pp_lines.proofs.LineCuts.{finished-feed, finished-byte}
 use Rattle.pp_lines.proofs.Limits.{lines-whole, lines-last}
 use Rattle.pp_files.specs.Rows.{Row}
 use Rattle.pp_files.specs.Files.{Rule, with_line, with_lines, rows_of_lines, file_limit, lines_of_file, rows_of_file}
-use Rattle.pp_files.specs.Fault.{BreaksOff, IsCauseOf}
+use Rattle.pp_files.specs.Fault.{BreaksOff, IsLoadCause}
 use Rattle.pp_lines.specs.Device.{all_bytes}
 use Rattle.pp_lines.proofs.Reading.{all-read, unread}
-use Rattle.pp_files.specs.Loading.{HasRead, Reads, FailsAt, FailsIn}
+use Rattle.pp_files.specs.Inner.Loading.{HasReadFile, Reads, FailsAt, FailsIn}
 use Rattle.pp_files.proofs.MoreLines.{row-front, lines-next, lines-short, file-fault, file-short, file-long, lines_of_file-feed}
 
 -- ---- a fault at a line
@@ -31,39 +31,39 @@ FailsIn-line rule bytes rows done line front later fault k kept count split read
 
 -- ---- the progress of a file
 
-pub HasRead-within : (progress : Progress) (rule : Rule) (Holds : List Row → Type 0) (bytes : List ℕ) → HasRead progress rule Holds bytes → length bytes ≤ file_limit
-HasRead-within progress rule Holds bytes has_read = rw (← has_read.counts_bytes) progress.bytes_within
+pub HasReadFile-within : (progress : Progress) (rule : Rule) (Holds : List Row → Type 0) (bytes : List ℕ) → HasReadFile progress rule Holds bytes → length bytes ≤ file_limit
+HasReadFile-within progress rule Holds bytes has_read = rw (← has_read.counts_bytes) progress.bytes_within
 
 -- before the first byte
-pub HasRead-new : (progress : Progress) (rule : Rule) (Holds : List Row → Type 0) → progress.cutter ≡ [] → progress.bytes ≡ 0 → progress.lines ≡ 0 → Holds [] → HasRead progress rule Holds []
+pub HasReadFile-new : (progress : Progress) (rule : Rule) (Holds : List Row → Type 0) → progress.cutter ≡ [] → progress.bytes ≡ 0 → progress.lines ≡ 0 → Holds [] → HasReadFile progress rule Holds []
 unfolding with_lines
-HasRead-new progress rule Holds front no_bytes no_lines held = grind (arith, common_steps)
+HasReadFile-new progress rule Holds front no_bytes no_lines held = grind (arith, common_steps)
 
 -- a fault at a line that ends with a line feed
-pub HasRead-fault : (old : Progress) (rule : Rule) (Holds : List Row → Type 0) (fault : LoadFault) (bytes more : List ℕ) → HasRead old rule Holds bytes → old.bytes < file_limit →
+pub HasReadFile-fault : (old : Progress) (rule : Rule) (Holds : List Row → Type 0) (fault : LoadFault) (bytes more : List ℕ) → HasReadFile old rule Holds bytes → old.bytes < file_limit →
     ((rows : List Row) → Holds rows → FailsAt rule (old.lines + 1) rows old.cutter fault) → FailsIn rule (bytes ++ 10 ∷ more) fault
-HasRead-fault old rule Holds fault bytes more has_read room line =
-    let read = has_read.reads in
+HasReadFile-fault old rule Holds fault bytes more has_read room line =
+    let (rows, read, held) = has_read.reads in
     let further = lines_of_file-feed file_limit bytes more (omega (arith, has_read.counts_bytes)) in
-    FailsIn-line rule (bytes ++ 10 ∷ more) read.0 (finished bytes) (unfinished bytes) old.cutter further.0 fault (old.lines + 1)
-    has_read.keeps (omega (arith, has_read.counts_lines)) further.1 read.1 (line read.0 read.2)
+    FailsIn-line rule (bytes ++ 10 ∷ more) rows (finished bytes) (unfinished bytes) old.cutter further.0 fault (old.lines + 1)
+    has_read.keeps (omega (arith, has_read.counts_lines)) further.1 read (line rows held)
 
 -- the last line does not end with a line feed
-pub file-last : {T : Type 0} (progress : Progress) (rule : Rule) (Holds Holds' : List Row → Type 0) (result : Result T LoadFault) (bytes : List ℕ) → HasRead progress rule Holds bytes → 0 < length progress.cutter →
+pub file-last : {T : Type 0} (progress : Progress) (rule : Rule) (Holds Holds' : List Row → Type 0) (result : Result T LoadFault) (bytes : List ℕ) → HasReadFile progress rule Holds bytes → 0 < length progress.cutter →
     ((rows : List Row) → Holds rows → MatchResult result (λ _. Reads Holds' (with_line rule (progress.lines + 1) rows progress.cutter)) (λ fault. FailsAt rule (progress.lines + 1) rows progress.cutter fault)) →
     MatchResult result (λ _. Reads Holds' (rows_of_file rule file_limit bytes)) (λ fault. FailsIn rule bytes fault)
 file-last progress rule Holds Holds' (Ok value) bytes has_read begun line =
     let read = has_read.reads in
-    let within = HasRead-within progress rule Holds bytes has_read in
+    let within = HasReadFile-within progress rule Holds bytes has_read in
     let all = lines-last KEPT progress.cutter bytes has_read.keeps begun in
     let next = lines-next rule (finished bytes) (unfinished bytes) in
     grind (arith, file-short rule file_limit bytes within, row-front (progress.lines + 1) (unfinished bytes), line read.0 read.2)
 file-last progress rule Holds Holds' (Err fault) bytes has_read begun line =
-    let read = has_read.reads in
-    let within = HasRead-within progress rule Holds bytes has_read in
+    let (rows, read, held) = has_read.reads in
+    let within = HasReadFile-within progress rule Holds bytes has_read in
     let all = lines-last KEPT progress.cutter bytes has_read.keeps begun in
-    FailsIn-line rule bytes read.0 (finished bytes) (unfinished bytes) progress.cutter [] fault (progress.lines + 1)
-    has_read.keeps (omega (arith, has_read.counts_lines)) (rw (append-nil (finished bytes ++ unfinished bytes ∷ [])) (lines-short file_limit bytes within ∙ all)) read.1 (line read.0 read.2)
+    FailsIn-line rule bytes rows (finished bytes) (unfinished bytes) progress.cutter [] fault (progress.lines + 1)
+    has_read.keeps (omega (arith, has_read.counts_lines)) (rw (append-nil (finished bytes ++ unfinished bytes ∷ [])) (lines-short file_limit bytes within ∙ all)) read (line rows held)
 
 -- the lines of a file whose last line ends with a line feed
 pub lines-none : (bytes : List ℕ) → length (take KEPT (unfinished bytes)) ≡ 0 → lines bytes ≡ finished bytes
@@ -76,17 +76,17 @@ pub ruleset bytes_read = (common_steps, nat_tests, finished-byte, file-long, fil
 
 -- a fault that occurs for all later bytes is the cause
 pub fails-in : (rule : Rule) (first second : Option (List ℕ)) (taken : List ℕ) (fault : LoadFault) → Consumes first second taken →
-    ((later : List ℕ) → FailsIn rule (taken ++ later) fault) → IsCauseOf rule (rows_of_file rule file_limit) taken (all_bytes first taken) fault
+    ((later : List ℕ) → FailsIn rule (taken ++ later) fault) → IsLoadCause rule (rows_of_file rule file_limit) taken (all_bytes first taken) fault
 fails-in rule first second taken fault p fails =
     let rest = unread first second taken p in
     rw rest.1 (grind (arith, fails rest.0))
 
 -- the source failed
-pub breaks-off : (progress : Progress) (rule : Rule) (Holds : List Row → Type 0) (taken : List ℕ) → HasRead progress rule Holds taken → BreaksOff rule file_limit taken
-breaks-off progress rule Holds taken has_read = (HasRead-within progress rule Holds taken has_read, (has_read.reads.0, has_read.reads.1))
+pub breaks-off : (progress : Progress) (rule : Rule) (Holds : List Row → Type 0) (taken : List ℕ) → HasReadFile progress rule Holds taken → BreaksOff rule file_limit taken
+breaks-off progress rule Holds taken has_read = (HasReadFile-within progress rule Holds taken has_read, (has_read.reads.0, has_read.reads.1))
 
 -- at the end of input
 pub ends : {T : Type 0} (result : Result T LoadFault) (P : T → Type 0) (rule : Rule) (first second : Option (List ℕ)) (taken : List ℕ) → Consumes first second taken → IsAtEnd second →
     MatchResult result P (λ fault. FailsIn rule taken fault) →
-    MatchResult result P (λ fault. IsCauseOf rule (rows_of_file rule file_limit) taken (all_bytes first taken) fault)
+    MatchResult result P (λ fault. IsLoadCause rule (rows_of_file rule file_limit) taken (all_bytes first taken) fault)
 ends result P rule first second taken p end known = grind (arith, all-read first second taken p end)

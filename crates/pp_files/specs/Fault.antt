@@ -7,36 +7,36 @@ use Rattle.pp_files.specs.declared.fault.LoadFault.TheVariants.{NoMemory, ReadFa
 use Rattle.pp_files.specs.Rows.{Row, row_of_line}
 use Rattle.pp_files.specs.Files.{Rule, rows_of_lines, file_limit, lines_of_file}
 
--- these lines have no fault
+-- These lines have no fault.
 abbrev pub HasNoFault : Rule → List (List ℕ) → Type 0
 HasNoFault rule done = (rows : List Row) × (rows_of_lines rule done ≡ Ok rows)
 
--- line k has a row
+-- Line k has a row: it is not ignored, and has no fault of its own.
 abbrev pub IsRow : ℕ → List ℕ → Type 0
 IsRow k line = (row : Row) × (row_of_line k line ≡ Ok (Some row))
 
--- one of the file's lines has a row, and there is no fault up to it: memory ran out there
+-- One of the file's lines has a row, and there is no fault up to it and none in it: memory may have run out there.
 abbrev pub RunsOut : Rule → ℕ → List ℕ → Type 0
 RunsOut rule limit bytes =
     (done : List (List ℕ)) × (line : List ℕ) × (later : List (List ℕ)) × (lines_of_file limit bytes ≡ done ++ line ∷ later)
     × HasNoFault rule (done ++ line ∷ []) × IsRow (length done + 1) line
 
--- the bytes that were read are within the limit, and their finished lines have no fault: the source failed there
+-- The bytes that were read are within the limit, and their finished lines have no fault: a read may have failed there.
 abbrev pub BreaksOff : Rule → ℕ → List ℕ → Type 0
 BreaksOff rule limit taken = (length taken ≤ limit) × HasNoFault rule (finished taken)
 
 -- Why a file was not loaded, given the bytes that were read and all bytes of the file: the file has this fault, or
 -- memory ran out or a read failed before any fault of the file.
-abbrev pub IsCauseOf : {A : Type 0} → Rule → (List ℕ → Result A LoadFault) → List ℕ → List ℕ → LoadFault → Type 0
-IsCauseOf rule file taken bytes fault =
+abbrev pub IsLoadCause : {A : Type 0} → Rule → (List ℕ → Result A LoadFault) → List ℕ → List ℕ → LoadFault → Type 0
+IsLoadCause rule file taken bytes fault =
     (file bytes ≡ Err fault)
     ⊎ (((fault ≡ NoMemory) × RunsOut rule file_limit bytes) ⊎ ((fault ≡ ReadFailed) × BreaksOff rule file_limit taken))
 
 -- the source's count of failures after a fault
-abbrev pub reads_after : LoadFault → ℕ → ℕ
-reads_after ReadFailed count = one_more count
-reads_after fault count = count
+abbrev pub reads_after_load : LoadFault → ℕ → ℕ
+reads_after_load ReadFailed count = one_more count
+reads_after_load fault count = count
 
 -- a failed read raises the source's count of failures by one, and nothing else does
-abbrev pub CountsReads : {A : Type 0} → ℕ → ℕ → Result A LoadFault → Type 0
-CountsReads old new result = MatchResult result (λ _. new ≡ old) (λ fault. new ≡ reads_after fault old)
+abbrev pub CountsLoadReads : {A : Type 0} → ℕ → ℕ → Result A LoadFault → Type 0
+CountsLoadReads old new result = MatchResult result (λ _. new ≡ old) (λ fault. new ≡ reads_after_load fault old)

@@ -1,16 +1,11 @@
--- The contents of deck and panel files.
+-- The contents of deck and panel files. Numbers that begin with 0o are octal, and the limits here are decimal.
 use Rattle.std.specs.Prelude.{ℕ, ◌+◌, ◌-◌, ◌==◌, nat_le, if◌then◌else◌, List, [], ◌∷◌, ◌++◌, length, take, map, replicate, Option, Some, None, Result, Ok, Err}
 use Rattle.std.specs.List.{concat}
 use Rattle.pp_lines.specs.Lines.{lines, finished}
+use Rattle.pp_lines.specs.Results.{◌>>=◌}
 use Rattle.pp_files.specs.declared.fault.LoadFault.{LoadFault}
 use Rattle.pp_files.specs.declared.fault.LoadFault.TheVariants.{FileTooLong, TooManyWords, PanelCount}
 use Rattle.pp_files.specs.Rows.{Row, row_of_line}
-
--- the next step, if there was no fault so far
-infixl 10 ◌>>=◌
-abbrev pub ◌>>=◌ : {A B : Type 0} → Result A LoadFault → (A → Result B LoadFault) → Result B LoadFault
-(Ok x) >>= f = f x
-(Err fault) >>= f = Err fault
 
 -- ---- all lines
 
@@ -18,32 +13,33 @@ abbrev pub ◌>>=◌ : {A B : Type 0} → Result A LoadFault → (A → Result B
 abbrev pub Rule : Type 0
 Rule = ℕ → List Row → Row → Result (List Row) LoadFault
 
+-- The rows so far with the row of line k, unless the line is ignored.
 abbrev pub with_row : Rule → ℕ → List Row → Option Row → Result (List Row) LoadFault
 with_row rule k rows None = Ok rows
 with_row rule k rows (Some row) = rule k rows row
 
--- the rows with the row of line k, or its first fault
+-- The rows so far with the row of line k, or its first fault.
 abbrev pub with_line : Rule → ℕ → List Row → List ℕ → Result (List Row) LoadFault
 with_line rule k rows line = row_of_line k line >>= with_row rule k rows
 
--- the rows with the rows of further lines, the first of which is line k + 1, or the first fault
+-- The rows so far with the rows of further lines, the first of which is line k + 1, or the first fault.
 unfoldable pub with_lines : Rule → ℕ → List Row → List (List ℕ) → Result (List Row) LoadFault
 with_lines rule k rows [] = Ok rows
 with_lines rule k rows (line ∷ others) = with_line rule (k + 1) rows line >>= λ more. with_lines rule (k + 1) more others
 
--- the rows of lines, or their first fault
+-- The rows of lines, which are counted from 1, or their first fault.
 abbrev pub rows_of_lines : Rule → List (List ℕ) → Result (List Row) LoadFault
 rows_of_lines rule all = with_lines rule 0 [] all
 
--- the largest number of bytes in a file
+-- The largest number of bytes in a file.
 abbrev pub file_limit : ℕ
 file_limit = 1048576
 
--- the lines that count: all lines of a file within the limit, and those of a longer file that end with a line feed within it
+-- The lines that count: all lines of a file within the limit, and those of a longer file that end with a line feed within it.
 abbrev pub lines_of_file : ℕ → List ℕ → List (List ℕ)
 lines_of_file limit bytes = if nat_le (length bytes) limit then lines bytes else finished (take limit bytes)
 
--- the rows of a file, or its first fault
+-- The rows of a file, or its first fault. It is too long only if no line that counts has a fault.
 unfoldable pub rows_of_file : Rule → ℕ → List ℕ → Result (List Row) LoadFault
 rows_of_file rule limit bytes =
     rows_of_lines rule (lines_of_file limit bytes) >>= λ rows.
@@ -51,28 +47,25 @@ rows_of_file rule limit bytes =
 
 -- ---- decks
 
--- at most 80 numbers on a card
+-- A card has at most 80 (decimal) numbers.
 abbrev pub card_rule : Rule
 card_rule k rows row = if nat_le (length row) 80 then Ok (rows ++ row ∷ []) else Err (TooManyWords k)
 
--- a row with zeros for the columns that have no number
+-- A card: a row with zeros for the columns that have no number, 80 (decimal) columns in all.
 abbrev pub card_of_row : Row → Row
 card_of_row row = row ++ replicate (80 - length row) 0
 
--- the cards of a deck file
+-- The cards of a deck file, a card for each line that is not ignored, or the file's first fault.
 unfoldable pub deck_of_file : List ℕ → Result (List Row) LoadFault
 deck_of_file bytes = rows_of_file card_rule file_limit bytes >>= λ rows. Ok (map card_of_row rows)
 
 -- ---- panels
 
--- at most twelve numbers in all
+-- A panel has at most twelve (decimal) numbers in all its lines.
 abbrev pub panel_rule : Rule
 panel_rule k rows row = if nat_le (length (concat rows ++ row)) 12 then Ok (rows ++ row ∷ []) else Err PanelCount
 
--- twelve words
-abbrev pub whole_panel : Row → Result Row LoadFault
-whole_panel row = if length row == 12 then Ok row else Err PanelCount
-
--- the words of a panel file
+-- The words of a panel file, twelve (decimal) in all its lines together, or the file's first fault.
 unfoldable pub panel_of_file : List ℕ → Result Row LoadFault
-panel_of_file bytes = rows_of_file panel_rule file_limit bytes >>= λ rows. whole_panel (concat rows)
+panel_of_file bytes = rows_of_file panel_rule file_limit bytes >>= λ rows.
+    if length (concat rows) == 12 then Ok (concat rows) else Err PanelCount

@@ -1,4 +1,4 @@
 pub mod Fault
 pub mod Files
-pub mod Loading
+pub mod Inner
 pub mod Rows

@@ -3,7 +3,7 @@ ghost use Rattle.std.specs.Io.KnownBytes.{Consumes, IsAtEnd};
 ghost use Rattle.std.specs.Prelude.{◌≡◌, ◌≢◌, ◌<◌, ◌++◌, ℕ, List, All, Ok, IfOk, IfErr, OnOk, MatchResult};
 ghost use Rattle.pp_lines.specs.Device.{all_bytes};
 ghost use Rattle.pp_files.specs.Files.{card_rule, panel_rule, deck_of_file, panel_of_file};
-ghost use Rattle.pp_files.specs.Fault.{CountsReads, IsCauseOf};
+ghost use Rattle.pp_files.specs.Fault.{CountsLoadReads, IsLoadCause};
 
 use crate::fault::LoadFault;
 use crate::loading::read_sheet;
@@ -27,10 +27,10 @@ pub fn load_deck<R: Source>(alloc: Global, source: &mut R) -> Result<Vec<[u16; C
         × (R.given source.new ≡ R.given source.old ++ taken)
         × MatchResult result
         (λ deck. deck_of_file taken ≡ Ok deck.items)
-        (λ fault. IsCauseOf card_rule deck_of_file taken (all_bytes (R.rest source.old) taken) fault) }
+        (λ fault. IsLoadCause card_rule deck_of_file taken (all_bytes (R.rest source.old) taken) fault) }
     ensures within { IfOk result (λ deck. All (All (λ value. value < 0o10000)) deck.items) }
     ensures all { OnOk result (IsAtEnd (R.rest source.new)) }
-    ensures reads { CountsReads (R.failure_count source.old) (R.failure_count source.new) result }
+    ensures reads { CountsLoadReads (R.failure_count source.old) (R.failure_count source.new) result }
 {
     let mut deck = Deck {
         cards: Vec::new(alloc),
@@ -52,11 +52,11 @@ pub fn load_panel<R: Source>(source: &mut R) -> Result<[u16; PANEL_WORDS], LoadF
         × (R.given source.new ≡ R.given source.old ++ taken)
         × MatchResult result
         (λ panel. panel_of_file taken ≡ Ok panel)
-        (λ fault. IsCauseOf panel_rule panel_of_file taken (all_bytes (R.rest source.old) taken) fault) }
+        (λ fault. IsLoadCause panel_rule panel_of_file taken (all_bytes (R.rest source.old) taken) fault) }
     ensures within { IfOk result (λ panel. All (λ value. value < 0o10000) panel) }
     ensures no_memory { IfErr result (λ fault. fault ≢ LoadFault.NoMemory) }
     ensures all { OnOk result (IsAtEnd (R.rest source.new)) }
-    ensures reads { CountsReads (R.failure_count source.old) (R.failure_count source.new) result }
+    ensures reads { CountsLoadReads (R.failure_count source.old) (R.failure_count source.new) result }
 {
     let mut panel = Panel {
         words: ArrayVec::new(),

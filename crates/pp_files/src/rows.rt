@@ -1,8 +1,9 @@
 //! Reads the numbers in the text of a line.
-ghost use Rattle.std.specs.Prelude.{◌≡◌, ◌<◌, ◌≤◌, length, IfSome, IsTrue, MatchOption, All};
+ghost use Rattle.std.specs.Prelude.{◌≡◌, ◌<◌, ◌≤◌, length, map, IfSome, IsTrue, MatchOption, All};
 ghost use Rattle.std.specs.List.{list_all};
 ghost use Rattle.pp_lines.specs.Words.{words};
-ghost use Rattle.pp_files.specs.Rows.{is_number, numbers};
+ghost use Rattle.pp_arith.specs.Octal.{octal_value};
+ghost use Rattle.pp_files.specs.Rows.{is_number};
 
 use arrayvec::ArrayVec;
 use pp_arith::read_octal;
@@ -29,7 +30,7 @@ pub fn are_numbers(text: &[u8]) -> bool
 pub fn numbers<const ROOM: usize>(text: &[u8]) -> Option<ArrayVec<u16, ROOM>>
     requires { IsTrue (list_all is_number (words text.now)) }
     ensures at_most { MatchOption result (ROOM < length (words text.now))
-        (λ row. row.items ≡ numbers (words text.now)) }
+        (λ row. row.items ≡ map octal_value (words text.now)) }
     ensures short { IfSome result (λ row. length row.items ≤ ROOM) }
     ensures within { IfSome result (λ row. All (λ value. value < 0o10000) row.items) }
 {

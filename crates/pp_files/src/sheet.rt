@@ -4,9 +4,10 @@
 ghost use Rattle.std.specs.Prelude.{◌≡◌, ◌<◌, ◌≤◌, ◌++◌, length, drop, Bool, List, true, false, map, All, IfErr, IsTrue, MatchResult};
 ghost use Rattle.std.specs.List.{list_all, concat};
 ghost use Rattle.pp_lines.specs.Words.{words};
-ghost use Rattle.pp_files.specs.Rows.{Row, is_number, numbers};
+ghost use Rattle.pp_arith.specs.Octal.{octal_value};
+ghost use Rattle.pp_files.specs.Rows.{Row, is_number};
 ghost use Rattle.pp_files.specs.Files.{Rule, card_rule, card_of_row, panel_rule};
-ghost use Rattle.pp_files.specs.Loading.{Reads, FailsBy, IsLineFault};
+ghost use Rattle.pp_files.specs.Inner.Loading.{Reads, FailsBy, IsLineFault};
 
 use crate::fault::LoadFault;
 use crate::rows::numbers;
@@ -37,8 +38,8 @@ pub trait Sheet {
         requires { IsTrue (list_all is_number (words text.now)) }
         ensures row { (rows : List Row) → holds self.old rows →
             MatchResult result
-            (λ _. Reads (holds self.new) (rule line rows (numbers (words text.now))))
-            (λ fault. FailsBy (rule line rows (numbers (words text.now))) fault) }
+            (λ _. Reads (holds self.new) (rule line rows (map octal_value (words text.now))))
+            (λ fault. FailsBy (rule line rows (map octal_value (words text.now))) fault) }
         ensures faults { IfErr result (IsLineFault needs_memory) };
 }
 

@@ -1,3 +1,4 @@
+//! Tests of decks and panels, and of their faults.
 ghost use Rattle.std.specs.Prelude.{◌<◌};
 
 use crate::{LoadFault, load_deck, load_panel};

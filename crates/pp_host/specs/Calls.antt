@@ -1,24 +1,10 @@
 -- What the calls of this crate do. Only inner contracts and proofs use this file.
-use Rattle.std.specs.Prelude.{◌≡◌, List, [], ◌++◌, Option, Some, None, option_map, ⊤}
-use Rattle.std.specs.String.{string_bytes}
+use Rattle.std.specs.Prelude.{◌≡◌, List, [], ◌++◌, Option, Some, None, ⊤}
 use Rattle.pp_arguments.specs.CommandLine.{Text}
-use Rattle.pp_arguments.specs.declared.options.Options.{Options}
+pub use Rattle.pp_arguments.specs.Options.{asked_of}
 use Rattle.pp_host.specs.Events.{Event, events_of}
 use Rattle.pp_host.specs.Known.{Agrees, Found, IsContent, Known, Words}
-use Rattle.pp_host.specs.Options.{Asked}
 use Rattle.pp_trouble.specs.declared.trouble.FileKind.{FileKind}
-
--- the contents of the options
-abbrev pub asked_of : Options → Asked
-asked_of options = record {
-  history = options.history;
-  central = options.central;
-  deck = option_map string_bytes options.deck;
-  reader = options.reader;
-  printer = options.printer;
-  panel = option_map string_bytes options.panel;
-  script = option_map string_bytes options.script;
-}
 
 -- the words of the command line were read, or memory ran out: what they are, and what follows from them
 pub record ReadsWords (words_known : Known Words) (Follows : Words → Type 0) : Type 0 where

@@ -2,8 +2,9 @@
 use Rattle.std.proofs.lemmas.Grind.{common_steps}
 use Rattle.std.proofs.Common.{◌≡◌, ◌∙◌, ℕ, zero, suc, ◌+◌, ◌-◌, ◌<◌, ◌≤◌, ◌⊎◌, Bool, cond, eqb, List, [], ◌∷◌, ◌++◌, length, take, refl, sym, ap, arith, inl, inr, length-append, length-take, append-nil}
 use Rattle.std.proofs.Math.Seq.{take-append_seam, take-append-add}
-use Rattle.pp_lines.specs.Lines.{lines, begin_first, extend_first, finished, unfinished, last_line, finished_within, IsWithin, IsPrefixOf}
-use Rattle.pp_lines.proofs.LineCuts.{lines_split, finished-more}
+use Rattle.pp_lines.specs.LineCutter.{IsPrefixOf}
+use Rattle.pp_lines.specs.Lines.{lines, extend_first, finished, unfinished, last_line, finished_within, IsWithin}
+use Rattle.pp_lines.proofs.LineCuts.{begin_first, lines_first, lines_split, finished-more}
 
 -- at most one line is unfinished
 pub last_line-one : (rest : List ℕ) → length (last_line rest) ≤ 1
@@ -78,8 +79,8 @@ begun-some byte (first ∷ all) feed = grind arith
 -- bytes after a line feed add at least one line
 pub lines-further : (kept more : List ℕ) → 0 < length more → length (finished kept) < length (lines (kept ++ more))
 lines-further [] [] h = absurd (omega arith)
-lines-further [] (byte ∷ more) h = begun-some byte (lines more) (eqb byte 10)
-lines-further (byte ∷ kept) more h = begun-longer byte (finished kept) (lines (kept ++ more)) (eqb byte 10) (lines-further kept more h)
+lines-further [] (byte ∷ more) h = rw (lines_first byte more) (begun-some byte (lines more) (eqb byte 10))
+lines-further (byte ∷ kept) more h = rw (lines_first byte (kept ++ more)) (begun-longer byte (finished kept) (lines (kept ++ more)) (eqb byte 10) (lines-further kept more h))
 
 -- a prefix that is longer than the first part
 pub take-front : (most : ℕ) (kept more : List ℕ) → length kept ≤ most → take most (kept ++ more) ≡ kept ++ take (most - length kept) more

@@ -1,6 +1,6 @@
 -- The lines of a list of bytes to which more bytes are appended.
-use Rattle.std.proofs.Common.{◌≡◌, ℕ, cond, eqb, List, [], ◌∷◌, ◌++◌, refl, Bool, true, false}
-use Rattle.pp_lines.specs.Lines.{lines, begin_first, extend_first, finished, extend_unfinished, unfinished, last_line}
+use Rattle.std.proofs.Common.{◌≡◌, ℕ, cond, eqb, List, [], ◌∷◌, ◌++◌, refl, sym, Bool, true, false}
+use Rattle.pp_lines.specs.Lines.{lines, extend_first, finished, extend_unfinished, unfinished, last_line}
 
 -- a line feed after a list that begins with this byte
 finished-feed_step : (feed : Bool) (byte : ℕ) (done : List (List ℕ)) (rest : List ℕ) →
@@ -40,6 +40,11 @@ pub unfinished-byte : (bytes : List ℕ) (next : ℕ) → eqb next 10 ≡ false 
 unfinished-byte [] next h = rw h refl
 unfinished-byte (byte ∷ bytes) next h = rw (unfinished-byte bytes next h, finished-byte bytes next h) (unfinished-byte_step (eqb byte 10) byte next (finished bytes) (unfinished bytes))
 
+-- the lines with a byte added to the start of the first line, or as a line of its own if there is no line
+abbrev pub begin_first : ℕ → List (List ℕ) → List (List ℕ)
+begin_first byte [] = (byte ∷ []) ∷ []
+begin_first byte (line ∷ lines) = (byte ∷ line) ∷ lines
+
 lines_step : (feed : Bool) (byte : ℕ) (done : List (List ℕ)) (rest : List ℕ) →
     cond feed ([] ∷ (done ++ last_line rest)) (begin_first byte (done ++ last_line rest)) ≡ cond feed ([] ∷ done) (extend_first byte done) ++ last_line (cond feed rest (extend_unfinished byte done rest))
 lines_step true byte done rest = refl
@@ -49,8 +54,13 @@ lines_step false byte (line ∷ done) rest = refl
 
 -- the lines are the finished lines and the unfinished one
 pub lines_split : (bytes : List ℕ) → lines bytes ≡ finished bytes ++ last_line (unfinished bytes)
-lines_split [] = refl
-lines_split (byte ∷ bytes) = rw (lines_split bytes) (lines_step (eqb byte 10) byte (finished bytes) (unfinished bytes))
+unfolding lines
+lines_split bytes = refl
+
+-- a byte before other lines
+pub lines_first : (byte : ℕ) (bytes : List ℕ) → lines (byte ∷ bytes) ≡ cond (eqb byte 10) ([] ∷ lines bytes) (begin_first byte (lines bytes))
+unfolding lines
+lines_first byte bytes = sym (lines_step (eqb byte 10) byte (finished bytes) (unfinished bytes))
 
 more_step : (feed : Bool) (byte : ℕ) (done extra : List (List ℕ)) →
     (further : List (List ℕ)) × (cond feed ([] ∷ (done ++ extra)) (extend_first byte (done ++ extra)) ≡ cond feed ([] ∷ done) (extend_first byte done) ++ further)

@@ -61,8 +61,8 @@ feed-splits (byte ∷ text) less = grind (arith, nat_tests, len-stop (λ byte. b
 -- the line feed found is the first one
 feed-found : (text : List ℕ) (feed : ℕ) → position (λ byte. byte == 10) text ≡ Some feed → before_feed text ≡ feed
 feed-found text feed e =
-    let first = position-Some (λ byte. byte == 10) text feed 0 e in
-    position_or_len_is (λ byte. byte == 10) text feed 0 (omega (arith, first.0)) first.2 (λ within. first.1)
+    let (within, found, before) = position-Some (λ byte. byte == 10) text feed 0 e in
+    position_or_len_is (λ byte. byte == 10) text feed 0 (omega (arith, within)) before (λ _. found)
 
 -- a text in which no line feed is found
 pub feed-none : (text : List ℕ) → position (λ byte. byte == 10) text ≡ None → finished text ≡ []

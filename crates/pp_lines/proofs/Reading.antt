@@ -32,8 +32,8 @@ unread (Some x) (Some y) taken p = (y, p, λ end. end)
 -- at the end of input all bytes were read
 pub all-read : (first second : Option (List ℕ)) (taken : List ℕ) → Consumes first second taken → IsAtEnd second → all_bytes first taken ≡ taken
 all-read first second taken p end =
-    let rest = unread first second taken p in
-    rest.1 ∙ ap (λ later. taken ++ later) (rest.2 end) ∙ append-nil taken
+    let (later, all, none) = unread first second taken p in
+    all ∙ ap (λ rest. taken ++ rest) (none end) ∙ append-nil taken
 
 -- the bytes of a piece before, at and after an index
 pub piece_at : (bytes piece : List ℕ) (i : ℕ) → i < length piece → ((bytes ++ take i piece) ++ get_or piece i 0 ∷ []) ++ drop (i + 1) piece ≡ bytes ++ piece

@@ -37,30 +37,42 @@ Remains old new whole left = (front : List ℕ) × Appends old new front × (who
 -- one more piece was written
 pub Remains-next : (first second third : Written) (whole piece left : List ℕ) →
     Remains first second whole (piece ++ left) → Appends second third piece → Remains first third whole left
-Remains-next first second third whole piece left p q =
-    (p.0 ++ piece, Appends-again first second third p.0 piece p.1 q, p.2 ∙ sym (append_assoc p.0 piece left))
+Remains-next first second third whole piece left (front, written, all) q =
+    (front ++ piece, Appends-again first second third front piece written q, all ∙ sym (append_assoc front piece left))
 
 -- the sink failed within a piece
 pub Remains-fails : (first second third : Written) (whole piece left : List ℕ) →
     Remains first second whole (piece ++ left) → AppendsPrefix second third piece → AppendsPrefix first third whole
-Remains-fails first second third whole piece left p q = (
-  p.0 ++ q.0,
-  q.1 ++ left,
-  Appends-again first second third p.0 q.0 p.1 q.2,
-  p.2 ∙ ap (λ text. p.0 ++ (text ++ left)) q.3 ∙ simp append_assoc,
-  simp length-append (omega (arith, q.4)),
+Remains-fails first second third whole piece left (done, written, all) (front, more, proper) = (
+  done ++ front,
+  Appends-again first second third done front written more,
+  record {
+    rest = proper.rest ++ left;
+    all = all ∙ ap (λ text. done ++ (text ++ left)) proper.all ∙ simp append_assoc;
+    some = simp length-append (omega (arith, proper.some));
+  },
 )
 
 -- nothing is left after the last piece
 pub Remains-none : (first second : Written) (whole : List ℕ) → Remains first second whole [] → Appends first second whole
-Remains-none first second whole p = Appends-same first second p.0 whole (sym (p.2 ∙ append-nil p.0)) p.1
+Remains-none first second whole (front, written, all) = Appends-same first second front whole (sym (all ∙ append-nil front)) written
 
 -- the sink failed, and more text would have followed
 pub front_longer : (first second : Written) (text more : List ℕ) → AppendsPrefix first second text → AppendsPrefix first second (text ++ more)
-front_longer first second text more p =
-    (p.0, p.1 ++ more, p.2, ap (λ whole. whole ++ more) p.3 ∙ append_assoc p.0 p.1 more, simp length-append (omega (arith, p.4)))
+front_longer first second text more (front, written, proper) = (
+  front,
+  written,
+  record {
+    rest = proper.rest ++ more;
+    all = ap (λ whole. whole ++ more) proper.all ∙ append_assoc front proper.rest more;
+    some = simp length-append (omega (arith, proper.some));
+  },
+)
 
 -- the sink failed after a text
 pub front_after : (first second third : Written) (text more : List ℕ) → Appends first second text → AppendsPrefix second third more → AppendsPrefix first third (text ++ more)
-front_after first second third text more p q =
-    (text ++ q.0, q.1, Appends-again first second third text q.0 p q.2, ap (λ rest. text ++ rest) q.3 ∙ sym (append_assoc text q.0 q.1), q.4)
+front_after first second third text more p (front, written, proper) = (
+  text ++ front,
+  Appends-again first second third text front p written,
+  record { rest = proper.rest; all = ap (λ rest. text ++ rest) proper.all ∙ sym (append_assoc text front proper.rest); some = proper.some },
+)

@@ -1,7 +1,10 @@
 pub mod Counted
 pub mod Device
+pub mod LineCutter
 pub mod Lines
 pub mod Output
+pub mod Prefixes
 pub mod Puts
+pub mod Results
 pub mod Testing
 pub mod Words

@@ -1,6 +1,7 @@
 //! Cuts bytes into lines.
 ghost use Rattle.std.specs.Prelude.{◌≡◌, ◌≢◌, ◌<◌, ◌==◌, ◌∷◌, ◌++◌, [], ℕ, List, length, position, IfSome, MatchOption};
-ghost use Rattle.pp_lines.specs.Lines.{IsPrefixOf, finished, without_return};
+ghost use Rattle.pp_lines.specs.LineCutter.{IsPrefixOf};
+ghost use Rattle.pp_lines.specs.Lines.{finished, without_return};
 
 use arrayvec::ArrayVec;
 use std::marker::Model;

@@ -1,3 +1,4 @@
+//! Tests of the devices, the lines and the words.
 use crate::{
     Counted, Endless, Failed, Feed, IoFault, LineCutter, Log, Sink, Source, Tray, are_octal,
     is_ignored, next_line, next_word, push_text, put_all, without_return,

@@ -1,7 +1,7 @@
 -- Where a run can be cut short: by memory that runs out, by a failed read or by a failed write.
 use Rattle.std.specs.Prelude.{◌≡◌, ℕ, ◌<◌, List, [], ◌++◌, length, Option, Ok, Err}
 use Rattle.pp_console.specs.Commands.{Value}
-use Rattle.pp_console.specs.Script.{run}
+use Rattle.pp_console.specs.Script.{outcome}
 use Rattle.pp_console.specs.declared.progress.TheConstants.{LINE_LIMIT, BYTE_LIMIT}
 use Rattle.pp_files.specs.Files.{card_rule, panel_rule}
 use Rattle.pp_files.specs.Rows.{Row}
@@ -31,7 +31,7 @@ pub record IsStart (asked : Asked) (given : Given) (start : Value) : Type 0 wher
 -- A script of these bytes was cut short, after some of them were read.
 pub data IsCutServing (start : Value) (bytes read : List ℕ) (course : Course) : Type 0 where
   -- A read failed. Every line that was finished by then was answered, within the limits of a script.
-  ByRead : course ≡ ends (run start (finished_within LINE_LIMIT BYTE_LIMIT read)).text (Err ReadFailed) →
+  ByRead : course ≡ ends (outcome start (finished_within LINE_LIMIT BYTE_LIMIT read)).text (Err ReadFailed) →
       IsCutServing start bytes read course
   -- A write failed. A proper prefix of the answers was written.
   ByWrite : (front rest : List ℕ) → (served start bytes).answers ≡ front ++ rest → 0 < length rest →

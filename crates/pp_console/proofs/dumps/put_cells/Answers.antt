@@ -1,7 +1,6 @@
 use Rattle.std.proofs.Common.{◌/◌}
-use Rattle.pp_console.specs.Dumps.{row_at}
 use Rattle.pp_console.proofs.Prelude.{err_from_is_err_and}
-use Rattle.pp_console.proofs.Each.{each-first, each-none}
+use Rattle.pp_console.proofs.Each.{row_at, each-first, each-none}
 use Rattle.pp_console.proofs.Shown.{IsPartWritten-all, IsPartWritten-next, IsPartWritten-fails}
 use Rattle.pp_console.proofs.dumps.put_cells.Goals as goal
 

@@ -1,5 +1,6 @@
 use Rattle.std.proofs.Common.{◌-◌}
-use Rattle.pp_console.specs.Dumps.{each, row_at, cells_text}
+use Rattle.pp_console.specs.Dumps.{each, cells_text}
+use Rattle.pp_console.proofs.Each.{row_at}
 use Rattle.pp_console.proofs.Shown.{IsPartWritten}
 use Rattle.pp_console.proofs.dumps.put_cells.Given as goal
 

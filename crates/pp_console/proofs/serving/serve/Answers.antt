@@ -21,37 +21,37 @@ pieces-init g c = record {
 
 pub returns-in-Err-clause-script : goal.returns-in-Err-clause-script
 returns-in-Err-clause-script g c =
-    let past = c.pieces.invariant.has_read in (
-      past.0,
-      Consumes-keeps _ (g.R.Source.rest c.pieces.source) _ _ past.1 c.in-Err.ensures.bytes,
-      c.in-Err.ensures.given ∙ past.2,
-      λ start at. Performed-within _ _ _ _ past.0 (past.3 start at),
+    let (taken, consumed, given, has_read) = c.pieces.invariant.has_read in (
+      taken,
+      Consumes-keeps _ (g.R.Source.rest c.pieces.source) _ _ consumed c.in-Err.ensures.bytes,
+      c.in-Err.ensures.given ∙ given,
+      λ start at. Performed-within _ _ _ _ taken (has_read start at),
     )
 
 pub returns-in-Ok-eq0-clause-script : goal.returns-in-Ok-eq0-clause-script
 returns-in-Ok-eq0-clause-script g c =
-    let past = c.pieces.invariant.has_read in
+    let (taken, consumed, given, has_read) = c.pieces.invariant.has_read in
     let same : g.R.Source.given c.take.new.self ≡ g.R.Source.given c.pieces.source ++ [] = search rules in
     let end : IsAtEnd (g.R.Source.rest c.take.new.self) = search rules in
-    let all : Consumes (g.R.Source.rest c.args.source.now) (g.R.Source.rest c.take.new.self) (past.0 ++ []) =
-    Consumes-again _ (g.R.Source.rest c.pieces.source) _ past.0 [] past.1 (search rules) in (
-      past.0,
-      rw (append-nil past.0) at all,
-      same ∙ append-nil (g.R.Source.given c.pieces.source) ∙ past.2,
+    let all : Consumes (g.R.Source.rest c.args.source.now) (g.R.Source.rest c.take.new.self) (taken ++ []) =
+    Consumes-again _ (g.R.Source.rest c.pieces.source) _ taken [] consumed (search rules) in (
+      taken,
+      rw (append-nil taken) at all,
+      same ∙ append-nil (g.R.Source.given c.pieces.source) ∙ given,
       λ start at. at-end c.finish.result (g.R.Source.rest c.take.new.self)
-          (λ summary. Serves summary c.finish.new.session (g.W.Sink.text c.finish.new.out) (origin_of start (g.W.Sink.text c.args.out.now)) past.0)
-          (λ fault left. Stops fault c.finish.new.session (g.W.Sink.text c.finish.new.out) (origin_of start (g.W.Sink.text c.args.out.now)) past.0 left)
-          end (c.finish.ensures.serves (origin_of start (g.W.Sink.text c.args.out.now)) past.0 (past.3 start at)),
+          (λ summary. Serves summary c.finish.new.session (g.W.Sink.text c.finish.new.out) (origin_of start (g.W.Sink.text c.args.out.now)) taken)
+          (λ fault left. Stops fault c.finish.new.session (g.W.Sink.text c.finish.new.out) (origin_of start (g.W.Sink.text c.args.out.now)) taken left)
+          end (c.finish.ensures.serves (origin_of start (g.W.Sink.text c.args.out.now)) taken (has_read start at)),
     )
 
 pub pieces-preserved : goal.pieces-preserved
 pieces-preserved g c = record {
   has_read =
-      let past = c.pieces.invariant.has_read in (
-        past.0 ++ take c.in-Ok.count c.take.new.into,
-        Consumes-again _ (g.R.Source.rest c.pieces.source) _ past.0 _ past.1 c.in-Ok.ensures.bytes.0,
-        c.in-Ok.ensures.given ∙ ap (λ front. front ++ take c.in-Ok.count c.take.new.into) past.2 ∙ append_assoc _ past.0 _,
-        λ start at. c.in_ok-feed-in-Ok.ensures.has_read (origin_of start (g.W.Sink.text c.args.out.now)) past.0 (past.3 start at),
+      let (taken, consumed, given, has_read) = c.pieces.invariant.has_read in (
+        taken ++ take c.in-Ok.count c.take.new.into,
+        Consumes-again _ (g.R.Source.rest c.pieces.source) _ taken _ consumed c.in-Ok.ensures.bytes.0,
+        c.in-Ok.ensures.given ∙ ap (λ front. front ++ take c.in-Ok.count c.take.new.into) given ∙ append_assoc _ taken _,
+        λ start at. c.in_ok-feed-in-Ok.ensures.has_read (origin_of start (g.W.Sink.text c.args.out.now)) taken (has_read start at),
       );
   reads = search rules;
   writes = search rules;
@@ -59,11 +59,11 @@ pieces-preserved g c = record {
 
 pub returns-in_err-feed-in-Ok-clause-script : goal.returns-in_err-feed-in-Ok-clause-script
 returns-in_err-feed-in-Ok-clause-script g c =
-    let past = c.pieces.invariant.has_read in
+    let (taken, consumed, given, has_read) = c.pieces.invariant.has_read in
     let p = err_from_is_err_and c.from_residual.result c.from_residual.ensures.1 in
     rw (p.1, p.2) (
-      past.0 ++ take c.in-Ok.count c.take.new.into,
-      Consumes-again _ (g.R.Source.rest c.pieces.source) _ past.0 _ past.1 c.in-Ok.ensures.bytes.0,
-      c.in-Ok.ensures.given ∙ ap (λ front. front ++ take c.in-Ok.count c.take.new.into) past.2 ∙ append_assoc _ past.0 _,
-      λ start at. Stops-interrupted _ _ _ _ _ _ (c.in_err-feed-in-Ok.ensures.has_read (origin_of start (g.W.Sink.text c.args.out.now)) past.0 (past.3 start at)),
+      taken ++ take c.in-Ok.count c.take.new.into,
+      Consumes-again _ (g.R.Source.rest c.pieces.source) _ taken _ consumed c.in-Ok.ensures.bytes.0,
+      c.in-Ok.ensures.given ∙ ap (λ front. front ++ take c.in-Ok.count c.take.new.into) given ∙ append_assoc _ taken _,
+      λ start at. Stops-interrupted _ _ _ _ _ _ (c.in_err-feed-in-Ok.ensures.has_read (origin_of start (g.W.Sink.text c.args.out.now)) taken (has_read start at)),
     )

@@ -1,6 +1,7 @@
 -- Definitions for the inner contracts of loading: a file as far as it was read, and the fault that is reported there.
 use Rattle.std.specs.Prelude.{◌≡◌, ℕ, ◌⊎◌, Bool, IsTrue, List, length, Result, Ok, Err}
-use Rattle.pp_lines.specs.Lines.{finished, IsPrefixOf}
+use Rattle.pp_lines.specs.LineCutter.{IsPrefixOf}
+use Rattle.pp_lines.specs.Lines.{finished}
 use Rattle.pp_files.specs.declared.fault.LoadFault.{LoadFault}
 use Rattle.pp_files.specs.declared.fault.LoadFault.TheVariants.{NoMemory, ReadFailed}
 use Rattle.pp_files.specs.declared.progress.Progress.{Progress}
@@ -42,7 +43,7 @@ IsSheetFault needs_memory NoMemory = IsTrue needs_memory
 IsSheetFault needs_memory fault = Unit {0}
 
 -- the file was read as far as these bytes
-pub record HasRead (progress : Progress) (rule : Rule) (Holds : List Row → Type 0) (bytes : List ℕ) : Type 0 where
+pub record HasReadFile (progress : Progress) (rule : Rule) (Holds : List Row → Type 0) (bytes : List ℕ) : Type 0 where
   pub keeps : IsPrefixOf KEPT progress.cutter bytes
   pub counts_bytes : progress.bytes ≡ length bytes
   pub counts_lines : progress.lines ≡ length (finished bytes)

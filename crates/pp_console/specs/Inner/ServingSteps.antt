@@ -6,16 +6,17 @@ use Rattle.pp_console.specs.declared.progress.TheConstants.{LINE_LIMIT, BYTE_LIM
 use Rattle.pp_lines.specs.declared.fault.IoFault.{IoFault}
 use Rattle.pp_lines.specs.declared.fault.IoFault.TheVariants.{ReadFailed, WriteFailed, LineLimit}
 use Rattle.pp_lines.specs.Output.{Written}
-use Rattle.pp_lines.specs.Lines.{finished, finished_within, IsWithin, IsPrefixOf}
+use Rattle.pp_lines.specs.LineCutter.{IsPrefixOf}
+use Rattle.pp_lines.specs.Lines.{finished, finished_within, IsWithin}
 use Rattle.pp_console.specs.Commands.{State}
-use Rattle.pp_console.specs.Script.{run}
+use Rattle.pp_console.specs.Script.{outcome}
 use Rattle.pp_console.specs.Serving.{Origin, Performed, Breaks}
 
 -- these lines have ended: they were performed, and counted
 pub record HasEnded (summary : Summary) (session : State) (text : Written) (origin : Origin) (done : List (List ℕ)) : Type 0 where
   pub performed : Performed session text origin done
   pub counts_lines : summary.lines ≡ length done
-  pub counts_refused : summary.refused ≡ (run origin.start done).refused
+  pub counts_refused : summary.refused ≡ (outcome origin.start done).refused
 
 -- the script was read as far as these bytes
 pub record HasRead (progress : Progress) (session : State) (text : Written) (origin : Origin) (bytes : List ℕ) : Type 0 where

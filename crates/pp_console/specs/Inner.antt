@@ -1,0 +1,3 @@
+-- For the contracts of inner functions and for proofs: no contract of a public call needs these.
+pub mod PaperCuts
+pub mod ServingSteps
