@@ -10,7 +10,7 @@ ghost use Rattle.pp_rig.specs.Inner.Short.{IsTurned, unpacked, whole_turn};
 ghost use Rattle.pp_rig.specs.Inner.TurnRecords.{AreDevicesStepped, FitsRest, FitsTurn, IsSlotStep, KeepsSlot, device_parts, end_old_values, end_parts, rest_of_turn, rest_pairs, turn_pairs};
 ghost use Rattle.pp_step.specs.Step.{FitsPp, IsExchange, pp_pairs};
 ghost use Rattle.pp_step.specs.View.{pp_place};
-ghost use Rattle.pp_machine.specs.Ranges.{cell_count, o, processor_count};
+ghost use Rattle.pp_machine.specs.Ranges.{cell_count, processor_count};
 
 use super::{Rig, RigRecord, ShortTurn, TurnRecord, TurnRest};
 use pp_actions::Action;
