@@ -109,7 +109,7 @@ module _ {A R H : Type 0} (unpacked : H → A × R) where
   pub back_out : (n : ℕ) (head : Option H) (tails : List (Tail A R)) {found : Option (Tail A R)} {result : Option R} → head ≡ None → found ≡ slice_get tails n → option_and_then (λ (tail : Tail A R). tail.back) found ≡ result → IfSome (first_of unpacked in_tail head (drop n tails)) (λ entry. result ≡ Some (entry.1))
   back_out n head tails none at is = rw (none, ← is, at) (back_at n tails)
 
-  kept_capacity : (head : Option H) (action : A) (back : R) (old new : Tails A R) → IsKept unpacked head action back old new → new.ring.capacity ≡ old.ring.capacity
+  pub kept_capacity : (head : Option H) (action : A) (back : R) (old new : Tails A R) → IsKept unpacked head action back old new → new.ring.capacity ≡ old.ring.capacity
   kept_capacity head action back old new kept = grind arith
 
   -- one more kept action

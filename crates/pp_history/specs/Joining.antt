@@ -1,5 +1,5 @@
--- How rings hold the actions of a session. The first ring has a head for each action. A head may hold what belongs to its
--- action; what belongs to the others is in a second ring, in the same order.
+-- How heads and rings hold the actions of a session. There is a head for each action. A head may hold what belongs to its
+-- action; what belongs to the others is in a ring, in the same order.
 use Rattle.std.specs.Prelude.{◌≡◌, ℕ, ◌+◌, ◌≤◌, List, [], ◌∷◌, Option, Some, None, length, take, drop, reverse}
 use Rattle.circular_buffer.specs.Buffer.{Buffer}
 use Rattle.pp_history.specs.LogValue.{LogValue, log_of}

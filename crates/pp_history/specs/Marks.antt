@@ -3,6 +3,7 @@ use Rattle.std.specs.Prelude.{ℕ, Bool, true, false, ◌≡◌, ◌%◌, ◌||�
 use Rattle.std.specs.List.{All}
 use Rattle.pp_history.specs.declared.marks.Marks.{Marks}
 
+-- the mark with this number, modulo 1024, is set
 abbrev pub is_set : Marks → ℕ → Bool
 is_set m i = get_or m.marks (i % 1024) false
 
@@ -16,6 +17,7 @@ abbrev pub is_covered : Marks → Option (ℕ × ℕ) → Bool
 is_covered m marks = m.has_places && (m.has_unmarked || is_marked m marks)
 
 module _ {P : Type 0} (marks_of : P → Option (ℕ × ℕ)) where
+  -- the marks cover the place
   abbrev pub covers : Marks → P → Bool
   covers m p = is_covered m (marks_of p)
 

@@ -9,6 +9,7 @@ abbrev pub both : {A R : Type 0} → Option A → Option R → Option (A × R)
 both (Some action) (Some back) = Some (action, back)
 both _ _ = None
 
+-- the action and the undo record, if neither was moved out
 abbrev pub in_tail : {A R : Type 0} → Tail A R → Option (A × R)
 in_tail tail = both tail.action tail.back
 

@@ -1,18 +1,26 @@
 //! The newest actions with their undo records: one list, held in rings.
 
-ghost use Rattle.std.specs.Prelude.{◌≡◌, ◌∷◌, [], take, drop, slice_get, slice_set, Some, None, Option, true, ℕ, List, ◌+◌, ◌-◌, ◌<◌, ◌≤◌, length, IfOk, IsSomeAnd, MatchOption, IfSome, IsNone, ◌↔◌, ◌*◌};
+ghost use Rattle.std.specs.Prelude.{◌≡◌, ◌∷◌, [], take, drop, slice_get, Some, None, Option, true, ◌+◌, ◌-◌, ◌<◌, ◌≤◌, length, IfOk, IsSomeAnd, MatchOption, IfSome, IsNone, ◌↔◌, ◌*◌, false, min};
 ghost use Rattle.circular_buffer.specs.Buffer.{buffer};
 ghost use Rattle.std.specs.List.{All};
-ghost use Rattle.pp_history.specs.Joining.{IsActed, IsNext, first_of, left_by};
-ghost use Rattle.pp_history.specs.LogValue.{IsPerformed, IsUndone, LogValue, log_of};
+ghost use Rattle.pp_history.specs.Heads.{IsHeads, heads_in};
+ghost use Rattle.pp_history.specs.Joining.{IsActed, IsLog, IsNext, first_of, left_by, log_value};
+ghost use Rattle.pp_history.specs.Spans.{IsSpan};
+ghost use Rattle.pp_history.specs.LogValue.{IsPerformed, log_of};
+ghost use Rattle.pp_history.specs.Marks.{IsUnmarked};
+ghost use Rattle.pp_history.specs.Parts.{IsSession, contents};
+ghost use Rattle.pp_history.specs.Repeating.{AreUnmarked, after_acts, machine_after};
+ghost use Rattle.pp_history.specs.SessionValue.{Moves, after_back, after_forward};
 ghost use Rattle.pp_history.specs.Search.{first_changing};
 ghost use Rattle.pp_history.specs.UndoRecord.{whole_record};
 ghost use Rattle.pp_history.specs.Tails.{in_tail, pushed};
-ghost use Rattle.std.specs.Option.{IsSome, option_map};
+ghost use Rattle.std.specs.Option.{option_map};
 
+use crate::heads::Heads;
 use crate::looks::Looks;
 use crate::lookup::is_changed;
 use crate::marks::Marks;
+use crate::repeatable::Repeatable;
 use crate::reversible::{Reversible, UndoRecord};
 use crate::tails::{Tails, push};
 use circular_buffer::HeapCircularBuffer;
@@ -25,7 +33,7 @@ use std::marker::Model;
 pub(crate) struct Log<T: Reversible> {
     /// First the heads of the undone actions, the next to perform again last; then those of the kept actions, the newest
     /// first. An action that is performed overwrites a head in place.
-    heads: HeapCircularBuffer<Option<T::Head>>,
+    heads: Heads<T::Head>,
     /// The kept actions without a head, the newest first, and then discarded ones.
     tails: Tails<T::Action, T::Record>,
     /// The undone actions without a head, the next to perform again first, and then discarded ones.
@@ -36,13 +44,14 @@ pub(crate) struct Log<T: Reversible> {
 
 impl<T: Reversible> Model for Log<T> {
     ghost use Rattle.pp_history.specs.LogValue.{LogValue};
+    ghost use Rattle.pp_history.specs.Heads.{IsHeads, heads_in};
     ghost use Rattle.pp_history.specs.Joining.{IsLog, log_value};
 
     ghost Value = { LogValue T.Action T.Record };
 
-    ghost view = { λ l. log_value T.unpacked l.heads l.tails.ring l.undone l.ahead };
+    ghost view = { λ l. log_value T.unpacked (heads_in l.heads) l.tails.ring l.undone l.ahead };
 
-    ghost invariant = { λ l. IsLog T.unpacked l.heads l.tails.ring l.undone l.ahead };
+    ghost invariant = { λ l. IsHeads l.heads × IsLog T.unpacked (heads_in l.heads) l.tails.ring l.undone l.ahead };
 }
 
 impl<T: Reversible> Log<T> {
@@ -51,7 +60,7 @@ impl<T: Reversible> Log<T> {
         requires { (1 ≤ capacity) × (capacity ≤ 10000) }
         ensures { IfOk result (λ log. log ≡ record { records = []; ahead = []; capacity = capacity }) }
     {
-        let heads = HeapCircularBuffer::with_capacity(alloc, capacity as usize)?;
+        let heads = Heads::new(alloc, capacity as usize)?;
         let tails = Tails::new(alloc, capacity as usize)?;
         let undone = HeapCircularBuffer::with_capacity(alloc, capacity as usize)?;
         Ok(Log {
@@ -66,14 +75,14 @@ impl<T: Reversible> Log<T> {
     pub(crate) fn capacity(&self) -> u32
         ensures { result ≡ self.now.capacity }
     {
-        self.heads.capacity() as u32
+        self.heads.capacity as u32
     }
 
     /// Returns the number of undo records.
     pub(crate) fn kept(&self) -> u32
         ensures { result ≡ length self.now.records }
     {
-        (self.heads.len() - self.ahead) as u32
+        (self.heads.len - self.ahead) as u32
     }
 
     /// Returns the number of actions that were undone.
@@ -90,34 +99,51 @@ impl<T: Reversible> Log<T> {
         ensures { IsPerformed T.Reversible machine.old machine.new
             (log_of (take (self.old.capacity - 1) self.old.records) (action ∷ []) self.old.capacity) self.new }
     {
-        discard_ahead(&mut self.heads, &mut self.ahead);
-        turn_over(&mut self.heads);
-        let head = self.heads.get_mut(0).unwrap();
-        machine.perform(action, head, &mut self.tails);
+        self.heads.discard(&mut self.ahead);
+        self.heads.push_blank();
+        let slot = self.heads.at;
+        let block = self.heads.blocks.get_mut(slot / 256).unwrap();
+        machine.perform(action, &mut block[slot % 256], &mut self.tails);
     }
 
-    /// Undoes the newest action.
-    #[inline(always)]
-    pub(crate) fn take_back(&mut self, machine: &mut T)
-        requires some { 0 < length self.old.records }
-        requires fits { (newest : T.Action × T.Record) → slice_get self.old.records 0 ≡ Some newest → T.fits newest.1 machine.old }
-        ensures { IsUndone T.Reversible machine.old machine.new self.old self.new }
+    /// Undoes the newest actions, at most n, whose heads are in one block, and returns how many.
+    pub(crate) fn take_back(&mut self, machine: &mut T, n: usize) -> usize
+        requires some { (1 ≤ n) × (n ≤ length self.old.records) }
+        requires session { IsSession T.Reversible machine.old self.old }
+        ensures some { (1 ≤ result) × (result ≤ n) }
+        ensures moves { Moves T.Reversible (contents machine.old self.old) (contents machine.new self.new)
+            (λ v. after_back v result) }
     {
-        let head = self.heads.get(self.ahead).unwrap();
-        undo(machine, head, &mut self.tails, &mut self.undone);
-        self.ahead += 1;
+        let count = undo_span(
+            machine,
+            &self.heads,
+            self.ahead,
+            n,
+            &mut self.tails,
+            &mut self.undone,
+        );
+        self.ahead += count;
+        count
     }
 
-    /// Performs the first action ahead again.
-    #[inline(always)]
-    pub(crate) fn perform_again(&mut self, machine: &mut T)
-        requires some { 0 < length self.old.ahead }
-        requires admitted { (action : T.Action) → slice_get self.old.ahead 0 ≡ Some action → T.admitted machine.old action }
-        ensures { IsPerformed T.Reversible machine.old machine.new self.old self.new }
+    /// Performs the first actions ahead again, at most n, whose heads are in one block, and returns how many.
+    pub(crate) fn perform_again(&mut self, machine: &mut T, n: usize) -> usize
+        requires some { (1 ≤ n) × (n ≤ length self.old.ahead) }
+        requires session { IsSession T.Reversible machine.old self.old }
+        ensures some { (1 ≤ result) × (result ≤ n) }
+        ensures moves { Moves T.Reversible (contents machine.old self.old) (contents machine.new self.new)
+            (λ v. after_forward v result) }
     {
-        self.ahead -= 1;
-        let head = self.heads.get_mut(self.ahead).unwrap();
-        perform_next(machine, head, &mut self.tails, &mut self.undone);
+        let count = perform_span(
+            machine,
+            &mut self.heads,
+            self.ahead,
+            n,
+            &mut self.tails,
+            &mut self.undone,
+        );
+        self.ahead -= count;
+        count
     }
 
     /// Returns the newest undo record, or `None` if there is none.
@@ -126,7 +152,10 @@ impl<T: Reversible> Log<T> {
         ensures some { IfSome result (λ back. (newest : T.Action × T.Record) × (slice_get self.now.records 0 ≡ Some newest) × (newest.1 ≡ whole_record T.unpacked back)) }
         ensures none { IsNone result ↔ (length self.now.records ≡ 0) }
     {
-        undo_record(self.heads.get(self.ahead)?, &self.tails, 0)
+        if self.ahead == self.heads.len {
+            return None;
+        }
+        undo_record(self.heads.get(self.ahead), &self.tails, 0)
     }
 
     /// Returns the position, counted from 1, of the first undo record that has another number for one of the places
@@ -148,7 +177,7 @@ impl<T: Reversible> Log<T> {
         let marks = Marks::of::<T>(places);
         let mut tail = 0;
         for k in 0..self.kept() {
-            let head = self.heads.get(self.ahead + k as usize).unwrap();
+            let head = self.heads.get(self.ahead + k as usize);
             let back = undo_record(head, &self.tails, tail).unwrap();
             if is_changed(machine, &back, places, &marks, looks) {
                 return Some(k + 1);
@@ -159,6 +188,69 @@ impl<T: Reversible> Log<T> {
             }
         }
         None
+    }
+}
+
+impl<T: Repeatable> Log<T> {
+    /// Performs the repeatable action 1 to n times, in the free slots of one block, and returns how often. The last time
+    /// is at the latest the first whose undo record may have one of the places that the marks cover. As a function of its
+    /// own it has registers for what its loop needs.
+    #[inline(never)]
+    pub(crate) fn repeat(&mut self, machine: &mut T, n: usize, marks: &Marks) -> usize
+        requires some { 1 ≤ n }
+        requires session { IsSession T.Reversible machine.old self.old }
+        ensures some { (1 ≤ result) × (result ≤ n) }
+        ensures machine { machine.new ≡ machine_after T.Reversible result T.repeated machine.old }
+        ensures moves { Moves T.Reversible (contents machine.old self.old) (contents machine.new self.new)
+            (after_acts result T.repeated) }
+        ensures unmarked { AreUnmarked T.Reversible marks.now T.repeated (result - 1) machine.old }
+    {
+        self.heads.discard(&mut self.ahead);
+        self.heads.make_room();
+        let last = self.heads.at - 1;
+        let mut most = at_most(n, last % 256 + 1);
+        let block = self.heads.blocks.get_mut(last / 256).unwrap();
+        let tails = &mut self.tails;
+        let mut count = 0;
+        while count < most {
+            let head = &mut block[last % 256 - count];
+            machine.perform(T::repeated(), head, tails);
+            count += 1;
+            if may_be_marked::<T>(head, tails, marks) {
+                most = count;
+            }
+        }
+        self.heads.add(count);
+        count
+    }
+}
+
+/// Returns n, or the limit if that is less.
+#[inline(always)]
+fn at_most(n: usize, limit: usize) -> usize
+    ensures value { result ≡ min n limit }
+    ensures within { (result ≤ n) × (result ≤ limit) × (1 ≤ n → 1 ≤ limit → 1 ≤ result) }
+{
+    if n < limit { n } else { limit }
+}
+
+/// Returns `false` only if the undo record of a head, or else of the newest tail, has none of the places that the marks
+/// cover. The marks say so: this is no look at the record.
+#[inline(always)]
+fn may_be_marked<T: Reversible>(
+    head: &Option<T::Head>,
+    tails: &Tails<T::Action, T::Record>,
+    marks: &Marks,
+) -> bool
+    ensures { result ≡ false → IfSome (first_of T.unpacked in_tail head.now tails.now.ring.items) (λ newest.
+        IsUnmarked T.marks_of T.old_value marks.now newest.1) }
+{
+    if !marks.has_places {
+        return false;
+    }
+    match undo_record::<T>(head, tails, 0) {
+        Some(back) => T::may_be_marked(&back, marks),
+        None => true,
     }
 }
 
@@ -180,40 +272,35 @@ fn undo_record<'a, T: Reversible>(
     }
 }
 
-/// Discards the heads of the undone actions.
-#[inline(always)]
-fn discard_ahead<H: Drop>(heads: &mut HeapCircularBuffer<H>, ahead: &mut usize)
-    requires { ahead.old ≤ length heads.old.items }
-    ensures heads { heads.new ≡ buffer (drop ahead.old heads.old.items) heads.old.capacity }
-    ensures none { ahead.new ≡ 0 }
-{
-    if *ahead > 0 {
-        heads.truncate_front(heads.len() - *ahead);
-        *ahead = 0;
-    }
-}
-
-/// Puts a head in front, to be overwritten: the oldest one if the ring is full, and else an empty one. What it holds does
-/// not matter. The oldest head is in the slot that the ring writes next, so a compiled program does not copy it.
-#[inline(always)]
-fn turn_over<H: Drop>(heads: &mut HeapCircularBuffer<Option<H>>)
-    requires { 1 ≤ heads.old.capacity }
-    ensures { (head : Option H) × (heads.new ≡ pushed head heads.old) }
-{
-    if heads.is_full() {
-        let oldest = heads.pop_back().unwrap();
-        heads.push_front(oldest);
-    } else {
-        add_empty(heads);
-    }
-}
-
-/// Puts an empty head in front. This is a separate function, because it is called only until the ring is full.
+/// Performs the first actions ahead again, at most n, whose heads are in one block, and returns how many. As a function of
+/// its own it has registers for what its loop needs.
 #[inline(never)]
-fn add_empty<H: Drop>(heads: &mut HeapCircularBuffer<Option<H>>)
-    ensures { heads.new ≡ pushed None heads.old }
+fn perform_span<T: Reversible>(
+    machine: &mut T,
+    heads: &mut Heads<T::Head>,
+    ahead: usize,
+    n: usize,
+    tails: &mut Tails<T::Action, T::Record>,
+    undone: &mut HeapCircularBuffer<T::Action>,
+) -> usize
+    requires is { IsHeads heads.old }
+    requires some { (1 ≤ n) × (n ≤ ahead) × (ahead ≤ heads.old.len) }
+    requires log { IsLog T.unpacked (heads_in heads.old) tails.old.ring undone.old ahead }
+    requires session { IsSession T.Reversible machine.old
+        (log_value T.unpacked (heads_in heads.old) tails.old.ring undone.old ahead) }
+    ensures some { (1 ≤ result) × (result ≤ n) }
+    ensures is { IsHeads heads.new }
+    ensures forward { IsSpan T.Reversible machine.old
+        (log_value T.unpacked (heads_in heads.old) tails.old.ring undone.old ahead)
+        (λ v. after_forward v result) (heads_in heads.new) (ahead - result) machine.new tails.new undone.new }
 {
-    heads.push_front(None);
+    let last = heads.at + ahead - 1;
+    let count = at_most(n, last % 256 + 1);
+    let block = heads.blocks.get_mut(last / 256).unwrap();
+    for step in 0..count {
+        perform_next(machine, &mut block[last % 256 - step], tails, undone);
+    }
+    count
 }
 
 /// Performs the next action again: that of its head, or else the first of the undone ones, which is taken out.
@@ -255,6 +342,36 @@ fn perform_undone<T: Reversible>(
 {
     let action = undone.pop_front().unwrap();
     machine.perform(action, head, tails);
+}
+
+/// Undoes the newest actions, at most n, whose heads are in one block, and returns how many. As a function of its own it
+/// has registers for what its loop needs.
+#[inline(never)]
+fn undo_span<T: Reversible>(
+    machine: &mut T,
+    heads: &Heads<T::Head>,
+    ahead: usize,
+    n: usize,
+    tails: &mut Tails<T::Action, T::Record>,
+    undone: &mut HeapCircularBuffer<T::Action>,
+) -> usize
+    requires is { IsHeads heads.now }
+    requires some { (1 ≤ n) × (ahead + n ≤ heads.now.len) }
+    requires log { IsLog T.unpacked (heads_in heads.now) tails.old.ring undone.old ahead }
+    requires session { IsSession T.Reversible machine.old
+        (log_value T.unpacked (heads_in heads.now) tails.old.ring undone.old ahead) }
+    ensures some { (1 ≤ result) × (result ≤ n) }
+    ensures back { IsSpan T.Reversible machine.old
+        (log_value T.unpacked (heads_in heads.now) tails.old.ring undone.old ahead)
+        (λ v. after_back v result) (heads_in heads.now) (ahead + result) machine.new tails.new undone.new }
+{
+    let slot = heads.at + ahead;
+    let count = at_most(n, 256 - slot % 256);
+    let block = heads.blocks.get(slot / 256).unwrap().as_slice();
+    for step in 0..count {
+        undo(machine, &block[slot % 256 + step], tails, undone);
+    }
+    count
 }
 
 /// Undoes the newest action, by its head or else by the newest tail, which is discarded. The action is then the next to

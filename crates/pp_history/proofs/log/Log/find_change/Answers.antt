@@ -1,5 +1,5 @@
 use Rattle.std.proofs.Common.{◌≡◌, ◌+◌, ◌≤◌, ◌∙◌, Some, None, Option, ap, arith, drop, refl, rules, sym}
-use Rattle.std.specs.Option.{IsSome, option_copied, option_map}
+use Rattle.std.specs.Option.{IsSome, option_map}
 use Rattle.std.proofs.lemmas.List.{drop-drop}
 use Rattle.pp_history.specs.Joining.{left_by}
 use Rattle.pp_history.specs.UndoRecord.{whole_record}
@@ -14,24 +14,24 @@ some-mapped f (Some x) y e = refl
 
 pub unwrap-back-requires : goal.unwrap-back-requires
 unwrap-back-requires g c =
-    let found = sym c.get.ensures ∙ ap option_copied c.unwrap-head.ensures in
+    let found = c.get-head.ensures in
     let newest = here g.T.Reversible c.loop-k.invariant.passed found in
     some-mapped (whole_record g.T.Reversible.unpacked) c.undo_record.result newest.item.1 (rw newest.is at c.undo_record.ensures)
 
 pub returns-then-is_changed-clause-value : goal.returns-then-is_changed-clause-value
 returns-then-is_changed-clause-value g c =
-    let found = sym c.get.ensures ∙ ap option_copied c.unwrap-head.ensures in
+    let found = c.get-head.ensures in
     let newest = here g.T.Reversible c.loop-k.invariant.passed found in
     let is = sym (ap (option_map (whole_record g.T.Reversible.unpacked)) c.unwrap-back.ensures) ∙ (rw newest.is at c.undo_record.ensures) in
     sym (found-here g.T.Reversible c.loop-k.invariant.passed found _ is (sym c.is_changed.ensures.value ∙ c.if-is_changed.true))
 
 pub loop-k-preserved : goal.loop-k-preserved
 loop-k-preserved g c =
-    let found = sym c.get.ensures ∙ ap option_copied c.unwrap-head.ensures in
+    let found = c.get-head.ensures in
     let newest = here g.T.Reversible c.loop-k.invariant.passed found in
     let is = sym (ap (option_map (whole_record g.T.Reversible.unpacked)) c.unwrap-back.ensures) ∙ (rw newest.is at c.undo_record.ensures) in
     let tails = c.self.inside.tails.ring.items in
-    let tail : (drop c.match-head.tail tails ≡ left_by c.unwrap-head.result.now (drop c.loop-k.tail tails)) × (c.match-head.tail ≤ c.loop-k.tail + 1) =
+    let tail : (drop c.match-head.tail tails ≡ left_by c.get-head.result.now (drop c.loop-k.tail tails)) × (c.match-head.tail ≤ c.loop-k.tail + 1) =
     elim c.match-head.branch [
       | in-Some w ↦ (ap (λ n. drop n tails) w.tail-is ∙ sym (ap (λ head. left_by head (drop c.loop-k.tail tails)) w.in-Some.is), omega (arith, w.tail-is))
       | in-None w ↦ (

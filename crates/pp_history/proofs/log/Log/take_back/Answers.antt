@@ -1,26 +1,17 @@
-use Rattle.std.proofs.Common.{◌∙◌, ap, sym}
-use Rattle.std.specs.Option.{option_copied}
-use Rattle.pp_history.specs.Tails.{in_tail}
-use Rattle.pp_history.proofs.Joins.{item-at, back_value, back_log}
+use Rattle.std.proofs.Common.{arith}
+use Rattle.pp_history.proofs.Blocks.{length_heads}
 use Rattle.pp_history.proofs.log.Log.take_back.Goals as goal
 
-pub undo-requires-clause-fits : goal.undo-requires-clause-fits
-undo-requires-clause-fits g c =
-    let found = sym c.get.ensures ∙ ap option_copied c.unwrap-head.ensures in
-    let at = item-at g.T.Reversible.unpacked in_tail c.self.inside.ahead c.self.inside.heads.items c.self.inside.tails.ring.items c.unwrap-head.result.now c.self.invariant.kept found in
-    let fits = rw (← c.self.view_is) at c.requires.fits in
-    rw at.is (fits at.item at.first)
+pub undo_span-count-requires-clause-some : goal.undo_span-count-requires-clause-some
+undo_span-count-requires-clause-some g c =
+    let some = rw (← c.self.view_is) at c.requires.some in
+    (some.0, omega (arith, some.1, c.self.invariant.1.kept, length_heads c.self.inside.heads c.self.invariant.0))
+
+pub undo_span-count-requires-clause-session : goal.undo_span-count-requires-clause-session
+undo_span-count-requires-clause-session g c = rw (← c.self.view_is) at c.requires.session
 
 pub invariant_of-self : goal.invariant_of-self
-invariant_of-self g c =
-    let found = sym c.get.ensures ∙ ap option_copied c.unwrap-head.ensures in
-    let at = item-at g.T.Reversible.unpacked in_tail c.self.inside.ahead c.self.inside.heads.items c.self.inside.tails.ring.items c.unwrap-head.result.now c.self.invariant.kept found in
-    let undone = rw at.is at c.undo.ensures.undone in
-    back_log g.T.Reversible.unpacked c.self.inside.heads c.self.inside.tails c.undo.new.tails c.self.inside.undone c.undo.new.undone c.self.inside.ahead c.unwrap-head.result.now c.self.invariant found at c.undo.ensures.tails undone.1
+invariant_of-self g c = (c.self.invariant.0, c.undo_span-count.ensures.back.log)
 
-pub returns : goal.returns
-returns g c =
-    let found = sym c.get.ensures ∙ ap option_copied c.unwrap-head.ensures in
-    let at = item-at g.T.Reversible.unpacked in_tail c.self.inside.ahead c.self.inside.heads.items c.self.inside.tails.ring.items c.unwrap-head.result.now c.self.invariant.kept found in
-    let undone = rw at.is at c.undo.ensures.undone in
-    rw (← c.self.view_is) (at.item, at.first, undone.0, back_value g.T.Reversible.unpacked c.self.inside.heads c.self.inside.tails c.undo.new.tails c.self.inside.undone c.undo.new.undone c.self.inside.ahead c.unwrap-head.result.now c.self.invariant found at c.undo.ensures.tails undone.1)
+pub returns-clause-moves : goal.returns-clause-moves
+returns-clause-moves g c = rw (← c.self.view_is) c.undo_span-count.ensures.back.moves

@@ -1,0 +1,15 @@
+use Rattle.std.proofs.Common.{◌+◌, ◌∙◌, ap, arith, sym}
+use Rattle.std.proofs.Math.Nat.{div-add-mod}
+use Rattle.std.specs.Option.{option_copied}
+use Rattle.pp_history.proofs.Blocks.{block_whole, head-at}
+use Rattle.pp_history.proofs.heads.Heads.get.Goals as goal
+
+pub index-requires : goal.index-requires
+index-requires g c =
+    let found = sym c.get.ensures ∙ ap option_copied c.unwrap.ensures in
+    omega (arith, block_whole (λ block. block.items) _ _ _ c.requires.is.whole found, c.unwrap.result.now.ok.0)
+
+pub returns : goal.returns
+returns g c =
+    let found = sym c.get.ensures ∙ ap option_copied c.unwrap.ensures in
+    head-at c.args.self.now c.requires.is c.args.k _ _ c.requires.within (omega arith) (div-add-mod (c.args.self.now.at + c.args.k) 256) c.unwrap.result.now c.index.result.now found c.index.ensures

@@ -1,0 +1,10 @@
+use Rattle.std.proofs.Common.{◌≡◌, length}
+use Rattle.std.specs.List.{AllByRecursion}
+use Rattle.pp_history.proofs.heads.Heads.new.Given as goal
+
+abbrev pub invariant-loop-block : goal.invariant-loop-block
+invariant-loop-block g l = record {
+  whole : AllByRecursion (λ block. length block.items ≡ 256) l.blocks.items;
+  many : length l.blocks.items ≡ l._block;
+  capacity : l.blocks.capacity ≡ l.count;
+}

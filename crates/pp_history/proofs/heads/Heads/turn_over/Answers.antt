@@ -1,0 +1,13 @@
+use Rattle.std.proofs.Common.{◌∙◌, sym}
+use Rattle.pp_history.proofs.Blocks.{turned}
+use Rattle.pp_history.proofs.heads.Heads.turn_over.Goals as goal
+
+pub returns-clause-is : goal.returns-clause-is
+returns-clause-is g c =
+    (turned c.args.self.now c.requires.is c.requires.none c.unwrap-last.result (sym c.pop_back.ensures.value ∙ c.unwrap-last.ensures) c.push_front.new.self
+    (rw c.pop_back.ensures.items at c.push_front.ensures.items)).0
+
+pub returns-clause-heads : goal.returns-clause-heads
+returns-clause-heads g c =
+    (turned c.args.self.now c.requires.is c.requires.none c.unwrap-last.result (sym c.pop_back.ensures.value ∙ c.unwrap-last.ensures) c.push_front.new.self
+    (rw c.pop_back.ensures.items at c.push_front.ensures.items)).1
