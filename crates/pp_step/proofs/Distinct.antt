@@ -56,37 +56,40 @@ exchange-once next a words frame size =
     (λ k. none (λ i. Central (central_after a i)) (λ i. nat_lt (central_after a i) (length words)) 0 frame (FrameWord k) (λ j low high. refl))
     (words-once (length words) a frame (omega (arith, size))))
 
+abbrev one : {ws : Writes PpPlace} → once same_place ws ≡ true → IsOnce same_place ws
+one h = record { holds = h }
+
 effect-once : (c : Code) (i : InstructionNumbers) (s : PpView) → length s.frame ≡ 16 → IsOnce same_place ((row_of (number_of c)).effect i s)
-effect-once code.Exn i s size = record { holds = exchange-once i.next s.a s.central s.frame size }
-effect-once code.Crd i s size = record { holds = five-once i.d (split60 (slice_index s.central s.a)) }
-effect-once code.Cwd i s size = either same_place (nat_lt s.a (length s.central)) _ _ (record { holds = refl }) (record { holds = refl })
-effect-once code.Ian i s size = either same_place (is_clock i.d) _ _ (record { holds = refl }) (either same_place (is_in Full i.d s.states) _ _ (record { holds = refl }) (record { holds = refl }))
-effect-once code.Oan i s size = either same_place (is_in Empty i.d s.states) _ _ (record { holds = refl }) (record { holds = refl })
-effect-once code.Acn i s size = either same_place (is_in Inactive i.d s.states) _ _ (record { holds = refl }) (record { holds = refl })
-effect-once code.Dcn i s size = either same_place (is_clock i.d) _ _ (record { holds = refl }) (either same_place (is_active i.d s.states) _ _ (record { holds = refl }) (record { holds = refl }))
-effect-once code.Fan i s size = either same_place (is_in Inactive i.d s.states) _ _ (record { holds = refl }) (record { holds = refl })
-effect-once code.Fnc i s size = either same_place (is_in Inactive i.d s.states) _ _ (record { holds = refl }) (record { holds = refl })
-effect-once _ i s size = record { holds = refl }
+effect-once code.Exn i s size = one (exchange-once i.next s.a s.central s.frame size)
+effect-once code.Crd i s size = one (five-once i.d (split60 (slice_index s.central s.a)))
+effect-once code.Cwd i s size = either same_place (nat_lt s.a (length s.central)) _ _ (one refl) (one refl)
+effect-once code.Ian i s size = either same_place (is_clock i.d) _ _ (one refl) (either same_place (is_in Full i.d s.states) _ _ (one refl) (one refl))
+effect-once code.Oan i s size = either same_place (is_in Empty i.d s.states) _ _ (one refl) (one refl)
+effect-once code.Acn i s size = either same_place (is_in Inactive i.d s.states) _ _ (one refl) (one refl)
+effect-once code.Dcn i s size = either same_place (is_clock i.d) _ _ (one refl) (either same_place (is_active i.d s.states) _ _ (one refl) (one refl))
+effect-once code.Fan i s size = either same_place (is_in Inactive i.d s.states) _ _ (one refl) (one refl)
+effect-once code.Fnc i s size = either same_place (is_in Inactive i.d s.states) _ _ (one refl) (one refl)
+effect-once _ i s size = one refl
 
 block-once : (s : PpView) → IsOnce same_place (block_writes s)
 block-once s =
     let code = s.phase / 0o100 in
     let d = s.phase % 0o100 in
     either same_place (code == 0o61) _ _
-    (either same_place (s.q == 0) _ _ (record { holds = refl }) (record { holds = five-once s.p (split60 (slice_index s.central s.a)) }))
+    (either same_place (s.q == 0) _ _ (one refl) (one (five-once s.p (split60 (slice_index s.central s.a)))))
     (either same_place (code == 0o63) _ _
-    (either same_place (s.q == 0) _ _ (record { holds = refl }) (either same_place (nat_lt s.a (length s.central)) _ _ (record { holds = refl }) (record { holds = refl })))
+    (either same_place (s.q == 0) _ _ (one refl) (either same_place (nat_lt s.a (length s.central)) _ _ (one refl) (one refl)))
     (either same_place (code == 0o71) _ _
-    (either same_place (s.a == 0) _ _ (record { holds = refl }) (either same_place (is_clock d) _ _ (record { holds = refl }) (either same_place (not (is_active d s.states)) _ _ (record { holds = refl }) (either same_place (is_in Full d s.states) _ _ (record { holds = refl }) (record { holds = refl })))))
+    (either same_place (s.a == 0) _ _ (one refl) (either same_place (is_clock d) _ _ (one refl) (either same_place (not (is_active d s.states)) _ _ (one refl) (either same_place (is_in Full d s.states) _ _ (one refl) (one refl)))))
     (either same_place (code == 0o73) _ _
-    (either same_place (s.a == 0 || not (is_active d s.states)) _ _ (record { holds = refl }) (either same_place (is_in Empty d s.states) _ _ (record { holds = refl }) (record { holds = refl })))
-    (record { holds = refl }))))
+    (either same_place (s.a == 0 || not (is_active d s.states)) _ _ (one refl) (either same_place (is_in Empty d s.states) _ _ (one refl) (one refl)))
+    (one refl))))
 
 step-once : (s : PpView) → length s.frame ≡ 16 → IsOnce same_place (pp_writes s)
 unfolding pp_writes
 step-once s size =
     either same_place (s.phase == 0) _ _
-    (let i = instruction_at s.p s.cells in each_row (λ (r : Row). IsOnce same_place (r.effect i s)) (λ c. effect-once c i s size) (record { holds = refl }) i.code)
+    (let i = instruction_at s.p s.cells in each_row (λ (r : Row). IsOnce same_place (r.effect i s)) (λ c. effect-once c i s size) (one refl) i.code)
     (block-once s)
 
 pub step_each_once : (s : PpView) → length s.frame ≡ 16 → AllPairs (λ one other. one ≢ other) (places (pp_writes s))

@@ -1,9 +1,10 @@
 -- For the contracts of inner functions only: no definition of a step, and no contract of a public call, needs these.
-use Rattle.std.specs.Prelude.{ℕ, ◌/◌, ◌%◌, ◌≤◌, List, [], ◌∷◌, ◌+◌, ◌≡◌, length, slice_index, slice_set}
+use Rattle.std.specs.Prelude.{ℕ, ◌/◌, ◌%◌, ◌≤◌, List, [], ◌∷◌, ◌+◌, ◌≡◌, length, map, slice_index, slice_set}
+use Rattle.std.specs.List.{range_with_len}
 use Rattle.pp_machine.specs.Frame.{frame_word}
 use Rattle.pp_machine.specs.Writes.{Writes}
 use Rattle.pp_machine.specs.declared.pp.Pp.{Pp}
-use Rattle.pp_step.specs.Codes.{code_of, number_of}
+use Rattle.pp_step.specs.Codes.{number_of}
 use Rattle.pp_step.specs.Pairs.{pairs, Fits}
 use Rattle.pp_step.specs.View.{PpView, PpPlace, over, old_values}
 use Rattle.pp_step.specs.Words.{cell_after, central_after}
@@ -26,17 +27,11 @@ pub record Performs (old new : PpView) (back : StepRecord) (writes : Writes PpPl
 
 -- these are the fields of an instruction word
 abbrev pub AreFields : Op → ℕ → Type 0
-AreFields op word = (op.code ≡ code_of (word / 0o100)) × (number_of op.code ≡ word / 0o100) × (op.d ≡ word % 0o100) × (op.d ≤ 0o77)
+AreFields op word = (number_of op.code ≡ word / 0o100) × (op.d ≡ word % 0o100) × (op.d ≤ 0o77)
 
 -- the numbers of the five cells from an address on
 abbrev pub five_from : ℕ → List ℕ → List ℕ
-five_from address cells =
-    slice_index cells (cell_after address 0)
-    ∷ slice_index cells (cell_after address 1)
-    ∷ slice_index cells (cell_after address 2)
-    ∷ slice_index cells (cell_after address 3)
-    ∷ slice_index cells (cell_after address 4)
-    ∷ []
+five_from address cells = map (λ i. slice_index cells (cell_after address i)) (range_with_len 0 5)
 
 -- the cells with five numbers written from an address on
 abbrev pub five_over : ℕ → List ℕ → List ℕ → List ℕ

@@ -1,5 +1,6 @@
 -- The pairs of a processor's step, at places of the machine.
-use Rattle.std.proofs.Common.{ℕ, ◌≡◌, [], ◌∷◌, Bool, true, false, ◌==◌, ◌&&◌, Option, Some, None, if◌then◌else◌, cond, refl, ap, sym, ◌∙◌}
+use Rattle.std.proofs.Common.{ℕ, ◌≡◌, [], ◌∷◌, Bool, true, false, ◌==◌, ◌&&◌}
+use Rattle.std.proofs.Common.{Option, Some, None, if◌then◌else◌, cond, refl, ap, sym, ◌∙◌}
 use Rattle.pp_machine.specs.Machine.{lookup as machine_lookup, same_place as same_machine_place}
 use Rattle.pp_machine.specs.Writes.{Writes, renamed}
 use Rattle.pp_machine.specs.declared.place.Place.{Place}
@@ -41,12 +42,14 @@ seen-none : (o : Option PpPlace) → None ≡ lookup_seen [] o
 seen-none None = refl
 seen-none (Some x) = refl
 
-seen-more : (o : Option PpPlace) (x : PpPlace) (v : ℕ) (ws : Writes PpPlace) → cond (same_seen x o) (Some v) (lookup_seen ws o) ≡ lookup_seen ((x, v) ∷ ws) o
+seen-more : (o : Option PpPlace) (x : PpPlace) (v : ℕ) (ws : Writes PpPlace)
+    → cond (same_seen x o) (Some v) (lookup_seen ws o) ≡ lookup_seen ((x, v) ∷ ws) o
 seen-more None x v ws = refl
 seen-more (Some y) x v ws = refl
 
 -- the number in a processor's list for a place of the machine
-pub lookup-seen : (n : ℕ) (ws : Writes PpPlace) (p : Place) → machine_lookup (renamed (pp_place n) ws) p ≡ lookup_seen ws (seen_by n p)
+pub lookup-seen : (n : ℕ) (ws : Writes PpPlace) (p : Place)
+    → machine_lookup (renamed (pp_place n) ws) p ≡ lookup_seen ws (seen_by n p)
 lookup-seen n [] p = seen-none (seen_by n p)
 lookup-seen n (w ∷ ws) p =
     ap (λ b. cond b (Some w.1) (machine_lookup (renamed (pp_place n) ws) p)) (same-seen n w.0 p)

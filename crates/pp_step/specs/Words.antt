@@ -1,5 +1,6 @@
 -- Addresses and parts of words.
-use Rattle.std.specs.Prelude.{ℕ, List, [], ◌∷◌, ◌+◌, ◌%◌, slice_index}
+use Rattle.std.specs.Prelude.{ℕ, List, ◌+◌, ◌%◌, map, slice_index}
+use Rattle.std.specs.List.{range_with_len}
 use Rattle.pp_arith.specs.Words60.{join60}
 
 -- The cell i cells after a cell. Cell 7777 is followed by cell 0000 (this project's choice).
@@ -17,10 +18,4 @@ lower12 a = a % 0o10000
 -- The central word that the five cells from an address on hold, the leftmost twelve bits in the first cell (this
 -- project's choice).
 abbrev pub joined_cells : ℕ → List ℕ → ℕ
-joined_cells address cells =
-    join60 (slice_index cells (cell_after address 0)
-    ∷ slice_index cells (cell_after address 1)
-    ∷ slice_index cells (cell_after address 2)
-    ∷ slice_index cells (cell_after address 3)
-    ∷ slice_index cells (cell_after address 4)
-    ∷ [])
+joined_cells address cells = join60 (map (λ i. slice_index cells (cell_after address i)) (range_with_len 0 5))

@@ -72,7 +72,8 @@ pub fn set_word(at: u32, word: u64, central: &mut Central, back: &mut StepRecord
 pub fn set_channel(c: u8, channel: Channel, channels: &mut Channels, back: &mut StepRecord)
     requires { c < 12 }
     ensures channels { channels.new ≡ with_channel channels.old c (state_number channel.state) channel.word }
-    ensures record { back.new ≡ record back.old { channel = c; state = back.new.state; value = slice_index channels.old.registers c } }
+    ensures record { back.new
+        ≡ record back.old { channel = c; state = back.new.state; value = slice_index channels.old.registers c } }
     ensures state { state_number back.new.state ≡ slice_index channels.old.states c }
     ensures value_in { back.new.value ≤ 0o7777 }
 {
