@@ -23,18 +23,18 @@ pub record Asked : Type 0 where
   pub panel : Option Text
   pub script : Option Text
 
--- the path of the file of this kind, if it is named
+-- The path of the file of this kind, if it is named.
 abbrev pub path_of : Asked → FileKind → Option Text
 path_of asked Deck = asked.deck
 path_of asked Panel = asked.panel
 path_of asked Script = asked.script
 
--- what follows from a value, or this trouble if there is none
+-- What follows from a value, or this trouble if there is none.
 abbrev pub needs : {A B : Type 0} → Option A → Trouble → (A → Result B Trouble) → Result B Trouble
 needs None trouble next = Err trouble
 needs (Some value) trouble next = next value
 
--- what words that the command line admits ask for, or the first number that is out of range
+-- What words that the command line admits ask for, or the trouble of a number that is out of range.
 unfoldable pub asked_by : List Text → Result Asked Trouble
 asked_by words =
     needs (history_of words) BadArguments (λ history.
