@@ -16,7 +16,7 @@ abbrev pub file_event : Bool → FileKind → Text → Event
 file_event true kind path = Opened kind path
 file_event false kind path = Event.Missing kind path
 
--- a file that an option names: its kind and path
+-- A file that an option names: its kind and path.
 pub record NamedFile : Type 0 where
   pub kind : FileKind
   pub path : Text
@@ -26,7 +26,7 @@ abbrev pub events_of : NamedFile → Found → List Event
 events_of file Found.Missing = Event.Missing file.kind file.path ∷ []
 events_of file (Content bytes) = Opened file.kind file.path ∷ Closed bytes ∷ []
 
--- what the log has of these files, given what was read of each kind
+-- What the log has of these files, one after the other, given what was read of each kind.
 abbrev pub events : (FileKind → Found) → List NamedFile → List Event
 events readings [] = []
 events readings (file ∷ later) = events_of file (readings file.kind) ++ events readings later

@@ -2,21 +2,21 @@
 use Rattle.std.specs.Prelude.{◌≡◌, ℕ, List, ◌++◌, Option, Some, None, IfSome}
 use Rattle.pp_arguments.specs.CommandLine.{Text}
 
--- a value that may be known beforehand: `Some` of the value, or `None`
+-- A value that may be known beforehand: `Some` of the value, or `None`.
 abbrev pub Known : Type 0 → Type 0
 Known A = Option A
 
--- what a path names: no file that can be opened, or a file with these bytes
+-- What a path names: no file that can be opened, or a file with these bytes.
 pub data Found : Type 0 where
   Missing : Found
   Content : List ℕ → Found
 
--- the words of a command line: one of them is not text, or all are
+-- The words of a command line: one of them is not text, or all are.
 pub data Words : Type 0 where
   NotText : Words
   Texts : List Text → Words
 
--- a value agrees with a known one, if one is known
+-- A value agrees with the known one, if one is known.
 abbrev pub Agrees : {A : Type 0} → Known A → A → Type 0
 Agrees known value = IfSome known (λ same. same ≡ value)
 

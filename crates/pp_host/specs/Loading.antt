@@ -11,13 +11,13 @@ use Rattle.pp_trouble.specs.declared.trouble.Trouble.{Trouble}
 use Rattle.pp_trouble.specs.declared.trouble.Trouble.TheVariants.{CannotOpen, NoMemory, ReadFailed}
 use Rattle.pp_host.specs.Known.{Content, Found, Missing}
 
--- the cards of the named deck, or its first fault; without a name there are none
+-- The cards of the named deck, or its first fault. Without a name there are none.
 abbrev pub deck_at : Option Text → Found → Result (List Row) Trouble
 deck_at None content = Ok []
 deck_at (Some path) Missing = Err (CannotOpen Deck)
 deck_at (Some path) (Content bytes) = result_map_both (λ cards. cards) (of_load Deck) (deck_of_file bytes)
 
--- the words of the named panel, or its first fault
+-- The words of the named panel, or its first fault.
 abbrev pub panel_at : Option Text → Found → Result (Option Row) Trouble
 panel_at None content = Ok None
 panel_at (Some path) Missing = Err (CannotOpen Panel)

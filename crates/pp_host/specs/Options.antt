@@ -12,7 +12,7 @@ use Rattle.pp_trouble.specs.declared.trouble.FileKind.TheVariants.{Deck, Panel, 
 use Rattle.pp_trouble.specs.declared.trouble.Trouble.{Trouble}
 use Rattle.pp_trouble.specs.declared.trouble.Trouble.TheVariants.{BadArguments}
 
--- the path of the file of this kind, if it is named
+-- The path of the file of this kind, if it is named.
 abbrev pub path_of : Asked → FileKind → Option Text
 path_of asked Deck = asked.deck
 path_of asked Panel = asked.panel

@@ -16,11 +16,11 @@ use Rattle.pp_host.specs.Options.{Asked}
 use Rattle.pp_program.specs.Course.{Course, ends, opening, performing}
 use Rattle.pp_program.specs.Program.{Given, script_at, served, session_with}
 
--- the deck, then the panel, then what follows
+-- A course that opens the deck, then the panel, and then goes on so.
 abbrev pub loading : Asked → Course → Course
 loading asked course = opening Deck asked.deck (opening Panel asked.panel course)
 
--- the deck and the panel were loaded, and this is a new session of the machine
+-- The deck and the panel were loaded, and this is a new session of the machine.
 pub record IsStart (asked : Asked) (given : Given) (start : Value) : Type 0 where
   pub cards : List Row
   pub panel : Option Row

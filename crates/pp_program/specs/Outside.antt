@@ -8,7 +8,7 @@ use Rattle.pp_lines.specs.Output.{Written}
 use Rattle.pp_lines.specs.declared.device.Sink.{Ghosts as SinkGhosts}
 use Rattle.pp_lines.specs.declared.device.Source.{Ghosts as SourceGhosts}
 
--- the files of a host
+-- The files of a host.
 pub record Files : Type 0 where
   -- what each path names, if that is known
   pub known : Text → Known Found
@@ -17,7 +17,7 @@ pub record Files : Type 0 where
   -- the number of files with a failed read
   pub failures : ℕ
 
--- a source of bytes
+-- A source of bytes.
 pub record Input : Type 0 where
   -- the bytes that are left, if they are known
   pub left : Known (List ℕ)
@@ -26,7 +26,7 @@ pub record Input : Type 0 where
   -- the number of failed reads
   pub failures : ℕ
 
--- a sink of bytes
+-- A sink of bytes.
 pub record Output : Type 0 where
   -- what was written so far
   pub text : Written
@@ -45,19 +45,19 @@ pub record Outside : Type 0 where
 
 -- ---- how the devices of a call show it
 
--- the files, as the host shows them
+-- The files, as the host shows them.
 abbrev pub files_of : {H F : Type 0} → HostGhosts H F → H → Files
 files_of H host = record { known = H.known_files host; log = H.log host; failures = H.failure_count host }
 
--- standard input, as its source shows it
+-- Standard input, as its source shows it.
 abbrev pub input_of : {R : Type 0} → SourceGhosts R → R → Input
 input_of R source = record { left = R.rest source; read = R.given source; failures = R.failure_count source }
 
--- an output, as its sink shows it
+-- An output, as its sink shows it.
 abbrev pub output_of : {W : Type 0} → SinkGhosts W → W → Output
 output_of W sink = record { text = W.text sink; failures = W.failure_count sink }
 
--- all that is outside of the program, as the host and the streams show it
+-- All that is outside of the program, as the host and the streams show it.
 abbrev pub outside_of : {H F R W E : Type 0} → HostGhosts H F → SourceGhosts R → SinkGhosts W → SinkGhosts E →
     H → R → W → E → Outside
 outside_of H R W E host input output errors = record {

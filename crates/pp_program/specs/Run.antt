@@ -14,19 +14,19 @@ use Rattle.pp_trouble.specs.declared.trouble.Trouble.TheVariants.{NoMemory}
 
 -- ---- the course
 
--- each file that the options name is the known one, if one is known, also if it was not asked for
+-- Each file that the options name is the known one, if one is known. This holds also of a file that was not asked for.
 abbrev pub AreKnown : (Text → Known Found) → Given → Result Asked Trouble → Type 0
 AreKnown files given meaning =
     IfOk meaning (λ asked. (kind : FileKind) → IfSome (path_of asked kind) (λ path. Agrees (files path) (given.files kind)))
 
--- the course is the whole one that the program has for what the words mean
+-- The course is the whole one that the program has for what the words mean.
 pub record IsWhole (files : Text → Known Found) (given : Given) (course : Course) : Type 0 where
   pub meaning : Result Asked Trouble
   pub means : Means given.words meaning
   pub named : AreKnown files given meaning
   pub whole : course ≡ program given meaning
 
--- The run was cut short.
+-- The run was cut short, while its words were read or after that.
 pub data IsCutShort (files : Text → Known Found) (given : Given) (readings : FileKind → Found) (typed : List ℕ)
     (course : Course) : Type 0 where
   -- Memory ran out while the words were read, before anything was opened.
@@ -35,7 +35,7 @@ pub data IsCutShort (files : Text → Known Found) (given : Given) (readings : F
   AfterWords : (asked : Asked) → Means given.words (Ok asked) → AreKnown files given (Ok asked) →
       IsCut asked given readings typed course → IsCutShort files given readings typed course
 
--- the course is whole, or the run was cut short
+-- The course is whole, or the run was cut short.
 pub data Follows (files : Text → Known Found) (given : Given) (readings : FileKind → Found) (typed : List ℕ)
     (course : Course) : Type 0 where
   Whole : IsWhole files given course → Follows files given readings typed course
@@ -48,8 +48,9 @@ pub data Follows (files : Text → Known Found) (given : Given) (readings : File
 pub record IsGiven (before : Outside) (given : Given) (readings : FileKind → Found) (typed : List ℕ)
     (course : Course) : Type 0 where
   pub words : Agrees before.words given.words
-  -- each file that the course opens
+  -- It was given the content of each file that the course opens,
   pub files : All (λ file. IsContent (before.files.known file.path) (readings file.kind) (given.files file.kind)) course.opened
+  -- and all bytes of standard input.
   pub input : IsInput before.input.left typed given.input
 
 -- A run leads from what is outside before it to what is outside after it, and ends with an exit status.
@@ -74,4 +75,5 @@ pub record IsRun (before after : Outside) (status : ℕ) : Type 0 where
   pub output : IsOutput course.ended course.answers before.output after.output
   -- and standard error the line of what ended it early.
   pub errors : IsReported course.ended before.errors after.errors
+  -- The exit status is that of the course.
   pub exit : status ≡ exit_of course.ended

@@ -34,12 +34,12 @@ pub record IsTyped (before after : Input) (course : Course) (typed : List ℕ) :
 
 -- ---- what is written
 
--- this text was written, and so many writes have failed by now
+-- This text was written, and so many writes have failed by now.
 pub record Writes (before after : Output) (bytes : List ℕ) (failures : ℕ) : Type 0 where
   pub text : Appends before.text after.text bytes
   pub count : after.failures ≡ failures
 
--- the text was written and no write failed, or a proper prefix of it was written up to a failed write
+-- The text was written and no write failed, or a proper prefix of it was written, up to one failed write.
 abbrev pub Prints : Output → Output → List ℕ → Type 0
 Prints before after bytes =
     Writes before after bytes before.failures
@@ -51,7 +51,7 @@ abbrev pub IsOutput : Result ℕ Trouble → List ℕ → Output → Output → 
 IsOutput (Err Help) answers before after = Prints before after (answers ++ line_of Help)
 IsOutput ended answers before after = Writes before after answers (writes_by ended before.failures)
 
--- standard error has the line of what ended the run early, other than the usage, and nothing else
+-- Standard error has the line of what ended the run early, other than the usage, and nothing else.
 abbrev pub IsReported : Result ℕ Trouble → Output → Output → Type 0
 IsReported (Ok status) before after = Writes before after [] before.failures
 IsReported (Err Help) before after = Writes before after [] before.failures

@@ -15,6 +15,6 @@ returns-clause-meaning g c =
 
 pub returns-in_err-read_arguments-clause-meaning : goal.returns-in_err-read_arguments-clause-meaning
 returns-in_err-read_arguments-clause-meaning g c =
-    let p = err_from_is_err_and c.from_residual.result c.from_residual.ensures.1 in
+    let (fault, is_err, is) = err_from_is_err_and c.from_residual.result c.from_residual.ensures.1 in
     let words = map string_bytes c.in-Ok.words.items in
-    rw (p.1, p.2) (record { words = Texts words; known = c.in-Ok.ensures.words; follows = Means-rejected words _ c.in_err-read_arguments.ensures.cause })
+    rw (is_err, is) (record { words = Texts words; known = c.in-Ok.ensures.words; follows = Means-rejected words _ c.in_err-read_arguments.ensures.cause })
