@@ -21,8 +21,8 @@ BLOCKS_GO_ON = {0o71: ("IF", "full"), 0o73: ("IE", "empty")}
 
 
 def console_at(page, first, last):
-    """Returns a console of the model that has performed a session of a page, with those that continue it, up to its line `last`. The
-    line `first` is in the first one."""
+    """Returns a console of the model that has performed a session of a page, with those that continue it, up to its line `last`.
+    The line `first` is in the first one."""
     sessions = blocks(page, "session")
     at = next(number for number, block in enumerate(sessions) if first in block.text)
     words = [os.path.join(EXAMPLES, word) if "/" in word else word for word in sessions[at].words[1:]]

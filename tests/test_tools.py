@@ -502,17 +502,6 @@ class Answers(Case):
         self.assertEqual((3, 3, 0), (history.older.count, history.kept.count, history.ahead.count))
 
 
-class Refusals(Case):
-    def test_each_tool(self):
-        """No tool is silent about a refused line of its script."""
-        for name, *words in (("changes", "P", "0"), ("changes", "--turns", "1"), ("save", "0", "0", "1"), ("show",), ("state",), ("trace",),
-                             ("until", "P", "0", "=", "1"), ("waits",), ("state", "--turn", "1"), ("show", "--turn", "1")):
-            got = tool(name, *words, script="STEP 2\nDEADSTART\nGO\n")
-            with self.subTest(name, words=words):
-                self.assertEqual(f"{name}: 2 lines (decimal) were refused, the first is line 2 (decimal), ERR 14 NO PANEL: DEADSTART\n", got.err)
-                self.assertEqual(1, got.status)
-
-
 class Messages(Case):
     CASES = (
         (("changes", "M", "0", "9"), "", "9 is not octal"), (("changes", "Z", "1"), "", "a place is"),
@@ -555,15 +544,17 @@ class Messages(Case):
                 self.assertTrue(got.err.startswith(f"{name}: ") and text in got.err, got.err)
 
     def test_lines_that_are_refused(self):
-        """One line on standard error has the first of them, and the status is 1; the others are performed."""
-        wanted = "line 2 (decimal), ERR 14 NO PANEL: DEADSTART\n"
-        for name, *words in (("changes", "--turns", "1"), ("changes", "M", "0", "0"), ("state",), ("trace",), ("waits",)):
-            with self.subTest(name, words=words):
-                plain = tool(name, *words, script="STEP 5\nSTEP 2\n")
-                got = tool(name, *words, script="STEP 5\nDEADSTART\nSTEP 2\n")
-                self.assertEqual((plain.out, f"{name}: one line was refused: {wanted}", 1), got)
-                got = tool(name, *words, script="STEP 5\nDEADSTART\nGO\x1b[0m\nSTEP 2\n")
-                self.assertEqual((plain.out, f"{name}: 2 lines (decimal) were refused, the first is {wanted}", 1), got)
+        """No tool is silent about them: one line on standard error has the first, and the status is 1. All others are performed."""
+        first = "line 2 (decimal), ERR 14 NO PANEL: DEADSTART\n"
+        for name, *words in (
+                ("changes", "P", "0"), ("changes", "--turns", "1"), ("changes", "M", "0", "0"), ("save", "0", "0", "1"), ("show",),
+                ("state",), ("trace",), ("until", "P", "0", "=", "1"), ("waits",), ("state", "--turn", "1"), ("show", "--turn", "1")):
+            plain = tool(name, *words, script="STEP 5\nSTEP 2\n")
+            for more, said in ("", "one line was refused: "), ("GO\x1b[0m\n", "2 lines (decimal) were refused, the first is "):
+                got = tool(name, *words, script=f"STEP 5\nDEADSTART\n{more}STEP 2\n")
+                with self.subTest(name, words=words, more=more):
+                    self.assertEqual((f"{name}: {said}{first}", 1), got[1:])
+                    self.assertTrue(got.out == plain.out or (name, *words) == ("show",))  # which shows the refused lines too
         self.assertEqual("state: one line was refused: line 1 (decimal), ERR 06 NOT ASCII: \\x1b[0mGO\n", tool("state", script="\x1b[0mGO\n").err)
 
     def test_help_and_version(self):
