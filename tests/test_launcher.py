@@ -1,6 +1,7 @@
 """Tests ./pp6600, the choice of the build that it runs, ./prove and ./check, in a repository of a few files with a stand-in for rt."""
 
 import contextlib
+import hashlib
 import os
 import shutil
 import signal
@@ -8,7 +9,8 @@ import subprocess
 import time
 import unittest
 
-from tests.support import TOP, Case, program, read, write
+from tests.installing import ANSWERED, InstallCase
+from tests.support import TOP, Done, program, read, write
 from tests.terminal import Terminal
 
 NEEDED = ("bash", "readlink", "dirname", "find", "sort", "xargs", "sha256sum", "cut", "grep", "awk", "nproc", "rm", "cp", "cmp", "mkdir",
@@ -16,7 +18,6 @@ NEEDED = ("bash", "readlink", "dirname", "find", "sort", "xargs", "sha256sum", "
 GREETING = ("pp6600 7.8.9: SET STEP BACK FORWARD WATCH UNWATCH DEADSTART DUMP\r\n"
             "All numbers are octal. Card: docs/CARD.md. Ctrl-D ends.\r\n"
             "This program was proved elsewhere; ./prove proves it here.\r\n")
-ANSWERED = ("TURNS 12 SLOT 00\n", "", 0)
 # A file that is marked so changes what the stand-in does.
 STAND_IN = """#!/bin/bash
 case $* in
@@ -30,13 +31,13 @@ if [ -e '{room}/slow' ]; then echo $$ >'{room}/child'; exec sleep 60; fi
 """
 
 
-class Launched(Case):
+class Launched(InstallCase):
     """A test in a repository of a few files, with dist/pp6600 and without rt."""
 
     def setUp(self):
-        self.folder = self.room()
-        self.top = os.path.join(self.folder, "repository")
-        self.plain, self.kit = os.path.join(self.folder, "plain"), os.path.join(self.folder, "kit")
+        super().setUp()
+        self.top = self.path("repository")
+        self.plain, self.kit = self.path("plain"), self.path("kit")
         os.makedirs(self.plain)
         for name in NEEDED:
             os.symlink(shutil.which(name), os.path.join(self.plain, name))
@@ -59,11 +60,9 @@ class Launched(Case):
         """Writes a file of the repository."""
         return write(os.path.join(self.top, name), text, mode)
 
-    def text_of(self, name):
-        return read(self.top, name)
-
     def sum_of(self, name):
-        return subprocess.run(["sha256sum", os.path.join(self.top, name)], capture_output=True, text=True, check=True).stdout[:64]
+        with open(os.path.join(self.top, name), "rb") as file:
+            return hashlib.sha256(file.read()).hexdigest()
 
     def checksum(self, **how):
         words = [os.path.join(self.top, "share/which-build"), "--checksum"]
@@ -72,7 +71,7 @@ class Launched(Case):
     @contextlib.contextmanager
     def marked(self, name, text=""):
         """Makes a file that the stand-in looks for."""
-        path = write(os.path.join(self.folder, name), text)
+        path = write(self.path(name), text)
         yield
         os.remove(path)
 
@@ -85,13 +84,7 @@ class Launched(Case):
         path = words[0] if os.sep in words[0] else os.path.join(self.top, words[0])
         done = subprocess.run([*before, path, *words[1:]], input=script, capture_output=True, text=True, cwd=self.folder,
                               env=self.environment(rt), timeout=60, check=False)
-        return done.stdout, done.stderr, done.returncode
-
-    def refused(self, answer, words):
-        """Checks that there is no output, one line that has these words, and the status 2."""
-        out, err, status = answer
-        self.assertEqual(("", 1, 2), (out, err.count("\n"), status), err)
-        self.assertIn(words, err)
+        return Done(done.stdout, done.stderr, done.returncode)
 
 
 class Choice(Launched):
@@ -107,31 +100,31 @@ class Choice(Launched):
         self.assertEqual(ANSWERED, self.run_here("pp6600"))
 
     def test_a_link_to_the_launcher_works(self):
-        for name, target in (("link", self.launcher), ("link of a link", os.path.join(self.folder, "link"))):
-            os.symlink(target, os.path.join(self.folder, name))
-            self.assertEqual(ANSWERED, self.run_here(os.path.join(self.folder, name)))
+        for name, target in (("link", self.launcher), ("link of a link", self.path("link"))):
+            os.symlink(target, self.path(name))
+            self.assertEqual(ANSWERED, self.run_here(self.path(name)))
 
     def test_changed_sources_are_said_and_nothing_runs(self):
         for name in ("crates/pp_arith/src/lib.rt", "crates/pp_arith/specs/Arith.antt", "crates/pp_arith/proofs/Laws.antt", "crates.txt"):
             with self.subTest(name):
-                before = self.text_of(name)
+                before = read(self.top, name)
                 path = self.write(name, before + "\n")
                 os.utime(path, (1, 1))  # older than the program
-                self.refused(self.run_here("pp6600"), "./prove")
+                self.check_refused(self.run_here("pp6600"), "./prove")
                 self.write(name, before)
                 self.assertEqual(ANSWERED, self.run_here("pp6600"))
 
     def test_a_new_source_and_a_source_that_is_gone_are_changes(self):
         path = self.write("crates/pp_arith/src/more.rt", "")
-        self.refused(self.run_here("pp6600"), "./prove")
+        self.check_refused(self.run_here("pp6600"), "./prove")
         os.remove(path)
         os.remove(os.path.join(self.top, "crates/pp_arith/proofs/Laws.antt"))
-        self.refused(self.run_here("pp6600"), "./prove")
+        self.check_refused(self.run_here("pp6600"), "./prove")
 
     def test_what_the_program_is_not_made_from_is_no_change(self):
         self.write("crates/pp_arith/README.md", "more\n")
         self.write("crates/pp_arith/must-fail/a.edit", "file: src/lib.rt\n")
-        self.write("crates/pp_arith/src/lib.rt", self.text_of("crates/pp_arith/src/lib.rt"), 0o600)
+        self.write("crates/pp_arith/src/lib.rt", read(self.top, "crates/pp_arith/src/lib.rt"), 0o600)
         self.assertEqual(ANSWERED, self.run_here("pp6600"))
 
     def test_another_program_in_place_of_a_build_is_not_run(self):
@@ -139,7 +132,7 @@ class Choice(Launched):
             with self.subTest(name):
                 self.write(name, "#!/bin/sh\necho planted\n", 0o755)
                 self.assertNotIn("planted", "".join(self.run_here("pp6600")[:2]))
-        self.refused(self.run_here("pp6600"), "./prove")  # the second was that of dist
+        self.check_refused(self.run_here("pp6600"), "./prove")  # the second was that of dist
 
     def test_the_checksum_knows_no_locale_mask_or_owner(self):
         before = self.checksum()
@@ -156,7 +149,7 @@ class Prove(Launched):
     def test_what_was_built_is_what_is_shipped(self):
         out, err, status = self.run_here("prove", rt=True)
         self.assertEqual(("", 0, "prove: what was built is dist/pp6600, byte for byte"), (err, status, out.splitlines()[-1]))
-        self.assertEqual(self.text_of("dist/sources"), self.text_of("crates/pp6600/out/pp6600.proved"))
+        self.assertEqual(read(self.top, "dist/sources"), read(self.top, "crates/pp6600/out/pp6600.proved"))
 
     def test_the_launcher_runs_what_was_built(self):
         with self.marked("other"):
@@ -165,7 +158,7 @@ class Prove(Launched):
         chosen = self.run_here(os.path.join(self.top, "share/which-build"))
         self.assertEqual((f"{self.built}\nhere\n", "", 0), chosen)
         self.write("crates/pp_arith/src/lib.rt", "// changed\n")
-        self.refused(self.run_here("pp6600"), "./prove")
+        self.check_refused(self.run_here("pp6600"), "./prove")
 
     def test_renewing_ships_what_was_built(self):
         self.write("crates/pp_arith/src/lib.rt", "// changed\n")
@@ -188,21 +181,21 @@ class Prove(Launched):
         self.assertFalse(os.path.exists(f"{self.built}.proved"))
 
     def test_what_hinders_it_is_one_line(self):
-        self.refused(self.run_here("prove"), "kit")
-        self.refused(self.run_here("prove", "--test", rt=True), "usage")
+        self.check_refused(self.run_here("prove"), "kit")
+        self.check_refused(self.run_here("prove", "--test", rt=True), "usage")
         nobody = [] if os.geteuid() else ["setpriv", "--reuid=65534", "--regid=65534", "--clear-groups"]
         if nobody:
             os.symlink(shutil.which("setpriv"), os.path.join(self.plain, "setpriv"))
         os.chmod(self.folder, 0o711)
         os.chmod(os.path.join(self.top, "crates/pp6600"), 0o555)
-        self.refused(self.run_here("prove", rt=True, before=nobody), "cannot be written")
+        self.check_refused(self.run_here("prove", rt=True, before=nobody), "cannot be written")
 
     def test_an_interrupt_ends_rt(self):
         with self.marked("slow"):
             run = subprocess.Popen([os.path.join(self.top, "prove")], env=self.environment(), start_new_session=True,
                                    stdout=subprocess.DEVNULL, stderr=subprocess.DEVNULL,
                                    preexec_fn=lambda: signal.signal(signal.SIGINT, signal.SIG_DFL))
-            child = os.path.join(self.folder, "child")
+            child = self.path("child")
             while not os.path.exists(child) or not os.path.getsize(child):
                 time.sleep(0.05)
             os.killpg(run.pid, signal.SIGINT)
@@ -226,7 +219,7 @@ class Check(Launched):
     def test_without_the_kit(self):
         out, err, status = self.run_here("check", "--program")
         self.assertEqual((["check: this proves nothing; ./check does", "2 passed, 0 failed"], "", 0), (out.splitlines()[-2:], err, status))
-        self.refused(self.run_here("check"), "kit")
+        self.check_refused(self.run_here("check"), "kit")
 
     def test_another_program_than_that_of_dist(self):
         self.write("dist/pp6600", "another\n", 0o755)
@@ -272,7 +265,7 @@ class AtTerminal(Launched):
         self.assertIn("> DEADSTART", shown)
         self.assertIn("ERR 14 NO PANEL", shown)
         self.assertEqual(1, status)
-        self.assertTrue(os.path.exists(os.path.join(self.folder, ".pp6600_history")))
+        self.assertTrue(os.path.exists(self.path(".pp6600_history")))
 
     @unittest.skipUnless(shutil.which("rlwrap"), "there is no rlwrap here")
     def test_line_editing_without_a_home_folder(self):
