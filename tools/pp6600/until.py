@@ -81,9 +81,10 @@ class Search:
         self.progress = progress
         lines = {subject.question: subject.lines for subject in condition.subjects}
         *firsts, self.width = accumulate(lines.values(), initial=1)  # lines of the answers to a STEP and to the dumps after it
-        self.layout = dict(zip(lines, firsts))
+        self.layout = dict(zip(lines, firsts))  # of each dump the first line of its answer
         self.slots = sorted(set().union(*(subject.slots for subject in condition.subjects)))
-        self.close = self.held = False
+        self.close = self.held = False  # whether changes are expected soon, and whether the condition holds
+        self.number = ""  # the digits of the first test's number
         self.batches = {}
 
     def found(self):
@@ -191,7 +192,8 @@ class Search:
         found = []
         for at, (registers, before), (processor, after) in zip(comes, befores, self.look_forward(looks, comes, befores)):
             if self.is_told:
-                before, after = ([(self.condition.numbers[0].name, digits)] for digits in [self.number, *numbers][at:at + 2])
+                name, (was, now) = self.condition.numbers[0].name, [self.number, *numbers][at:at + 2]
+                before, after = [(name, was)], [(name, now)]
             found.append(Found(self.run.turn + looks.ends[at], looks.slot(at), processor, *self.difference(before, after)))
         return found
 
