@@ -69,14 +69,7 @@ def installation():
 
 
 class InstallCase(Case):
-    """A test that has a folder of its own."""
-
-    def setUp(self):
-        self.folder = self.room()
-
-    def path(self, *names):
-        """Returns a path in the folder."""
-        return os.path.join(self.folder, *names)
+    """A test of programs that refuse what can't be done."""
 
     def check_refused(self, done, said=""):
         """Checks that a command was refused: status 2 and one line, which says so."""

@@ -95,7 +95,7 @@ def names_of_codes():
 
 
 class Case(unittest.TestCase):
-    """A test case with a folder of its own where it wants one."""
+    """A test case with folders of its own where it wants some."""
 
     maxDiff = 4000
 
@@ -104,6 +104,15 @@ class Case(unittest.TestCase):
         folder = tempfile.TemporaryDirectory(prefix="pp6600-test-")
         self.addCleanup(folder.cleanup)
         return folder.name
+
+    @functools.cached_property
+    def folder(self):
+        """The folder of the test."""
+        return self.room()
+
+    def path(self, *names):
+        """Returns a path in the folder of the test."""
+        return os.path.join(self.folder, *names)
 
     def file(self, data, name="file"):
         """Returns the path of a file in a new folder."""

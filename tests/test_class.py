@@ -40,7 +40,6 @@ class HandedOut(InstallCase):
     """The folder of a class."""
 
     def setUp(self):
-        super().setUp()
         self.seat = self.path("class")
         self.assertEqual((f"hand-out: {self.seat} has 8 exercises\n", "", 0), alone(exercise_program("hand-out"), self.seat))
 

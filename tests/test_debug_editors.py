@@ -37,14 +37,13 @@ def has_dap_mode():
 class EditorCase(Case):
     def setUp(self):
         """Makes the script and the deck, as the page does."""
-        self.folder = self.room()
         lines = [line for line in read("examples", "overwritten-loader", "script").splitlines() if not line.startswith("*")]
         self.write("loader", "\n".join(lines[:4]) + "\n")
         shutil.copy(os.path.join(EXAMPLES, "overwritten-loader", "deck"), self.folder)
         self.environment = {**os.environ, "HOME": self.folder, "PP6600": program(), "TERM": "screen", "PYTHONDONTWRITEBYTECODE": "1"}
 
     def write(self, name, text):
-        write(os.path.join(self.folder, name), text)
+        write(self.path(name), text)
 
 
 @unittest.skipUnless(shutil.which("emacs") and shutil.which("tmux") and has_dap_mode(), "there is no emacs with dap-mode, or no tmux")
@@ -59,7 +58,7 @@ class Emacs(EditorCase):
         self.assertTrue(self.shows("*scratch*"), self.screen())
 
     def tmux(self, *words):
-        return subprocess.run(["tmux", "-S", os.path.join(self.folder, "tmux"), *words], env=self.environment, cwd=self.folder,
+        return subprocess.run(["tmux", "-S", self.path("tmux"), *words], env=self.environment, cwd=self.folder,
                               stdout=subprocess.PIPE, stderr=subprocess.DEVNULL, text=True, check=False).stdout
 
     def screen(self):
@@ -111,15 +110,15 @@ class Kate(EditorCase):
 
     def setUp(self):
         super().setUp()
-        self.log = os.path.join(self.folder, "log")
+        self.log = self.path("log")
         settings = json.loads(read("share", "editors", "kate", "dap.json"))
         settings["dap"]["pp6600"]["run"]["command"] = [os.path.join(TOP, "tools", "debug-adapter"), "--log", self.log]
         self.write(".config/kate/gdbplugin/dap.json", json.dumps(settings))
-        variables = {"file": os.path.join(self.folder, "loader"), "args": os.path.join(self.folder, "deck")}
+        variables = {"file": self.path("loader"), "args": self.path("deck")}
         target = {"debuggerKey": "pp6600", "debuggerProfile": "launch", "target": "Target 1", "variables": variables}
         self.write(".local/share/kate/anonymous.katesession", KATE_SESSION.format(json.dumps(target)))
-        os.mkdir(os.path.join(self.folder, "run"), 0o700)
-        self.environment |= {"DISPLAY": self.display(), "XDG_RUNTIME_DIR": os.path.join(self.folder, "run"), "LANG": "C.UTF-8"}
+        os.mkdir(self.path("run"), 0o700)
+        self.environment |= {"DISPLAY": self.display(), "XDG_RUNTIME_DIR": self.path("run"), "LANG": "C.UTF-8"}
         self.start("dbus-run-session", "--", "kate", "--startanon", "loader")
         self.wait_for(lambda: self.xdotool("search", "--onlyvisible", "--class", "kate"))
         time.sleep(2)  # until it takes keys

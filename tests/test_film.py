@@ -77,21 +77,20 @@ class Tool(FilmCase):
 
     def test_failures(self):
         """One line in plain words, status 2, and no file."""
-        room = self.room()
-        path = os.path.join(room, "none.html")
-        for words, script in (((), "STEP\n"), (("-o", f"{room}/no/folder.html"), "STEP\n"), (("-o", path, "no-such-file"), ""),
-                              (("-o", path), "STEP 1000000\nSTEP\n"), (("-o", path, "--last", "9"), "STEP\n"), (("-o", room), "STEP\n"),
+        path = self.path("none.html")
+        for words, script in (((), "STEP\n"), (("-o", self.path("no/folder.html")), "STEP\n"), (("-o", path, "no-such-file"), ""),
+                              (("-o", path), "STEP 1000000\nSTEP\n"), (("-o", path, "--last", "9"), "STEP\n"), (("-o", self.folder), "STEP\n"),
                               (("-o", path, "--deck", "no-such-file"), "STEP\n"), (("-o", path, "--reader", "99"), "STEP\n"),
                               (("-o", path, "--around", "2"), "STEP\n"), (("-o", path, "--around", "1", "--last", "1"), "STEP\n"),
                               (("-o", path, "--program", "no-such-program"), "STEP\n")):
             with self.subTest(words=words):
                 done = tool("film", *words, script=script)
                 self.assertEqual((2, 1, False), (done.status, done.err.count("\n"), "Traceback" in done.err))
-        self.assertEqual([], os.listdir(room))
+        self.assertEqual([], os.listdir(self.folder))
 
     def test_refused_lines(self):
         """The film is made, with the answers; what was refused is said, and the status is 1."""
-        path = os.path.join(self.room(), "film.html")
+        path = self.path("film.html")
         self.assertEqual(("", "film: 2 lines (decimal) were refused, the first is line 2 (decimal), ERR 01 NOT A COMMAND: GO\n", 1),
                          tool("film", "-o", path, script="STEP\nGO\nSTEP\nBACK W\n"))
         self.assertEqual([["TURNS 1 SLOT 01"], ["ERR 01 NOT A COMMAND"], ["TURNS 1 SLOT 02"], ["ERR 15 NOTHING WATCHED"]],
@@ -99,7 +98,7 @@ class Tool(FilmCase):
 
     def test_pipe(self):
         """A page goes through a pipe, which stays one."""
-        pipe = os.path.join(self.room(), "pipe")
+        pipe = self.path("pipe")
         os.mkfifo(pipe)
         with subprocess.Popen(["cat", pipe], stdout=subprocess.PIPE) as reader:
             self.assertEqual(("", "", 0), tool("film", "-o", pipe, script="STEP\n"))
@@ -113,8 +112,7 @@ class Tool(FilmCase):
 
     def test_links(self):
         """Nothing is written through a link at the name of a part; the file that the output's link names is replaced."""
-        room = self.room()
-        other, target, link = (os.path.join(room, name) for name in ("other", "target.html", "film.html"))
+        other, target, link = map(self.path, ("other", "target.html", "film.html"))
         for path in other, target:
             write(path, "kept")
         os.symlink(other, f"{link}.part")
@@ -122,7 +120,7 @@ class Tool(FilmCase):
         self.assertEqual(("", "", 0), tool("film", "-o", link, script="STEP\n"))
         self.assertEqual("kept", read(other))
         self.assertTrue(os.path.islink(link) and read(target).startswith("<!DOCTYPE html>"))
-        self.assertEqual(["film.html", "film.html.part", "other", "target.html"], sorted(os.listdir(room)))
+        self.assertEqual(["film.html", "film.html.part", "other", "target.html"], sorted(os.listdir(self.folder)))
 
     def test_a_page_that_can_not_be_written_whole(self):
         """What was there before stays."""
@@ -134,10 +132,7 @@ class Tool(FilmCase):
 
     def test_headings(self):
         """The title that was asked for, or the name of the script's file without its folders; never the page's own source."""
-        room = self.room()
-        script, odd = os.path.join(room, "a <script>"), os.path.join(room, f"b{BYTE}")
-        for path in script, odd:
-            write(path, "STEP\n")
+        script, odd = (write(self.path(name), "STEP\n") for name in ("a <script>", f"b{BYTE}"))
         for words, wanted in (((script,), "a &lt;script&gt;"), ((odd,), "b\ufffd"), (("--title", f"c{BYTE}", script), "c\ufffd"),
                               ((), "standard input"), (("--title", "/*--script--*/<!--film-->"), "/*--script--*/&lt;!--film--&gt;")):
             with self.subTest(words=words):
@@ -155,17 +150,17 @@ class Tool(FilmCase):
 
     def test_files_of_the_run(self):
         """The page has the script, the deck and the panel byte for byte, and how one runs them again."""
-        room = self.room()
+        room = self.folder
         contents = {"script": b"STEP 3\r\n* caf\xe9 \xff\nGO", "deck": b"* one card\n0001 0002\n", "my panel": b"1 2 3 4 5 6\n7 10 11 12 13 14\n"}
         for name, data in contents.items():
-            write(os.path.join(room, name), data)
+            write(self.path(name), data)
         words = ("--deck", f"{room}/deck", "--panel", f"{room}/my panel", "--central", "32")
         kept = about(read(self.film(*words, f"{room}/script", status=1)))
         self.assertEqual(contents, {file["name"]: file["bytes"].encode("latin-1") for file in kept["files"]})
         self.assertEqual(["script", "deck", "panel"], [file["kind"] for file in kept["files"]])
         self.assertEqual("pp6600 --central 32 --deck deck --panel 'my panel' script", kept["again"])
         self.assertEqual(([[1, 2]], [*range(1, 13)]), (kept["deck"], kept["panel"]))
-        os.mkdir(os.path.join(room, "other"))
+        os.mkdir(self.path("other"))
         os.rename(f"{room}/deck", f"{room}/other/script")
         same = about(read(self.film("--deck", f"{room}/other/script", f"{room}/script", status=1)))
         self.assertEqual("pp6600 --deck deck-script script", same["again"])

@@ -8,8 +8,7 @@ from tests.films import PageCase, random_session, shown_film
 from tests.support import EXAMPLES, program
 
 from pp6600.answers import Place
-from pp6600.origin.search import Search
-from pp6600.origin.text import Writer
+from pp6600.origin.text import origin_rows
 from pp6600.origin.positions import Replayer, numbered
 from pp6600.run import performed
 
@@ -109,8 +108,8 @@ class Origin(PageCase):
     @staticmethod
     def tool_lines(replayer, place):
         """The same of the tool's search."""
-        found, positions = [], replayer.positions
-        for line in Writer(positions, replayer.words).lines(Search(replayer).origin(place, positions.end)):
-            head, _, rest = line.strip().partition(" TURN ")
+        found = []
+        for _, line in origin_rows(replayer, place, replayer.positions.end):
+            head, _, rest = line.partition(", NOW ")[0].strip().partition(" TURN ")
             found.append((head.removesuffix(" START"), int(rest.split()[0], 8) if rest else 0))
         return found

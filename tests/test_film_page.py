@@ -437,7 +437,7 @@ class Looks(PageCase):
         for turns in 1, 200:
             script = COUNTER + f"{'STEP ' + chr(10)}" * turns
             self.browser.open(self.film(script=script), "#turn=1&place=A+0")
-            path = os.path.join(self.room(), "paper.pdf")
+            path = self.path("paper.pdf")
             self.browser.paper(path)
             with open(path, "rb") as file:
                 pages[turns] = len(re.findall(rb"/Type /Page\b(?!s)", file.read()))

@@ -140,7 +140,6 @@ class Undone(InstallCase):
     """A file of someone else, a failure and a kill leave nothing behind."""
 
     def setUp(self):
-        super().setUp()
         self.prefix = self.path("prefix")
         self.words = (f"{installation()}/{OWN}/install", self.prefix)
 

@@ -35,7 +35,6 @@ class Launched(InstallCase):
     """A test in a repository of a few files, with dist/pp6600 and without rt."""
 
     def setUp(self):
-        super().setUp()
         self.top = self.path("repository")
         self.plain, self.kit = self.path("plain"), self.path("kit")
         os.makedirs(self.plain)

@@ -39,7 +39,6 @@ class ManualPages(InstallCase):
             raise unittest.SkipTest("there is no man here")
 
     def setUp(self):
-        super().setUp()
         self.assertEqual(("", "", 0), alone(os.path.join(TOP, "share", "manual"), self.folder))
 
     def shown(self, name):

@@ -141,8 +141,7 @@ class Culprits(PanelCase):
         press(panel, ":set a 0 0<Enter>y25s")
         registers = panel.session.state.processors[0].registers
         self.assertEqual(("0060", "000000"), (registers["P"], registers["A"]))
-        room = self.room()
-        path = os.path.join(room, "saved")
+        path = self.path("saved")
         press(panel, f"w{path}<Enter>")
         self.assertTrue(panel.session.is_saved())
         first, *lines = read(path).splitlines()
@@ -150,7 +149,7 @@ class Culprits(PanelCase):
         self.assertEqual(OVERWRITTEN.splitlines() + ["WATCH M 0 106", "BACK W", "WATCH M 0 100", "BACK W", "set a 0 0", "STEP 25"], lines)
         again = self.panel(read(path), "--deck", DECK)
         self.assertEqual(panel.session.log, [entry for entry in again.session.log if not entry[0].startswith("*")])
-        for keys, wanted in ((f"w{path}", "exists"), (f"w! {path}", "saved"), (f"w{room}/no/such", "can't write")):
+        for keys, wanted in ((f"w{path}", "exists"), (f"w! {path}", "saved"), (f"w{self.path('no/such')}", "can't write")):
             with self.subTest(keys):
                 self.assertIn(wanted, bottom(panel, f"{keys}<Enter>"))
 
@@ -283,7 +282,7 @@ class Turns(PanelCase):
 
     def test_saved(self):
         """The script that is saved gives the same machine; what it does not have is said."""
-        panel, path = self.long, os.path.join(self.room(), "saved")
+        panel, path = self.long, self.path("saved")
         press(panel, "2000G5s")
         self.assertFalse(panel.session.is_saved())
         self.assertRegex(bottom(panel, f"w{path}<Enter>"), r"lines are saved in \S+, without the last 101032 actions ahead$")
@@ -491,15 +490,14 @@ class Typed(PanelCase):
 
     def test_save_to_no_file(self):
         """What is no file is not opened: a FIFO that nobody reads would wait forever."""
-        room = self.room()
         panel = self.panel("STEP\n")
         press(panel, "s")
-        os.mkfifo(os.path.join(room, "fifo"))
-        os.symlink("fifo", os.path.join(room, "link"))
+        os.mkfifo(self.path("fifo"))
+        os.symlink("fifo", self.path("link"))
         for name in "fifo", "link", ".":
             for key in "w", "w! ":
                 with self.subTest(key + name):
-                    self.assertIn("is not a file" if key == "w! " else "exists", bottom(panel, f"{key}{room}/{name}<Enter>"))
+                    self.assertIn("is not a file" if key == "w! " else "exists", bottom(panel, f"{key}{self.path(name)}<Enter>"))
                     self.assertFalse(panel.session.is_saved())
 
     def test_help(self):

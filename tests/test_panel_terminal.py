@@ -163,14 +163,13 @@ class Failures(TerminalCase):
     """One line and status 2."""
 
     def test_killed_simulator(self):
-        room = self.room()
-        saved = os.path.join(room, "saved")
-        wrapper = write(os.path.join(room, "simulator"), f"#!/bin/bash\necho $$ >{room}/pid\nexec {PROGRAM} \"$@\"\n", 0o755)
+        saved, pid = self.path("saved"), self.path("pid")
+        wrapper = write(self.path("simulator"), f"#!/bin/bash\necho $$ >{pid}\nexec {PROGRAM} \"$@\"\n", 0o755)
         terminal = self.terminal([*TOOL, "--program", wrapper])
         terminal.shows("q quit")
         terminal.type("s")
         terminal.shows("> STEP ")
-        os.kill(int(read(room, "pid")), signal.SIGKILL)
+        os.kill(int(read(pid)), signal.SIGKILL)
         terminal.type("s")
         self.assert_shows(terminal, "ended early, by signal 9")
         terminal.type(f"w{saved}\r")
@@ -232,7 +231,7 @@ class Talk(TerminalCase):
 
     def test_undo(self):
         """Back without a limit, and forward again; what is lost of what is ahead is said."""
-        path = os.path.join(self.room(), "saved")
+        path = self.path("saved")
         lines, status = self.talk("SET A 1 7", "STEP 30", "BACK 20", "undo 20", "redo 11", "FORWARD 30", "redo", "STEP 2", "undo 100",
                                   words=("--history", "8", "--save", path))
         self.assertEqual([

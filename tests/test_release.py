@@ -46,7 +46,6 @@ class ReleaseCase(InstallCase):
     """A test with a clone of the checkout."""
 
     def setUp(self):
-        super().setUp()
         self.top = self.path("another", "checkout")
         alone("git", "clone", "-q", original(), self.top, preexec_fn=lambda: os.umask(0o077))
 

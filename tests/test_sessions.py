@@ -48,9 +48,8 @@ class Sessions(Case):
 
     def check(self, session):
         words, script, answers = session
-        folder = self.room()
-        shutil.copytree(EXAMPLES, folder, dirs_exist_ok=True)
-        done = run(program(), *words, script="".join(script), cwd=folder)
+        shutil.copytree(EXAMPLES, self.folder, dirs_exist_ok=True)
+        done = run(program(), *words, script="".join(script), cwd=self.folder)
         self.assertEqual("".join(answers), done.out)
         self.assertEqual(("", int(any(line.startswith("ERR ") for line in answers))), done[1:])
 
@@ -60,13 +59,12 @@ class Commands(Case):
 
     def check(self, block):
         commands, wanted, files = block
-        folder = self.room()
-        os.symlink(program(), os.path.join(folder, "pp6600"))
+        os.symlink(program(), self.path("pp6600"))
         for name in ("examples", "exercises", "tools"):
-            os.symlink(os.path.join(TOP, name), os.path.join(folder, name))
+            os.symlink(os.path.join(TOP, name), self.path(name))
         for name, text in files.items():
-            write(os.path.join(folder, name), text)
-        done = run("bash", "-c", f"exec 2>&1\n{commands}", cwd=folder)
+            write(self.path(name), text)
+        done = run("bash", "-c", f"exec 2>&1\n{commands}", cwd=self.folder)
         self.assertEqual(wanted, done.out)
 
 

@@ -69,19 +69,18 @@ def setUpModule():
 
 class HandsCase(Case):
     def setUp(self):
-        self.folder = self.room()
         self.environment = {**os.environ, "PP6600": program(), "PP6600_PATIENCE": "1", "room": self.folder}
         for what, (text, _) in PROGRAMS.items():
             self.program_file(what, text)
 
     def program_file(self, name, text):
         """Writes a shell program into the room."""
-        return write(os.path.join(self.folder, name), f"#!/bin/sh\n{text}\n", 0o755)
+        return write(self.path(name), f"#!/bin/sh\n{text}\n", 0o755)
 
     def treated(self, name, words, how, data, **environment):
         """What a tool writes to standard error, and its status, under a treatment."""
         command = ["bash", "-c", how, *PYTHON, os.path.join(TOP, "tools", name), *words]
-        command = [os.path.join(self.folder, "film.html") if word == "FILM" else word for word in command]
+        command = [self.path("film.html") if word == "FILM" else word for word in command]
         done = subprocess.run(command, input=data, cwd=TOP, stdout=subprocess.DEVNULL, stderr=subprocess.PIPE,
                               env={**self.environment, **environment}, timeout=60, check=False)
         return done.stderr.decode(), done.returncode
@@ -103,9 +102,9 @@ class HandsCase(Case):
 
 class Hands(HandsCase):
     def test_treatments(self):
-        os.symlink("/dev/full", os.path.join(self.folder, "full"))
+        os.symlink("/dev/full", self.path("full"))
         self.all_treated([(name, words, *self.treatment(name, what)) for name, words in TOOLS.items() for what in TREATMENTS])
-        self.assertFalse(os.path.exists(os.path.join(self.folder, "film.html")), "no film is left")
+        self.assertFalse(os.path.exists(self.path("film.html")), "no film is left")
 
     @staticmethod
     def treatment(name, what):
@@ -113,7 +112,7 @@ class Hands(HandsCase):
         return how, GIVEN.get(name, STEP), text
 
     def test_programs(self):
-        self.all_treated([(name, [*words, "--program", os.path.join(self.folder, what)], PLAIN, STEP, text)
+        self.all_treated([(name, [*words, "--program", self.path(what)], PLAIN, STEP, text)
                           for what, (_, text) in PROGRAMS.items() for name, words in WITH_SIMULATOR.items()])
 
     def test_options(self):
@@ -140,7 +139,7 @@ class Hands(HandsCase):
 
     def test_simulator_that_is_left(self):
         """An interrupt ends the simulator too, which here waits for a writer of its deck; its message names a file without escapes."""
-        deck = os.path.join(self.folder, "fifo")
+        deck = self.path("fifo")
         os.mkfifo(deck)
         tool = subprocess.Popen([*PYTHON, os.path.join(TOP, "tools", "state"), "--deck", deck], stdin=subprocess.PIPE,
                                 env={**self.environment, "PP6600_PATIENCE": "30"},
@@ -176,7 +175,7 @@ class Hands(HandsCase):
 
     def test_panel_on_a_terminal(self):
         """The panel before which a program is no simulator or ends."""
-        cases = {what: (["--program", os.path.join(self.folder, what)], text) for what, (_, text) in PROGRAMS.items()}
+        cases = {what: (["--program", self.path(what)], text) for what, (_, text) in PROGRAMS.items()}
         for what, (words, text) in {**cases, **OPTIONS}.items():
             terminal = Terminal([*PYTHON, os.path.join(TOP, "tools", "panel"), *words], columns=200, environment=self.environment)
             status = terminal.status()

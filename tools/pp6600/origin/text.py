@@ -6,7 +6,7 @@ import re
 from ..instructions import IN_BLOCK, TWO_WORDS
 from ..text_files import bytes_of
 from ..writes import AT_END_OF_BLOCK, AT_END_OF_INPUT, NO_WORD, RETURN, ZERO
-from .search import DEADSTART, LINE_END, PAPER, PRINTER, READER, SET, START, TICK, TURN
+from .search import DEADSTART, LINE_END, PAPER, PRINTER, READER, SET, START, TICK, TURN, Search, number_at
 
 INDENT = "  "
 NOTE = re.compile(r"[ \t]*([*].*)?\r?")
@@ -28,6 +28,16 @@ class File:
         raise IndexError(index)
 
 
+def origin_rows(replayer, place, position, *how):
+    """Returns the lines of the origin of the number that is at a place at a position, each with its step. How it is searched is as
+    `Search` has it."""
+    step, now = Search(replayer, *how).origin(place, position), None
+    if place.kind == "P":
+        replayer.goto(position)
+        now = number_at(replayer, place)
+    return list(Writer(replayer.positions, replayer.words).rows(step, now))
+
+
 class Writer:
     """Makes the lines."""
 
@@ -36,12 +46,9 @@ class Writer:
         self.positions = positions
         self.deck, self.panel = (File(words[words.index(option) + 1] if option in words else None) for option in ("--deck", "--panel"))
 
-    def lines(self, root, now=None):
-        """Yields the lines of a step and of all that it came from. P advances after it is written; now it has this number."""
-        return (line for _, line in self.rows(root, now))
-
     def rows(self, root, now=None):
-        """Yields the same lines, each with its step; None for one that was not searched."""
+        """Yields the lines of a step and of all that it came from, each with its step; None for one that was not searched. P advances
+        after it is written; now it has this number."""
         seen = set()
         todo = [(root, root.place, 0, None)]
         while todo:

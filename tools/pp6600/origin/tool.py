@@ -7,8 +7,7 @@ from ..answers import Place
 from ..command_line import Failure, arguments, count, octal, script_lines, simulator, words_after, write_lines
 from ..run import performed
 from .positions import Replayer, numbered
-from .search import Search, number_at
-from .text import Writer
+from .text import origin_rows
 
 DESCRIPTION = """Shows where the number at a place (M 0 106, A 0, C 1000, H 12 ..; XP 0: a word of the frame; LP 7: a symbol of the
 paper) came from at the end of a script: the last write, in which turn, by which instruction, and from what; then the same of
@@ -47,21 +46,17 @@ def place_of(words):
 
 
 def origin_lines(words, actions, place, turn=None, most_steps=MOST_STEPS, with_addresses=False):
-    """Yields the lines of the origin of the number at a place after so many turns, or at the end of the actions of a history. The
+    """Returns the lines of the origin of the number at a place after so many turns, or at the end of the actions of a history. The
     words are the program and its options."""
     replayer = Replayer(words, actions)
     positions = replayer.positions
     if place.kind == "C" and place.numbers[0] >= replayer.size:
         raise Failure(f"there is no {place.short}: central memory has {replayer.size:o} words (octal)")
     position, progress = positions.end if turn is None else positions.after_turn(turn), Progress(positions)
-    step = Search(replayer, most_steps, with_addresses, progress.show).origin(place, position)
-    now = None
-    if place.kind == "P":
-        replayer.goto(position)
-        now = number_at(replayer, place)
+    rows = origin_rows(replayer, place, position, most_steps, with_addresses, progress.show)
     replayer.end()
     progress.end()
-    yield from Writer(positions, words).lines(step, now)
+    return [line for _, line in rows]
 
 
 def main():

@@ -1,10 +1,9 @@
 """Where the number at the cursor came from: a page of steps. The search has a simulator of its own, so the session stays as it is."""
 
 from ..answers import Place
-from ..origin.search import Search
-from ..origin.text import Writer
 from ..history import without_watches
 from ..origin.positions import Replayer
+from ..origin.text import origin_rows
 from .page import Page
 from .screen import Screen, is_too_small
 from .text import HEAD, Line
@@ -23,10 +22,8 @@ class Origin:
         replayer = Replayer(session.simulator.words, history.in_effect())
         self.positions = positions = replayer.positions
         try:
-            search = Search(replayer, MOST_STEPS, progress=lambda position: progress(positions.turn(position), positions.turns))
-            root = search.origin(self.place, positions.end)
-            now = session.state.number_at(self.place) if self.place.kind == "P" else None
-            self.rows = list(Writer(positions, replayer.words).rows(root, now))
+            self.rows = origin_rows(replayer, self.place, positions.end, MOST_STEPS, False,
+                                    lambda position: progress(positions.turn(position), positions.turns))
         finally:
             replayer.end()
 
