@@ -15,7 +15,7 @@ import sys
 import tempfile
 
 # More than the requests of a whole run.
-CASES = 250
+CASES = 600
 
 REFUSALS = {
     "Memory12::new": "NoMemory",
