@@ -1,6 +1,7 @@
 -- What the instructions write, by shapes that many codes share. P advances to the next instruction, unless a row names
 -- another target.
-use Rattle.std.specs.Prelude.{ℕ, List, [], ◌∷◌, Bool, if◌then◌else◌, slice_index}
+use Rattle.std.specs.Prelude.{ℕ, List, [], ◌∷◌, Bool, if◌then◌else◌, map, slice_index}
+use Rattle.std.specs.List.{range_with_len}
 use Rattle.pp_arith.specs.Arith.{relative}
 use Rattle.pp_machine.specs.Prelude.{Writes, state_number}
 use Rattle.pp_machine.specs.declared.channel.ChannelState.{ChannelState}
@@ -37,13 +38,7 @@ replace i a = (P, i.next) ∷ (A, a) ∷ (Cell i.address, lower12 a) ∷ []
 
 -- Five numbers go to the five cells from an address on (this project's choice).
 abbrev pub five_cells : ℕ → List ℕ → Writes PpPlace
-five_cells address parts =
-    (Cell (cell_after address 0), slice_index parts 0)
-    ∷ (Cell (cell_after address 1), slice_index parts 1)
-    ∷ (Cell (cell_after address 2), slice_index parts 2)
-    ∷ (Cell (cell_after address 3), slice_index parts 3)
-    ∷ (Cell (cell_after address 4), slice_index parts 4)
-    ∷ []
+five_cells address parts = map (λ i. (Cell (cell_after address i), slice_index parts i)) (range_with_len 0 5)
 
 -- If channel d is ready, a number goes from it to A and leaves it empty; else the processor waits, and writes nothing
 -- (this project's choice, for the manual's signals).
