@@ -3,6 +3,7 @@ ghost use Rattle.std.specs.Prelude.{◌≡◌, ◌<◌, ◌≤◌, ◌+◌, ◌+
 ghost use Rattle.arrayvec.specs.ArrayVec.{array_vec_len};
 ghost use Rattle.pp_lines.specs.Puts.{Puts};
 ghost use Rattle.pp_console.specs.Dumps.{each, cell_text, cell_row, cells_text, central_line, central_text, processor_text, state_text, channel_line, channels_text, frame_line, frame_text, mode_text, reader_text, printer_line};
+ghost use Rattle.pp_machine.specs.Ranges.{cell_count, processor_count};
 
 use crate::text::push_field;
 use arrayvec::ArrayVec;
@@ -14,9 +15,9 @@ use pp_rig::Rig;
 /// Returns a row: an address, and the cells from there to `last`, at most eight.
 #[tactic(auto, unfolding(crate::specs::Dumps::cell_row), using(crate::proofs::Each::each_one))]
 fn row_line(machine: &Rig, pp: u8, last: u16, from: u16) -> ArrayVec<u8, 45>
-    requires pp { pp < 10 }
+    requires pp { pp < processor_count }
     requires from { from ≤ last }
-    requires last { last < 4096 }
+    requires last { last < cell_count }
     ensures { result.items ≡ cell_row machine.now pp last from }
 {
     let mut line = ArrayVec::new();
@@ -46,8 +47,8 @@ pub fn put_cells<W: Sink>(
     last: u16,
     out: &mut W,
 ) -> Result<(), Failed>
-    requires pp { pp < 10 }
-    requires last { last < 4096 }
+    requires pp { pp < processor_count }
+    requires last { last < cell_count }
     ensures { Puts ⟦<W as Sink>⟧ out.old out.new result (cells_text machine.now pp first last) }
 {
     let count = (last + 8).saturating_sub(first) / 8;
@@ -64,7 +65,7 @@ pub fn put_cells<W: Sink>(
 #[tactic(auto, unfolding(crate::specs::Dumps::processor_text))]
 #[inline(never)]
 pub fn put_processor<W: Sink>(machine: &Rig, pp: u8, out: &mut W) -> Result<(), Failed>
-    requires { pp < 10 }
+    requires { pp < processor_count }
     ensures { Puts ⟦<W as Sink>⟧ out.old out.new result (processor_text machine.now pp) }
 {
     let phase = machine.value(&Place::Phase { pp });

@@ -2,6 +2,7 @@
 
 ghost use Rattle.std.specs.Prelude.{◌≡◌, ◌<◌, ℕ, List, length, slice_set};
 ghost use Rattle.pp_machine.specs.ChannelNumbers.{state_number};
+ghost use Rattle.pp_machine.specs.Ranges.{channel_count};
 ghost use Rattle.pp_step.specs.Pairs.{target_pairs, FitsTarget};
 ghost use Rattle.pp_step.specs.Step.{pp_pairs, FitsPp};
 ghost use Rattle.pp_step.specs.View.{pp_view, over};
@@ -14,7 +15,7 @@ use pp_machine::{Central, ChannelState, Channels, Memory12, Pp};
 
 /// Writes a channel's state, but no record.
 fn put_state(c: u8, state: ChannelState, channels: &mut Channels)
-    requires { c < 12 }
+    requires { c < channel_count }
     ensures { channels.new ≡ record channels.old { states = slice_set channels.old.states c (state_number state) } }
 {
     channels.set(c, holding(state, channels.get(c).word));

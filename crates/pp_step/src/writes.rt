@@ -3,6 +3,7 @@
 
 ghost use Rattle.std.specs.Prelude.{◌≡◌, ◌≤◌, ◌<◌, ◌^◌, length, slice_index, slice_set};
 ghost use Rattle.pp_machine.specs.ChannelNumbers.{state_number, with_channel};
+ghost use Rattle.pp_machine.specs.Ranges.{channel_count, past_sixty_bits, twelve_bits};
 ghost use Rattle.pp_step.specs.Inner.{five_from, five_over};
 ghost use Rattle.pp_step.specs.Words as words;
 ghost use Rattle.pp_arith.specs.Words60 as words60;
@@ -27,11 +28,11 @@ pub fn name(a: bool, q: bool, phase: bool, target: Target, back: &mut StepRecord
 /// Writes a cell.
 #[inline(always)]
 pub fn set_cell(address: u16, value: u16, memory: &mut Memory12, back: &mut StepRecord)
-    requires address_in { address ≤ 0o7777 }
-    requires value_in { value ≤ 0o7777 }
+    requires address_in { address ≤ twelve_bits }
+    requires value_in { value ≤ twelve_bits }
     ensures cells { memory.new ≡ slice_set memory.old address value }
     ensures record { back.new ≡ record back.old { address = address; value = slice_index memory.old address } }
-    ensures value_in { back.new.value ≤ 0o7777 }
+    ensures value_in { back.new.value ≤ twelve_bits }
 {
     back.address = Unaligned32::new(u32::from(address));
     back.value = memory.get(address);
@@ -41,11 +42,11 @@ pub fn set_cell(address: u16, value: u16, memory: &mut Memory12, back: &mut Step
 /// Writes the five cells from an address on.
 #[inline(always)]
 pub fn set_cells(address: u16, word: u64, memory: &mut Memory12, back: &mut StepRecord)
-    requires address_in { address ≤ 0o7777 }
-    requires word_in { word < 2 ^ 60 }
+    requires address_in { address ≤ twelve_bits }
+    requires word_in { word < past_sixty_bits }
     ensures cells { memory.new ≡ five_over address (words60.split60 word) memory.old }
     ensures record { back.new ≡ record back.old { address = address; word = words.joined_cells address memory.old } }
-    ensures word_in { back.new.word < 2 ^ 60 }
+    ensures word_in { back.new.word < past_sixty_bits }
     ensures parts { words60.split60 back.new.word ≡ five_from address memory.old }
 {
     back.address = Unaligned32::new(u32::from(address));
@@ -56,11 +57,11 @@ pub fn set_cells(address: u16, word: u64, memory: &mut Memory12, back: &mut Step
 /// Writes a central word.
 #[inline(always)]
 pub fn set_word(at: u32, word: u64, central: &mut Central, back: &mut StepRecord)
-    requires { word < 2 ^ 60 }
+    requires { word < past_sixty_bits }
     ensures central { central.new ≡ slice_set central.old at word }
     ensures size { length central.new ≡ length central.old }
     ensures record { back.new ≡ record back.old { address = at; word = slice_index central.old at } }
-    ensures word_in { back.new.word < 2 ^ 60 }
+    ensures word_in { back.new.word < past_sixty_bits }
 {
     back.address = Unaligned32::new(at);
     back.word = Unaligned64::new(central.get(at));
@@ -70,12 +71,12 @@ pub fn set_word(at: u32, word: u64, central: &mut Central, back: &mut StepRecord
 /// Writes a channel's state and register.
 #[inline(always)]
 pub fn set_channel(c: u8, channel: Channel, channels: &mut Channels, back: &mut StepRecord)
-    requires { c < 12 }
+    requires { c < channel_count }
     ensures channels { channels.new ≡ with_channel channels.old c (state_number channel.state) channel.word }
     ensures record { back.new
         ≡ record back.old { channel = c; state = back.new.state; value = slice_index channels.old.registers c } }
     ensures state { state_number back.new.state ≡ slice_index channels.old.states c }
-    ensures value_in { back.new.value ≤ 0o7777 }
+    ensures value_in { back.new.value ≤ twelve_bits }
 {
     let old = channels.get(c);
     back.channel = c;
@@ -87,7 +88,7 @@ pub fn set_channel(c: u8, channel: Channel, channels: &mut Channels, back: &mut 
 /// Writes a channel's state.
 #[inline(always)]
 pub fn set_state(c: u8, state: ChannelState, channels: &mut Channels, back: &mut StepRecord)
-    requires { c < 12 }
+    requires { c < channel_count }
     ensures channels { channels.new ≡ record channels.old { states = slice_set channels.old.states c (state_number state) } }
     ensures record { back.new ≡ record back.old { channel = c; state = back.new.state } }
     ensures state { state_number back.new.state ≡ slice_index channels.old.states c }
