@@ -51,11 +51,11 @@ module _ {M A R P H : Type 0} (rules : Ghosts M A R P H) where
   machine_after_more count action machine = rw add-one refl
 
   -- once more, without a covered place
-  pub unmarked_more : (marks : Marks) (action : A) (count : ℕ) (start machine machine' : M) (head' : Option H) (tails tails' : Tails A R)
+  pub unmarked_more : (marks_of : P → Option (ℕ × ℕ)) (marks : Marks) (action : A) (count : ℕ) (start machine machine' : M) (head' : Option H) (tails tails' : Tails A R)
       → machine ≡ machine_after rules count action start → machine' ≡ machine_after rules (count + 1) action start → IsActed rules machine machine' action head' tails tails'
-      → 1 ≤ tails.ring.capacity → IfSome (first_of rules.unpacked in_tail head' tails'.ring.items) (λ newest. IsUnmarked rules.marks_of rules.old_value marks newest.1)
-      → AreUnmarked rules marks action count start → AreUnmarked rules marks action (count + 1) start
-  unmarked_more marks action count start machine machine' head' tails tails' old new acted room unmarked before k less = elim (cases_lt k count) [
+      → 1 ≤ tails.ring.capacity → IfSome (first_of rules.unpacked in_tail head' tails'.ring.items) (λ newest. IsUnmarked marks_of rules.old_value marks newest.1)
+      → AreUnmarked rules marks_of marks action count start → AreUnmarked rules marks_of marks action (count + 1) start
+  unmarked_more marks_of marks action count start machine machine' head' tails tails' old new acted room unmarked before k less = elim (cases_lt k count) [
     | inl earlier ↦ before k earlier
     | inr past ↦
         let here : k ≡ count = omega (arith, less, past) in

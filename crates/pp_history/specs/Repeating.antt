@@ -1,5 +1,5 @@
 -- An action that is performed again and again.
-use Rattle.std.specs.Prelude.{◌≡◌, ℕ, zero, suc, ◌+◌, ◌<◌, replicate}
+use Rattle.std.specs.Prelude.{◌≡◌, ℕ, zero, suc, ◌+◌, ◌<◌, Option, replicate}
 use Rattle.pp_history.specs.declared.marks.Marks.{Marks}
 use Rattle.pp_history.specs.declared.reversible.Reversible.{Ghosts}
 use Rattle.pp_history.specs.Marks.{IsUnmarked}
@@ -16,11 +16,11 @@ module _ {M A R P S : Type 0} (rules : Ghosts M A R P S) where
   machine_after count action machine = replay rules machine (replicate count action)
 
   -- an action led from one machine to the other, and its undo record has none of the places that the marks cover
-  abbrev pub IsUnmarkedAct : Marks → M → M → Type 0
-  IsUnmarkedAct marks old new =
-      (back : R) × rules.fits back new × (rules.after_undo back new ≡ old) × IsUnmarked rules.marks_of rules.old_value marks back
+  abbrev pub IsUnmarkedAct : (P → Option (ℕ × ℕ)) → Marks → M → M → Type 0
+  IsUnmarkedAct marks_of marks old new =
+      (back : R) × rules.fits back new × (rules.after_undo back new ≡ old) × IsUnmarked marks_of rules.old_value marks back
 
   -- the first so many times, no undo record had one of the places that the marks cover
-  abbrev pub AreUnmarked : Marks → A → ℕ → M → Type 0
-  AreUnmarked marks action count machine =
-      (k : ℕ) → k < count → IsUnmarkedAct marks (machine_after k action machine) (machine_after (k + 1) action machine)
+  abbrev pub AreUnmarked : (P → Option (ℕ × ℕ)) → Marks → A → ℕ → M → Type 0
+  AreUnmarked marks_of marks action count machine =
+      (k : ℕ) → k < count → IsUnmarkedAct marks_of marks (machine_after k action machine) (machine_after (k + 1) action machine)

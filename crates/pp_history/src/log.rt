@@ -19,7 +19,7 @@ ghost use Rattle.std.specs.Option.{option_map};
 use crate::heads::Heads;
 use crate::looks::Looks;
 use crate::lookup::is_changed;
-use crate::marks::Marks;
+use crate::marks::{Marked, Marks};
 use crate::repeatable::Repeatable;
 use crate::reversible::{Reversible, UndoRecord};
 use crate::tails::{Tails, push};
@@ -157,7 +157,9 @@ impl<T: Reversible> Log<T> {
         }
         undo_record(self.heads.get(self.ahead), &self.tails, 0)
     }
+}
 
+impl<T: Marked> Log<T> {
     /// Returns the position, counted from 1, of the first undo record that has another number for one of the places
     /// than the machine has.
     pub(crate) fn find_change(
@@ -203,7 +205,7 @@ impl<T: Repeatable> Log<T> {
         ensures machine { machine.new ≡ machine_after T.Reversible result T.repeated machine.old }
         ensures moves { Moves T.Reversible (contents machine.old self.old) (contents machine.new self.new)
             (after_acts result T.repeated) }
-        ensures unmarked { AreUnmarked T.Reversible marks.now T.repeated (result - 1) machine.old }
+        ensures unmarked { AreUnmarked T.Reversible T.marks_of marks.now T.repeated (result - 1) machine.old }
     {
         self.heads.discard(&mut self.ahead);
         self.heads.make_room();
@@ -237,7 +239,7 @@ fn at_most(n: usize, limit: usize) -> usize
 /// Returns `false` only if the undo record of a head, or else of the newest tail, has none of the places that the marks
 /// cover. The marks say so: this is no look at the record.
 #[inline(always)]
-fn may_be_marked<T: Reversible>(
+fn may_be_marked<T: Marked>(
     head: &Option<T::Head>,
     tails: &Tails<T::Action, T::Record>,
     marks: &Marks,

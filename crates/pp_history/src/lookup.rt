@@ -7,7 +7,7 @@ ghost use Rattle.pp_history.specs.Search.{IsSearched};
 ghost use Rattle.pp_history.specs.UndoRecord.{whole_record};
 
 use crate::looks::Looks;
-use crate::marks::Marks;
+use crate::marks::{Marked, Marks};
 use crate::reversible::{Reversible, UndoRecord};
 
 /// Looks a place up in an undo record: returns its old number, or `None` if the record does not have that place. This is
@@ -52,7 +52,7 @@ fn has_other<T: Reversible>(
 /// Does what `has_other` does. Here the marks are asked first, once, and a record that has none of the places is skipped
 /// without a look.
 #[inline(always)]
-pub(crate) fn is_changed<T: Reversible>(
+pub(crate) fn is_changed<T: Marked>(
     machine: &T,
     back: &UndoRecord<T>,
     places: &[T::Place],

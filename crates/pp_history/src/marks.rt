@@ -1,12 +1,35 @@
 //! Marks of places. They show of most undo records that none of these places is in them.
 
-ghost use Rattle.std.specs.Prelude.{◌≡◌, ℕ, Option, true};
+ghost use Rattle.std.specs.Prelude.{◌≡◌, ℕ, Option, Some, None, IfSome, true, false};
 ghost use Rattle.pp_history.specs.Marks as spec;
-ghost use Rattle.pp_history.specs.Marks.{AreCovered, is_covered};
+ghost use Rattle.pp_history.specs.Marks.{AreCovered, IsUnmarked, is_covered};
+ghost use Rattle.pp_history.specs.UndoRecord.{whole_record};
 
-use crate::reversible::Reversible;
+use crate::reversible::{Reversible, UndoRecord};
 
-/// Marks of places: a Bloom filter with two hashes. The machine numbers the marks, `Reversible::marks`. A place that was
+/// A machine whose places have marks, so a search skips most undo records. In a machine without marks the `impl` is empty,
+/// and a search looks at each record.
+pub trait Marked: Reversible {
+    /// The numbers of the two marks of a place, if the place has marks.
+    ghost marks_of: { Self.Place → Option (ℕ × ℕ) } = { λ _. None };
+
+    /// Returns the numbers of the two marks of a place, or `None` if the place has none. Several places may share a mark,
+    /// and the two may be the same. A search skips a record if for each of its places one of the two is not set.
+    fn marks(_place: &Self::Place) -> Option<(u16, u16)>
+        ensures { IfSome result (λ marks. marks_of _place.now ≡ Some marks) }
+    {
+        None
+    }
+
+    /// Returns `false` only if the undo record has none of the places that the marks cover.
+    fn may_be_marked(_back: &UndoRecord<Self>, _marks: &Marks) -> bool
+        ensures { result ≡ false → IsUnmarked marks_of Self.old_value _marks.now (whole_record Self.unpacked _back.now) }
+    {
+        true
+    }
+}
+
+/// Marks of places: a Bloom filter with two hashes. The machine numbers the marks, `Marked::marks`. A place that was
 /// not given may share its marks with places that were.
 #[derive(Drop)]
 pub struct Marks {
@@ -20,7 +43,7 @@ pub struct Marks {
 
 impl Marks {
     /// Returns the marks of these places.
-    pub fn of<T: Reversible>(places: &[T::Place]) -> Marks
+    pub fn of<T: Marked>(places: &[T::Place]) -> Marks
         ensures { AreCovered T.marks_of result places.now }
     {
         let mut marks = Marks {

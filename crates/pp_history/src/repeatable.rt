@@ -2,11 +2,11 @@
 
 ghost use Rattle.std.specs.Prelude.{◌≡◌};
 
-use crate::reversible::Reversible;
+use crate::marks::Marked;
 
 /// A machine with an action that it admits in every state, as a turn of a barrel: one that can be performed again and
 /// again.
-pub trait Repeatable: Reversible {
+pub trait Repeatable: Marked {
     /// The action.
     ghost repeated: { Self.Action };
 

@@ -152,7 +152,7 @@ unmarked-hit old new marks back turned fits led_back none covered =
     sym (rw (led_back, turned) at (none_changed new back Covered (watches_of old) fits none all))
 
 -- turns whose records have no marked place
-pub unmarked_turns : (marks : Marks) (n turns : ℕ) (machine : Machine) → turns ≤ n → AreUnmarked rules marks Turn turns machine →
+pub unmarked_turns : (marks : Marks) (n turns : ℕ) (machine : Machine) → turns ≤ n → AreUnmarked rules marks_of marks Turn turns machine →
     AreCovered marks_of marks (map watched_place (watches_of machine)) → stopped n machine ≡ turns_before turns (stopped (n - turns) (turned turns machine))
 unmarked_turns marks n zero machine within none covered = before_start n machine
 unmarked_turns marks n (suc turns) machine within none covered =
@@ -164,7 +164,7 @@ unmarked_turns marks n (suc turns) machine within none covered =
     before ∙ (before_next n turns s (omega arith) ∙ rw (← hit, add-one) refl)
 
 -- the last of some turns changed a watched number, or no turn did
-pub last_turn : (marks : Marks) (turns : ℕ) (machine : Machine) → AreUnmarked rules marks Turn turns machine →
+pub last_turn : (marks : Marks) (turns : ℕ) (machine : Machine) → AreUnmarked rules marks_of marks Turn turns machine →
     AreCovered marks_of marks (map watched_place (watches_of machine)) →
     stopped (turns + 1) machine ≡ record { turns = turns + 1; hit = hit_of (turned turns machine) }
 unfolding turns_before stopped

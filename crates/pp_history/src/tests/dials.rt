@@ -105,6 +105,8 @@ impl Reversible for Dials {
     }
 }
 
+impl Marked for Dials {}
+
 fn three_dials() -> Dials {
     Dials { numbers: [0; 3] }
 }

@@ -97,6 +97,8 @@ impl Reversible for Gauge {
     }
 }
 
+impl Marked for Gauge {}
+
 impl Repeatable for Gauge {
     ghost repeated = { 7 };
 

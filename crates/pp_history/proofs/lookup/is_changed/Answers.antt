@@ -8,6 +8,6 @@ returns-then-not-may_be_marked g c =
     let T = g.T.Reversible in
     grind (
       arith,
-      unmarked_unchanged T (λ place. T.value_at c.args.machine.now place) c.args.marks.now
+      unmarked_unchanged T g.T.Marked.marks_of (λ place. T.value_at c.args.machine.now place) c.args.marks.now
           (whole_record T.unpacked c.args.back.now) c.args.places.now (c.may_be_marked.ensures c.if-not-may_be_marked.true) c.requires.covers,
     )

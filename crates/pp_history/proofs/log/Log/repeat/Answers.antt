@@ -52,7 +52,7 @@ loop-count-preserved g c =
       within = before.within;
       performed = more;
       before = rw count (before.all c.loop-count-test.true);
-      all = λ less. unmarked_more rules c.args.marks.now g.T.Repeatable.repeated c.loop-count.count c.args.machine.now c.loop-count.machine c.perform.new.self c.perform.new.head c.loop-count.tails c.perform.new.tails
+      all = λ less. unmarked_more rules g.T.Marked.marks_of c.args.marks.now g.T.Repeatable.repeated c.loop-count.count c.args.machine.now c.loop-count.machine c.perform.new.self c.perform.new.head c.loop-count.tails c.perform.new.tails
           before.performed.same more.same done before.performed.room (c.may_be_marked.ensures c.if-may_be_marked.false) (before.all c.loop-count-test.true);
     }
 

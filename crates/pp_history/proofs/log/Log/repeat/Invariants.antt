@@ -9,8 +9,8 @@ invariant-loop-count g l = let action = g.T.Repeatable.repeated in record {
   some : 1 ≤ l.most;
   within : (l.most ≤ l.n) × (l.most ≤ l.last % 256 + 1);
   performed : IsRun g.T.Reversible l.fn.machine l.fn.self action l.last l.initial.block l.initial.tails l.count l.machine l.block l.tails;
-  before : AreUnmarked g.T.Reversible l.marks action (l.count - 1) l.fn.machine;
-  all : l.count < l.most → AreUnmarked g.T.Reversible l.marks action l.count l.fn.machine;
+  before : AreUnmarked g.T.Reversible g.T.Marked.marks_of l.marks action (l.count - 1) l.fn.machine;
+  all : l.count < l.most → AreUnmarked g.T.Reversible g.T.Marked.marks_of l.marks action l.count l.fn.machine;
 }
 
 abbrev pub decreases-loop-count : goal.decreases-loop-count
