@@ -21,18 +21,12 @@ fn rejects(rt: &impl Abort, fault: LineFault, lines: &[&[u8]]) {
 
 /// Returns whether a line is ignored.
 fn is_ignored(line: &[u8]) -> bool {
-    match parse(line) {
-        Ok(None) => true,
-        _ => false,
-    }
+    matches!(parse(line), Ok(None))
 }
 
 /// Returns whether a line is a command.
 fn is_command(line: &[u8]) -> bool {
-    match parse(line) {
-        Ok(Some(_)) => true,
-        _ => false,
-    }
+    matches!(parse(line), Ok(Some(_)))
 }
 
 #[test]

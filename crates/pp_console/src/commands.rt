@@ -13,7 +13,7 @@ use crate::text::push_field;
 use crate::watches::{push_hit, put_watches};
 use arrayvec::ArrayVec;
 use pp_arith::octal;
-use pp_command::{Command, Request, parse};
+use pp_command::{Command, LineFault, Request, parse};
 use pp_history::Session;
 use pp_lines::{Failed, IoFault, Sink, push_text, put_all};
 use pp_rig::{Action, Hit, Rig, run};
@@ -112,7 +112,7 @@ fn back_to_change<W: Sink>(session: &mut Session<Rig>, out: &mut W) -> Result<bo
 }
 
 /// Writes central words, if the machine has them.
-#[tactic(auto, unfolding(crate::specs::Commands::central_answer, crate::specs::Refusals::fault_text))]
+#[tactic(auto, unfolding(crate::specs::Commands::central_answer))]
 #[inline(never)]
 fn dump_central<W: Sink>(
     session: &mut Session<Rig>,
@@ -125,7 +125,7 @@ fn dump_central<W: Sink>(
     ensures { Performs ⟦<W as Sink>⟧ session.old session.new out.old out.new result (central_answer first last) }
 {
     if last >= session.machine().central_size().words() {
-        return reject(out, b"ERR 04 RANGE\n");
+        return reject(out, fault_text(LineFault::OutOfRange));
     }
     put_central(session.machine(), first, last, out).and(Ok(true))
 }

@@ -21,12 +21,12 @@ pub fn fault_text(fault: LineFault) -> &'static [u8]
 }
 
 /// Returns the answer to an action that the machine does not admit.
-#[tactic(auto, unfolding(crate::specs::Refusals::action_fault_text, crate::specs::Refusals::fault_text))]
+#[tactic(auto, unfolding(crate::specs::Refusals::action_fault_text))]
 pub fn action_fault_text(fault: ActionFault) -> &'static [u8]
     ensures { result.now ≡ action_fault_text fault }
 {
     match fault {
-        ActionFault::Range => b"ERR 04 RANGE\n",
+        ActionFault::Range => fault_text(LineFault::OutOfRange),
         ActionFault::WatchesFull => b"ERR 11 WATCHES FULL\n",
         ActionFault::AlreadyWatched => b"ERR 12 ALREADY WATCHED\n",
         ActionFault::NotWatched => b"ERR 13 NOT WATCHED\n",

@@ -43,27 +43,20 @@ fn repeated(rt: HostRuntime, text: &str, times: usize, end: &str) -> Result<Stri
 
 /// A file of a text repeated a number of times, followed by an end, and its fault, if it has one.
 #[derive(Clone, Copy, Drop)]
-struct LongFile {
-    text: &'static str,
-    times: usize,
-    end: &'static str,
-    fault: Option<LoadFault>,
-}
+struct LongFile(&'static str, usize, &'static str, Option<LoadFault>);
 
 impl LongFile {
     /// Returns whether the deck has that fault, or none.
     fn is_right(&self, rt: HostRuntime) -> Result<bool, Fail> {
-        let file = repeated(rt, self.text, self.times, self.end)?;
-        Ok(deck_has(rt, file.as_bytes(), self.fault))
+        let LongFile(text, times, end, fault) = *self;
+        let file = repeated(rt, text, times, end)?;
+        Ok(deck_has(rt, file.as_bytes(), fault))
     }
 }
 
 /// A file, and its fault, if it has one.
 #[derive(Clone, Copy, Drop)]
-struct Row {
-    file: &'static [u8],
-    fault: Option<LoadFault>,
-}
+struct Row(&'static [u8], Option<LoadFault>);
 
 /// Returns whether a file is a deck of the one card `1 2 3`.
 fn has_one_card(rt: HostRuntime, file: &[u8], piece: usize) -> bool
@@ -129,62 +122,26 @@ fn decks_of_no_card_and_of_many(rt: HostRuntime) -> Result<(), Fail> {
 }
 
 const DAMAGED: [Row; 7] = [
-    Row {
-        file: b"1 10000",
-        fault: Some(LoadFault::TooLarge(1)),
-    },
-    Row {
-        file: b"1 10000 8",
-        fault: Some(LoadFault::NotOctal(1)),
-    },
-    Row {
-        file: b"* deck\n1 8",
-        fault: Some(LoadFault::NotOctal(2)),
-    },
-    Row {
-        file: b"1\n\xc3\n",
-        fault: Some(LoadFault::NotOctal(2)),
-    },
-    Row {
-        file: b"* \xc3\n",
-        fault: None,
-    },
-    Row {
-        file: b"1\r2\n",
-        fault: Some(LoadFault::NotOctal(1)),
-    },
-    Row {
-        file: b"8\n10000\n",
-        fault: Some(LoadFault::NotOctal(1)),
-    },
+    Row(b"1 10000", Some(LoadFault::TooLarge(1))),
+    Row(b"1 10000 8", Some(LoadFault::NotOctal(1))),
+    Row(b"* deck\n1 8", Some(LoadFault::NotOctal(2))),
+    Row(b"1\n\xc3\n", Some(LoadFault::NotOctal(2))),
+    Row(b"* \xc3\n", None),
+    Row(b"1\r2\n", Some(LoadFault::NotOctal(1))),
+    Row(b"8\n10000\n", Some(LoadFault::NotOctal(1))),
 ];
 
 #[test]
 fn damaged_decks(rt: HostRuntime) {
-    for row in DAMAGED {
-        assert!(rt; deck_has(rt, row.file, row.fault));
+    for Row(file, fault) in DAMAGED {
+        assert!(rt; deck_has(rt, file, fault));
     }
 }
 
 const MANY_WORDS: [LongFile; 3] = [
-    LongFile {
-        text: "1 ",
-        times: 80,
-        end: "\n",
-        fault: None,
-    },
-    LongFile {
-        text: "1 ",
-        times: 81,
-        end: "\n8\n",
-        fault: Some(LoadFault::TooManyWords(1)),
-    },
-    LongFile {
-        text: "1 ",
-        times: 80,
-        end: "10000",
-        fault: Some(LoadFault::TooLarge(1)),
-    },
+    LongFile("1 ", 80, "\n", None),
+    LongFile("1 ", 81, "\n8\n", Some(LoadFault::TooManyWords(1))),
+    LongFile("1 ", 80, "10000", Some(LoadFault::TooLarge(1))),
 ];
 
 #[test]
@@ -195,43 +152,19 @@ fn decks_of_many_words(rt: HostRuntime) -> Result<(), Fail> {
     Ok(())
 }
 
-/// Returns a text, and then one that is repeated.
-fn with_front(rt: HostRuntime, front: &str, text: &str, times: usize) -> Result<String, Fail> {
-    let mut all = String::new(rt.alloc());
-    all.push_str(front)?;
-    for _ in 0..times {
-        all.push_str(text)?;
-    }
-    Ok(all)
-}
-
 #[test]
 fn a_comment_then_too_many_words(rt: HostRuntime) -> Result<(), Fail> {
-    let file = with_front(rt, "* eighty-one words\n", "1 ", 81)?;
+    let words = repeated(rt, "1 ", 81, "")?;
+    let file = repeated(rt, "* eighty-one words\n", 1, words.as_str())?;
     let fault = Some(LoadFault::TooManyWords(2));
     assert!(rt; deck_has(rt, file.as_bytes(), fault));
     Ok(())
 }
 
 const LONG_LINES: [LongFile; 3] = [
-    LongFile {
-        text: " ",
-        times: 1022,
-        end: "1\r\n",
-        fault: None,
-    },
-    LongFile {
-        text: " ",
-        times: 1023,
-        end: "1",
-        fault: Some(LoadFault::LineTooLong(1)),
-    },
-    LongFile {
-        text: "*",
-        times: 1023,
-        end: "\r\r\n",
-        fault: Some(LoadFault::LineTooLong(1)),
-    },
+    LongFile(" ", 1022, "1\r\n", None),
+    LongFile(" ", 1023, "1", Some(LoadFault::LineTooLong(1))),
+    LongFile("*", 1023, "\r\r\n", Some(LoadFault::LineTooLong(1))),
 ];
 
 #[test]
@@ -249,12 +182,7 @@ fn a_long_panel_line(rt: HostRuntime) -> Result<(), Fail> {
     Ok(())
 }
 
-const TOO_LONG_FILE: LongFile = LongFile {
-    text: "\n",
-    times: 1_048_577,
-    end: "",
-    fault: Some(LoadFault::FileTooLong),
-};
+const TOO_LONG_FILE: LongFile = LongFile("\n", 1_048_577, "", Some(LoadFault::FileTooLong));
 
 #[test]
 fn long_files(rt: HostRuntime) -> Result<(), Fail> {
@@ -294,36 +222,24 @@ fn panels(rt: HostRuntime) {
 }
 
 const DAMAGED_PANELS: [Row; 6] = [
-    Row {
-        file: b"",
-        fault: Some(LoadFault::PanelCount),
-    },
-    Row {
-        file: b"1 2 3 4 5 6 7 1 2 3 4",
-        fault: Some(LoadFault::PanelCount),
-    },
-    Row {
-        file: b"0 0 0 0 0 0 0 0 0 0 0 0\n8",
-        fault: Some(LoadFault::NotOctal(2)),
-    },
-    Row {
-        file: b"0 0 0 0 0 0 0 0 0 0 0 0\n1\n8",
-        fault: Some(LoadFault::PanelCount),
-    },
-    Row {
-        file: b"0 0 0 0 0 0 0 0 0 0 0 0 1 8",
-        fault: Some(LoadFault::NotOctal(1)),
-    },
-    Row {
-        file: b"0 0 0 0 0 0 0 0 0 0 0 0 1 10000",
-        fault: Some(LoadFault::TooLarge(1)),
-    },
+    Row(b"", Some(LoadFault::PanelCount)),
+    Row(b"1 2 3 4 5 6 7 1 2 3 4", Some(LoadFault::PanelCount)),
+    Row(b"0 0 0 0 0 0 0 0 0 0 0 0\n8", Some(LoadFault::NotOctal(2))),
+    Row(
+        b"0 0 0 0 0 0 0 0 0 0 0 0\n1\n8",
+        Some(LoadFault::PanelCount),
+    ),
+    Row(b"0 0 0 0 0 0 0 0 0 0 0 0 1 8", Some(LoadFault::NotOctal(1))),
+    Row(
+        b"0 0 0 0 0 0 0 0 0 0 0 0 1 10000",
+        Some(LoadFault::TooLarge(1)),
+    ),
 ];
 
 #[test]
 fn damaged_panels(rt: HostRuntime) {
-    for row in DAMAGED_PANELS {
-        assert!(rt; panel_has(row.file, row.fault));
+    for Row(file, fault) in DAMAGED_PANELS {
+        assert!(rt; panel_has(file, fault));
     }
 }
 

@@ -29,5 +29,5 @@ IsInput (Some known) read bytes = (bytes ≡ known) × ((rest : List ℕ) × (by
 abbrev pub IsContent : Known Found → Found → Found → Type 0
 IsContent None read content = content ≡ read
 IsContent (Some Missing) Missing content = content ≡ Missing
-IsContent (Some (Content known)) (Content read) content = (content ≡ Content known) × ((rest : List ℕ) × (known ≡ read ++ rest))
+IsContent (Some (Content known)) (Content read) (Content bytes) = IsInput (Some known) read bytes
 IsContent (Some known) read content = ⊥

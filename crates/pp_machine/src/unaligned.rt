@@ -1,5 +1,5 @@
 //! Numbers in pieces, so an undo record has no gaps between its fields. A compiled program reads and writes such a number
-//! as one.
+//! as one. One generic type would be longer: its halves need a trait and an impl for each, and `Clone` and `Default` by hand.
 ghost use Rattle.std.proofs.Common.{arith, ap₂};
 ghost use Rattle.std.specs.Prelude.{ℕ, ◌≡◌, ◌+◌, ◌*◌, ◌/◌, ◌%◌, ◌<◌};
 

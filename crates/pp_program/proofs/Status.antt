@@ -26,7 +26,7 @@ lost rule None read content trouble p = absurd p
 
 serving : (start : Value) (bytes read : List ℕ) (course : Course) → IsCutServing start bytes read course → exit_of course.ended ≡ 3
 serving start bytes read course (IsCutServing.ByRead e) = rw e
-serving start bytes read course (IsCutServing.ByWrite front rest all some e) = rw e
+serving start bytes read course (IsCutServing.ByWrite front proper e) = rw e
 
 cut : (asked : Asked) (given : Given) (readings : FileKind → Found) (typed : List ℕ) (course : Course) →
     IsCut asked given readings typed course →

@@ -1,4 +1,4 @@
-//! The line of a trouble, as bytes.
+//! The line of a trouble, as bytes. What `thiserror` derives has no contract, so the texts of `#[error(..)]` are here again.
 ghost use Rattle.arrayvec.specs.ArrayVec.{array_vec_len};
 ghost use Rattle.pp_lines.specs.Device.{Counts};
 ghost use Rattle.pp_lines.specs.Output.{Writes};

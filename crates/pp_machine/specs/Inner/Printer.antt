@@ -1,5 +1,5 @@
 -- The printer on its own numbers and its channel: one step as a write list, and the places and old values in its record.
-use Rattle.std.specs.Prelude.{ℕ, Bool, ◌+◌, ◌/◌, ◌%◌, ◌<◌, ◌≤◌, ◌≡◌, [], ◌∷◌, slice_index, set, if◌then◌else◌, ◌==◌, ◌&&◌, nat_le}
+use Rattle.std.specs.Prelude.{ℕ, ◌+◌, ◌/◌, ◌%◌, ◌<◌, ◌≤◌, ◌≡◌, [], ◌∷◌, slice_index, set, if◌then◌else◌, ◌==◌, ◌&&◌, nat_le}
 use Rattle.pp_machine.specs.Prelude.{state_number, Writes, Place}
 use Rattle.pp_machine.specs.Inner.Device.{DeviceModel, DevicePlace, DeviceView, AtOwn, AtState, AtWord, device_place}
 use Rattle.pp_machine.specs.declared.printer.PrinterRecord.{PrinterRecord}

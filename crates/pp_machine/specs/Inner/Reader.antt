@@ -1,5 +1,5 @@
 -- The card reader on its own numbers and its channel: one step as a write list, and the places and old values in its record.
-use Rattle.std.specs.Prelude.{ℕ, ◌+◌, ◌<◌, [], ◌∷◌, length, slice_index, slice_index_or, if◌then◌else◌, ◌==◌, nat_lt}
+use Rattle.std.specs.Prelude.{ℕ, ◌+◌, ◌<◌, [], ◌∷◌, slice_index, slice_index_or, if◌then◌else◌, ◌==◌, nat_lt}
 use Rattle.pp_machine.specs.Prelude.{state_number, Writes, over_by, Place}
 use Rattle.pp_machine.specs.Inner.Device.{DeviceModel, DevicePlace, DeviceView, AtOwn, AtState, AtWord, device_place, put_at}
 use Rattle.pp_machine.specs.Reader.{mode_at, reader_status}

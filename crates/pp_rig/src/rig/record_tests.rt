@@ -102,10 +102,7 @@ fn check_short(
 }
 
 fn is_turn(action: &Action) -> bool {
-    match action {
-        Action::Turn => true,
-        _ => false,
-    }
+    matches!(action, Action::Turn)
 }
 
 /// Performs an action and undoes it with a short record, if the action leaves one.

@@ -19,15 +19,7 @@ const STOPS_AND_GOES_BACK: [Step; 9] = [
     Step::Cells(0, 0o100, &[0o1405, 0o2400, 0o3450]),
     Step::SetP(0, 0o100),
     Step::Watch(CELL_50),
-    Step::Stops(
-        0o1000,
-        0o25,
-        Hit {
-            place: CELL_50,
-            was: 0,
-            now: 5,
-        },
-    ),
+    Step::Stops(0o1000, 0o25, CELL_50, 0, 5),
     Step::Is(SLOT, 1),
     Step::BackToChange(Ok(1)),
     Step::Is(Place::Cell { pp: 0, a: 0o50 }, 0),
@@ -59,15 +51,7 @@ fn a_store_of_the_same_number_is_no_change(rt: HostRuntime) -> Result<(), Fail> 
 
 const WATCHES_THE_CLOCK: [Step; 6] = [
     Step::Watch(REGISTER_14),
-    Step::Stops(
-        0o1000,
-        0o12,
-        Hit {
-            place: REGISTER_14,
-            was: 0,
-            now: 1,
-        },
-    ),
+    Step::Stops(0o1000, 0o12, REGISTER_14, 0, 1),
     Step::Is(SLOT, 0),
     Step::BackToChange(Ok(1)),
     Step::Is(SLOT, 0o11),
@@ -85,15 +69,7 @@ const WATCHES_A_AND_P: [Step; 5] = [
     Step::SetP(0, 0o100),
     Step::Watch(WATCHED_A),
     Step::Watch(WATCHED_P),
-    Step::Stops(
-        1,
-        1,
-        Hit {
-            place: WATCHED_A,
-            was: 0,
-            now: 5,
-        },
-    ),
+    Step::Stops(1, 1, WATCHED_A, 0, 5),
 ];
 
 const WATCHES_P_AND_A: [Step; 5] = [
@@ -101,15 +77,7 @@ const WATCHES_P_AND_A: [Step; 5] = [
     Step::SetP(0, 0o100),
     Step::Watch(WATCHED_P),
     Step::Watch(WATCHED_A),
-    Step::Stops(
-        1,
-        1,
-        Hit {
-            place: WATCHED_P,
-            was: 0o100,
-            now: 0o101,
-        },
-    ),
+    Step::Stops(1, 1, WATCHED_P, 0o100, 0o101),
 ];
 
 #[test]
@@ -130,15 +98,7 @@ const STOPS_IN_A_SHORT_HISTORY: [Step; 10] = [
     Step::Cells(0, 0o100, &[0o1405, 0o2400, 0o3450]),
     Step::SetP(0, 0o100),
     Step::Watch(CELL_50),
-    Step::Stops(
-        0o1000,
-        0o25,
-        Hit {
-            place: CELL_50,
-            was: 0,
-            now: 5,
-        },
-    ),
+    Step::Stops(0o1000, 0o25, CELL_50, 0, 5),
     Step::Kept(4),
     Step::Back(4, None),
     Step::Is(SLOT, 7),
@@ -193,15 +153,7 @@ const LOADS: [Step; 4] = [
 const EXCHANGES: [Step; 3] = [
     Step::Cells(0, 0o100, &[0o1405, 0o2600]),
     Step::Watch(WORD_5),
-    Step::Stops(
-        0o13,
-        0o13,
-        Hit {
-            place: WORD_5,
-            was: 0o77,
-            now: 0,
-        },
-    ),
+    Step::Stops(0o13, 0o13, WORD_5, 0o77, 0),
 ];
 
 #[test]
@@ -212,15 +164,7 @@ fn an_exchange_may_change_a_watched_word(rt: HostRuntime) -> Result<(), Fail> {
 const OUTPUTS: [Step; 3] = [
     Step::Cells(0, 0o100, &[0o1405, 0o7203]),
     Step::Watch(CHANNEL_3),
-    Step::Stops(
-        0o13,
-        0o13,
-        Hit {
-            place: CHANNEL_3,
-            was: 0,
-            now: 5,
-        },
-    ),
+    Step::Stops(0o13, 0o13, CHANNEL_3, 0, 5),
 ];
 
 #[test]
@@ -231,15 +175,7 @@ fn an_output_changes_the_register_of_a_channel(rt: HostRuntime) -> Result<(), Fa
 const STORES: [Step; 3] = [
     Step::Cells(0, 0o100, &[0o1405, 0o3450]),
     Step::Watch(WATCHED_A),
-    Step::Stops(
-        0o13,
-        1,
-        Hit {
-            place: WATCHED_A,
-            was: 0,
-            now: 5,
-        },
-    ),
+    Step::Stops(0o13, 1, WATCHED_A, 0, 5),
 ];
 
 #[test]
