@@ -1,7 +1,6 @@
 -- Words that are kept with zeros after them.
 use Rattle.std.proofs.Common.{◌≡◌, ℕ, List, ◌++◌, ap, drop, length, replicate}
-use Rattle.std.proofs.lemmas.Grind.{common_steps}
-use Rattle.std.proofs.lemmas.List.{drop-replicate}
+use Rattle.std.proofs.lemmas.{Grind.common_steps, List.drop-replicate}
 use Rattle.pp_actions.specs.Padding.{padded}
 
 -- words in the front of eight zeros

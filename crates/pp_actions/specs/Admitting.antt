@@ -10,7 +10,8 @@ use Rattle.pp_actions.specs.Watches.{watches_of, is_watched}
 use Rattle.pp_actions.specs.declared.watched.Watched.{Watched}
 use Rattle.pp_actions.specs.declared.watched.Watched.TheVariants as watched
 use Rattle.pp_actions.specs.declared.action.Action.{Action}
-use Rattle.pp_actions.specs.declared.action.Action.TheVariants.{Turn, SetCells, SetA, SetP, SetQ, SetWord, SetChannel, Watch, Unwatch, Deadstart}
+use Rattle.pp_actions.specs.declared.action.Action.TheVariants.{Turn, SetCells, SetA, SetP, SetQ, SetWord, SetChannel, Watch}
+use Rattle.pp_actions.specs.declared.action.Action.TheVariants.{Unwatch, Deadstart}
 use Rattle.pp_actions.specs.declared.action.ActionFault.{ActionFault}
 use Rattle.pp_actions.specs.declared.action.ActionFault.TheVariants.{Range, WatchesFull, AlreadyWatched, NotWatched, NoPanel}
 

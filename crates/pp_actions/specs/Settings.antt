@@ -3,7 +3,8 @@ use Rattle.std.proofs.Common.{arith, zero, suc, ℕ, ◌<◌, List, [], ◌∷�
 use Rattle.pp_machine.specs.Prelude.{Writes, write_list, Has, HasAll, state_number}
 use Rattle.pp_machine.specs.declared.place.Write.{Write}
 use Rattle.pp_machine.specs.declared.place.Place.{Place}
-use Rattle.pp_machine.specs.declared.place.Place.TheVariants.{Cell, RegA, RegP, RegQ, Phase, ChannelMode, ChannelWord, Central, Slot}
+use Rattle.pp_machine.specs.declared.place.Place.TheVariants.{Cell, RegA, RegP, RegQ, Phase, ChannelMode, ChannelWord, Central}
+use Rattle.pp_machine.specs.declared.place.Place.TheVariants.{Slot}
 use Rattle.pp_machine.specs.Ranges.{IsInRange}
 use Rattle.pp_actions.specs.WriteLists.{cell_writes}
 use Rattle.pp_actions.specs.declared.action.Action.{Action}

@@ -24,7 +24,8 @@ impl Model for Values {
 
     ghost inverse = { λ list. record { count = length list; words = padded list } };
 
-    ghost inverse_ok = { λ values kept. ap₂ (λ count words. record { count = count; words = words }) kept.1 kept.2 };
+    ghost inverse_ok = { λ values (few, same_count, same_words).
+        ap₂ (λ count words. record { count = count; words = words }) same_count same_words };
 }
 
 impl Values {

@@ -1,15 +1,9 @@
 -- The words of the command line, and the result of parsing them.
 use Rattle.std.proofs.Common.{◌≡◌, ◌∙◌, ℕ, List, true, refl, ap, subst, Result}
-use Rattle.clap.specs.Walk.{first_of}
-use Rattle.clap.specs.Matches.{first_value, found_of}
+use Rattle.clap.specs.{Walk.first_of, Matches.first_value, Matches.found_of, Takes.takes, Kinds.FailsBy, declared.error.Error.Error}
 use Rattle.clap.specs.Simple.{App, HasMatchesOf, is_simple, matches_of}
-use Rattle.clap.specs.Takes.{takes}
-use Rattle.clap.specs.Kinds.{FailsBy}
-use Rattle.clap.specs.Faults.{fault_of, is_simple_and_free}
-use Rattle.clap.specs.declared.error.Error.{Error}
-use Rattle.clap.specs.declared.parser.matches.ArgMatches.{ArgMatches}
-use Rattle.clap.proofs.OnLiterals.{clap_on_literals}
-use Rattle.clap.proofs.WalkLemmas.{first_value-rows}
+use Rattle.clap.specs.{Faults.fault_of, Faults.is_simple_and_free, declared.parser.matches.ArgMatches.ArgMatches}
+use Rattle.clap.proofs.{OnLiterals.clap_on_literals, WalkLemmas.first_value-rows}
 use Rattle.pp_arguments.specs.CommandLine.{pp6600, value_of, are_taken, faults_of}
 
 is_simple-pp6600 : is_simple pp6600 ≡ true
@@ -20,8 +14,7 @@ is_simple-pp6600 = refl
 pub given-of_matches : (app : App) (words : List (List ℕ)) (matches : ArgMatches) → app ≡ pp6600 → HasMatchesOf app words matches →
     (name : List ℕ) → first_value (found_of matches) name ≡ value_of words name
 unfolding value_of
-given-of_matches app words matches is_app has name =
-    first_value-rows (found_of matches) name
+given-of_matches app words matches is_app has name = first_value-rows (found_of matches) name
     ∙ ap (first_of name) ((has (ap is_simple is_app ∙ is_simple-pp6600)).0 ∙ ap (λ (a : App). matches_of a words) is_app)
 
 -- the words that this command accepts

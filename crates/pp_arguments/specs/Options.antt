@@ -1,5 +1,6 @@
 -- The options that the words of the command line ask for.
-use Rattle.std.specs.Prelude.{◌≡◌, ◌≤◌, ◌==◌, ◌&&◌, ◌⊎◌, [], ℕ, Bool, Err, List, None, Ok, Option, Result, Some, codes, if◌then◌else◌, is_some, nat_le, option_and_then, option_map}
+use Rattle.std.specs.Prelude.{◌≡◌, ◌≤◌, ◌==◌, ◌&&◌, ◌⊎◌, [], ℕ, Bool, Err, List, None, Ok, Option, Result, Some, codes}
+use Rattle.std.specs.Prelude.{if◌then◌else◌, is_some, nat_le, option_and_then, option_map}
 use Rattle.std.specs.Result.{result_ok}
 use Rattle.std.specs.String.{string_bytes}
 use Rattle.pp_arith.specs.OctalRead.{octal_read}

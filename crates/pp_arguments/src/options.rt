@@ -114,7 +114,8 @@ fn options_of(alloc: Global, matches: &ArgMatches) -> Result<Options, ArgFault>
         IfOk result (λ options. asked_by words ≡ Ok (asked_of options)) }
     ensures ranges { IfOk result AreInRange }
     ensures cause { (words : List Text) → AreGiven words matches.now → faults_of words ≡ [] → IfErr result (IsCauseOf words) }
-    ensures admitted { (words : List Text) → AreGiven words matches.now → IsTrue (are_admitted words) → IfErr result IsMemoryOrChannel }
+    ensures admitted { (words : List Text) → AreGiven words matches.now →
+        IsTrue (are_admitted words) → IfErr result IsMemoryOrChannel }
 {
     let history = history(matches.get_str("history")).ok_or(ArgFault::BadArguments)?;
     let central = central(matches.get_str("central")).ok_or(ArgFault::BadArguments)?;

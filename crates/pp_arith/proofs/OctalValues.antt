@@ -1,10 +1,8 @@
 -- The value of octal digits, read one after another.
-use Rattle.std.proofs.Common.{◌≡◌, ◌∙◌, ℕ, ◌+◌, ◌-◌, ◌*◌, ◌<◌, ◌≤◌, true, List, [], ◌∷◌, length, take, drop, get_or, sym, ap, arith, length-drop, fold, Err}
-use Rattle.std.proofs.lemmas.Bool.Decides.{nat_tests}
-use Rattle.std.proofs.lemmas.List.{take-append-drop, take_more}
-use Rattle.std.proofs.lemmas.List.Sums.{fold-append}
-use Rattle.pp_arith.specs.declared.reading.OctalFault.TheVariants.{TooLarge}
-use Rattle.pp_arith.specs.Octal.{octal_value, is_octal}
+use Rattle.std.proofs.Common.{◌≡◌, ◌∙◌, ℕ, ◌+◌, ◌-◌, ◌*◌, ◌<◌, ◌≤◌, true, List, [], ◌∷◌, length, take, drop, get_or, sym, ap, arith}
+use Rattle.std.proofs.Common.{length-drop, fold, Err}
+use Rattle.std.proofs.lemmas.{Bool.Decides.nat_tests, List.take-append-drop, List.take_more, List.Sums.fold-append}
+use Rattle.pp_arith.specs.{declared.reading.OctalFault.TheVariants.TooLarge, Octal.octal_value, Octal.is_octal}
 use Rattle.pp_arith.specs.OctalRead.{octal_read}
 
 abbrev pub with_digit : ℕ → ℕ → ℕ
@@ -32,12 +30,11 @@ value-before word i h =
 
 -- a value above the maximum is an error
 pub octal_read-over : (word : List ℕ) (max : ℕ) → is_octal word ≡ true → max < octal_value word → Err TooLarge ≡ octal_read word max
-octal_read-over word max digits over =
-    grind (arith, nat_tests)
+octal_read-over word max digits over = grind (arith, nat_tests)
 
 -- the value with one more digit
-pub value-next : (word : List ℕ) (i : ℕ) → i < length word → octal_value (take (i + 1) word) ≡ octal_value (take i word) * 8 + (get_or word i 0 - 48)
-value-next word i h =
-    ap octal_value (take_more word i 0 h) ∙ fold-append with_digit 0 (take i word) (get_or word i 0 ∷ [])
+pub value-next : (word : List ℕ) (i : ℕ) → i < length word →
+    octal_value (take (i + 1) word) ≡ octal_value (take i word) * 8 + (get_or word i 0 - 48)
+value-next word i h = ap octal_value (take_more word i 0 h) ∙ fold-append with_digit 0 (take i word) (get_or word i 0 ∷ [])
 
 pub ruleset values = (value-so_far, value-before, octal_read-over, value-next)

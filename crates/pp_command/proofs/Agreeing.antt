@@ -1,15 +1,12 @@
 -- The ranges of a line and those of a machine, which differ in central memory alone; and the tests of these ranges.
 use Rattle.std.proofs.Common.{◌≡◌, ◌<◌, ◌≤◌, ◌&&◌, ℕ, List, All, nat_lt, nat_le, true, arith, refl}
-use Rattle.std.specs.Bool.{Decides}
-use Rattle.std.specs.List.{list_all}
+use Rattle.std.specs.{Bool.Decides, List.list_all}
 use Rattle.std.proofs.lemmas.Bool.Decides.{nat_tests, Decides-and, Decides-by_and, Decides-ltb}
 use Rattle.pp_command.specs.Ranges.{CanBeAsked, IsActionInRange, IsPlaceInRange, IsPlaceWithin, IsWithin, most_central_words}
-use Rattle.pp_actions.specs.Admitting.{is_in_range, is_watchable}
+use Rattle.pp_actions.specs.{Admitting.is_in_range, Admitting.is_watchable, declared.action.Action.Action}
 use Rattle.pp_machine.specs.Ranges.{past_sixty_bits, twelve_bits}
-use Rattle.pp_actions.specs.declared.action.Action.{Action}
 use Rattle.pp_actions.specs.declared.action.Action.TheVariants.{SetWord, Watch, Unwatch}
-use Rattle.pp_actions.specs.declared.watched.Watched.{Watched}
-use Rattle.pp_actions.specs.declared.watched.Watched.TheVariants.{Central}
+use Rattle.pp_actions.specs.declared.watched.Watched.{Watched, TheVariants.Central}
 
 is_central : (a size v : ℕ) → Decides (nat_lt a size && nat_lt v past_sixty_bits) ((a < size) × (v < past_sixty_bits))
 is_central a size v = Decides-and (nat_lt a size) (nat_lt v past_sixty_bits) (Decides-ltb a size) (Decides-ltb v past_sixty_bits)
@@ -34,9 +31,9 @@ admitted size (Watch w) h k = place_admitted size w h.1 k
 admitted size (Unwatch w) h k = place_admitted size w h.1 k
 admitted size action h k = h.1
 
-pub asked : (size : ℕ) (action : Action) → size ≤ most_central_words → CanBeAsked action → is_in_range size action ≡ true → IsActionInRange action
-asked size (SetWord a v) most can h =
-    let t = (is_central a size v).0 h in
+pub asked : (size : ℕ) (action : Action) → size ≤ most_central_words →
+    CanBeAsked action → is_in_range size action ≡ true → IsActionInRange action
+asked size (SetWord a v) most can h = let t = (is_central a size v).0 h in
     (tt, (is_central a most_central_words v).1 (omega (arith, most, t.0), t.1))
 asked size (Watch w) most can h = (tt, place_asked size w most h)
 asked size (Unwatch w) most can h = (tt, place_asked size w most h)
@@ -51,4 +48,5 @@ within size action h = tt
 -- ---- the words of SET M
 
 pub are_words : (values : List ℕ) → All (λ v. v ≤ twelve_bits) values → list_all (λ v. nat_le v twelve_bits) values ≡ true
-are_words values = (Decides-by_and (λ v. nat_le v twelve_bits) (λ v. v ≤ twelve_bits) (list_all (λ v. nat_le v twelve_bits)) (λ v. (λ h. grind (arith, nat_tests), λ h. grind (arith, nat_tests))) refl (λ _ _. refl) values).1
+are_words values = (Decides-by_and (λ v. nat_le v twelve_bits) (λ v. v ≤ twelve_bits) (list_all (λ v. nat_le v twelve_bits))
+    (λ v. (λ h. grind (arith, nat_tests), λ h. grind (arith, nat_tests))) refl (λ _ _. refl) values).1

@@ -1,26 +1,27 @@
 -- Numbers that are read one after another.
 use Rattle.std.proofs.Common.{◌≡◌, ℕ, List, [], ◌∷◌, ◌++◌, refl, sym, ap, append_assoc, Result, Ok, Err, append-nil}
 use Rattle.std.proofs.lemmas.Grind.{common_steps, elements}
-use Rattle.pp_command.specs.declared.fault.LineFault.{LineFault}
+use Rattle.pp_command.specs.{declared.fault.LineFault.LineFault, Numbers.number_read, Numbers.numbers}
 use Rattle.pp_lines.specs.Results.{◌>>=◌}
-use Rattle.pp_command.specs.Numbers.{number_read, numbers}
 
 -- the numbers after those already read
 abbrev pub with_front : List ℕ → Result (List ℕ) LineFault → Result (List ℕ) LineFault
 with_front front read = read >>= λ values. Ok (front ++ values)
 
-front-next : (front : List ℕ) (value : ℕ) (read : Result (List ℕ) LineFault) → with_front front (read >>= λ values. Ok (value ∷ values)) ≡ with_front (front ++ value ∷ []) read
+front-next : (front : List ℕ) (value : ℕ) (read : Result (List ℕ) LineFault) →
+    with_front front (read >>= λ values. Ok (value ∷ values)) ≡ with_front (front ++ value ∷ []) read
 front-next front value (Ok values) = ap Ok (sym (append_assoc front (value ∷ []) values))
 front-next front value (Err fault) = refl
 
 -- a word is read
-pub numbers-next : (most : ℕ) (front : List ℕ) (word : List ℕ) (others : List (List ℕ)) (value : ℕ) → number_read most word ≡ Ok value →
+pub numbers-next : (most : ℕ) (front : List ℕ) (word : List ℕ) (others : List (List ℕ)) (value : ℕ) →
+    number_read most word ≡ Ok value →
     with_front front (numbers most (word ∷ others)) ≡ with_front (front ++ value ∷ []) (numbers most others)
 numbers-next most front word others value e = rw e (front-next front value (numbers most others))
 
 -- a word is not a number in range
-pub numbers-fails : (most : ℕ) (front : List ℕ) (word : List ℕ) (others : List (List ℕ)) (fault : LineFault) → number_read most word ≡ Err fault →
-    with_front front (numbers most (word ∷ others)) ≡ Err fault
+pub numbers-fails : (most : ℕ) (front : List ℕ) (word : List ℕ) (others : List (List ℕ)) (fault : LineFault) →
+    number_read most word ≡ Err fault → with_front front (numbers most (word ∷ others)) ≡ Err fault
 numbers-fails most front word others fault e = rw e refl
 
 -- no word is left

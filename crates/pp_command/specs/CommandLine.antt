@@ -1,12 +1,14 @@
 -- The request of a line, or why it is rejected: the command lines, one by one. All numbers of a line are octal.
-use Rattle.std.specs.Prelude.{ℕ, ◌-◌, ◌^◌, nat_lt, nat_le, ◌==◌, ◌&&◌, ◌||◌, Bool, false, if◌then◌else◌, List, [], ◌∷◌, length, Option, Some, None, Result, Ok, Err, codes}
+use Rattle.std.specs.Prelude.{ℕ, ◌-◌, ◌^◌, nat_lt, nat_le, ◌==◌, ◌&&◌, ◌||◌, Bool, false, if◌then◌else◌, List, [], ◌∷◌, length}
+use Rattle.std.specs.Prelude.{Option, Some, None, Result, Ok, Err, codes}
 use Rattle.std.specs.List.{list_all}
 use Rattle.std.specs.Str.{str_eq_ignore_ascii_case}
 use Rattle.pp_lines.specs.Lines.{without_return}
 use Rattle.pp_lines.specs.Words.{words, is_ignored}
 use Rattle.pp_machine.specs.declared.channel.ChannelState.{ChannelState}
 use Rattle.pp_machine.specs.declared.channel.ChannelState.TheVariants.{Inactive, Empty, Full}
-use Rattle.pp_actions.specs.declared.action.Action.TheVariants.{SetCells, SetA, SetP, SetQ, SetWord, SetChannel, Watch, Unwatch, Deadstart}
+use Rattle.pp_actions.specs.declared.action.Action.TheVariants.{SetCells, SetA, SetP, SetQ, SetWord, SetChannel, Watch, Unwatch}
+use Rattle.pp_actions.specs.declared.action.Action.TheVariants.{Deadstart}
 use Rattle.pp_actions.specs.declared.watched.Watched.{Watched}
 use Rattle.pp_actions.specs.declared.watched.Watched.TheVariants.{Cell, RegA, RegP, RegQ, Central, Register}
 use Rattle.pp_lines.specs.Results.{◌>>=◌}
@@ -14,7 +16,9 @@ use Rattle.pp_command.specs.Numbers.{WordList, number_read, if_octal, none, one,
 use Rattle.pp_command.specs.declared.fault.LineFault.{LineFault}
 use Rattle.pp_command.specs.declared.fault.LineFault.TheVariants.{NotACommand, WordCount, OutOfRange, TooLong, NotAscii}
 use Rattle.pp_command.specs.declared.request.Request.{Request}
-use Rattle.pp_command.specs.declared.request.Request.TheVariants.{Act, Step, Back, BackToChange, Forward, DumpCells, DumpProcessor, DumpChannels, DumpCentral, DumpFrame, DumpReader, DumpPrinter, DumpWatches}
+use Rattle.pp_command.specs.declared.request.Request.TheVariants.{Act, Step, Back, BackToChange, Forward, DumpCells, DumpProcessor}
+use Rattle.pp_command.specs.declared.request.Request.TheVariants.{DumpChannels, DumpCentral, DumpFrame, DumpReader, DumpPrinter}
+use Rattle.pp_command.specs.declared.request.Request.TheVariants.{DumpWatches}
 
 -- An entry of a table of commands: a keyword, and what the words after it ask for.
 pub record Entry (A : Type 0) : Type 0 where

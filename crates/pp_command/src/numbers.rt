@@ -87,7 +87,7 @@ pub fn processor_and(text: &[u8], most: u64) -> Result<(u8, u64), LineFault>
 #[tactic(auto, unfolding(crate::specs::Numbers::three))]
 pub fn three(text: &[u8], first: u64, second: u64, third: u64) -> Result<(u64, u64, u64), LineFault>
     ensures value { result ≡ spec.three first second third (words text.now) }
-    ensures within { IfOk result (λ values. (values.0 ≤ first) × (values.1 ≤ second) × (values.2 ≤ third)) }
+    ensures within { IfOk result (λ (x, y, z). (x ≤ first) × (y ≤ second) × (z ≤ third)) }
 {
     let (x, rest) = first_word(text)?;
     let (y, rest) = first_word(rest)?;

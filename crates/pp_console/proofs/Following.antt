@@ -1,22 +1,18 @@
 -- One more line of a script.
-use Rattle.std.proofs.Common.{◌≡◌, ℕ, ◌+◌, List, [], ◌∷◌, ◌++◌, take, refl, ap, arith, append_assoc, ◌∙◌, Bool, true, false, Result, Ok, Err, Option, not, ◌<◌, length, length-append, if◌then◌else◌, nat_lt}
-use Rattle.std.proofs.lemmas.List.Sums.{fold-append}
-use Rattle.std.specs.Int.{from_bool}
+use Rattle.std.proofs.Common.{◌≡◌, ℕ, ◌+◌, List, [], ◌∷◌, ◌++◌, take, refl, ap, arith, append_assoc, ◌∙◌, Bool, true, false, Result}
+use Rattle.std.proofs.Common.{Ok, Err, Option, not, ◌<◌, length, length-append, if◌then◌else◌, nat_lt}
+use Rattle.std.proofs.lemmas.{List.Sums.fold-append, Bool.Decides.nat_tests}
+use Rattle.std.specs.{Int.from_bool, List.list_all}
 use Rattle.pp_console.proofs.Prelude.{KEPT, Ghosts, State, Value, Performs, answer_line, outcome, Origin, Breaks, HasEnded}
-use Rattle.pp_console.specs.declared.progress.Summary.{Summary}
-use Rattle.pp_console.specs.Script.{answer_parsed, follow}
-use Rattle.pp_lines.proofs.Writing.{Appends-again}
-use Rattle.std.proofs.lemmas.Bool.Decides.{nat_tests}
-use Rattle.pp_lines.proofs.LongLines.{read-kept}
+use Rattle.pp_console.specs.{declared.progress.Summary.Summary, Script.answer_parsed, Script.follow}
+use Rattle.pp_lines.proofs.{Writing.Appends-again, LongLines.read-kept}
 use Rattle.pp_lines.specs.Words.{words}
-use Rattle.pp_command.specs.declared.fault.LineFault.{LineFault}
-use Rattle.pp_command.specs.declared.fault.LineFault.TheVariants.{TooLong, NotAscii}
-use Rattle.pp_command.specs.declared.request.Request.{Request}
-use Rattle.pp_command.specs.CommandLine.{command, is_printable, sentence}
-use Rattle.std.specs.List.{list_all}
+use Rattle.pp_command.specs.declared.fault.LineFault.{LineFault, TheVariants.TooLong, TheVariants.NotAscii}
+use Rattle.pp_command.specs.{declared.request.Request.Request, CommandLine.command, CommandLine.is_printable, CommandLine.sentence}
 
 -- one more line is one more step
-pub outcome-line : (start : Value) (done : List (List ℕ)) (line : List ℕ) → outcome start (done ++ line ∷ []) ≡ follow (outcome start done) line
+pub outcome-line : (start : Value) (done : List (List ℕ)) (line : List ℕ) →
+    outcome start (done ++ line ∷ []) ≡ follow (outcome start done) line
 unfolding outcome
 outcome-line start done line = fold-append follow (record { text = []; value = start; refused = 0 }) done (line ∷ [])
 
@@ -44,21 +40,27 @@ bool-counts : (refused : Bool) → from_bool refused ≡ (if refused then 1 else
 bool-counts true = refl
 bool-counts false = refl
 
-module _ {W E : Type 0} (sink : Ghosts W) (old new : State) (second third : W) (origin : Origin) (done : List (List ℕ)) (line : List ℕ) (summary : Summary) (ended : HasEnded summary old (sink.text second) origin done) where
+module _ {W E : Type 0} (sink : Ghosts W) {old new : State} {second third : W} {origin : Origin} {done : List (List ℕ)}
+    {summary : Summary} (line : List ℕ) (ended : HasEnded summary old (sink.text second) origin done) where
   -- the line was performed and counted, and its answer was written
-  pub line-ended : (performed : Bool) (next : Summary) → Performs {E = E} sink old new second third (Ok performed) (λ v. answer_line v line) →
-      next.lines ≡ summary.lines + 1 → next.refused ≡ summary.refused + from_bool (not performed) → HasEnded next new (sink.text third) origin (done ++ line ∷ [])
+  pub line-ended : (performed : Bool) (next : Summary) →
+      Performs {E = E} sink old new second third (Ok performed) (λ v. answer_line v line) →
+      next.lines ≡ summary.lines + 1 → next.refused ≡ summary.refused + from_bool (not performed) →
+      HasEnded next new (sink.text third) origin (done ++ line ∷ [])
   line-ended performed next performs one_more same = record {
     performed = record {
       leaves = rw (outcome-line origin.start done line) (performs.session _ ended.performed.leaves);
-      writes = rw (outcome-line origin.start done line) (Appends-again _ _ _ _ _ ended.performed.writes (performs.text _ ended.performed.leaves));
+      writes = rw (outcome-line origin.start done line)
+          (Appends-again _ _ _ _ _ ended.performed.writes (performs.text _ ended.performed.leaves));
     };
     counts_lines = one_more ∙ rw (length-append done (line ∷ [])) (ap (λ n. n + 1) ended.counts_lines);
-    counts_refused = same ∙ rw (outcome-line origin.start done line, bool-counts, ended.counts_refused, performs.performed _ ended.performed.leaves) refl;
+    counts_refused = let refused = performs.performed _ ended.performed.leaves in
+        same ∙ rw (outcome-line origin.start done line, bool-counts, ended.counts_refused, refused) refl;
   }
 
   -- the line was performed, and a proper prefix of its answer was written
-  pub line-breaks : {fault : E} → Performs sink old new second third (Err fault) (λ v. answer_line v line) → Breaks new (sink.text third) origin done line
+  pub line-breaks : {fault : E} → Performs sink old new second third (Err fault) (λ v. answer_line v line) →
+      Breaks new (sink.text third) origin done line
   line-breaks performs =
       let (front, written, proper) = performs.text _ ended.performed.leaves in
       record {

@@ -1,23 +1,23 @@
 -- The answers to commands, by the results of the session's calls.
-use Rattle.std.proofs.Common.{◌≡◌, ℕ, ◌<◌, ◌≤◌, length, List, [], ◌∷◌, refl, arith, Bool, true, false, ap, sym, ◌∙◌, Some, None, Result, IfOk, not, map, codes}
-use Rattle.std.proofs.lemmas.Bool.Decides.{nat_tests}
-use Rattle.std.proofs.lemmas.Result.{IfOk-weaker}
+use Rattle.std.proofs.Common.{◌≡◌, ℕ, ◌<◌, ◌≤◌, length, List, [], ◌∷◌, refl, arith, Bool, true, false, ap, sym, ◌∙◌, Some, None}
+use Rattle.std.proofs.Common.{Result, IfOk, not, map, codes}
+use Rattle.std.proofs.lemmas.{Bool.Decides.nat_tests, Result.IfOk-weaker}
 use Rattle.pp_console.proofs.Prelude.{IsAt, rules, Ghosts, Puts, State, Value, Performs}
-use Rattle.pp_history.specs.SessionValue.{after_back, after_forward}
-use Rattle.pp_history.specs.Change.{change}
-use Rattle.pp_machine.specs.Machine.{Machine}
-use Rattle.pp_machine.specs.declared.place.Place.{Place}
+use Rattle.pp_history.specs.{SessionValue.after_back, SessionValue.after_forward, Change.change}
+use Rattle.pp_machine.specs.{Machine.Machine, declared.place.Place.Place}
 use Rattle.pp_actions.specs.Watches.{watched_place, watches_of}
 use Rattle.pp_command.specs.declared.fault.LineFault.TheVariants.{OutOfRange}
-use Rattle.pp_console.specs.Refusals.{fault_text}
-use Rattle.pp_console.specs.Commands.{Answer, present, answered, rejected, moved, back_answer, forward_answer, central_answer, change_answer}
+use Rattle.pp_console.specs.{Refusals.fault_text, Commands.change_answer}
+use Rattle.pp_console.specs.Commands.{Answer, present, answered, rejected, moved, back_answer, forward_answer, central_answer}
 
-module _ {W E : Type 0} (sink : Ghosts W) (old new : State) (before after : W) (result : Result Bool E) (answer_of : Value → Answer) (written : List ℕ) (puts : Puts sink before after result written) where
+module _ {W E : Type 0} {sink : Ghosts W} {new : State} {before after : W} {result : Result Bool E} {written : List ℕ}
+    (old : State) (answer_of : Value → Answer) (puts : Puts sink before after result written) where
   -- the answer to a command that was performed
-  pub performs-answered : IfOk result (λ performed. performed ≡ true) → ((v : Value) → IsAt rules old v → (next : Value) × (answer_of v ≡ answered next written) × IsAt rules new next) →
+  pub performs-answered : IfOk result (λ performed. performed ≡ true) →
+      ((v : Value) → IsAt rules old v → (next : Value) × (answer_of v ≡ answered next written) × IsAt rules new next) →
       Performs sink old new before after result answer_of
   performs-answered performed agrees = record {
-    session = λ v at. let a = agrees v at in rw a.1 a.2;
+    session = λ v at. let (next, same, led) = agrees v at in rw same led;
     text = λ v at. let a = agrees v at in rw a.1 puts.text;
     counted = puts.counts;
     performed = IfOk-weaker result _ _ (λ x same v at. ap (λ a. a.refused) (agrees v at).1 ∙ sym (ap not same)) performed;
@@ -25,8 +25,8 @@ module _ {W E : Type 0} (sink : Ghosts W) (old new : State) (before after : W) (
   }
 
   -- the answer to a command that was rejected
-  pub performs-rejected : IfOk result (λ performed. performed ≡ false) → new ≡ old → ((v : Value) → IsAt rules old v → answer_of v ≡ rejected v written) →
-      Performs sink old new before after result answer_of
+  pub performs-rejected : IfOk result (λ performed. performed ≡ false) → new ≡ old →
+      ((v : Value) → IsAt rules old v → answer_of v ≡ rejected v written) → Performs sink old new before after result answer_of
   performs-rejected performed unchanged agrees = record {
     session = λ v at. rw (agrees v at, unchanged) at;
     text = λ v at. rw (agrees v at) puts.text;
@@ -35,9 +35,11 @@ module _ {W E : Type 0} (sink : Ghosts W) (old new : State) (before after : W) (
     unchanged = IfOk-weaker result _ _ (λ x same no. unchanged) performed;
   }
 
-module _ {W E : Type 0} {sink : Ghosts W} {old new : State} {before after : W} {result : Result Bool E} {first second : Value → Answer} where
+module _ {W E : Type 0} {sink : Ghosts W} {old new : State} {before after : W}
+    {result : Result Bool E} {first second : Value → Answer} where
   -- the same effect, if the answers are the same
-  pub Performs-same : ((v : Value) → first v ≡ second v) → Performs sink old new before after result first → Performs sink old new before after result second
+  pub Performs-same : ((v : Value) → first v ≡ second v) →
+      Performs sink old new before after result first → Performs sink old new before after result second
   Performs-same same p = record {
     session = λ v at. rw (← same v) (p.session v at);
     text = λ v at. rw (← same v) (p.text v at);
@@ -46,35 +48,40 @@ module _ {W E : Type 0} {sink : Ghosts W} {old new : State} {before after : W} {
     unchanged = p.unchanged;
   }
 
-pub back-within : (actions : ℕ) (v : Value) → actions ≤ v.kept → back_answer actions v ≡ moved (codes "BACK ") actions (after_back v actions)
+pub back-within : (actions : ℕ) (v : Value) → actions ≤ v.kept →
+    back_answer actions v ≡ moved (codes "BACK ") actions (after_back v actions)
 unfolding back_answer
 back-within actions v within = grind (arith, nat_tests)
 
-pub forward-within : (actions : ℕ) (v : Value) → actions ≤ length v.ahead → forward_answer actions v ≡ moved (codes "FORWARD ") actions (after_forward v actions)
+pub forward-within : (actions : ℕ) (v : Value) → actions ≤ length v.ahead →
+    forward_answer actions v ≡ moved (codes "FORWARD ") actions (after_forward v actions)
 unfolding forward_answer
 forward-within actions v within = grind (arith, nat_tests)
 
 -- nothing is watched
-pub change-unwatched : (v : Value) (places : List Place) → places ≡ map watched_place (watches_of (present v)) → length places ≡ 0 → change_answer v ≡ rejected v (codes "ERR 15 NOTHING WATCHED\n")
+pub change-unwatched : (v : Value) (places : List Place) → places ≡ map watched_place (watches_of (present v)) →
+    length places ≡ 0 → change_answer v ≡ rejected v (codes "ERR 15 NOTHING WATCHED\n")
 unfolding change_answer
 change-unwatched v [] same none = rw (← same) refl
 change-unwatched v (place ∷ places) same none = absurd (omega arith)
 
 -- the undo history has a change
-pub change-found : (v : Value) (places : List Place) (actions : ℕ) → places ≡ map watched_place (watches_of (present v)) → 0 < length places → change rules v places ≡ Some actions → change_answer v ≡ moved (codes "BACK ") actions (after_back v actions)
+pub change-found : (v : Value) (places : List Place) (actions : ℕ) → places ≡ map watched_place (watches_of (present v)) →
+    0 < length places → change rules v places ≡ Some actions →
+    change_answer v ≡ moved (codes "BACK ") actions (after_back v actions)
 unfolding change_answer
 change-found v [] actions same some found = absurd (omega arith)
 change-found v (place ∷ places) actions same some found = rw (← same, found) refl
 
 -- the undo history has no change
-pub change-none : (v : Value) (places : List Place) → places ≡ map watched_place (watches_of (present v)) → 0 < length places → change rules v places ≡ None → change_answer v ≡ rejected v (codes "ERR 10 NO CHANGE KEPT\n")
+pub change-none : (v : Value) (places : List Place) → places ≡ map watched_place (watches_of (present v)) →
+    0 < length places → change rules v places ≡ None → change_answer v ≡ rejected v (codes "ERR 10 NO CHANGE KEPT\n")
 unfolding change_answer
 change-none v [] same some found = absurd (omega arith)
 change-none v (place ∷ places) same some found = rw (← same, found) refl
 
 -- the machine does not have the last of the words
-pub central-beyond : (first last : ℕ) (v : Value) (sized : Machine) → sized ≡ present v → sized.setup.central_words ≤ last → central_answer first last v ≡ rejected v (fault_text OutOfRange)
+pub central-beyond : (first last : ℕ) (v : Value) (sized : Machine) → sized ≡ present v →
+    sized.setup.central_words ≤ last → central_answer first last v ≡ rejected v (fault_text OutOfRange)
 unfolding central_answer
-central-beyond first last v sized same beyond =
-    let more = rw same at beyond in
-    grind (arith, nat_tests)
+central-beyond first last v sized same beyond = let more = rw same at beyond in grind (arith, nat_tests)

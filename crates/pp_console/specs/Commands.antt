@@ -1,5 +1,6 @@
 -- The answer to each command, and the effect of performing it.
-use Rattle.std.specs.Prelude.{◌≡◌, ℕ, nat_lt, Option, Some, None, Result, IfOk, if◌then◌else◌, Bool, true, false, not, List, [], ◌++◌, codes, length, map}
+use Rattle.std.specs.Prelude.{◌≡◌, ℕ, nat_lt, Option, Some, None, Result, IfOk, if◌then◌else◌, Bool, true, false, not, List, []}
+use Rattle.std.specs.Prelude.{◌++◌, codes, length, map}
 use Rattle.pp_history.specs.Contents.{Contents}
 use Rattle.pp_history.specs.SessionValue.{SessionValue, IsAt, replay, after_act, after_back, after_forward}
 use Rattle.pp_history.specs.Change.{change}
@@ -17,7 +18,9 @@ use Rattle.pp_actions.specs.declared.action.ActionFault.{ActionFault}
 use Rattle.pp_rig.specs.declared.rig.RigRecord.{RigRecord}
 use Rattle.pp_command.specs.declared.fault.LineFault.TheVariants.{OutOfRange}
 use Rattle.pp_command.specs.declared.request.Request.{Request}
-use Rattle.pp_command.specs.declared.request.Request.TheVariants.{Act, Step, Back, BackToChange, Forward, DumpCells, DumpProcessor, DumpChannels, DumpCentral, DumpFrame, DumpReader, DumpPrinter, DumpWatches}
+use Rattle.pp_command.specs.declared.request.Request.TheVariants.{Act, Step, Back, BackToChange, Forward, DumpCells, DumpProcessor}
+use Rattle.pp_command.specs.declared.request.Request.TheVariants.{DumpChannels, DumpCentral, DumpFrame, DumpReader, DumpPrinter}
+use Rattle.pp_command.specs.declared.request.Request.TheVariants.{DumpWatches}
 use Rattle.pp_console.specs.Refusals.{fault_text, action_fault_text}
 use Rattle.pp_console.specs.Moves.{moved_text}
 use Rattle.pp_console.specs.Watches.{watches_text, hit_text}

@@ -2,7 +2,9 @@
 use Rattle.std.specs.Prelude.{ℕ, ◌+◌, ◌-◌, ◌*◌, ◌/◌, ◌==◌, min, if◌then◌else◌, List, [], ◌++◌, length, take, codes}
 use Rattle.std.specs.List.{flat_map, range_with_len}
 use Rattle.pp_machine.specs.Machine.{Machine, number}
-use Rattle.pp_machine.specs.declared.place.Place.TheVariants.{Cell, RegA, RegP, RegQ, Phase, ChannelMode, ChannelWord, Clock, Central, FrameWord, Card, CardColumn, ReaderMode, PaperLength, PaperColumn, PrinterMode, Slot}
+use Rattle.pp_machine.specs.declared.place.Place.TheVariants.{Cell, RegA, RegP, RegQ, Phase, ChannelMode, ChannelWord, Clock}
+use Rattle.pp_machine.specs.declared.place.Place.TheVariants.{Central, FrameWord, Card, CardColumn, ReaderMode, PaperLength}
+use Rattle.pp_machine.specs.declared.place.Place.TheVariants.{PaperColumn, PrinterMode, Slot}
 use Rattle.pp_console.specs.Text.{field}
 use Rattle.pp_console.specs.Paper.{paper_text}
 

@@ -1,5 +1,5 @@
--- The answers to rejected lines: ERR, a number of two octal digits, and a text. Those of BACK, BACK W and FORWARD, which are 07, 10,
--- 15 and 16, stand in Commands.
+-- The answers to rejected lines: ERR, a number of two octal digits, and a text. Those of BACK, BACK W and FORWARD, which are 07,
+-- 10, 15 and 16, stand in Commands.
 use Rattle.std.specs.Prelude.{ℕ, List, codes}
 use Rattle.pp_command.specs.declared.fault.LineFault.{LineFault}
 use Rattle.pp_command.specs.declared.fault.LineFault.TheVariants.{NotACommand, WordCount, NotANumber, OutOfRange, TooLong, NotAscii}

@@ -3,7 +3,8 @@ ghost use Rattle.std.specs.Prelude.{◌≡◌, ◌≤◌, ◌<◌, ◌++◌, IfE
 ghost use Rattle.pp_lines.specs.Puts.{Puts};
 ghost use Rattle.pp_console.specs.Moves.{moved_text};
 ghost use Rattle.pp_console.specs.Watches.{hit_text};
-ghost use Rattle.pp_console.specs.Commands.{Performs, act_answer, step_answer, back_answer, forward_answer, change_answer, central_answer, answer};
+ghost use Rattle.pp_console.specs.Commands.{Performs, act_answer, step_answer, back_answer, forward_answer, change_answer};
+ghost use Rattle.pp_console.specs.Commands.{central_answer, answer};
 ghost use Rattle.pp_console.specs.Script.{answer_line};
 
 use crate::dumps::{put_cells, put_central, put_channels, put_frame, put_processor, put_reader};

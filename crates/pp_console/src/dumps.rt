@@ -2,7 +2,9 @@
 ghost use Rattle.std.specs.Prelude.{◌≡◌, ◌<◌, ◌≤◌, ◌+◌, ◌++◌, ◌*◌, ◌-◌, ◌/◌, length, min};
 ghost use Rattle.arrayvec.specs.ArrayVec.{array_vec_len};
 ghost use Rattle.pp_lines.specs.Puts.{Puts};
-ghost use Rattle.pp_console.specs.Dumps.{each, cell_text, cell_row, cells_text, central_line, central_text, processor_text, state_text, channel_line, channels_text, frame_line, frame_text, mode_text, reader_text, printer_line};
+ghost use Rattle.pp_console.specs.Dumps.{each, cell_text, cell_row, cells_text, central_line, central_text, processor_text};
+ghost use Rattle.pp_console.specs.Dumps.{state_text, channel_line, channels_text, frame_line, frame_text, mode_text, reader_text};
+ghost use Rattle.pp_console.specs.Dumps.{printer_line};
 ghost use Rattle.pp_machine.specs.Ranges.{cell_count, processor_count};
 
 use crate::text::push_field;

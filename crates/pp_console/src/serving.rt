@@ -36,7 +36,8 @@ fn end_line<W: Sink>(
     ensures ended { (origin : Origin) (bytes : List ℕ) → IsPrefixOf KEPT progress.old.line bytes →
         HasEnded progress.old.summary session.old (W.text out.old) origin (finished bytes) →
         MatchResult result
-        (λ _. HasEnded progress.new.summary session.new (W.text out.new) origin (finished bytes ++ unfinished (bytes ++ text.now) ∷ []))
+        (λ _. HasEnded progress.new.summary session.new (W.text out.new) origin
+        (finished bytes ++ unfinished (bytes ++ text.now) ∷ []))
         (λ _. Breaks session.new (W.text out.new) origin (finished bytes) (unfinished (bytes ++ text.now))) }
     ensures line { OnOk result ((bytes : List ℕ) → IsPrefixOf KEPT progress.new.line (bytes ++ 10 ∷ [])) }
     ensures bytes { progress.new.bytes ≡ progress.old.bytes }

@@ -1,18 +1,13 @@
 -- The progress of a file, and the faults that are reported.
-use Rattle.std.proofs.Common.{◌≡◌, ◌∙◌, ℕ, ◌+◌, ◌<◌, ◌≤◌, List, [], ◌∷◌, ◌++◌, length, take, refl, arith, inl, inr, Option, Result, Ok, Err, MatchResult, append-nil}
-use Rattle.std.proofs.lemmas.Bool.Decides.{nat_tests}
-use Rattle.std.proofs.lemmas.Grind.{common_steps}
+use Rattle.std.proofs.Common.{◌≡◌, ◌∙◌, ℕ, ◌+◌, ◌<◌, ◌≤◌, List, [], ◌∷◌, ◌++◌, length, take, refl, arith, inl, inr, Option, Result}
+use Rattle.std.proofs.Common.{Ok, Err, MatchResult, append-nil}
+use Rattle.std.proofs.lemmas.{Bool.Decides.nat_tests, Grind.common_steps}
 use Rattle.std.specs.Io.KnownBytes.{Consumes, IsAtEnd}
-use Rattle.pp_files.specs.declared.fault.LoadFault.{LoadFault}
-use Rattle.pp_files.specs.declared.progress.Progress.{Progress}
-use Rattle.pp_files.specs.declared.progress.TheConstants.{KEPT}
-use Rattle.pp_lines.specs.Lines.{lines, finished, unfinished}
-use Rattle.pp_lines.proofs.LineCuts.{finished-feed, finished-byte}
-use Rattle.pp_lines.proofs.Limits.{lines-whole, lines-last}
-use Rattle.pp_files.specs.Rows.{Row}
+use Rattle.pp_files.specs.declared.{fault.LoadFault.LoadFault, progress.Progress.Progress, progress.TheConstants.KEPT}
+use Rattle.pp_lines.specs.{Lines.lines, Lines.finished, Lines.unfinished, Device.all_bytes}
+use Rattle.pp_lines.proofs.{LineCuts.finished-feed, LineCuts.finished-byte, Limits.lines-whole, Limits.lines-last}
+use Rattle.pp_files.specs.{Rows.Row, Fault.BreaksOff, Fault.IsLoadCause}
 use Rattle.pp_files.specs.Files.{Rule, with_line, with_lines, rows_of_lines, file_limit, lines_of_file, rows_of_file}
-use Rattle.pp_files.specs.Fault.{BreaksOff, IsLoadCause}
-use Rattle.pp_lines.specs.Device.{all_bytes}
 use Rattle.pp_lines.proofs.Reading.{all-read, unread}
 use Rattle.pp_files.specs.Inner.Loading.{HasReadFile, Reads, FailsAt, FailsIn}
 use Rattle.pp_files.proofs.MoreLines.{row-front, lines-next, lines-short, file-fault, file-short, file-long, lines_of_file-feed}
@@ -20,27 +15,33 @@ use Rattle.pp_files.proofs.MoreLines.{row-front, lines-next, lines-short, file-f
 -- ---- a fault at a line
 
 -- a fault at the kept prefix of a line of a file is a fault of the file
-FailsIn-line : (rule : Rule) (bytes : List ℕ) (rows : List Row) (done : List (List ℕ)) (line front : List ℕ) (later : List (List ℕ)) (fault : LoadFault) (k : ℕ) → front ≡ take KEPT line → k ≡ length done + 1 →
-    lines_of_file file_limit bytes ≡ (done ++ line ∷ []) ++ later → rows_of_lines rule done ≡ Ok rows → FailsAt rule k rows front fault → FailsIn rule bytes fault
+FailsIn-line : (rule : Rule) (bytes : List ℕ) (rows : List Row) (done : List (List ℕ)) (line front : List ℕ)
+    (later : List (List ℕ)) (fault : LoadFault) (k : ℕ) → front ≡ take KEPT line → k ≡ length done + 1 →
+    lines_of_file file_limit bytes ≡ (done ++ line ∷ []) ++ later →
+    rows_of_lines rule done ≡ Ok rows → FailsAt rule k rows front fault → FailsIn rule bytes fault
 FailsIn-line rule bytes rows done line front later fault k kept count split read (inl fails) =
     let all : rows_of_lines rule (done ++ line ∷ []) ≡ Err fault = grind (arith, lines-next rule done line, row-front k line) in
     inl (file-fault rule file_limit bytes (done ++ line ∷ []) later fault split all)
 FailsIn-line rule bytes rows done line front later fault k kept count split read (inr rejected) =
     let next = lines-next rule done line in
-    inr (rejected.0, (done, line, later, grind (arith, common_steps), grind (arith, row-front k line), grind (arith, row-front k line)))
+    let row = row-front k line in
+    inr (rejected.0, (done, line, later, grind (arith, common_steps), grind (arith, row), grind (arith, row)))
 
 -- ---- the progress of a file
 
-pub HasReadFile-within : (progress : Progress) (rule : Rule) (Holds : List Row → Type 0) (bytes : List ℕ) → HasReadFile progress rule Holds bytes → length bytes ≤ file_limit
+pub HasReadFile-within : (progress : Progress) (rule : Rule) (Holds : List Row → Type 0) (bytes : List ℕ) →
+    HasReadFile progress rule Holds bytes → length bytes ≤ file_limit
 HasReadFile-within progress rule Holds bytes has_read = rw (← has_read.counts_bytes) progress.bytes_within
 
 -- before the first byte
-pub HasReadFile-new : (progress : Progress) (rule : Rule) (Holds : List Row → Type 0) → progress.cutter ≡ [] → progress.bytes ≡ 0 → progress.lines ≡ 0 → Holds [] → HasReadFile progress rule Holds []
+pub HasReadFile-new : (progress : Progress) (rule : Rule) (Holds : List Row → Type 0) → progress.cutter ≡ [] →
+    progress.bytes ≡ 0 → progress.lines ≡ 0 → Holds [] → HasReadFile progress rule Holds []
 unfolding with_lines
 HasReadFile-new progress rule Holds front no_bytes no_lines held = grind (arith, common_steps)
 
 -- a fault at a line that ends with a line feed
-pub HasReadFile-fault : (old : Progress) (rule : Rule) (Holds : List Row → Type 0) (fault : LoadFault) (bytes more : List ℕ) → HasReadFile old rule Holds bytes → old.bytes < file_limit →
+pub HasReadFile-fault : (old : Progress) (rule : Rule) (Holds : List Row → Type 0) (fault : LoadFault) (bytes more : List ℕ) →
+    HasReadFile old rule Holds bytes → old.bytes < file_limit →
     ((rows : List Row) → Holds rows → FailsAt rule (old.lines + 1) rows old.cutter fault) → FailsIn rule (bytes ++ 10 ∷ more) fault
 HasReadFile-fault old rule Holds fault bytes more has_read room line =
     let (rows, read, held) = has_read.reads in
@@ -49,44 +50,50 @@ HasReadFile-fault old rule Holds fault bytes more has_read room line =
     has_read.keeps (omega (arith, has_read.counts_lines)) further.1 read (line rows held)
 
 -- the last line does not end with a line feed
-pub file-last : {T : Type 0} (progress : Progress) (rule : Rule) (Holds Holds' : List Row → Type 0) (result : Result T LoadFault) (bytes : List ℕ) → HasReadFile progress rule Holds bytes → 0 < length progress.cutter →
-    ((rows : List Row) → Holds rows → MatchResult result (λ _. Reads Holds' (with_line rule (progress.lines + 1) rows progress.cutter)) (λ fault. FailsAt rule (progress.lines + 1) rows progress.cutter fault)) →
+pub file-last : {T : Type 0} (progress : Progress) (rule : Rule) (Holds Holds' : List Row → Type 0)
+    (result : Result T LoadFault) (bytes : List ℕ) → HasReadFile progress rule Holds bytes → 0 < length progress.cutter →
+    ((rows : List Row) → Holds rows → MatchResult result (λ _. Reads Holds' (with_line rule
+    (progress.lines + 1) rows progress.cutter)) (λ fault. FailsAt rule (progress.lines + 1) rows progress.cutter fault)) →
     MatchResult result (λ _. Reads Holds' (rows_of_file rule file_limit bytes)) (λ fault. FailsIn rule bytes fault)
 file-last progress rule Holds Holds' (Ok value) bytes has_read begun line =
-    let read = has_read.reads in
+    let (rows, read, held) = has_read.reads in
     let within = HasReadFile-within progress rule Holds bytes has_read in
     let all = lines-last KEPT progress.cutter bytes has_read.keeps begun in
     let next = lines-next rule (finished bytes) (unfinished bytes) in
-    grind (arith, file-short rule file_limit bytes within, row-front (progress.lines + 1) (unfinished bytes), line read.0 read.2)
+    grind (arith, file-short rule file_limit bytes within, row-front (progress.lines + 1) (unfinished bytes), line rows held)
 file-last progress rule Holds Holds' (Err fault) bytes has_read begun line =
     let (rows, read, held) = has_read.reads in
     let within = HasReadFile-within progress rule Holds bytes has_read in
     let all = lines-last KEPT progress.cutter bytes has_read.keeps begun in
     FailsIn-line rule bytes rows (finished bytes) (unfinished bytes) progress.cutter [] fault (progress.lines + 1)
-    has_read.keeps (omega (arith, has_read.counts_lines)) (rw (append-nil (finished bytes ++ unfinished bytes ∷ [])) (lines-short file_limit bytes within ∙ all)) read (line rows held)
+    has_read.keeps (omega (arith, has_read.counts_lines))
+    (rw (append-nil (finished bytes ++ unfinished bytes ∷ [])) (lines-short file_limit bytes within ∙ all)) read (line rows held)
 
 -- the lines of a file whose last line ends with a line feed
 pub lines-none : (bytes : List ℕ) → length (take KEPT (unfinished bytes)) ≡ 0 → lines bytes ≡ finished bytes
 lines-none bytes none = lines-whole KEPT (take KEPT (unfinished bytes)) bytes (omega arith) refl none
 
 -- what the bytes of a file need, and its end
-pub ruleset bytes_read = (common_steps, nat_tests, finished-byte, file-long, file-short, finished-feed, lines-next, lines-none, row-front)
+pub ruleset bytes_read =
+    (common_steps, nat_tests, finished-byte, file-long, file-short, finished-feed, lines-next, lines-none, row-front)
 
 -- ---- the bytes that were read
 
 -- a fault that occurs for all later bytes is the cause
 pub fails-in : (rule : Rule) (first second : Option (List ℕ)) (taken : List ℕ) (fault : LoadFault) → Consumes first second taken →
-    ((later : List ℕ) → FailsIn rule (taken ++ later) fault) → IsLoadCause rule (rows_of_file rule file_limit) taken (all_bytes first taken) fault
-fails-in rule first second taken fault p fails =
-    let rest = unread first second taken p in
-    rw rest.1 (grind (arith, fails rest.0))
+    ((later : List ℕ) → FailsIn rule (taken ++ later) fault) →
+    IsLoadCause rule (rows_of_file rule file_limit) taken (all_bytes first taken) fault
+fails-in rule first second taken fault p fails = let rest = unread first second taken p in rw rest.1 (grind (arith, fails rest.0))
 
 -- the source failed
-pub breaks-off : (progress : Progress) (rule : Rule) (Holds : List Row → Type 0) (taken : List ℕ) → HasReadFile progress rule Holds taken → BreaksOff rule file_limit taken
-breaks-off progress rule Holds taken has_read = (HasReadFile-within progress rule Holds taken has_read, (has_read.reads.0, has_read.reads.1))
+pub breaks-off : (progress : Progress) (rule : Rule) (Holds : List Row → Type 0) (taken : List ℕ) →
+    HasReadFile progress rule Holds taken → BreaksOff rule file_limit taken
+breaks-off progress rule Holds taken has_read =
+    (HasReadFile-within progress rule Holds taken has_read, (has_read.reads.0, has_read.reads.1))
 
 -- at the end of input
-pub ends : {T : Type 0} (result : Result T LoadFault) (P : T → Type 0) (rule : Rule) (first second : Option (List ℕ)) (taken : List ℕ) → Consumes first second taken → IsAtEnd second →
+pub ends : {T : Type 0} (result : Result T LoadFault) (P : T → Type 0) (rule : Rule)
+    (first second : Option (List ℕ)) (taken : List ℕ) → Consumes first second taken → IsAtEnd second →
     MatchResult result P (λ fault. FailsIn rule taken fault) →
     MatchResult result P (λ fault. IsLoadCause rule (rows_of_file rule file_limit) taken (all_bytes first taken) fault)
 ends result P rule first second taken p end known = grind (arith, all-read first second taken p end)

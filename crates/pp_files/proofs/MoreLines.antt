@@ -1,17 +1,13 @@
 -- The rows of a file with more lines.
-use Rattle.std.proofs.Common.{◌≡◌, ℕ, ◌+◌, ◌-◌, ◌<◌, ◌≤◌, cond, List, [], ◌∷◌, ◌++◌, length, take, refl, sym, ap, arith, length-append, append_assoc, Result, Ok, Err, Option, None, if◌then◌else◌, nat_le, nat_lt}
-use Rattle.std.proofs.lemmas.Bool.Decides.{nat_tests}
-use Rattle.std.proofs.lemmas.Grind.{common_steps}
+use Rattle.std.proofs.Common.{◌≡◌, ℕ, ◌+◌, ◌-◌, ◌<◌, ◌≤◌, cond, List, [], ◌∷◌, ◌++◌, length, take, refl, sym, ap, arith}
+use Rattle.std.proofs.Common.{length-append, append_assoc, Result, Ok, Err, Option, None, if◌then◌else◌, nat_le, nat_lt}
+use Rattle.std.proofs.lemmas.{Bool.Decides.nat_tests, Grind.common_steps}
 use Rattle.std.proofs.Math.Seq.{take-append_seam, take-append-add}
-use Rattle.pp_files.specs.declared.fault.LoadFault.{LoadFault}
-use Rattle.pp_files.specs.declared.fault.LoadFault.TheVariants.{FileTooLong, LineTooLong}
-use Rattle.pp_files.specs.declared.progress.TheConstants.{KEPT}
-use Rattle.pp_lines.specs.Lines.{lines, finished, unfinished, last_line}
-use Rattle.pp_lines.proofs.LineCuts.{lines_split, finished-more, finished-feed}
-use Rattle.pp_lines.proofs.LongLines.{read-kept}
-use Rattle.pp_lines.specs.Results.{◌>>=◌}
+use Rattle.pp_files.specs.declared.fault.LoadFault.{LoadFault, TheVariants.FileTooLong, TheVariants.LineTooLong}
+use Rattle.pp_files.specs.{declared.progress.TheConstants.KEPT, Rows.Row, Rows.row_of_words, Rows.row_of_line}
+use Rattle.pp_lines.specs.{Lines.lines, Lines.finished, Lines.unfinished, Lines.last_line, Results.◌>>=◌}
+use Rattle.pp_lines.proofs.{LineCuts.lines_split, LineCuts.finished-more, LineCuts.finished-feed, LongLines.read-kept}
 use Rattle.pp_lines.specs.Words.{words, is_ignored}
-use Rattle.pp_files.specs.Rows.{Row, row_of_words, row_of_line}
 use Rattle.pp_files.specs.Inner.Loading.{HasRows}
 use Rattle.pp_files.specs.Files.{Rule, with_line, with_lines, rows_of_lines, lines_of_file, rows_of_file}
 
@@ -44,11 +40,8 @@ bind-ok (Err e) = refl
 lines-both : (rule : Rule) (k : ℕ) (rows : List Row) (done more : List (List ℕ)) →
     with_lines rule k rows (done ++ more) ≡ (with_lines rule k rows done >>= λ read. with_lines rule (k + length done) read more)
 unfolding with_lines
-lines-both rule k rows [] more =
-    let same : k ≡ k + 0 = omega arith in
-    ap (λ n. with_lines rule n rows more) same
-lines-both rule k rows (line ∷ done) more =
-    let later = λ (read : List Row). lines-both rule (k + 1) read done more in
+lines-both rule k rows [] more = let same : k ≡ k + 0 = omega arith in ap (λ n. with_lines rule n rows more) same
+lines-both rule k rows (line ∷ done) more = let later = λ (read : List Row). lines-both rule (k + 1) read done more in
     grind (arith, later)
 
 -- one more line
@@ -58,14 +51,15 @@ unfolding with_lines
 lines-next rule done line = grind (arith, lines-both rule 0 [] done (line ∷ []))
 
 -- further lines do not change the first fault
-lines-fault : (rule : Rule) (done more : List (List ℕ)) (fault : LoadFault) → rows_of_lines rule done ≡ Err fault → rows_of_lines rule (done ++ more) ≡ Err fault
+lines-fault : (rule : Rule) (done more : List (List ℕ)) (fault : LoadFault) →
+    rows_of_lines rule done ≡ Err fault → rows_of_lines rule (done ++ more) ≡ Err fault
 lines-fault rule done more fault e = rw (lines-both rule 0 [] done more, e)
 
 -- ---- a file
 
 -- the first fault of the lines is the fault of the file
-pub file-fault : (rule : Rule) (limit : ℕ) (bytes : List ℕ) (done more : List (List ℕ)) (fault : LoadFault) → lines_of_file limit bytes ≡ done ++ more →
-    rows_of_lines rule done ≡ Err fault → rows_of_file rule limit bytes ≡ Err fault
+pub file-fault : (rule : Rule) (limit : ℕ) (bytes : List ℕ) (done more : List (List ℕ)) (fault : LoadFault) →
+    lines_of_file limit bytes ≡ done ++ more → rows_of_lines rule done ≡ Err fault → rows_of_file rule limit bytes ≡ Err fault
 unfolding rows_of_file
 file-fault rule limit bytes done more fault split e = rw (split, lines-fault rule done more fault e)
 
@@ -73,12 +67,14 @@ pub lines-short : (limit : ℕ) (bytes : List ℕ) → length bytes ≤ limit �
 lines-short limit bytes h = grind (arith, nat_tests)
 
 -- a file within the limit
-pub file-short : (rule : Rule) (limit : ℕ) (bytes : List ℕ) → length bytes ≤ limit → rows_of_file rule limit bytes ≡ rows_of_lines rule (lines bytes)
+pub file-short : (rule : Rule) (limit : ℕ) (bytes : List ℕ) → length bytes ≤ limit →
+    rows_of_file rule limit bytes ≡ rows_of_lines rule (lines bytes)
 unfolding rows_of_file
 file-short rule limit bytes h = grind (arith, nat_tests, bind-ok (rows_of_lines rule (lines bytes)))
 
 -- a file that is too long
-pub file-long : (rule : Rule) (limit : ℕ) (bytes more : List ℕ) (byte : ℕ) → length bytes ≡ limit → HasRows (rows_of_lines rule (finished bytes)) →
+pub file-long : (rule : Rule) (limit : ℕ) (bytes more : List ℕ) (byte : ℕ) →
+    length bytes ≡ limit → HasRows (rows_of_lines rule (finished bytes)) →
     rows_of_file rule limit (bytes ++ byte ∷ more) ≡ Err FileTooLong
 unfolding rows_of_file
 file-long rule limit bytes more byte full read =
@@ -89,12 +85,14 @@ file-long rule limit bytes more byte full read =
 append-next : (bytes more : List ℕ) (byte : ℕ) → bytes ++ byte ∷ more ≡ (bytes ++ byte ∷ []) ++ more
 append-next bytes more byte = sym (append_assoc bytes (byte ∷ []) more)
 
-take-past : (limit : ℕ) (bytes more : List ℕ) (byte : ℕ) → length bytes < limit → take limit (bytes ++ byte ∷ more) ≡ (bytes ++ byte ∷ []) ++ take (limit - (length bytes + 1)) more
-take-past limit bytes more byte h =
-    rw append-next (grind (arith, common_steps, take-append-add (bytes ++ byte ∷ []) more (limit - (length bytes + 1)), length-append bytes (byte ∷ [])))
+take-past : (limit : ℕ) (bytes more : List ℕ) (byte : ℕ) → length bytes < limit →
+    take limit (bytes ++ byte ∷ more) ≡ (bytes ++ byte ∷ []) ++ take (limit - (length bytes + 1)) more
+take-past limit bytes more byte h = rw append-next
+    (grind (arith, common_steps, length-append, take-append-add (bytes ++ byte ∷ []) more (limit - (length bytes + 1))))
 
 -- the finished lines begin with these
-finished-feed_more : (bytes more : List ℕ) → (extra : List (List ℕ)) × (finished ((bytes ++ 10 ∷ []) ++ more) ≡ (finished bytes ++ unfinished bytes ∷ []) ++ extra)
+finished-feed_more : (bytes more : List ℕ) → (extra : List (List ℕ))
+    × (finished ((bytes ++ 10 ∷ []) ++ more) ≡ (finished bytes ++ unfinished bytes ∷ []) ++ extra)
 finished-feed_more bytes more = rw finished-feed at (finished-more (bytes ++ 10 ∷ []) more)
 
 -- the lines of a file begin with these lines, if the last one ends with a line feed within the limit

@@ -1,12 +1,9 @@
 -- One more row of a deck or a panel.
 use Rattle.std.proofs.Common.{◌≡◌, ◌-◌, ◌<◌, List, [], ◌∷◌, ◌++◌, ap, arith, length, drop, map, sym, replicate, All}
-use Rattle.std.proofs.lemmas.Grind.{common_steps}
+use Rattle.std.proofs.lemmas.{Grind.common_steps, List.append-nil, List.drop-replicate, List.map-append, List.Folds.concat-append}
 use Rattle.std.specs.List.{concat}
-use Rattle.std.proofs.lemmas.List.{append-nil, drop-replicate, map-append}
 use Rattle.std.proofs.lemmas.List.Elements.{All-append, All-replicate}
-use Rattle.std.proofs.lemmas.List.Folds.{concat-append}
-use Rattle.pp_files.specs.Rows.{Row}
-use Rattle.pp_files.specs.Files.{card_of_row}
+use Rattle.pp_files.specs.{Rows.Row, Files.card_of_row}
 
 -- a row in the first columns of a card of zeros
 pub card-front : (row : Row) → row ++ drop (length row) (replicate 80 0) ≡ card_of_row row
@@ -14,7 +11,8 @@ card-front row = ap (λ rest. row ++ rest) (drop-replicate (length row) 80 0)
 
 -- a card of small numbers
 pub card-within : (row : Row) → All (λ value. value < 4096) row → All (λ value. value < 4096) (card_of_row row)
-card-within row small = All-append (λ value. value < 4096) row (replicate (80 - length row) 0) small (All-replicate (λ value. value < 4096) (80 - length row) 0 (omega arith))
+card-within row small = All-append (λ value. value < 4096) row (replicate (80 - length row) 0) small
+    (All-replicate (λ value. value < 4096) (80 - length row) 0 (omega arith))
 
 -- a deck with one more card
 pub deck-more : (rows : List Row) (row : Row) → map card_of_row rows ++ card_of_row row ∷ [] ≡ map card_of_row (rows ++ row ∷ [])

@@ -1,5 +1,6 @@
 -- The contents of deck and panel files. Numbers that begin with 0o are octal, and the limits here are decimal.
-use Rattle.std.specs.Prelude.{ℕ, ◌+◌, ◌-◌, ◌==◌, nat_le, if◌then◌else◌, List, [], ◌∷◌, ◌++◌, length, take, map, replicate, Option, Some, None, Result, Ok, Err}
+use Rattle.std.specs.Prelude.{ℕ, ◌+◌, ◌-◌, ◌==◌, nat_le, if◌then◌else◌, List, [], ◌∷◌, ◌++◌, length, take, map, replicate, Option}
+use Rattle.std.specs.Prelude.{Some, None, Result, Ok, Err}
 use Rattle.std.specs.List.{concat}
 use Rattle.pp_lines.specs.Lines.{lines, finished}
 use Rattle.pp_lines.specs.Results.{◌>>=◌}

@@ -1,4 +1,4 @@
--- The numbers on a line of a deck or a panel file. A line has at most 1023 (decimal) bytes, not counting a carriage return at its end.
+-- The numbers on a line of a deck or panel file. A line has up to 1023 (decimal) bytes, not counting a carriage return at its end.
 use Rattle.std.specs.Prelude.{ℕ, nat_lt, nat_le, Bool, ◌&&◌, if◌then◌else◌, List, length, map, Option, Some, None, Result, Ok, Err}
 use Rattle.std.specs.List.{list_all}
 use Rattle.pp_arith.specs.Octal.{is_octal, octal_value}

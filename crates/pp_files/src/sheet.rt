@@ -1,7 +1,8 @@
 //! The sheets that a file is read into.
 #![tactic(auto, using(crate::proofs::MoreRows::rows))]
 
-ghost use Rattle.std.specs.Prelude.{◌≡◌, ◌<◌, ◌≤◌, ◌++◌, length, drop, Bool, List, true, false, map, All, IfErr, IsTrue, MatchResult};
+ghost use Rattle.std.specs.Prelude.{◌≡◌, ◌<◌, ◌≤◌, ◌++◌, length, drop, Bool, List, true, false, map, All, IfErr, IsTrue};
+ghost use Rattle.std.specs.Prelude.{MatchResult};
 ghost use Rattle.std.specs.List.{list_all, concat};
 ghost use Rattle.pp_lines.specs.Words.{words};
 ghost use Rattle.pp_arith.specs.Octal.{octal_value};

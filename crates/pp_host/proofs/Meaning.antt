@@ -1,14 +1,10 @@
 -- The meaning of the words.
 use Rattle.std.proofs.Common.{◌≡◌, List, [], refl, inl, inr, arith, Ok, Err, ◌⊎◌}
-use Rattle.pp_arguments.specs.CommandLine.{Text, faults_of}
-use Rattle.pp_arguments.specs.Options.{IsCauseOf, asked_by, asked_of}
-use Rattle.pp_arguments.specs.declared.options.ArgFault.{ArgFault}
+use Rattle.pp_arguments.specs.{CommandLine.Text, CommandLine.faults_of, Options.IsCauseOf, Options.asked_by, Options.asked_of}
+use Rattle.pp_arguments.specs.declared.options.{ArgFault.ArgFault, Options.Options}
 use Rattle.pp_arguments.specs.declared.options.ArgFault.TheVariants as argument
-use Rattle.pp_arguments.specs.declared.options.Options.{Options}
-use Rattle.pp_trouble.specs.Trouble.{of_arguments}
-use Rattle.pp_trouble.specs.declared.trouble.Trouble.TheVariants.{NoMemory}
-use Rattle.pp_host.specs.Known.{Texts}
-use Rattle.pp_host.specs.Options.{Means}
+use Rattle.pp_trouble.specs.{Trouble.of_arguments, declared.trouble.Trouble.TheVariants.NoMemory}
+use Rattle.pp_host.specs.{Known.Texts, Options.Means}
 
 pub Means-asked : (words : List Text) (options : Options) → asked_by words ≡ Ok (asked_of options) → faults_of words ≡ [] →
     Means (Texts words) (Ok (asked_of options))

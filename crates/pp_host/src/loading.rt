@@ -67,8 +67,8 @@ pub fn deck<H: Host>(
 /// `CannotOpen`, `Load` and `ReadFailed`.
 pub fn panel<H: Host>(host: &mut H, path: &Option<String>) -> Result<Option<[u16; 12]>, Trouble>
     ensures files { H.known_files host.new ≡ H.known_files host.old }
-    ensures panel { Loads (H.known_files host.old) (H.log host.old) (H.log host.new) FileKind.Panel (option_map string_bytes path.now)
-        (λ read content. MatchResult result
+    ensures panel { Loads (H.known_files host.old) (H.log host.old)
+        (H.log host.new) FileKind.Panel (option_map string_bytes path.now) (λ read content. MatchResult result
         (λ panel. panel_at (option_map string_bytes path.now) content ≡ Ok panel)
         (λ trouble. (panel_at (option_map string_bytes path.now) content ≡ Err trouble)
         ⊎ ((trouble ≡ ReadFailed) × IsLost panel_rule (option_map string_bytes path.now) read content ReadFailed))) }

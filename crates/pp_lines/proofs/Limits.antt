@@ -1,7 +1,7 @@
 -- Lines within a limit of lines and of bytes, and lines of which a prefix is kept.
-use Rattle.std.proofs.lemmas.Grind.{common_steps}
-use Rattle.std.proofs.Common.{◌≡◌, ◌∙◌, ℕ, zero, suc, ◌+◌, ◌-◌, ◌<◌, ◌≤◌, ◌⊎◌, Bool, cond, eqb, List, [], ◌∷◌, ◌++◌, length, take, refl, sym, ap, arith, inl, inr, length-append, length-take, append-nil}
-use Rattle.std.proofs.Math.Seq.{take-append_seam, take-append-add}
+use Rattle.std.proofs.{lemmas.Grind.common_steps, Math.Seq.take-append_seam, Math.Seq.take-append-add}
+use Rattle.std.proofs.Common.{◌≡◌, ◌∙◌, ℕ, zero, suc, ◌+◌, ◌-◌, ◌<◌, ◌≤◌, ◌⊎◌, Bool, cond, eqb, List, [], ◌∷◌, ◌++◌, length, take}
+use Rattle.std.proofs.Common.{refl, sym, ap, arith, inl, inr, length-append, length-take, append-nil}
 use Rattle.pp_lines.specs.LineCutter.{IsPrefixOf}
 use Rattle.pp_lines.specs.Lines.{lines, extend_first, finished, unfinished, last_line, finished_within, IsWithin}
 use Rattle.pp_lines.proofs.LineCuts.{begin_first, lines_first, lines_split, finished-more}
@@ -26,26 +26,30 @@ something-kept most [] e = absurd (omega (arith, rw length-take at e))
 something-kept most (byte ∷ rest) e = refl
 
 -- the lines, if the last one ends with a line feed
-pub lines-whole : (kept : ℕ) (front bytes : List ℕ) → 0 < kept → IsPrefixOf kept front bytes → length front ≡ 0 → lines bytes ≡ finished bytes
-lines-whole kept front bytes some is_front empty =
-    lines_split bytes ∙ rw (nothing-kept kept (unfinished bytes) some (sym (ap length is_front) ∙ empty)) (append-nil (finished bytes))
+pub lines-whole : (kept : ℕ) (front bytes : List ℕ) → 0 < kept →
+    IsPrefixOf kept front bytes → length front ≡ 0 → lines bytes ≡ finished bytes
+lines-whole kept front bytes some is_front empty = lines_split bytes
+    ∙ rw (nothing-kept kept (unfinished bytes) some (sym (ap length is_front) ∙ empty)) (append-nil (finished bytes))
 
 -- the lines, if the last one does not end with a line feed
-pub lines-last : (kept : ℕ) (front bytes : List ℕ) → IsPrefixOf kept front bytes → 0 < length front → lines bytes ≡ finished bytes ++ unfinished bytes ∷ []
-lines-last kept front bytes is_front begun =
-    lines_split bytes ∙ ap (λ last. finished bytes ++ last) (something-kept kept (unfinished bytes) (omega (arith, ap length is_front)))
+pub lines-last : (kept : ℕ) (front bytes : List ℕ) → IsPrefixOf kept front bytes →
+    0 < length front → lines bytes ≡ finished bytes ++ unfinished bytes ∷ []
+lines-last kept front bytes is_front begun = lines_split bytes
+    ∙ ap (λ last. finished bytes ++ last) (something-kept kept (unfinished bytes) (omega (arith, ap length is_front)))
 
 -- there are as many lines as finished lines, or one more
 pub lines-count : (bytes : List ℕ) → length (lines bytes) ≡ length (finished bytes) + length (last_line (unfinished bytes))
 lines-count bytes = ap length (lines_split bytes) ∙ length-append (finished bytes) (last_line (unfinished bytes))
 
 -- within the limits all finished lines count
-pub finished_within-all : (line_limit byte_limit : ℕ) (bytes : List ℕ) → IsWithin line_limit byte_limit bytes → finished_within line_limit byte_limit bytes ≡ finished bytes
+pub finished_within-all : (line_limit byte_limit : ℕ) (bytes : List ℕ) →
+    IsWithin line_limit byte_limit bytes → finished_within line_limit byte_limit bytes ≡ finished bytes
 unfolding finished_within
 finished_within-all line_limit byte_limit bytes within =
     grind (arith, common_steps, within.bytes_within, within.lines_within, lines-count bytes)
 
-pub finished_within-whole : (line_limit byte_limit : ℕ) (bytes : List ℕ) → length bytes ≤ byte_limit → length (finished bytes) ≤ line_limit → finished_within line_limit byte_limit bytes ≡ finished bytes
+pub finished_within-whole : (line_limit byte_limit : ℕ) (bytes : List ℕ) → length bytes ≤ byte_limit →
+    length (finished bytes) ≤ line_limit → finished_within line_limit byte_limit bytes ≡ finished bytes
 unfolding finished_within
 finished_within-whole line_limit byte_limit bytes bytes_within lines_within = grind (arith, common_steps)
 
@@ -53,12 +57,11 @@ finished_within-whole line_limit byte_limit bytes bytes_within lines_within = gr
 take_more : {X : Type 0} (n : ℕ) (xs more : List X) → (extra : List X) × (take n (xs ++ more) ≡ take n xs ++ extra)
 take_more zero xs more = ([], refl)
 take_more (suc n) [] more = (take (suc n) more, refl)
-take_more (suc n) (x ∷ xs) more =
-    let rest = take_more n xs more in
-    (rest.0, ap (λ ys. x ∷ ys) rest.1)
+take_more (suc n) (x ∷ xs) more = let rest = take_more n xs more in (rest.0, ap (λ ys. x ∷ ys) rest.1)
 
 -- more bytes do not change the finished lines within the limits
-pub finished_within-more : (line_limit byte_limit : ℕ) (bytes more : List ℕ) → (extra : List (List ℕ)) × (finished_within line_limit byte_limit (bytes ++ more) ≡ finished_within line_limit byte_limit bytes ++ extra)
+pub finished_within-more : (line_limit byte_limit : ℕ) (bytes more : List ℕ) → (extra : List (List ℕ))
+    × (finished_within line_limit byte_limit (bytes ++ more) ≡ finished_within line_limit byte_limit bytes ++ extra)
 unfolding finished_within
 finished_within-more line_limit byte_limit bytes more =
     let front = take_more byte_limit bytes more in
@@ -80,18 +83,21 @@ begun-some byte (first ∷ all) feed = grind arith
 pub lines-further : (kept more : List ℕ) → 0 < length more → length (finished kept) < length (lines (kept ++ more))
 lines-further [] [] h = absurd (omega arith)
 lines-further [] (byte ∷ more) h = rw (lines_first byte more) (begun-some byte (lines more) (eqb byte 10))
-lines-further (byte ∷ kept) more h = rw (lines_first byte (kept ++ more)) (begun-longer byte (finished kept) (lines (kept ++ more)) (eqb byte 10) (lines-further kept more h))
+lines-further (byte ∷ kept) more h = rw (lines_first byte (kept ++ more))
+    (begun-longer byte (finished kept) (lines (kept ++ more)) (eqb byte 10) (lines-further kept more h))
 
 -- a prefix that is longer than the first part
-pub take-front : (most : ℕ) (kept more : List ℕ) → length kept ≤ most → take most (kept ++ more) ≡ kept ++ take (most - length kept) more
-take-front most kept more h =
-    grind (arith, common_steps, take-append-add kept more (most - length kept))
+pub take-front : (most : ℕ) (kept more : List ℕ) → length kept ≤ most →
+    take most (kept ++ more) ≡ kept ++ take (most - length kept) more
+take-front most kept more h = grind (arith, common_steps, take-append-add kept more (most - length kept))
 
 -- the finished lines within the limits, once a limit is reached
 pub finished_within-kept : (line_limit byte_limit : ℕ) (kept more : List ℕ) → IsWithin line_limit byte_limit kept →
-    (length kept ≡ byte_limit) ⊎ (length (finished kept) ≡ line_limit) → finished_within line_limit byte_limit (kept ++ more) ≡ finished kept
+    (length kept ≡ byte_limit) ⊎ (length (finished kept) ≡ line_limit) →
+    finished_within line_limit byte_limit (kept ++ more) ≡ finished kept
 unfolding finished_within
-finished_within-kept line_limit byte_limit kept more within (inl full) = grind (arith, common_steps, take-append_seam kept more, within.lines_within, lines-count kept)
+finished_within-kept line_limit byte_limit kept more within (inl full) =
+    grind (arith, common_steps, take-append_seam kept more, within.lines_within, lines-count kept)
 finished_within-kept line_limit byte_limit kept more within (inr full) =
     let further = finished-more kept (take (byte_limit - length kept) more) in
     rw (take-front byte_limit kept more within.bytes_within, further.1, ← full) (take-append_seam (finished kept) further.0)

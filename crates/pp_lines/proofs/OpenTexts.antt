@@ -1,15 +1,14 @@
 -- Texts without a line feed, and the first line feed of a text.
-use Rattle.std.proofs.lemmas.Bool.Decides.{nat_tests}
-use Rattle.std.proofs.Common.{add-one, ◌≡◌, ◌∙◌, ℕ, zero, suc, ◌-◌, ◌<◌, cond, eqb, Bool, false, List, [], ◌∷◌, ◌++◌, length, take, drop, refl, sym, ap, arith, append_assoc, None, Some, ◌==◌, position, append-nil, drop-drop, take_all}
+use Rattle.std.proofs.lemmas.{Bool.Decides.nat_tests, List.Quantifiers.position-Some, List.Sums.position_or_len_is}
+use Rattle.std.proofs.Common.{add-one, ◌≡◌, ◌∙◌, ℕ, zero, suc, ◌-◌, ◌<◌, cond, eqb, Bool, false, List, [], ◌∷◌, ◌++◌, length, take}
+use Rattle.std.proofs.Common.{drop, refl, sym, ap, arith, append_assoc, None, Some, ◌==◌, position, append-nil, drop-drop, take_all}
 use Rattle.std.specs.List.{position_or_len}
-use Rattle.std.proofs.lemmas.List.Quantifiers.{position-Some}
-use Rattle.std.proofs.lemmas.List.Sums.{position_or_len_is}
 use Rattle.pp_lines.specs.Lines.{extend_first, finished, unfinished}
-use Rattle.pp_lines.proofs.LineCuts.{finished-byte, unfinished-byte}
-use Rattle.pp_lines.proofs.WordCuts.{len-stop, len-more}
+use Rattle.pp_lines.proofs.{LineCuts.finished-byte, LineCuts.unfinished-byte, WordCuts.len-stop, WordCuts.len-more}
 use Rattle.pp_lines.proofs.Writing.{slice_from}
 
-open_step : (feed : Bool) (byte : ℕ) (done : List (List ℕ)) → cond feed ([] ∷ done) (extend_first byte done) ≡ [] → (feed ≡ false) × (done ≡ [])
+open_step : (feed : Bool) (byte : ℕ) (done : List (List ℕ)) →
+    cond feed ([] ∷ done) (extend_first byte done) ≡ [] → (feed ≡ false) × (done ≡ [])
 open_step false byte [] none = (refl, refl)
 open_step feed byte done none = cc
 
@@ -25,22 +24,20 @@ open-more byte bytes e h = rw (e, h) refl
 pub open-take : (n : ℕ) (text : List ℕ) → finished text ≡ [] → finished (take n text) ≡ []
 open-take zero text h = refl
 open-take (suc n) [] h = refl
-open-take (suc n) (byte ∷ text) h =
-    let first = open-first byte text h in
+open-take (suc n) (byte ∷ text) h = let first = open-first byte text h in
     open-more byte (take n text) first.0 (open-take n text first.1)
 
 -- it finishes no line
 pub finished-text : (bytes text : List ℕ) → finished text ≡ [] → finished (bytes ++ text) ≡ finished bytes
 finished-text bytes [] h = ap finished (append-nil bytes)
-finished-text bytes (byte ∷ text) h =
-    let first = open-first byte text h in
-    ap finished (sym (append_assoc bytes (byte ∷ []) text)) ∙ finished-text (bytes ++ byte ∷ []) text first.1 ∙ finished-byte bytes byte first.0
+finished-text bytes (byte ∷ text) h = let first = open-first byte text h in
+    ap finished (sym (append_assoc bytes (byte ∷ []) text))
+    ∙ finished-text (bytes ++ byte ∷ []) text first.1 ∙ finished-byte bytes byte first.0
 
 -- it extends the unfinished line
 pub unfinished-text : (bytes text : List ℕ) → finished text ≡ [] → unfinished (bytes ++ text) ≡ unfinished bytes ++ text
 unfinished-text bytes [] h = ap unfinished (append-nil bytes) ∙ sym (append-nil (unfinished bytes))
-unfinished-text bytes (byte ∷ text) h =
-    let first = open-first byte text h in
+unfinished-text bytes (byte ∷ text) h = let first = open-first byte text h in
     ap unfinished (sym (append_assoc bytes (byte ∷ []) text)) ∙ unfinished-text (bytes ++ byte ∷ []) text first.1
     ∙ ap (λ begun. begun ++ text) (unfinished-byte bytes byte first.0) ∙ append_assoc (unfinished bytes) (byte ∷ []) text
 
@@ -51,17 +48,21 @@ before_feed = position_or_len (λ byte. byte == 10)
 -- the bytes before the first line feed contain no line feed
 before-open : (text : List ℕ) → finished (take (before_feed text) text) ≡ []
 before-open [] = refl
-before-open (byte ∷ text) = grind (arith, nat_tests, len-stop (λ byte. byte == 10) byte text, len-more (λ byte. byte == 10) byte text, open-more byte (take (before_feed text) text), before-open text)
+before-open (byte ∷ text) =
+    let more = len-more (λ byte. byte == 10) byte text in
+    let stop = len-stop (λ byte. byte == 10) byte text in
+    grind (arith, nat_tests, more, stop, open-more byte (take (before_feed text) text), before-open text)
 
 -- a text is cut at its first line feed
-feed-splits : (text : List ℕ) → before_feed text < length text → text ≡ take (before_feed text) text ++ 10 ∷ drop (suc (before_feed text)) text
+feed-splits : (text : List ℕ) → before_feed text < length text →
+    text ≡ take (before_feed text) text ++ 10 ∷ drop (suc (before_feed text)) text
 feed-splits [] less = absurd (omega arith)
-feed-splits (byte ∷ text) less = grind (arith, nat_tests, len-stop (λ byte. byte == 10) byte text, len-more (λ byte. byte == 10) byte text, feed-splits text)
+feed-splits (byte ∷ text) less =
+    grind (arith, nat_tests, len-stop (λ byte. byte == 10) byte text, len-more (λ byte. byte == 10) byte text, feed-splits text)
 
 -- the line feed found is the first one
 feed-found : (text : List ℕ) (feed : ℕ) → position (λ byte. byte == 10) text ≡ Some feed → before_feed text ≡ feed
-feed-found text feed e =
-    let (within, found, before) = position-Some (λ byte. byte == 10) text feed 0 e in
+feed-found text feed e = let (within, found, before) = position-Some (λ byte. byte == 10) text feed 0 e in
     position_or_len_is (λ byte. byte == 10) text feed 0 (omega (arith, within)) before (λ _. found)
 
 -- a text in which no line feed is found
@@ -74,7 +75,8 @@ pub feed-cut : (text : List ℕ) (feed : ℕ) → position (λ byte. byte == 10)
 feed-cut text feed e =
     let first = position-Some (λ byte. byte == 10) text feed 0 e in
     let found = feed-found text feed e in
-    rw (slice_from 1 (drop feed text), ← found) (rw (drop-drop 1 (before_feed text) text, add-one) (feed-splits text (omega (arith, found, first.0))))
+    rw (slice_from 1 (drop feed text), ← found)
+    (rw (drop-drop 1 (before_feed text) text, add-one) (feed-splits text (omega (arith, found, first.0))))
 
 -- no line feed comes before it
 pub feed-open : (text : List ℕ) (feed : ℕ) → position (λ byte. byte == 10) text ≡ Some feed → finished (take feed text) ≡ []

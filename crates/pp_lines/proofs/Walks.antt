@@ -11,7 +11,8 @@ pub use prog.Wp.{WpFn, Tables}
 pub use types.Logic.{Logic}
 pub use contract.Monad.{Fun}
 unfoldable pub use contract.Running.{tables, tables_of}
-pub use types.Kit.{‵, ◌⊛◌, ◌$◌, ◌∵◌, !, qed, move, keep, drop, use1, split, join, fsplit, fsplit3, fjoin, fjoin3, feq_i, suffices, frame, done, raw}
+pub use types.Kit.{‵, ◌⊛◌, ◌$◌, ◌∵◌, !, qed, move, keep, drop, use1, split, join, fsplit, fsplit3, fjoin, fjoin3, feq_i, suffices}
+pub use types.Kit.{frame, done, raw}
 pub use types.Run.{unit_lit, of_opd, returns, enter, no_more, and_then}
 pub use types.ByLocal.{alloc_all, pass_all, free_all, look_at, sets, get}
 pub use sound.WpLaws.{WpFn-mono}
@@ -22,7 +23,8 @@ pub use denote.Steps.{opens, closes, nothing}
 pub use denote.Triple.Entry.{on_entry, alive}
 pub use denote.Triple.Spec.{Meets, triple_of}
 pub use denote.Triple.Table.{entered}
-pub use denote.Triple.Walked.{says, Stays, stay_ref, Goes-ref, ends_at, walked, walk_Meets, stay_none_slice, Goes-none_slice, stay_none_ref, Goes-none_ref}
+pub use denote.Triple.Walked.{says, Stays, stay_ref, Goes-ref, ends_at, walked, walk_Meets, stay_none_slice, Goes-none_slice}
+pub use denote.Triple.Walked.{stay_none_ref, Goes-none_ref}
 pub use denote.Builtin.{u8}
 pub use denote.Exit.{yes}
 pub use denote.Slice.{ShrSlice, slice_val, shr_slice_vals, shr_slice_Tells}

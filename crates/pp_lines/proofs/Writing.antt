@@ -1,8 +1,7 @@
 -- Texts that are written one after the other.
-use Rattle.std.proofs.Common.{◌≡◌, ◌∙◌, ℕ, ◌+◌, ◌-◌, List, [], ◌++◌, length, take, drop, sym, ap, append_assoc, arith, length-append, append-nil}
-use Rattle.std.proofs.KnownBytes.{Appends-nil, Appends-trans}
-use Rattle.std.proofs.lemmas.Grind.{common_steps}
-use Rattle.std.proofs.Math.Seq.{take-add}
+use Rattle.std.proofs.Common.{◌≡◌, ◌∙◌, ℕ, ◌+◌, ◌-◌, List, [], ◌++◌, length, take, drop, sym, ap, append_assoc, arith}
+use Rattle.std.proofs.Common.{length-append, append-nil}
+use Rattle.std.proofs.{KnownBytes.Appends-nil, KnownBytes.Appends-trans, lemmas.Grind.common_steps, Math.Seq.take-add}
 use Rattle.pp_lines.specs.Output.{Appends, AppendsPrefix, Written}
 
 -- nothing is written
@@ -10,7 +9,8 @@ pub Appends-nothing : (written : Written) → Appends written written []
 Appends-nothing written = (sym (append-nil written.bytes), Appends-nil written.held)
 
 -- one text after another
-pub Appends-again : (first second third : Written) (a b : List ℕ) → Appends first second a → Appends second third b → Appends first third (a ++ b)
+pub Appends-again : (first second third : Written) (a b : List ℕ) →
+    Appends first second a → Appends second third b → Appends first third (a ++ b)
 Appends-again first second third a b p q = (
   q.0 ∙ ap (λ text. text ++ b) p.0 ∙ append_assoc first.bytes a b,
   Appends-trans first.held second.held third.held a b p.1 q.1,
@@ -26,7 +26,8 @@ slice_from done text = grind (arith, common_steps)
 
 -- a piece of the text is written, from an index on
 pub Appends-further : (first second third : Written) (done more : ℕ) (text : List ℕ) →
-    Appends first second (take done text) → Appends second third (take more (take (length text - done) (drop done text))) → Appends first third (take (done + more) text)
+    Appends first second (take done text) → Appends second third (take more (take (length text - done) (drop done text))) →
+    Appends first third (take (done + more) text)
 Appends-further first second third done more text p q =
     rw (← take-add done more text) at (Appends-again first second third _ _ p (rw slice_from at q))
 
@@ -58,7 +59,8 @@ pub Remains-none : (first second : Written) (whole : List ℕ) → Remains first
 Remains-none first second whole (front, written, all) = Appends-same first second front whole (sym (all ∙ append-nil front)) written
 
 -- the sink failed, and more text would have followed
-pub front_longer : (first second : Written) (text more : List ℕ) → AppendsPrefix first second text → AppendsPrefix first second (text ++ more)
+pub front_longer : (first second : Written) (text more : List ℕ) →
+    AppendsPrefix first second text → AppendsPrefix first second (text ++ more)
 front_longer first second text more (front, written, proper) = (
   front,
   written,
@@ -70,9 +72,14 @@ front_longer first second text more (front, written, proper) = (
 )
 
 -- the sink failed after a text
-pub front_after : (first second third : Written) (text more : List ℕ) → Appends first second text → AppendsPrefix second third more → AppendsPrefix first third (text ++ more)
+pub front_after : (first second third : Written) (text more : List ℕ) → Appends first second text →
+    AppendsPrefix second third more → AppendsPrefix first third (text ++ more)
 front_after first second third text more p (front, written, proper) = (
   text ++ front,
   Appends-again first second third text front p written,
-  record { rest = proper.rest; all = ap (λ rest. text ++ rest) proper.all ∙ sym (append_assoc text front proper.rest); some = proper.some },
+  record {
+    rest = proper.rest;
+    all = ap (λ rest. text ++ rest) proper.all ∙ sym (append_assoc text front proper.rest);
+    some = proper.some;
+  },
 )

@@ -240,7 +240,8 @@ impl Sink for Tray {
         ensures counts { Counts self.old.calls.failures self.new.calls.failures result }
         ensures made { self.new.calls.made ≡ one_more self.old.calls.made }
         ensures failing { self.new.calls.failing ≡ self.old.calls.failing }
-        ensures fails { IsErr result ↔ ((self.old.calls.failing ≡ Some (one_more self.old.calls.made)) ⊎ IsFull self.old.text.items from.now) }
+        ensures fails { IsErr result
+            ↔ ((self.old.calls.failing ≡ Some (one_more self.old.calls.made)) ⊎ IsFull self.old.text.items from.now) }
     {
         self.calls.begin()?;
         let count = from.len().min(self.piece).min(ROOM - self.text.len());

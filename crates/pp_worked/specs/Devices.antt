@@ -6,7 +6,8 @@ use Rattle.pp_machine.specs.Inner.Reader.{ReaderPlace, ReaderView, reader_model}
 use Rattle.pp_machine.specs.Writes.{Writes}
 
 -- One step of a device leads from the first numbers, with those of `blank` at all other places, to the second.
-abbrev Leads : {Numbers Own Record : Type 0} → DeviceModel Numbers Own Record → DeviceView Numbers → Writes (DevicePlace Own) → Writes (DevicePlace Own) → Type 0
+abbrev Leads : {Numbers Own Record : Type 0} → DeviceModel Numbers Own Record →
+    DeviceView Numbers → Writes (DevicePlace Own) → Writes (DevicePlace Own) → Type 0
 Leads d blank before later =
     let s = over_device d blank before in
     device_old_values d (over_device d s (d.writes s)) later ≡ later

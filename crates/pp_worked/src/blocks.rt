@@ -12,7 +12,8 @@ pub fn return_address_in_cell_0000()
         ((P, 0o7776) ∷ (Q, 2) ∷ (Phase, 0o6110) ∷ (Cell 0, 0o101) ∷ []) }
     ensures central_block_over_it { Runs 4 (0o6110 ∷ 0o7776 ∷ [])
         ((A, 0o1000) ∷ (Cell 0o10, 2) ∷ (Central 0o1000, 0o00010002000300040005) ∷ [])
-        ((P, 4) ∷ (A, 0o1002) ∷ (Q, 0) ∷ (Phase, 0) ∷ (Cell 0o7776, 1) ∷ (Cell 0o7777, 2) ∷ (Cell 0, 3) ∷ (Cell 1, 4) ∷ (Cell 2, 5) ∷ []) }
+        ((P, 4) ∷ (A, 0o1002) ∷ (Q, 0) ∷ (Phase, 0) ∷ (Cell 0o7776, 1) ∷
+        (Cell 0o7777, 2) ∷ (Cell 0, 3) ∷ (Cell 1, 4) ∷ (Cell 2, 5) ∷ []) }
     ensures ended_input_over_it { Leads ((Phase, 0o7105) ∷ (A, 5) ∷ (Cell 0, 0o101) ∷ []) 1
         ((P, 1) ∷ (A, 5) ∷ (Phase, 0) ∷ (Cell 0, 0) ∷ []) }
 {}
@@ -23,7 +24,8 @@ pub fn central_blocks()
         ((P, 0o102) ∷ (A, 1) ∷ (Q, 0) ∷ (Phase, 0) ∷ (Cell 0o1000, 0) ∷ (Cell 0o1004, 0) ∷ (Cell 0o1005, 1) ∷ (Cell 0o1006, 2) ∷
         (Cell 0o1007, 3) ∷ (Cell 0o1010, 4) ∷ (Cell 0o1011, 5) ∷ []) }
     ensures to_central { Runs 3 (0o6310 ∷ 0o200 ∷ [])
-        ((A, 0o1000) ∷ (Cell 0o10, 1) ∷ (Cell 0o200, 1) ∷ (Cell 0o201, 2) ∷ (Cell 0o202, 3) ∷ (Cell 0o203, 4) ∷ (Cell 0o204, 5) ∷ [])
+        ((A, 0o1000) ∷ (Cell 0o10, 1) ∷ (Cell 0o200, 1) ∷ (Cell 0o201, 2) ∷
+        (Cell 0o202, 3) ∷ (Cell 0o203, 4) ∷ (Cell 0o204, 5) ∷ [])
         ((P, 0o102) ∷ (A, 0o1001) ∷ (Q, 0) ∷ (Phase, 0) ∷ (Central 0o1000, 0o00010002000300040005) ∷ []) }
 {}
 

@@ -8,8 +8,10 @@ ghost use Rattle.pp_worked.specs.Processors.{Performs, Runs};
 /// 60 and 62 move one word, leftmost twelve bits first. Past the size a word reads as zero and is not written.
 pub fn central_words()
     ensures crd_over_itself { Performs 0o6076 ((A, 0o1000) ∷ (Central 0o1000, 0o01234567012345670123) ∷ [])
-        ((P, 0o101) ∷ (Cell 0o76, 0o123) ∷ (Cell 0o77, 0o4567) ∷ (Cell 0o100, 0o123) ∷ (Cell 0o101, 0o4567) ∷ (Cell 0o102, 0o123) ∷ []) }
-    ensures cwd { Performs 0o6210 ((A, 0o1000) ∷ (Cell 0o10, 1) ∷ (Cell 0o11, 2) ∷ (Cell 0o12, 3) ∷ (Cell 0o13, 4) ∷ (Cell 0o14, 5) ∷ [])
+        ((P, 0o101) ∷ (Cell 0o76, 0o123) ∷ (Cell 0o77, 0o4567) ∷
+        (Cell 0o100, 0o123) ∷ (Cell 0o101, 0o4567) ∷ (Cell 0o102, 0o123) ∷ []) }
+    ensures cwd { Performs 0o6210
+        ((A, 0o1000) ∷ (Cell 0o10, 1) ∷ (Cell 0o11, 2) ∷ (Cell 0o12, 3) ∷ (Cell 0o13, 4) ∷ (Cell 0o14, 5) ∷ [])
         ((P, 0o101) ∷ (Central 0o1000, 0o00010002000300040005) ∷ []) }
     ensures crd_past_size { Performs 0o6010 ((A, 0o400000) ∷ (Cell 0o10, 0o7777) ∷ (Cell 0o14, 0o7777) ∷ [])
         ((P, 0o101) ∷ (A, 0o400000) ∷ (Cell 0o10, 0) ∷ (Cell 0o14, 0) ∷ []) }
@@ -22,7 +24,8 @@ pub fn central_words()
 /// and are not written.
 pub fn exchanges()
     ensures loads { Performs 0o2600 ((A, 0o1000) ∷ (Central 0o1000, 0o01234000005123456) ∷ (Central 0o1017, 0o76543210) ∷ [])
-        ((P, 0o101) ∷ (FrameWord 0, 0o01234000005000000) ∷ (FrameWord 0o17, 0o76543210) ∷ (Central 0o1000, 0) ∷ (Central 0o1017, 0) ∷ []) }
+        ((P, 0o101) ∷ (FrameWord 0, 0o01234000005000000) ∷
+        (FrameWord 0o17, 0o76543210) ∷ (Central 0o1000, 0) ∷ (Central 0o1017, 0) ∷ []) }
     ensures b0_is_lost { Runs 2 (0o2600 ∷ 0o2600 ∷ [])
         ((A, 0o1000) ∷ (Central 0o1000, 0o01234000005123456) ∷ (Central 0o1001, 0o123456) ∷ [])
         ((P, 0o102) ∷ (FrameWord 0, 0) ∷ (Central 0o1000, 0o01234000005000000) ∷ (Central 0o1001, 0o123456) ∷ []) }

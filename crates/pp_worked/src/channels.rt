@@ -22,7 +22,8 @@ pub fn words_in_channels()
 pub fn activity()
     ensures acn { Performs 0o7403 ((Register 3, 0o1234) ∷ []) ((P, 0o101) ∷ (State 3, 1) ∷ (Register 3, 0o1234) ∷ []) }
     ensures acn_waits { Performs 0o7403 ((State 3, 1) ∷ []) ((P, 0o100) ∷ (State 3, 1) ∷ []) }
-    ensures dcn { Performs 0o7503 ((State 3, 2) ∷ (Register 3, 0o1234) ∷ []) ((P, 0o101) ∷ (State 3, 0) ∷ (Register 3, 0o1234) ∷ []) }
+    ensures dcn { Performs 0o7503 ((State 3, 2) ∷ (Register 3, 0o1234) ∷ [])
+        ((P, 0o101) ∷ (State 3, 0) ∷ (Register 3, 0o1234) ∷ []) }
     ensures dcn_waits { Performs 0o7503 [] ((P, 0o100) ∷ (State 3, 0) ∷ []) }
     ensures fan { Performs 0o7603 ((A, 0o654321) ∷ []) ((P, 0o101) ∷ (State 3, 3) ∷ (Register 3, 0o4321) ∷ []) }
     ensures fnc { Performs 0o7703 ((A, 0o654321) ∷ (Cell 0o101, 1) ∷ []) ((P, 0o102) ∷ (State 3, 3) ∷ (Register 3, 1) ∷ []) }

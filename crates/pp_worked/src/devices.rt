@@ -13,7 +13,8 @@ pub fn reader_functions()
         ((AtState, 0) ∷ (AtOwn Card, 0) ∷ (AtOwn Column, 0) ∷ (AtOwn Mode, 1) ∷ []) }
     ensures leaves_a_card_behind { ReaderLeads one_card ((AtState, 3) ∷ (AtWord, 1) ∷ (AtOwn Column, 1) ∷ (AtOwn Mode, 1) ∷ [])
         ((AtState, 0) ∷ (AtOwn Card, 1) ∷ (AtOwn Column, 0) ∷ (AtOwn Mode, 0) ∷ []) }
-    ensures none_of_its_own { ReaderLeads one_card ((AtState, 3) ∷ (AtWord, 4) ∷ []) ((AtState, 3) ∷ (AtWord, 4) ∷ (AtOwn Mode, 0) ∷ []) }
+    ensures none_of_its_own { ReaderLeads one_card ((AtState, 3) ∷ (AtWord, 4) ∷ [])
+        ((AtState, 3) ∷ (AtWord, 4) ∷ (AtOwn Mode, 0) ∷ []) }
 {}
 
 /// While it reads, the reader puts a column into an empty channel and waits while the channel is full. After the last
@@ -43,8 +44,10 @@ pub fn reader_status()
 
 /// Function 0001 makes the printer print, 0002 asks for its status, and 0003 ends a line in any mode.
 pub fn printer_functions()
-    ensures prints { PrinterLeads ((AtState, 3) ∷ (AtWord, 1) ∷ []) ((AtState, 0) ∷ (AtOwn PrinterMode, 1) ∷ (AtOwn Length, 0) ∷ []) }
-    ensures status { PrinterLeads ((AtState, 3) ∷ (AtWord, 2) ∷ []) ((AtState, 0) ∷ (AtOwn PrinterMode, 2) ∷ (AtOwn Length, 0) ∷ []) }
+    ensures prints { PrinterLeads ((AtState, 3) ∷ (AtWord, 1) ∷ [])
+        ((AtState, 0) ∷ (AtOwn PrinterMode, 1) ∷ (AtOwn Length, 0) ∷ []) }
+    ensures status { PrinterLeads ((AtState, 3) ∷ (AtWord, 2) ∷ [])
+        ((AtState, 0) ∷ (AtOwn PrinterMode, 2) ∷ (AtOwn Length, 0) ∷ []) }
     ensures line_end { PrinterLeads ((AtState, 3) ∷ (AtWord, 3) ∷ (AtOwn Length, 2) ∷ (AtOwn PaperColumn, 2) ∷ [])
         ((AtState, 0) ∷ (AtOwn PrinterMode, 0) ∷ (AtOwn (Symbol 2), 0o100) ∷ (AtOwn Length, 3) ∷ (AtOwn PaperColumn, 0) ∷ []) }
     ensures no_line_end_on_full_paper { PrinterLeads ((AtState, 3) ∷ (AtWord, 3) ∷ (AtOwn Length, 0o200000) ∷ [])

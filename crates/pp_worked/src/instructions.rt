@@ -40,8 +40,10 @@ pub fn stores()
 pub fn operands()
     ensures direct { Performs 0o3012 ((Cell 0o12, 0o300) ∷ []) ((P, 0o101) ∷ (A, 0o300) ∷ []) }
     ensures indirect { Performs 0o4012 ((Cell 0o12, 0o300) ∷ (Cell 0o300, 0o1234) ∷ []) ((P, 0o101) ∷ (A, 0o1234) ∷ []) }
-    ensures indexed { Performs 0o5012 ((Cell 0o101, 0o300) ∷ (Cell 0o12, 5) ∷ (Cell 0o305, 0o1234) ∷ []) ((P, 0o102) ∷ (A, 0o1234) ∷ []) }
-    ensures not_indexed { Performs 0o5000 ((Cell 0o101, 0o300) ∷ (Cell 0, 5) ∷ (Cell 0o300, 0o1234) ∷ []) ((P, 0o102) ∷ (A, 0o1234) ∷ []) }
+    ensures indexed { Performs 0o5012 ((Cell 0o101, 0o300) ∷ (Cell 0o12, 5) ∷ (Cell 0o305, 0o1234) ∷ [])
+        ((P, 0o102) ∷ (A, 0o1234) ∷ []) }
+    ensures not_indexed { Performs 0o5000
+        ((Cell 0o101, 0o300) ∷ (Cell 0, 5) ∷ (Cell 0o300, 0o1234) ∷ []) ((P, 0o102) ∷ (A, 0o1234) ∷ []) }
     ensures indexed_by_minus_zero { Performs 0o5001 ((Cell 0o101, 0o20) ∷ (Cell 1, 0o7777) ∷ (Cell 0o20, 0o1234) ∷ [])
         ((P, 0o102) ∷ (A, 0o1234) ∷ []) }
 {}

@@ -12,10 +12,13 @@ ghost use Rattle.pp_worked.specs.Sessions.{back_w, machine, seen_to_change, sess
 
 /// BACK undoes the newest actions in the undo history, and FORWARD redoes them.
 pub fn taken_back()
-    ensures back { number (machine (after_back (session 4 (SetA 0 1 ∷ SetA 0 2 ∷ SetA 0 3 ∷ SetA 0 4 ∷ SetA 0 5 ∷ [])) 4)) (RegA 0) ≡ 1 }
+    ensures back { number
+        (machine (after_back (session 4 (SetA 0 1 ∷ SetA 0 2 ∷ SetA 0 3 ∷ SetA 0 4 ∷ SetA 0 5 ∷ [])) 4)) (RegA 0) ≡ 1 }
     ensures kept { (session 4 (SetA 0 1 ∷ SetA 0 2 ∷ SetA 0 3 ∷ SetA 0 4 ∷ SetA 0 5 ∷ [])).kept ≡ 4 }
-    ensures forward { number (machine (after_forward (after_back (session 4 (SetA 0 1 ∷ SetA 0 2 ∷ SetA 0 3 ∷ [])) 2) 1)) (RegA 0) ≡ 2 }
-    ensures forward_all { number (machine (after_forward (after_back (session 4 (SetA 0 1 ∷ SetA 0 2 ∷ SetQ 0 7 ∷ [])) 3) 3)) (RegQ 0) ≡ 7 }
+    ensures forward { number
+        (machine (after_forward (after_back (session 4 (SetA 0 1 ∷ SetA 0 2 ∷ SetA 0 3 ∷ [])) 2) 1)) (RegA 0) ≡ 2 }
+    ensures forward_all { number
+        (machine (after_forward (after_back (session 4 (SetA 0 1 ∷ SetA 0 2 ∷ SetQ 0 7 ∷ [])) 3) 3)) (RegQ 0) ≡ 7 }
 {}
 
 /// BACK W goes back to the latest change of a watched number. Storing the same number again is not a change, and a
@@ -26,8 +29,10 @@ pub fn latest_change()
     ensures same_number { back_w
         (session 0o100 (SetCells 0 0o50 (5 ∷ []) ∷ SetA 0 5 ∷ SetCells 0 0o100 (0o3450 ∷ []) ∷ SetP 0 0o100 ∷ Turn ∷ []))
         (Cell 0 0o50 ∷ []) ≡ Some 5 }
-    ensures tick { back_w (session 0o100 (Turn ∷ Turn ∷ Turn ∷ Turn ∷ Turn ∷ Turn ∷ Turn ∷ Turn ∷ Turn ∷ Turn ∷ [])) (Clock ∷ []) ≡ Some 1 }
-    ensures no_tick { back_w (session 0o100 (Turn ∷ Turn ∷ Turn ∷ Turn ∷ Turn ∷ Turn ∷ Turn ∷ Turn ∷ Turn ∷ [])) (Clock ∷ []) ≡ None }
+    ensures tick { back_w (session 0o100 (Turn ∷ Turn ∷ Turn ∷ Turn ∷ Turn ∷ Turn ∷ Turn ∷ Turn ∷ Turn ∷ Turn ∷ []))
+        (Clock ∷ []) ≡ Some 1 }
+    ensures no_tick { back_w (session 0o100 (Turn ∷ Turn ∷ Turn ∷ Turn ∷ Turn ∷ Turn ∷ Turn ∷ Turn ∷ Turn ∷ []))
+        (Clock ∷ []) ≡ None }
     ensures not_kept { back_w (session 2 (SetA 0 1 ∷ SetQ 0 1 ∷ SetQ 0 2 ∷ [])) (RegA 0 ∷ []) ≡ None }
     ensures kept { back_w (session 3 (SetA 0 1 ∷ SetQ 0 1 ∷ SetQ 0 2 ∷ [])) (RegA 0 ∷ []) ≡ Some 3 }
 {}

@@ -2,7 +2,9 @@
 #![tactic(auto, unfolding(pp_step::specs::Step::pp_writes, pp_rig::specs::Turn::turn, pp_actions::specs::Deadstart::deadstart_write_list, pp_actions::specs::Deadstart::all_waiting, pp_actions::specs::Deadstart::all_states))]
 
 ghost use Rattle.std.specs.Prelude.{◌≡◌, ℕ, [], ◌∷◌, None, length};
-ghost use Rattle.pp_machine.specs.declared.place.Place.TheVariants.{CardColumn, Cell, ChannelMode, ChannelWord, Clock, PaperColumn, PaperLength, PaperSymbol, Phase, PrinterMode, ReaderMode, RegA, RegP, Slot};
+ghost use Rattle.pp_machine.specs.declared.place.Place.TheVariants.{CardColumn, Cell, ChannelMode, ChannelWord, Clock, PaperColumn};
+ghost use Rattle.pp_machine.specs.declared.place.Place.TheVariants.{PaperLength, PaperSymbol, Phase, PrinterMode, ReaderMode, RegA};
+ghost use Rattle.pp_machine.specs.declared.place.Place.TheVariants.{RegP, Slot};
 ghost use Rattle.pp_actions.specs.Deadstart.{deadstart_write_list};
 ghost use Rattle.pp_rig.specs.Starting.{starting};
 ghost use Rattle.pp_actions.specs.declared.setup.Setup.{Setup};
@@ -27,7 +29,8 @@ pub fn turns_of_the_barrel()
 pub fn clock_ticks()
     ensures round_the_end { Leads at_rest ((Slot, 0o11) ∷ (Clock, 0o7777) ∷ []) 1 ((Slot, 0) ∷ (Clock, 0) ∷ []) }
     ensures not_before { Leads at_rest ((Slot, 0o10) ∷ (Clock, 0o7777) ∷ []) 1 ((Slot, 0o11) ∷ (Clock, 0o7777) ∷ []) }
-    ensures read_before_it_ticks { Leads at_rest ((Slot, 0o11) ∷ (Clock, 0o1234) ∷ (RegP 0o11, 0o100) ∷ (Cell 0o11 0o100, 0o7014) ∷ []) 1
+    ensures read_before_it_ticks { Leads at_rest
+        ((Slot, 0o11) ∷ (Clock, 0o1234) ∷ (RegP 0o11, 0o100) ∷ (Cell 0o11 0o100, 0o7014) ∷ []) 1
         ((RegA 0o11, 0o1234) ∷ (RegP 0o11, 0o101) ∷ (Clock, 0o1235) ∷ (Slot, 0) ∷ []) }
     ensures read { Leads at_rest ((RegP 0, 0o100) ∷ (Cell 0 0o100, 0o2400) ∷ (Cell 0 0o101, 0o7014) ∷ []) 0o13
         ((RegA 0, 1) ∷ (RegP 0, 0o102) ∷ (Clock, 1) ∷ (Slot, 1) ∷ []) }
@@ -40,13 +43,15 @@ pub fn clock_ticks()
 pub fn card_through_a_program()
     ensures column { Leads (blank (card (0o1234 ∷ 0o4321 ∷ []) ∷ []) None)
         ((RegP 0, 0o100) ∷ (Cell 0 0o100, 0o7712) ∷ (Cell 0 0o101, 1) ∷ (Cell 0 0o102, 0o7412) ∷ (Cell 0 0o103, 0o7012) ∷ []) 0o25
-        ((RegA 0, 0o1234) ∷ (RegP 0, 0o104) ∷ (ChannelMode 0o12, 2) ∷ (ChannelWord 0o12, 0o4321) ∷ (CardColumn, 2) ∷ (ReaderMode, 1) ∷ []) }
+        ((RegA 0, 0o1234) ∷ (RegP 0, 0o104) ∷ (ChannelMode 0o12, 2) ∷
+        (ChannelWord 0o12, 0o4321) ∷ (CardColumn, 2) ∷ (ReaderMode, 1) ∷ []) }
 {}
 
 /// 7713 0001 7413 7213 7513 7713 0003 prints a line of two symbols and ends it.
 pub fn line_through_a_program()
     ensures line { Leads at_rest
-        ((RegA 0, 0o0102) ∷ (RegP 0, 0o100) ∷ (Cell 0 0o100, 0o7713) ∷ (Cell 0 0o101, 1) ∷ (Cell 0 0o102, 0o7413) ∷ (Cell 0 0o103, 0o7213) ∷
+        ((RegA 0, 0o0102) ∷ (RegP 0, 0o100) ∷ (Cell 0 0o100, 0o7713) ∷
+        (Cell 0 0o101, 1) ∷ (Cell 0 0o102, 0o7413) ∷ (Cell 0 0o103, 0o7213) ∷
         (Cell 0 0o104, 0o7513) ∷ (Cell 0 0o105, 0o7713) ∷ (Cell 0 0o106, 3) ∷ []) 0o51
         ((RegP 0, 0o107) ∷ (ChannelMode 0o13, 0) ∷ (PaperSymbol 0, 0o01) ∷ (PaperSymbol 1, 0o02) ∷ (PaperSymbol 2, 0o100) ∷
         (PaperLength, 3) ∷ (PaperColumn, 0) ∷ (PrinterMode, 1) ∷ []) }
@@ -60,9 +65,11 @@ pub fn dead_start()
     ensures first { Shows (dead_started [])
         ((RegP 0, 1) ∷ (RegA 0, 0) ∷ (Phase 0, 0) ∷ (Cell 0 0, 0) ∷ (Cell 0 1, 0o1405) ∷ (Cell 0 2, 0o3420) ∷ (Cell 0 3, 0o300) ∷
         (Cell 0 0o15, 0) ∷ (RegA 1, 0o10000) ∷ (RegP 1, 0) ∷ (Phase 1, 0o7101) ∷ (RegA 0o11, 0o10000) ∷ (Phase 0o11, 0o7111) ∷
-        (ChannelMode 0, 0) ∷ (ChannelMode 1, 1) ∷ (ChannelMode 0o11, 1) ∷ (ChannelMode 0o12, 0) ∷ (ChannelMode 0o13, 0) ∷ (Slot, 0) ∷ []) }
+        (ChannelMode 0, 0) ∷ (ChannelMode 1, 1) ∷ (ChannelMode 0o11, 1) ∷
+        (ChannelMode 0o12, 0) ∷ (ChannelMode 0o13, 0) ∷ (Slot, 0) ∷ []) }
     ensures runs { Shows (after 1 (dead_started []))
         ((RegP 0, 2) ∷ (RegA 0, 5) ∷ (RegP 1, 0) ∷ (RegA 1, 0o10000) ∷ (Phase 1, 0o7101) ∷ (Slot, 1) ∷ []) }
     ensures clock_stays { Shows (dead_started ((Clock, 0o1234) ∷ (Slot, 5) ∷ [])) ((Clock, 0o1234) ∷ (Slot, 0) ∷ []) }
-    ensures clock_goes_on { Shows (after 0o12 (dead_started ((Clock, 0o1234) ∷ (Slot, 5) ∷ []))) ((Clock, 0o1235) ∷ (Slot, 0) ∷ []) }
+    ensures clock_goes_on { Shows (after 0o12 (dead_started ((Clock, 0o1234) ∷ (Slot, 5) ∷ [])))
+        ((Clock, 0o1235) ∷ (Slot, 0) ∷ []) }
 {}

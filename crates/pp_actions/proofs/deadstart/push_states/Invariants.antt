@@ -7,5 +7,6 @@ use Rattle.pp_actions.proofs.deadstart.push_states.Given as goal
 abbrev pub invariant-loop-c : goal.invariant-loop-c
 invariant-loop-c l = record {
   count : array_vec_len l.list ≡ array_vec_len l.initial.list + l.c;
-  so_far : write_list l.list.items ++ state_writes l.c (drop l.c l.states) ≡ write_list l.initial.list.items ++ state_writes 0 l.states;
+  so_far : write_list l.list.items ++ state_writes l.c (drop l.c l.states)
+      ≡ write_list l.initial.list.items ++ state_writes 0 l.states;
 }

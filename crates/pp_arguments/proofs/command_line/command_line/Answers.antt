@@ -13,4 +13,5 @@ returns c =
     let four = c.in_ok-arg-4.ensures.shape c.option-4.ensures.local ∙ ap₂ with_rule three c.option-4.ensures.rule in
     let five = c.in_ok-arg-5.ensures.shape c.option-5.ensures.local ∙ ap₂ with_rule four c.option-5.ensures.rule in
     let six = c.in_ok-arg-6.ensures.shape c.option-6.ensures.local ∙ ap₂ with_rule five c.option-6.ensures.rule in
-    IfOk-weaker c.arg-7.result _ _ (λ command added. added.shape c.script.ensures.local ∙ ap₂ with_rule six c.script.ensures.rule) c.arg-7.ensures
+    IfOk-weaker c.arg-7.result _ _
+    (λ command added. added.shape c.script.ensures.local ∙ ap₂ with_rule six c.script.ensures.rule) c.arg-7.ensures

@@ -9,5 +9,6 @@ returns-then-value-max c =
     let i = c.loop-byte.byte-index in
     let digits : is_octal word ≡ true = cc in
     let next = value-next word i c.loop-byte-test.true in
-    let over : c.args.max < octal_value word = omega (arith, next, value-so_far word (i + 1), c.loop-byte.invariant.read, c.if-value-max.true, c.from.ensures) in
+    let over : c.args.max < octal_value word =
+    omega (arith, next, value-so_far word (i + 1), c.loop-byte.invariant.read, c.if-value-max.true, c.from.ensures) in
     octal_read-over word c.args.max digits over

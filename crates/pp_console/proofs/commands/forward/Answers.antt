@@ -1,13 +1,16 @@
 use Rattle.std.proofs.Common.{append-nil}
 use Rattle.pp_history.specs.SessionValue.{after_forward}
-use Rattle.pp_console.specs.Watches.{hit_text}
-use Rattle.pp_console.specs.Commands.{forward_answer}
+use Rattle.pp_console.specs.{Watches.hit_text, Commands.forward_answer}
 use Rattle.pp_console.proofs.Performing.{performs-answered, forward-within}
 use Rattle.pp_console.proofs.commands.forward.Goals as goal
 
 pub returns-in-Ok : goal.returns-in-Ok
 unfolding hit_text
-returns-in-Ok g c =
-    performs-answered g.W.Sink c.args.session.now _ c.args.out.now c.write_moved.new.out _ (forward_answer c.args.actions) _ c.write_moved.ensures.written c.write_moved.ensures.performed
-    (λ v at. let moves = c.in-Ok.ensures.moves v at in
-    (after_forward v c.args.actions, rw (append-nil, c.slot.ensures.value, c.machine.ensures.is_replay _ moves) (forward-within c.args.actions v (c.in-Ok.ensures.has_enough v at)), moves))
+returns-in-Ok g c = performs-answered c.args.session.now (forward_answer c.args.actions)
+    c.write_moved.ensures.written c.write_moved.ensures.performed
+    (λ v at. let moves = c.in-Ok.ensures.moves v at in (
+      after_forward v c.args.actions,
+      rw (append-nil, c.slot.ensures.value, c.machine.ensures.is_replay _ moves)
+          (forward-within c.args.actions v (c.in-Ok.ensures.has_enough v at)),
+      moves,
+    ))

@@ -4,5 +4,5 @@ use Rattle.pp_console.proofs.Shown.{IsPartWritten}
 use Rattle.pp_console.proofs.dumps.put_central.Given as goal
 
 abbrev pub invariant-loop-a : goal.invariant-loop-a
-invariant-loop-a g l =
-    IsPartWritten g.W.Sink l.initial.out l.out (central_text l.machine l.first l.last) (each (central_line l.machine) l.a (l.last + 1 - l.a))
+invariant-loop-a g l = IsPartWritten g.W.Sink l.initial.out l.out (central_text l.machine l.first l.last)
+    (each (central_line l.machine) l.a (l.last + 1 - l.a))

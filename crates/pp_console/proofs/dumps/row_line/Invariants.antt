@@ -1,7 +1,6 @@
 use Rattle.std.proofs.Common.{◌≡◌, ◌+◌, ◌*◌, ◌++◌, []}
 use Rattle.arrayvec.specs.ArrayVec.{array_vec_len}
-use Rattle.pp_console.specs.Dumps.{each, cell_text}
-use Rattle.pp_console.specs.Text.{field}
+use Rattle.pp_console.specs.{Dumps.each, Dumps.cell_text, Text.field}
 use Rattle.pp_console.proofs.dumps.row_line.Given as goal
 
 abbrev pub invariant-loop-i : goal.invariant-loop-i

@@ -1,16 +1,19 @@
 use Rattle.std.proofs.Common.{◌∷◌, ◌++◌, [], arith}
 use Rattle.std.proofs.lemmas.Bool.Decides.{nat_tests}
 use Rattle.pp_lines.specs.Lines.{finished, unfinished}
-use Rattle.pp_console.proofs.Reading.{HasRead-finishes}
-use Rattle.pp_console.proofs.Pieces.{Interrupts-lines, Interrupts-bytes}
+use Rattle.pp_console.proofs.{Reading.HasRead-finishes, Pieces.Interrupts-lines, Pieces.Interrupts-bytes}
 use Rattle.pp_console.proofs.serving.feed_line.Goals as goal
-use Rattle.pp_console.proofs.serving.feed_line.Goals.{then-progress-eq-LINE_LIMIT-via-then-progress-eq-LINE_LIMIT, then-progress-eq-LINE_LIMIT-via-else-progress-eq-LINE_LIMIT+then-text-room}
+use Rattle.pp_console.proofs.serving.feed_line.Goals.{then-progress-eq-LINE_LIMIT-via-then-progress-eq-LINE_LIMIT}
+use Rattle.pp_console.proofs.serving.feed_line.Goals.{then-progress-eq-LINE_LIMIT-via-else-progress-eq-LINE_LIMIT+then-text-room}
 
 pub returns-then-progress-eq-LINE_LIMIT-clause-has_read : goal.returns-then-progress-eq-LINE_LIMIT-clause-has_read
 returns-then-progress-eq-LINE_LIMIT-clause-has_read g c = λ origin bytes has_read.
     elim c.then-progress-eq-LINE_LIMIT.branch [
-      | then-progress-eq-LINE_LIMIT-via-then-progress-eq-LINE_LIMIT w ↦ Interrupts-lines _ _ _ origin bytes c.args.text.now (10 ∷ []) has_read (omega arith) w.if-progress-eq-LINE_LIMIT.true
-      | then-progress-eq-LINE_LIMIT-via-else-progress-eq-LINE_LIMIT+then-text-room w ↦ Interrupts-bytes _ _ _ origin bytes c.args.text.now (10 ∷ []) c.requires has_read (omega (arith, w.if-text-room.true)) (omega (arith, w.if-text-room.true)) (grind (arith, nat_tests))
+      | then-progress-eq-LINE_LIMIT-via-then-progress-eq-LINE_LIMIT w ↦
+          Interrupts-lines has_read c.args.text.now (10 ∷ []) (omega arith) w.if-progress-eq-LINE_LIMIT.true
+      | then-progress-eq-LINE_LIMIT-via-else-progress-eq-LINE_LIMIT+then-text-room w ↦
+          Interrupts-bytes has_read c.args.text.now (10 ∷ []) c.requires
+          (omega (arith, w.if-text-room.true)) (omega (arith, w.if-text-room.true)) (grind (arith, nat_tests))
     ]
 
 pub returns-in-Err-clause-has_read : goal.returns-in-Err-clause-has_read
@@ -18,6 +21,6 @@ returns-in-Err-clause-has_read g c = λ origin bytes has_read. (
   finished bytes,
   unfinished (bytes ++ c.args.text.now),
   [],
-  HasRead-finishes _ _ _ origin bytes c.args.text.now c.requires has_read (grind (arith, nat_tests)) (grind (arith, nat_tests)),
+  HasRead-finishes has_read c.args.text.now c.requires (grind (arith, nat_tests)) (grind (arith, nat_tests)),
   c.in-Err.ensures.ended origin bytes has_read.keeps has_read.ended,
 )

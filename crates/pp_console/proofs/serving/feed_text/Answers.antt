@@ -1,15 +1,18 @@
 use Rattle.std.proofs.Common.{◌++◌, [], arith, append-nil}
 use Rattle.std.proofs.lemmas.Bool.Decides.{nat_tests}
-use Rattle.pp_console.proofs.Prelude.{LineLimit, Interrupts}
-use Rattle.pp_console.proofs.Pieces.{Interrupts-lines, Interrupts-bytes}
+use Rattle.pp_console.proofs.{Prelude.LineLimit, Prelude.Interrupts, Pieces.Interrupts-lines, Pieces.Interrupts-bytes}
 use Rattle.pp_console.proofs.serving.feed_text.Goals as goal
-use Rattle.pp_console.proofs.serving.feed_text.Goals.{then-progress-eq-LINE_LIMIT-via-then-progress-eq-LINE_LIMIT, then-progress-eq-LINE_LIMIT-via-else-progress-eq-LINE_LIMIT+then-text-room}
+use Rattle.pp_console.proofs.serving.feed_text.Goals.{then-progress-eq-LINE_LIMIT-via-then-progress-eq-LINE_LIMIT}
+use Rattle.pp_console.proofs.serving.feed_text.Goals.{then-progress-eq-LINE_LIMIT-via-else-progress-eq-LINE_LIMIT+then-text-room}
 
 pub returns-then-progress-eq-LINE_LIMIT-clause-has_read : goal.returns-then-progress-eq-LINE_LIMIT-clause-has_read
 returns-then-progress-eq-LINE_LIMIT-clause-has_read c = λ session written origin bytes has_read.
     let text = c.args.text.now in
     let stopped : Interrupts LineLimit session written origin ((bytes ++ text) ++ []) = elim c.then-progress-eq-LINE_LIMIT.branch [
-      | then-progress-eq-LINE_LIMIT-via-then-progress-eq-LINE_LIMIT w ↦ Interrupts-lines _ session written origin bytes text [] has_read (grind (arith, nat_tests)) w.if-progress-eq-LINE_LIMIT.true
-      | then-progress-eq-LINE_LIMIT-via-else-progress-eq-LINE_LIMIT+then-text-room w ↦ Interrupts-bytes _ session written origin bytes text [] c.requires has_read (omega (arith, w.if-text-room.true)) (omega (arith, w.if-text-room.true)) (grind (arith, nat_tests))
+      | then-progress-eq-LINE_LIMIT-via-then-progress-eq-LINE_LIMIT w ↦
+          Interrupts-lines has_read text [] (grind (arith, nat_tests)) w.if-progress-eq-LINE_LIMIT.true
+      | then-progress-eq-LINE_LIMIT-via-else-progress-eq-LINE_LIMIT+then-text-room w ↦
+          Interrupts-bytes has_read text [] c.requires
+          (omega (arith, w.if-text-room.true)) (omega (arith, w.if-text-room.true)) (grind (arith, nat_tests))
     ] in
     rw (append-nil (bytes ++ text)) at stopped

@@ -3,8 +3,7 @@ use Rattle.std.proofs.lemmas.Result.{err_from_is_err_and}
 use Rattle.std.specs.Io.KnownBytes.{Consumes, IsAtEnd}
 use Rattle.pp_console.specs.Serving.{origin_of, Serves, Stops}
 use Rattle.pp_lines.proofs.Reading.{Consumes-nothing, Consumes-again, Consumes-keeps}
-use Rattle.pp_console.proofs.Reading.{HasRead-new, Performed-within}
-use Rattle.pp_console.proofs.Ending.{Stops-interrupted, at-end}
+use Rattle.pp_console.proofs.{Reading.HasRead-new, Reading.Performed-within, Ending.Stops-interrupted, Ending.at-end}
 use Rattle.pp_console.proofs.serving.serve.Goals as goal
 
 pub pieces-init : goal.pieces-init
@@ -13,20 +12,20 @@ pieces-init g c = record {
     [],
     Consumes-nothing (g.R.Source.rest c.args.source.now),
     sym (append-nil (g.R.Source.given c.args.source.now)),
-    λ start at. HasRead-new _ _ _ start at c.new-progress.ensures.line c.new-progress.ensures.bytes c.new-progress.ensures.lines c.new-progress.ensures.refused,
+    λ start at. HasRead-new _ _ _ start at c.new-progress.ensures.line
+        c.new-progress.ensures.bytes c.new-progress.ensures.lines c.new-progress.ensures.refused,
   );
   reads = refl;
   writes = refl;
 }
 
 pub returns-in-Err-clause-script : goal.returns-in-Err-clause-script
-returns-in-Err-clause-script g c =
-    let (taken, consumed, given, has_read) = c.pieces.invariant.has_read in (
-      taken,
-      Consumes-keeps _ (g.R.Source.rest c.pieces.source) _ _ consumed c.in-Err.ensures.bytes,
-      c.in-Err.ensures.given ∙ given,
-      λ start at. Performed-within _ _ _ _ taken (has_read start at),
-    )
+returns-in-Err-clause-script g c = let (taken, consumed, given, has_read) = c.pieces.invariant.has_read in (
+  taken,
+  Consumes-keeps _ (g.R.Source.rest c.pieces.source) _ _ consumed c.in-Err.ensures.bytes,
+  c.in-Err.ensures.given ∙ given,
+  λ start at. Performed-within (has_read start at),
+)
 
 pub returns-in-Ok-eq0-clause-script : goal.returns-in-Ok-eq0-clause-script
 returns-in-Ok-eq0-clause-script g c =
@@ -39,8 +38,10 @@ returns-in-Ok-eq0-clause-script g c =
       rw (append-nil taken) at all,
       same ∙ append-nil (g.R.Source.given c.pieces.source) ∙ given,
       λ start at. at-end c.finish.result (g.R.Source.rest c.take.new.self)
-          (λ summary. Serves summary c.finish.new.session (g.W.Sink.text c.finish.new.out) (origin_of start (g.W.Sink.text c.args.out.now)) taken)
-          (λ fault left. Stops fault c.finish.new.session (g.W.Sink.text c.finish.new.out) (origin_of start (g.W.Sink.text c.args.out.now)) taken left)
+          (λ summary. Serves summary c.finish.new.session (g.W.Sink.text c.finish.new.out)
+          (origin_of start (g.W.Sink.text c.args.out.now)) taken)
+          (λ fault left. Stops fault c.finish.new.session (g.W.Sink.text c.finish.new.out)
+          (origin_of start (g.W.Sink.text c.args.out.now)) taken left)
           end (c.finish.ensures.serves (origin_of start (g.W.Sink.text c.args.out.now)) taken (has_read start at)),
     )
 
@@ -60,10 +61,11 @@ pieces-preserved g c = record {
 pub returns-in_err-feed-in-Ok-clause-script : goal.returns-in_err-feed-in-Ok-clause-script
 returns-in_err-feed-in-Ok-clause-script g c =
     let (taken, consumed, given, has_read) = c.pieces.invariant.has_read in
-    let p = err_from_is_err_and c.from_residual.result c.from_residual.ensures.1 in
-    rw (p.1, p.2) (
+    let (fault, is_err, is) = err_from_is_err_and c.from_residual.result c.from_residual.ensures.1 in
+    rw (is_err, is) (
       taken ++ take c.in-Ok.count c.take.new.into,
       Consumes-again _ (g.R.Source.rest c.pieces.source) _ taken _ consumed c.in-Ok.ensures.bytes.0,
       c.in-Ok.ensures.given ∙ ap (λ front. front ++ take c.in-Ok.count c.take.new.into) given ∙ append_assoc _ taken _,
-      λ start at. Stops-interrupted _ _ _ _ _ _ (c.in_err-feed-in-Ok.ensures.has_read (origin_of start (g.W.Sink.text c.args.out.now)) taken (has_read start at)),
+      λ start at. Stops-interrupted _ _ _ _ _ _
+          (c.in_err-feed-in-Ok.ensures.has_read (origin_of start (g.W.Sink.text c.args.out.now)) taken (has_read start at)),
     )

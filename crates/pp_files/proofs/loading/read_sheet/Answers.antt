@@ -29,13 +29,12 @@ pieces-preserved g c = record {
 }
 
 pub returns-in-Err-clause-file : goal.returns-in-Err-clause-file
-returns-in-Err-clause-file g c =
-    let (taken, consumed, given, has_read) = c.pieces.invariant.has_read in (
-      taken,
-      Consumes-keeps _ (g.R.Source.rest c.pieces.source) _ taken consumed c.in-Err.ensures.bytes,
-      c.in-Err.ensures.given ∙ given,
-      inr (inr (refl, breaks-off c.pieces.progress g.S.Sheet.rule _ taken has_read)),
-    )
+returns-in-Err-clause-file g c = let (taken, consumed, given, has_read) = c.pieces.invariant.has_read in (
+  taken,
+  Consumes-keeps _ (g.R.Source.rest c.pieces.source) _ taken consumed c.in-Err.ensures.bytes,
+  c.in-Err.ensures.given ∙ given,
+  inr (inr (refl, breaks-off c.pieces.progress g.S.Sheet.rule _ taken has_read)),
+)
 
 pub returns-in-Ok-eq0-clause-file : goal.returns-in-Ok-eq0-clause-file
 returns-in-Ok-eq0-clause-file g c =
@@ -47,17 +46,19 @@ returns-in-Ok-eq0-clause-file g c =
       taken,
       rw (append-nil taken) at all,
       same ∙ append-nil (g.R.Source.given c.pieces.source) ∙ given,
-      ends c.finish.result _ g.S.Sheet.rule _ (g.R.Source.rest c.take.new.self) taken (rw (append-nil taken) at all) end (c.finish.ensures.read taken has_read),
+      ends c.finish.result _ g.S.Sheet.rule _ (g.R.Source.rest c.take.new.self) taken
+          (rw (append-nil taken) at all) end (c.finish.ensures.read taken has_read),
     )
 
 pub returns-in_err-feed-in-Ok-clause-file : goal.returns-in_err-feed-in-Ok-clause-file
 returns-in_err-feed-in-Ok-clause-file g c =
     let (taken, consumed, given, has_read) = c.pieces.invariant.has_read in
-    let p = err_from_is_err_and c.from_residual.result c.from_residual.ensures.1 in
+    let (fault, is_err, is) = err_from_is_err_and c.from_residual.result c.from_residual.ensures.1 in
     let all = Consumes-again _ (g.R.Source.rest c.pieces.source) _ taken _ consumed c.in-Ok.ensures.bytes.0 in
-    rw (p.1, p.2) (
+    rw (is_err, is) (
       taken ++ take c.in-Ok.count c.take.new.into,
       all,
       c.in-Ok.ensures.given ∙ ap (λ front. front ++ take c.in-Ok.count c.take.new.into) given ∙ append_assoc _ taken _,
-      fails-in g.S.Sheet.rule _ (g.R.Source.rest c.take.new.self) _ _ all (λ later. c.in_err-feed-in-Ok.ensures.has_read taken later has_read),
+      fails-in g.S.Sheet.rule _ (g.R.Source.rest c.take.new.self) _ _ all
+          (λ later. c.in_err-feed-in-Ok.ensures.has_read taken later has_read),
     )

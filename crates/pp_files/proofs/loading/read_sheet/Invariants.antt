@@ -1,7 +1,6 @@
 use Rattle.std.proofs.Common.{◌-◌, ◌++◌, ◌≡◌, ℕ, List}
 use Rattle.std.specs.Io.KnownBytes.{Consumes}
-use Rattle.pp_files.specs.declared.progress.TheConstants.{FILE_LIMIT}
-use Rattle.pp_files.specs.Inner.Loading.{HasReadFile}
+use Rattle.pp_files.specs.{declared.progress.TheConstants.FILE_LIMIT, Inner.Loading.HasReadFile}
 use Rattle.pp_files.proofs.loading.read_sheet.Given as goal
 
 abbrev pub invariant-pieces : goal.invariant-pieces

@@ -1,4 +1,7 @@
-use Rattle.pp_lines.proofs.Walks.{refl, [], ◌∷◌, Ura, vstruct, vnil, SProp, Memory, Routine, WpFn, Tables, Logic, Fun, tables, tables_of, WpFn-mono, raw, ◌$◌, ◌∵◌, !, qed, keep, join, nothing, suffices, done, no_more, returns, enter, agg, alloc_all, pass_all, free_all, look_at, sets, pure_i, on_entry, Meets, triple_of, entered, says, ends_at, walked, walk_Meets}
+use Rattle.pp_lines.proofs.Walks.{refl, [], ◌∷◌, Ura, vstruct, vnil, SProp, Memory, Routine, WpFn, Tables, Logic, Fun, tables}
+use Rattle.pp_lines.proofs.Walks.{tables_of, WpFn-mono, raw, ◌$◌, ◌∵◌, !, qed, keep, join, nothing, suffices, done, no_more}
+use Rattle.pp_lines.proofs.Walks.{returns, enter, agg, alloc_all, pass_all, free_all, look_at, sets, pure_i, on_entry, Meets}
+use Rattle.pp_lines.proofs.Walks.{triple_of, entered, says, ends_at, walked, walk_Meets}
 use Rattle.pp_host.specs.contracts.file_log.FileLog.new.Key.{name as key}
 use Rattle.pp_host.specs.contracts.file_log.FileLog.new as f
 use Rattle.pp_host.proofs.file_log.FileLog.new.Statement as stated
@@ -14,12 +17,12 @@ meets {𝓤 = 𝓤} 𝓛 mem run 𝓣 =
     enter ! 𝓣.C 𝓣.Λ code.function [] _ $ alloc_all ! (λ l. pass_all ! refl tt $ sets ! (agg ! (no_more !)) refl (tt, tt) $
     returns ! (look_at ! 0 refl) $ free_all ! refl $
     pure_i ! (made.the_row.own_val (record { events = [] }) (vstruct vnil ∷ [])) ((λ vss. (tt, tt)), tt) ((tt, (refl, tt)), tt) $
-    suffices ! _ (ends_at 𝓛 f.ended tt (f.clauses 𝓛 mem run) ((κs, qs, bounds, a, tt), g) (vstruct vnil) (record { events = [] }) tt tt) $ says ! refl $
+    suffices ! _ (ends_at 𝓛 f.ended tt (f.clauses 𝓛 mem run)
+    ((κs, qs, bounds, a, tt), g) (vstruct vnil) (record { events = [] }) tt tt) $ says ! refl $
     nothing ! $ join ! $ nothing ! $ done !)))
 
 pub new_spec : {M : Type 1} → stated.statement M
 unfolding tables_of
-new_spec 𝓤 𝓛 𝓜 𝓡 wired =
-    entered 𝓤 𝓛.H (triple_of 𝓛 f.signature (f.spec 𝓛 𝓜.mem 𝓡.returns))
+new_spec 𝓤 𝓛 𝓜 𝓡 wired = entered 𝓤 𝓛.H (triple_of 𝓛 f.signature (f.spec 𝓛 𝓜.mem 𝓡.returns))
     (tables 𝓤 𝓛.H 𝓜 𝓡 𝓡.env).C (tables 𝓤 𝓛.H 𝓜 𝓡 𝓡.env).Λ key code.function (code.unfolded 𝓤 𝓛.H 𝓜 𝓡 wired)
     (meets 𝓛 𝓜.mem 𝓡.returns (tables_of 𝓤 𝓛.H 𝓜 (tables 𝓤 𝓛.H 𝓜 𝓡 𝓡.env)))
