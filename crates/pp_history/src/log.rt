@@ -170,10 +170,14 @@ impl<T: Marked> Log<T> {
     ) -> Option<u32>
         requires has_places { All (λ place. T.has_place machine.now place) places.now }
         requires started { looks.old.is_started ≡ true }
-        ensures value { result ≡ first_changing T.Reversible (λ place. T.value_at machine.now place) places.now self.now.records }
+        ensures value { result ≡ first_changing T.Reversible (T.value_at machine.now) places.now self.now.records }
         ensures counts_up { looks.old.count ≤ looks.new.count }
-        ensures cost { MatchOption result (looks.new.count ≤ looks.old.count + length places.now * length self.now.records) (λ k. looks.new.count ≤ looks.old.count + length places.now * k) }
-        ensures looks_at_each { 1 ≤ length places.now → MatchOption result (looks.old.count + length self.now.records ≤ looks.new.count) (λ k. looks.old.count + k ≤ looks.new.count) }
+        ensures cost { MatchOption result
+            (looks.new.count ≤ looks.old.count + length places.now * length self.now.records)
+            (λ k. looks.new.count ≤ looks.old.count + length places.now * k) }
+        ensures looks_at_each { 1 ≤ length places.now → MatchOption result
+            (looks.old.count + length self.now.records ≤ looks.new.count)
+            (λ k. looks.old.count + k ≤ looks.new.count) }
         ensures kept { IfSome result (λ k. k ≤ length self.now.records) }
     {
         let marks = Marks::of::<T>(places);

@@ -14,34 +14,39 @@ some-mapped f (Some x) y e = refl
 
 pub unwrap-back-requires : goal.unwrap-back-requires
 unwrap-back-requires g c =
-    let found = c.get-head.ensures in
-    let newest = here g.T.Reversible c.loop-k.invariant.passed found in
+    let newest = here g.T.Reversible c.loop-k.invariant.passed c.get-head.ensures in
     some-mapped (whole_record g.T.Reversible.unpacked) c.undo_record.result newest.item.1 (rw newest.is at c.undo_record.ensures)
 
 pub returns-then-is_changed-clause-value : goal.returns-then-is_changed-clause-value
 returns-then-is_changed-clause-value g c =
-    let found = c.get-head.ensures in
-    let newest = here g.T.Reversible c.loop-k.invariant.passed found in
-    let is = sym (ap (option_map (whole_record g.T.Reversible.unpacked)) c.unwrap-back.ensures) ∙ (rw newest.is at c.undo_record.ensures) in
-    sym (found-here g.T.Reversible c.loop-k.invariant.passed found _ is (sym c.is_changed.ensures.value ∙ c.if-is_changed.true))
+    let T = g.T.Reversible in
+    let newest = here T c.loop-k.invariant.passed c.get-head.ensures in
+    let record_is = rw newest.is at c.undo_record.ensures in
+    let is = sym (ap (option_map (whole_record T.unpacked)) c.unwrap-back.ensures) ∙ record_is in
+    let changed = sym c.is_changed.ensures.value ∙ c.if-is_changed.true in
+    sym (found-here T c.loop-k.invariant.passed c.get-head.ensures _ is changed)
 
 pub loop-k-preserved : goal.loop-k-preserved
 loop-k-preserved g c =
-    let found = c.get-head.ensures in
-    let newest = here g.T.Reversible c.loop-k.invariant.passed found in
-    let is = sym (ap (option_map (whole_record g.T.Reversible.unpacked)) c.unwrap-back.ensures) ∙ (rw newest.is at c.undo_record.ensures) in
+    let T = g.T.Reversible in
+    let newest = here T c.loop-k.invariant.passed c.get-head.ensures in
+    let record_is = rw newest.is at c.undo_record.ensures in
+    let is = sym (ap (option_map (whole_record T.unpacked)) c.unwrap-back.ensures) ∙ record_is in
+    let same = sym c.is_changed.ensures.value ∙ c.if-is_changed.false in
+    let tail = c.loop-k.tail in
+    let tail' = c.match-head.tail in
     let tails = c.self.inside.tails.ring.items in
-    let tail : (drop c.match-head.tail tails ≡ left_by c.get-head.result.now (drop c.loop-k.tail tails)) × (c.match-head.tail ≤ c.loop-k.tail + 1) =
-    elim c.match-head.branch [
-      | in-Some w ↦ (ap (λ n. drop n tails) w.tail-is ∙ sym (ap (λ head. left_by head (drop c.loop-k.tail tails)) w.in-Some.is), omega (arith, w.tail-is))
-      | in-None w ↦ (
-        ap (λ n. drop n tails) w.tail-is ∙ sym (drop-drop 1 c.loop-k.tail tails) ∙ sym (ap (λ head. left_by head (drop c.loop-k.tail tails)) w.in-None.is),
-        omega (arith, w.tail-is),
-      )
+    let left : drop tail' tails ≡ left_by c.get-head.result.now (drop tail tails) = elim c.match-head.branch [
+      | in-Some w ↦ rw (w.tail-is, w.in-Some.is) refl
+      | in-None w ↦ rw (w.tail-is, w.in-None.is) (sym (drop-drop 1 tail tails))
+    ] in
+    let few : tail' ≤ tail + 1 = elim c.match-head.branch [
+      | in-Some w ↦ omega (arith, w.tail-is)
+      | in-None w ↦ omega (arith, w.tail-is)
     ] in
     record {
-      passed = pass-on g.T.Reversible c.loop-k.invariant.passed found _ is (sym c.is_changed.ensures.value ∙ c.if-is_changed.false) _ _ (omega arith) tail.0;
-      few = omega (arith, tail.1);
+      passed = pass-on T c.loop-k.invariant.passed c.get-head.ensures _ is same _ _ (omega arith) left;
+      few = omega (arith, few);
       counts_up = search rules;
       cost = search rules;
       looks_at_each = search rules;
