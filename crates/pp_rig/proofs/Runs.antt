@@ -158,9 +158,9 @@ unmarked_turns marks n zero machine within none covered = before_start n machine
 unmarked_turns marks n (suc turns) machine within none covered =
     let before = unmarked_turns marks n turns machine (omega arith) (λ k less. none k (omega arith)) covered in
     let s = turned turns machine in
-    let last = rw add-one at (none turns (omega arith)) in
+    let (back, fits, led_back, unmarked) = rw add-one at (none turns (omega arith)) in
     let same : watches_of s ≡ watches_of machine = ap (λ watches. watches_of (record machine { watches = watches })) (watches_kept turns machine) in
-    let hit = unmarked-hit s (turn s) marks last.0 refl last.1 last.2 last.3 (rw same covered) in
+    let hit = unmarked-hit s (turn s) marks back refl fits led_back unmarked (rw same covered) in
     before ∙ (before_next n turns s (omega arith) ∙ rw (← hit, add-one) refl)
 
 -- the last of some turns changed a watched number, or no turn did
