@@ -143,8 +143,8 @@ none_changed m back Watches (w ∷ ws) fits none all =
     grind (arith, nat_tests, same, none_changed m back Watches ws fits none all.1)
 
 -- a turn whose record has no marked place changed no watched number
-pub unmarked-hit : (old new : Machine) (marks : Marks) (back : RigRecord) → new ≡ turn old → FitsRecord back new → before back new ≡ old →
-    ((p : Place) → covers marks_of marks p ≡ true → lookup (record_pairs back) p ≡ None) →
+pub unmarked-hit : (old new : Machine) (marks : Marks) (back : RigRecord) → new ≡ turn old → FitsRecord back new →
+    before back new ≡ old → ((p : Place) → covers marks_of marks p ≡ true → lookup (record_pairs back) p ≡ None) →
     AreCovered marks_of marks (map watched_place (watches_of old)) → None ≡ hit_of old
 unmarked-hit old new marks back turned fits led_back none covered =
     let Covered = λ (p : Place). covers marks_of marks p ≡ true in
@@ -173,8 +173,8 @@ last_turn marks turns machine none covered =
     (let left : turns + 1 - (turns + 1) ≡ 0 = omega arith in rw left (grind arith))
 
 -- the change that the last of some turns made
-pub last_hit : (turns : ℕ) (old new : Machine) (v : SessionValue Machine Action) (hit : Option Hit) → old ≡ replay rules v.start v.standing →
-    new ≡ turned (turns + 1) old →
+pub last_hit : (turns : ℕ) (old new : Machine) (v : SessionValue Machine Action) (hit : Option Hit) →
+    old ≡ replay rules v.start v.standing → new ≡ turned (turns + 1) old →
     hit ≡ first_change (replay rules (after_acts turns Turn v).start (after_acts turns Turn v).standing) new (watches_of new) → hit ≡ hit_of (turned turns old)
 last_hit turns old new v hit replayed last found =
     let s = turned turns old in
