@@ -29,8 +29,7 @@ shortest-by most machine rest (Some hit) e ih = record {
 shortest-by most machine rest None e ih = record {
   within = omega (arith, ih.within);
   earlier = λ turns less. none-first machine turns e (λ n same. ih.earlier n (omega arith));
-  hit = λ h same.
-      let (earlier, counted, found) = ih.hit h same in
+  hit = λ h same. let (earlier, counted, found) = ih.hit h same in
       (suc earlier, (let count : suc rest.turns ≡ suc earlier + 1 = omega (arith, counted) in count), sym (ap hit_of (turned-first earlier machine)) ∙ found);
   none = λ same. let all = ih.none same in (ap suc all.0, λ turns less. none-first machine turns e (λ n more. all.1 n (omega arith)));
 }

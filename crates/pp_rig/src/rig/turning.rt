@@ -18,8 +18,7 @@ use pp_machine::{AllRecords, Devices};
 use pp_step::{step_into, step_short, undo_by, undo_short};
 
 impl Rig {
-    /// Steps the devices. This is a separate function because in most turns no channel of a device is active: inlined, `STEP`
-    /// takes 1 to 2 per cent more instructions.
+    /// Steps the devices. Most turns do not call it: if it is inlined, `STEP` takes 1 to 2 per cent more instructions.
     #[inline(never)]
     fn step_called_devices(&mut self, back: &mut TurnRest)
         ensures { AreDevicesStepped self.old self.new back.new }
@@ -40,7 +39,7 @@ impl Rig {
         }
     }
 
-    /// Undoes the steps of the devices. This is a separate function for the same reason as `step_called_devices`.
+    /// Undoes the steps of the devices. It is a separate function for the same reason as `step_called_devices`.
     #[inline(never)]
     fn undo_devices(&mut self, back: &AllRecords)
         requires { all_model.Fits back.now self.old }
@@ -178,8 +177,7 @@ impl Rig {
         self.turn_with_tail(tails);
     }
 
-    /// Performs one turn of the barrel and keeps it in a tail, in place. If the record is copied into the tail, as in
-    /// `perform_with_tail`, a loop of exchanges takes 1.8 times as many instructions.
+    /// Performs a turn and keeps it in a tail, in place. With a copy, a loop of exchanges takes 1.8 times as many instructions.
     #[inline(never)]
     fn turn_with_tail(&mut self, tails: &mut Tails<Action, RigRecord>)
         requires { 1 ≤ tails.old.ring.capacity }
@@ -211,8 +209,7 @@ impl Rig {
         );
     }
 
-    /// Undoes a turn that has a head. With `undo_turn` and a record of full length, `BACK` takes up to 7 times as many
-    /// instructions.
+    /// Undoes a turn that has a head. If its record is made whole first, `BACK` takes up to 7 times as many instructions.
     #[inline(always)]
     pub(super) fn undo_turn_short(&mut self, back: &ShortTurn)
         requires { FitsTurn (whole_turn back.now) self.old }
