@@ -143,8 +143,8 @@ none_changed m back Watches (w ∷ ws) fits none all =
     grind (arith, nat_tests, same, none_changed m back Watches ws fits none all.1)
 
 -- a turn whose record has no marked place changed no watched number
-pub unmarked-hit : (old new : Machine) (marks : Marks) (back : RigRecord) → new ≡ turn old → FitsRecord back new → before back new ≡ old →
-    ((p : Place) → covers marks_of marks p ≡ true → lookup (record_pairs back) p ≡ None) →
+pub unmarked-hit : (old new : Machine) (marks : Marks) (back : RigRecord) → new ≡ turn old → FitsRecord back new →
+    before back new ≡ old → ((p : Place) → covers marks_of marks p ≡ true → lookup (record_pairs back) p ≡ None) →
     AreCovered marks_of marks (map watched_place (watches_of old)) → None ≡ hit_of old
 unmarked-hit old new marks back turned fits led_back none covered =
     let Covered = λ (p : Place). covers marks_of marks p ≡ true in
@@ -158,9 +158,9 @@ unmarked_turns marks n zero machine within none covered = before_start n machine
 unmarked_turns marks n (suc turns) machine within none covered =
     let before = unmarked_turns marks n turns machine (omega arith) (λ k less. none k (omega arith)) covered in
     let s = turned turns machine in
-    let last = rw add-one at (none turns (omega arith)) in
+    let (back, fits, led_back, unmarked) = rw add-one at (none turns (omega arith)) in
     let same : watches_of s ≡ watches_of machine = ap (λ watches. watches_of (record machine { watches = watches })) (watches_kept turns machine) in
-    let hit = unmarked-hit s (turn s) marks last.0 refl last.1 last.2 last.3 (rw same covered) in
+    let hit = unmarked-hit s (turn s) marks back refl fits led_back unmarked (rw same covered) in
     before ∙ (before_next n turns s (omega arith) ∙ rw (← hit, add-one) refl)
 
 -- the last of some turns changed a watched number, or no turn did
@@ -173,8 +173,8 @@ last_turn marks turns machine none covered =
     (let left : turns + 1 - (turns + 1) ≡ 0 = omega arith in rw left (grind arith))
 
 -- the change that the last of some turns made
-pub last_hit : (turns : ℕ) (old new : Machine) (v : SessionValue Machine Action) (hit : Option Hit) → old ≡ replay rules v.start v.standing →
-    new ≡ turned (turns + 1) old →
+pub last_hit : (turns : ℕ) (old new : Machine) (v : SessionValue Machine Action) (hit : Option Hit) →
+    old ≡ replay rules v.start v.standing → new ≡ turned (turns + 1) old →
     hit ≡ first_change (replay rules (after_acts turns Turn v).start (after_acts turns Turn v).standing) new (watches_of new) → hit ≡ hit_of (turned turns old)
 last_hit turns old new v hit replayed last found =
     let s = turned turns old in

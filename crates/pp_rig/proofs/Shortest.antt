@@ -29,7 +29,8 @@ shortest-by most machine rest (Some hit) e ih = record {
 shortest-by most machine rest None e ih = record {
   within = omega (arith, ih.within);
   earlier = λ turns less. none-first machine turns e (λ n same. ih.earlier n (omega arith));
-  hit = λ h same. let last = ih.hit h same in (suc last.0, (let count : suc rest.turns ≡ suc last.0 + 1 = omega (arith, last.1) in count), sym (ap hit_of (turned-first last.0 machine)) ∙ last.2);
+  hit = λ h same. let (earlier, counted, found) = ih.hit h same in
+      (suc earlier, (let count : suc rest.turns ≡ suc earlier + 1 = omega (arith, counted) in count), sym (ap hit_of (turned-first earlier machine)) ∙ found);
   none = λ same. let all = ih.none same in (ap suc all.0, λ turns less. none-first machine turns e (λ n more. all.1 n (omega arith)));
 }
 

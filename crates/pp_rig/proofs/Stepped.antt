@@ -11,7 +11,7 @@ use Rattle.pp_step.specs.Step.{pp_pairs, pp_writes, FitsPp, IsStep}
 use Rattle.pp_step.specs.View.{PpPlace, PpView, over as over_pp, pp_place, view_of as step_view}
 use Rattle.pp_step.specs.declared.record.PpRecord.{PpRecord}
 use Rattle.pp_rig.specs.Inner.IsMachine.{IsMachine}
-use Rattle.pp_rig.specs.Turn.{pp_of, processor_step, turn, turn_parts}
+use Rattle.pp_rig.specs.Turn.{pp_of, processor_step, turn}
 use Rattle.pp_rig.specs.Inner.Lift.{with_pp}
 use Rattle.pp_rig.specs.Inner.LiftLaws.{step-pp, record-pp}
 use Rattle.pp_rig.specs.Inner.MachineLaws.{has_processor, IsMachine-with_pp}
@@ -19,7 +19,7 @@ use Rattle.pp_machine.specs.WriteLaws.{AllPlaces-append, AllPlaces-if, over-appe
 use Rattle.pp_step.specs.PpPlaces.{HasAll-pp}
 use Rattle.pp_rig.specs.IsSetup.{IsSetup}
 use Rattle.pp_rig.specs.Inner.Short.{IsTurned}
-use Rattle.pp_rig.specs.Inner.TurnRecords.{FitsRest, FitsTurn, IsSlotStep, device_parts, devices_old_values, end_old_values, end_parts, rest_of_turn, rest_pairs, turn_old_values, turn_pairs, turn_writes}
+use Rattle.pp_rig.specs.Inner.TurnRecords.{FitsRest, FitsTurn, IsSlotStep, device_parts, devices_old_values, end_old_values, end_parts, rest_of_turn, rest_pairs, turn_old_values, turn_pairs}
 use Rattle.pp_rig.specs.declared.rig.TurnRecord.{TurnRecord}
 use Rattle.pp_rig.specs.declared.rig.TurnRest.{TurnRest}
 use Rattle.pp_rig.proofs.Devices.{by_models}

@@ -9,7 +9,7 @@ use Rattle.pp_machine.proofs.Parts.{each-append, kept-after}
 use Rattle.pp_rig.specs.Turn.{pp_of, processor_step, turn, turn_parts}
 use Rattle.pp_machine.specs.Inner.PartWrites.{EachPart}
 use Rattle.pp_machine.specs.Parts.{after_parts}
-use Rattle.pp_rig.specs.Inner.TurnRecords.{device_parts, end_parts, turn_writes}
+use Rattle.pp_rig.specs.Inner.TurnRecords.{device_parts, end_parts}
 use Rattle.pp_rig.proofs.Devices.{by_models}
 
 keeps-pp : (n : ℕ) (m : Machine) (p : PpPlace) (v : ℕ) → (put m (pp_place n p) v).watches ≡ m.watches

@@ -18,8 +18,8 @@ central_mark a = 768 + a / 16 % 256
 abbrev pub channel_mark : ℕ → ℕ
 channel_mark c = 640 + c
 
--- The numbers of the two marks of a cell, a central word or a channel's register: its own block's, and that of the fourth cell or the
--- fifteenth word before it. Five cells, or sixteen words, that have a place begin in one of its two blocks.
+-- The numbers of the two marks of a cell, a central word or a channel's register: its own block's, and that of the fourth cell or
+-- the fifteenth word before it. Five cells, or sixteen words, that have a place begin in one of its two blocks.
 abbrev pub marks_of : Place → Option (ℕ × ℕ)
 marks_of (Cell n a) = Some (cell_mark n a, cell_mark n (a + 0o10000 - 4))
 marks_of (Central a) = Some (central_mark a, central_mark (a + 0o10000 - 15))

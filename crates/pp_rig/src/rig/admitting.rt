@@ -1,13 +1,11 @@
 //! Which actions the machine admits.
-ghost use Rattle.std.specs.Prelude.{◌≡◌, ◌&&◌, nat_le, nat_lt, length, MatchResult, None, Some};
+ghost use Rattle.std.specs.Prelude.{◌≡◌, ◌&&◌, nat_le, MatchResult, None, Some};
 ghost use Rattle.std.specs.List.{list_all};
-ghost use Rattle.pp_machine.specs.CentralSizes.{words_of};
-ghost use Rattle.pp_machine.specs.ChannelNumbers.{state_number};
 ghost use Rattle.pp_machine.specs.Ranges.{twelve_bits};
 ghost use Rattle.pp_actions.specs.Admitting.{first_fault, is_in_range, is_watchable, is_word_or_none, state_fault};
 
 use super::Rig;
-use pp_actions::{Action, ActionFault, Watched};
+use pp_actions::{Action, ActionFault};
 use pp_machine::ChannelState;
 
 /// One past the greatest word of sixty bits.

@@ -1,7 +1,7 @@
 //! Undoing an action by its record, and the old numbers in the record.
 ghost use Rattle.std.specs.Prelude.{◌≡◌, ◌≤◌, length, map};
 ghost use Rattle.pp_machine.specs.Prelude.{over, lookup};
-ghost use Rattle.pp_rig.specs.Inner.ActionRecords.{FitsRecord, before, record_pairs};
+ghost use Rattle.pp_rig.specs.Inner.ActionRecords.{record_pairs};
 ghost use Rattle.pp_actions.specs.WatchCodes.{watch_code};
 ghost use Rattle.pp_actions.specs.Deadstart.{deadstart_places};
 ghost use Rattle.pp_actions.specs.Settings.{AreSettings};
@@ -60,26 +60,9 @@ impl RigRecord {
 }
 
 impl Rig {
-    /// Undoes an action.
-    #[tactic(auto, using(pp_actions::proofs::Unwatching::watch_changes))]
-    pub(super) fn take_back(&mut self, back: &RigRecord)
-        requires { FitsRecord back.now self.old }
-        ensures { self.new ≡ before back.now self.old }
-    {
-        match back {
-            RigRecord::Turn(turn) => self.undo_turn(turn),
-            RigRecord::Settings(old) => self.put_all(old.as_slice()),
-            RigRecord::Watched(i) => {
-                self.watches.remove(*i);
-            }
-            RigRecord::Unwatched { i, places } => self.watches.restore(*i, places.as_slice()),
-            RigRecord::Restarted { numbers } => self.undo_restart(numbers.as_slice()),
-        }
-    }
-
     /// Puts the old values of a dead start back. This is a separate function for the same reason as `restarted_was`.
     #[inline(never)]
-    fn undo_restart(&mut self, numbers: &[u32])
+    pub(super) fn undo_restart(&mut self, numbers: &[u32])
         requires { AreSettings self.old.setup.central_words (with_new_numbers deadstart_places numbers.now) }
         ensures { self.new ≡ over self.old (with_new_numbers deadstart_places numbers.now) }
     {

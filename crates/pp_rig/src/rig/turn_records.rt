@@ -6,7 +6,6 @@ ghost use Rattle.pp_rig.specs.Inner.Short.{whole, whole_turn};
 ghost use Rattle.pp_rig.specs.Inner.TurnRecords.{devices_old_values, rest_pairs, turn_pairs};
 
 use super::{RigRecord, ShortTurn, TurnRecord, TurnRest};
-use pp_actions::Action;
 use pp_machine::{AllDevices, AllRecords, Devices, Place};
 use pp_step::{ExchangeRecord, PpRecord};
 

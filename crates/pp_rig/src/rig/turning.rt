@@ -3,23 +3,22 @@ ghost use Rattle.std.specs.Prelude.{◌≡◌, ◌<◌, ◌≤◌, IsTrue, false
 ghost use Rattle.pp_history.specs.Tails.{IsKept};
 ghost use Rattle.pp_machine.specs.Inner.AllDevices.{all_model};
 ghost use Rattle.pp_machine.specs.Inner.PartWrites.{ArePerformed};
-ghost use Rattle.pp_machine.specs.Prelude.{over, renamed};
+ghost use Rattle.pp_machine.specs.Prelude.{over};
 ghost use Rattle.pp_rig.specs.Inner.IsMachine.{IsMachine};
 ghost use Rattle.pp_rig.specs.Turn.{pp_of};
 ghost use Rattle.pp_rig.specs.Inner.Short.{IsTurned, unpacked, whole_turn};
-ghost use Rattle.pp_rig.specs.Inner.TurnRecords.{AreDevicesStepped, FitsRest, FitsTurn, IsSlotStep, KeepsSlot, device_parts, end_old_values, end_parts, rest_of_turn, rest_pairs, turn_pairs};
-ghost use Rattle.pp_step.specs.Step.{FitsPp, IsExchange, pp_pairs};
-ghost use Rattle.pp_step.specs.View.{pp_place};
+ghost use Rattle.pp_rig.specs.Inner.TurnRecords.{AreDevicesStepped, FitsRest, FitsTurn, KeepsSlot, end_old_values, end_parts, rest_of_turn, rest_pairs, turn_pairs};
+ghost use Rattle.pp_step.specs.Step.{IsExchange};
 ghost use Rattle.pp_machine.specs.Ranges.{cell_count, processor_count};
 
 use super::{Rig, RigRecord, ShortTurn, TurnRecord, TurnRest};
 use pp_actions::Action;
 use pp_history::Tails;
 use pp_machine::{AllRecords, Devices};
-use pp_step::{PpRecord, StepRecord, step_into, step_short, undo_by, undo_short};
+use pp_step::{step_into, step_short, undo_by, undo_short};
 
 impl Rig {
-    /// Steps the devices. This is a separate function because in most turns no channel of a device is active.
+    /// Steps the devices. Most turns do not call it: if it is inlined, `STEP` takes 1 to 2 per cent more instructions.
     #[inline(never)]
     fn step_called_devices(&mut self, back: &mut TurnRest)
         ensures { AreDevicesStepped self.old self.new back.new }
@@ -40,6 +39,7 @@ impl Rig {
         }
     }
 
+    /// Undoes the steps of the devices. It is a separate function for the same reason as `step_called_devices`.
     #[inline(never)]
     fn undo_devices(&mut self, back: &AllRecords)
         requires { all_model.Fits back.now self.old }
@@ -177,7 +177,7 @@ impl Rig {
         self.turn_with_tail(tails);
     }
 
-    /// Performs one turn of the barrel and keeps it in a tail.
+    /// Performs a turn and keeps it in a tail, in place. With a copy, a loop of exchanges takes 1.8 times as many instructions.
     #[inline(never)]
     fn turn_with_tail(&mut self, tails: &mut Tails<Action, RigRecord>)
         requires { 1 ≤ tails.old.ring.capacity }
@@ -192,6 +192,7 @@ impl Rig {
         }
     }
 
+    /// Undoes a turn that has a tail.
     pub(super) fn undo_turn(&mut self, back: &TurnRecord)
         requires { FitsTurn back.now self.old }
         ensures { self.new ≡ over self.old (turn_pairs back.now) }
@@ -208,6 +209,7 @@ impl Rig {
         );
     }
 
+    /// Undoes a turn that has a head. If its record is made whole first, `BACK` takes up to 7 times as many instructions.
     #[inline(always)]
     pub(super) fn undo_turn_short(&mut self, back: &ShortTurn)
         requires { FitsTurn (whole_turn back.now) self.old }

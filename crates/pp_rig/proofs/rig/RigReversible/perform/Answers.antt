@@ -5,10 +5,12 @@ use Rattle.pp_rig.proofs.rig.RigReversible.perform.Goals as goal
 
 pub returns-in-Turn-clause-kept : goal.returns-in-Turn-clause-kept
 returns-in-Turn-clause-kept c =
-    let turned = c.perform_turn.ensures.turns in
-    rw c.in-Turn.is (kept.Turn turned.0, turned.1.fits, rw (turned.1.old_values, turned.1.step) (action_taken_back c.args.self.now Turn), turned.2)
+    let (back, turned, is_kept) = c.perform_turn.ensures.turns in
+    let undone = action_taken_back c.args.self.now Turn in
+    rw c.in-Turn.is (kept.Turn back, turned.fits, rw (turned.old_values, turned.step) undone, is_kept)
 
 pub returns-in-Turn-clause-overwritten : goal.returns-in-Turn-clause-overwritten
 returns-in-Turn-clause-overwritten c =
-    let turned = c.perform_turn.ensures.turns in
-    rw c.in-Turn.is (kept.Turn turned.0, turned.2, rw turned.1.old_values (places_old_values_of c.args.self.now Turn), turned.1.old_values, turned.1.at_most)
+    let (back, turned, is_kept) = c.perform_turn.ensures.turns in
+    let same_places = places_old_values_of c.args.self.now Turn in
+    rw c.in-Turn.is (kept.Turn back, is_kept, rw turned.old_values same_places, turned.old_values, turned.at_most)

@@ -1,7 +1,7 @@
 use Rattle.std.proofs.Common.{arith}
 use Rattle.pp_actions.proofs.Unwatching.{AreWatches-removed, length-with_entries}
 use Rattle.pp_actions.proofs.WatchCodes.{words_of-at_most}
-use Rattle.pp_rig.proofs.rig.Rig.take_back.Goals as goal
+use Rattle.pp_rig.proofs.rig.RigReversible.undo.Goals as goal
 
 pub invariant_of-self : goal.invariant_of-self
 invariant_of-self c =
