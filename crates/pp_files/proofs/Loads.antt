@@ -10,11 +10,11 @@ use Rattle.pp_lines.specs.Lines.{lines, finished, unfinished}
 use Rattle.pp_lines.proofs.LineCuts.{finished-feed, finished-byte}
 use Rattle.pp_lines.proofs.Limits.{lines-whole, lines-last}
 use Rattle.pp_files.specs.Rows.{Row}
-use Rattle.pp_files.specs.Files.{Rule, with_line, with_lines, rows_of_lines, file_limit, lines_of_file, rows_of_file}
+use Rattle.pp_files.specs.Files.{Rule, with_lines, file_limit, lines_of_file, rows_of_file}
 use Rattle.pp_files.specs.Fault.{BreaksOff, IsLoadCause}
 use Rattle.pp_lines.specs.Device.{all_bytes}
 use Rattle.pp_lines.proofs.Reading.{all-read, unread}
-use Rattle.pp_files.specs.Inner.Loading.{HasReadFile, Reads, FailsAt, FailsIn}
+use Rattle.pp_files.specs.Inner.Loading.{with_line, rows_of_lines, HasReadFile, Reads, FailsAt, FailsIn}
 use Rattle.pp_files.proofs.MoreLines.{row-front, lines-next, lines-short, file-fault, file-short, file-long, lines_of_file-feed}
 
 -- ---- a fault at a line

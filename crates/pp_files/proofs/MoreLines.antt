@@ -12,8 +12,8 @@ use Rattle.pp_lines.proofs.LongLines.{read-kept}
 use Rattle.pp_lines.specs.Results.{◌>>=◌}
 use Rattle.pp_lines.specs.Words.{words, is_ignored}
 use Rattle.pp_files.specs.Rows.{Row, row_of_words, row_of_line}
-use Rattle.pp_files.specs.Inner.Loading.{HasRows}
-use Rattle.pp_files.specs.Files.{Rule, with_line, with_lines, rows_of_lines, lines_of_file, rows_of_file}
+use Rattle.pp_files.specs.Inner.Loading.{with_line, rows_of_lines, HasRows}
+use Rattle.pp_files.specs.Files.{Rule, with_lines, lines_of_file, rows_of_file}
 
 -- ---- one line
 

@@ -5,8 +5,8 @@ use Rattle.std.specs.List.{concat}
 use Rattle.std.proofs.lemmas.List.{append-nil, drop-replicate, map-append}
 use Rattle.std.proofs.lemmas.List.Elements.{All-append, All-replicate}
 use Rattle.std.proofs.lemmas.List.Folds.{concat-append}
+use Rattle.pp_files.specs.Inner.Loading.{card_of_row}
 use Rattle.pp_files.specs.Rows.{Row}
-use Rattle.pp_files.specs.Files.{card_of_row}
 
 -- a row in the first columns of a card of zeros
 pub card-front : (row : Row) → row ++ drop (length row) (replicate 80 0) ≡ card_of_row row

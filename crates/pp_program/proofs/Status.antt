@@ -10,7 +10,7 @@ use Rattle.pp_program.specs.Course.{Course}
 use Rattle.pp_program.specs.Cuts.{IsCut, IsCutServing}
 use Rattle.pp_program.specs.Outside.{Outside}
 use Rattle.pp_program.specs.Program.{Given, exit_of}
-use Rattle.pp_program.specs.Run.{Follows, IsCutShort, IsRun, IsWhole}
+use Rattle.pp_program.specs.Run.{IsCutShort, IsRun, IsWhole}
 use Rattle.pp_trouble.specs.Trouble.{status_of}
 use Rattle.pp_trouble.specs.declared.trouble.FileKind.{FileKind}
 use Rattle.pp_trouble.specs.declared.trouble.FileKind.TheVariants.{Deck}
@@ -26,7 +26,7 @@ lost rule None read content trouble p = absurd p
 
 serving : (start : Value) (bytes read : List ℕ) (course : Course) → IsCutServing start bytes read course → exit_of course.ended ≡ 3
 serving start bytes read course (IsCutServing.ByRead e) = rw e
-serving start bytes read course (IsCutServing.ByWrite front rest all some e) = rw e
+serving start bytes read course (IsCutServing.ByWrite front proper e) = rw e
 
 cut : (asked : Asked) (given : Given) (readings : FileKind → Found) (typed : List ℕ) (course : Course) →
     IsCut asked given readings typed course →
@@ -48,9 +48,9 @@ above : (status : ℕ) → (status ≡ 2) ⊎ (status ≡ 3) → status ≤ 1 �
 above status either small = grind arith
 
 whole : (files : Text → Known Found) (given : Given) (readings : FileKind → Found) (typed : List ℕ) (course : Course) →
-    Follows files given readings typed course → exit_of course.ended ≤ 1 → IsWhole files given course
-whole files given readings typed course (Follows.Whole is_whole) small = is_whole
-whole files given readings typed course (Follows.CutShort at) small =
+    IsWhole files given course ⊎ IsCutShort files given readings typed course → exit_of course.ended ≤ 1 → IsWhole files given course
+whole files given readings typed course (inl is_whole) small = is_whole
+whole files given readings typed course (inr at) small =
     absurd (above (exit_of course.ended) (cut_short files given readings typed course at) small)
 
 -- ---- runs

@@ -1,11 +1,12 @@
 -- Where a run can be cut short: by memory that runs out, by a failed read or by a failed write.
-use Rattle.std.specs.Prelude.{◌≡◌, ℕ, ◌<◌, List, [], ◌++◌, length, Option, Ok, Err}
+use Rattle.std.specs.Prelude.{◌≡◌, ℕ, List, [], Option, Ok, Err}
 use Rattle.pp_console.specs.Commands.{Value}
 use Rattle.pp_console.specs.Script.{outcome}
 use Rattle.pp_console.specs.declared.progress.TheConstants.{LINE_LIMIT, BYTE_LIMIT}
 use Rattle.pp_files.specs.Files.{card_rule, panel_rule}
 use Rattle.pp_files.specs.Rows.{Row}
 use Rattle.pp_lines.specs.Lines.{finished_within}
+use Rattle.pp_lines.specs.Prefixes.{IsProperPrefix}
 use Rattle.pp_trouble.specs.declared.trouble.FileKind.{FileKind}
 use Rattle.pp_trouble.specs.declared.trouble.FileKind.TheVariants.{Deck, Panel, Script}
 use Rattle.pp_trouble.specs.declared.trouble.Trouble.{Trouble}
@@ -34,8 +35,8 @@ pub data IsCutServing (start : Value) (bytes read : List ℕ) (course : Course) 
   ByRead : course ≡ ends (outcome start (finished_within LINE_LIMIT BYTE_LIMIT read)).text (Err ReadFailed) →
       IsCutServing start bytes read course
   -- A write failed. A proper prefix of the answers was written.
-  ByWrite : (front rest : List ℕ) → (served start bytes).answers ≡ front ++ rest → 0 < length rest →
-      course ≡ ends front (Err WriteFailed) → IsCutServing start bytes read course
+  ByWrite : (front : List ℕ) → IsProperPrefix front (served start bytes).answers → course ≡ ends front (Err WriteFailed) →
+      IsCutServing start bytes read course
 
 -- A run with these options was cut short. Memory is asked for by the deck and by the machine, and by nothing after.
 pub data IsCut (asked : Asked) (given : Given) (readings : FileKind → Found) (typed : List ℕ) (course : Course) : Type 0 where
