@@ -3,13 +3,13 @@
 -- What clap does with words is in the library's own definitions.
 use Rattle.std.specs.Prelude.{◌≢◌, ℕ, Bool, List, Option, Some, codes}
 use Rattle.clap.specs.Faults.{fault_of}
-use Rattle.clap.specs.Kinds.{IsAmong, Kinds}
+pub use Rattle.clap.specs.Kinds.{IsAmong, Kinds}
 use Rattle.clap.specs.Simple.{App, matches_of, new_app, new_rule, with_rule}
 use Rattle.clap.specs.Takes.{takes}
 use Rattle.clap.specs.Walk.{Rule, first_of}
 use Rattle.clap.specs.declared.builder.action.ArgAction.TheVariants.{Set}
-use Rattle.clap.specs.declared.error.kind.ErrorKind.{ErrorKind}
-use Rattle.clap.specs.declared.error.kind.ErrorKind.TheVariants.{DisplayHelp}
+pub use Rattle.clap.specs.declared.error.kind.ErrorKind.{ErrorKind}
+pub use Rattle.clap.specs.declared.error.kind.ErrorKind.TheVariants.{DisplayHelp}
 use Rattle.pp_arguments.specs.declared.options.ArgFault.{ArgFault}
 use Rattle.pp_arguments.specs.declared.options.ArgFault.TheVariants.{BadArguments, BadChannel, Help, NoMemory}
 
@@ -21,16 +21,13 @@ Text = List ℕ
 abbrev pub option_rule : Text → Rule
 option_rule name = record (new_rule name) { long = Some name; action = Some Set }
 
--- The word that belongs to no option is the name of the script's file.
-abbrev pub script_rule : Rule
-script_rule = record (new_rule (codes "script")) { action = Some Set }
-
--- The command line has six options and the script, in any order.
+-- The command line has six options and the script, in any order. The word that belongs to no option is the name of the script's
+-- file.
 unfoldable pub pp6600 : App
 pp6600 = with_rule (with_rule (with_rule (with_rule (with_rule (with_rule (with_rule (new_app (codes "pp6600"))
     (option_rule (codes "history"))) (option_rule (codes "central"))) (option_rule (codes "deck")))
     (option_rule (codes "reader"))) (option_rule (codes "printer"))) (option_rule (codes "panel")))
-    script_rule
+    (record (new_rule (codes "script")) { action = Some Set })
 
 -- The value that the words have for the option of this name, or for the script.
 unfoldable pub value_of : List Text → Text → Option Text

@@ -1,9 +1,7 @@
 -- The options that the words of the command line ask for.
-use Rattle.std.specs.Prelude.{◌≡◌, ◌≤◌, ◌==◌, ◌&&◌, ◌⊎◌, [], ℕ, Bool, Err, List, None, Ok, Option, Result, Some, codes}
-use Rattle.std.specs.Prelude.{if◌then◌else◌, is_some, nat_le, option_and_then, option_map}
-use Rattle.std.specs.Result.{result_ok}
+use Rattle.std.specs.Prelude.{Bool, Err, List, None, Ok, Option, Result, Some, [], codes, if◌then◌else◌, is_some, nat_le, option_and_then, option_map, ℕ, ◌&&◌, ◌==◌, ◌≡◌, ◌≤◌, ◌⊎◌}
 use Rattle.std.specs.String.{string_bytes}
-use Rattle.pp_arith.specs.OctalRead.{octal_read}
+use Rattle.pp_arith.specs.Octal.{is_octal, octal_value}
 use Rattle.pp_machine.specs.declared.central.CentralSize.{CentralSize}
 use Rattle.pp_machine.specs.declared.central.CentralSize.TheVariants.{K128, K32, K64}
 use Rattle.pp_arguments.specs.CommandLine.{IsFaultOf, Text, are_taken, faults_of, value_of}
@@ -32,7 +30,7 @@ central_read word = option_and_then size_of (decimal_read word 128)
 
 -- --reader C and --printer C: C is octal, channel 0 to 13 (octal).
 abbrev pub channel_read : Text → Option ℕ
-channel_read word = result_ok (octal_read word 0o13)
+channel_read word = if is_octal word && nat_le (octal_value word) 0o13 then Some (octal_value word) else None
 
 -- ---- all words
 
@@ -40,22 +38,6 @@ channel_read word = result_ok (octal_read word 0o13)
 abbrev pub asked_or : {A : Type 0} → A → (Text → Option A) → Option Text → Option A
 asked_or usual read None = Some usual
 asked_or usual read (Some word) = read word
-
--- The length of the undo history, in actions: 10,000 (decimal) without the option.
-abbrev pub history_of : List Text → Option ℕ
-history_of words = asked_or 10000 history_read (value_of words (codes "history"))
-
--- The size of central memory: the largest one without the option.
-abbrev pub central_of : List Text → Option CentralSize
-central_of words = asked_or K128 central_read (value_of words (codes "central"))
-
--- The channel of the card reader: 12 (octal) without the option.
-abbrev pub reader_of : List Text → Option ℕ
-reader_of words = asked_or 0o12 channel_read (value_of words (codes "reader"))
-
--- The channel of the line printer: 13 (octal) without the option.
-abbrev pub printer_of : List Text → Option ℕ
-printer_of words = asked_or 0o13 channel_read (value_of words (codes "printer"))
 
 -- What words ask for: the length of the undo history, the size of central memory, the devices' channels and the files' names.
 pub record Asked : Type 0 where
@@ -93,9 +75,14 @@ asked_with words (Some history) (Some central) (Some reader) (Some printer) = Ok
 asked_with words (Some history) (Some central) reader printer = Err BadChannel
 asked_with words history central reader printer = Err BadArguments
 
--- What words that the command line accepts ask for, or why they are rejected.
+-- What words that the command line accepts ask for, or why they are rejected. Without the options the undo history has 10,000
+-- (decimal) actions, central memory is the largest one, the reader is on channel 12 and the printer on channel 13 (octal).
 unfoldable pub asked_by : List Text → Result Asked ArgFault
-asked_by words = asked_with words (history_of words) (central_of words) (reader_of words) (printer_of words)
+asked_by words = asked_with words
+    (asked_or 10000 history_read (value_of words (codes "history")))
+    (asked_or K128 central_read (value_of words (codes "central")))
+    (asked_or 0o12 channel_read (value_of words (codes "reader")))
+    (asked_or 0o13 channel_read (value_of words (codes "printer")))
 
 pub record AreInRange (options : Options) : Type 0 where
   pub some_history : 1 ≤ options.history
@@ -107,7 +94,9 @@ pub record AreInRange (options : Options) : Type 0 where
 
 -- The command line accepts the words, and their number of actions and size of central memory are in range.
 abbrev pub are_admitted : List Text → Bool
-are_admitted words = are_taken words && (is_some (history_of words) && is_some (central_of words))
+are_admitted words =
+    are_taken words && (is_some (asked_or 10000 history_read (value_of words (codes "history")))
+    && is_some (asked_or K128 central_read (value_of words (codes "central"))))
 
 abbrev pub IsMemoryOrChannel : ArgFault → Type 0
 IsMemoryOrChannel NoMemory = Unit {0}

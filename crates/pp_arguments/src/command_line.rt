@@ -1,8 +1,10 @@
 //! The command line of the program, as `clap` reads it.
+ghost use Rattle.clap.specs.declared.builder.action.ArgAction.TheVariants.{Set};
 ghost use Rattle.clap.specs.Kinds.{IsAmong, Kinds};
+ghost use Rattle.clap.specs.Simple.{new_rule};
 ghost use Rattle.clap.specs.Words.{app_of, first_value, found_of, rule_of};
-ghost use Rattle.pp_arguments.specs.CommandLine.{IsFaultOf, are_taken, faults_of, option_rule, pp6600, script_rule, value_of};
-ghost use Rattle.std.specs.Prelude.{◌≡◌, ◌⊎◌, [], ℕ, List, false, map, IfOk, IfErr, IsTrue, MatchResult};
+ghost use Rattle.pp_arguments.specs.CommandLine.{IsFaultOf, are_taken, faults_of, option_rule, pp6600, value_of};
+ghost use Rattle.std.specs.Prelude.{◌≡◌, ◌⊎◌, [], ℕ, List, Some, codes, false, map, IfOk, IfErr, IsTrue, MatchResult};
 ghost use Rattle.std.specs.String.{string_bytes};
 
 use crate::options::ArgFault;
@@ -20,7 +22,7 @@ fn option<'a>(alloc: Global, name: &'a str) -> Arg<'a>
 
 /// Returns the word that belongs to no option.
 fn script<'a>(alloc: Global) -> Arg<'a>
-    ensures rule { rule_of result ≡ script_rule }
+    ensures rule { rule_of result ≡ record (new_rule (codes "script")) { action = Some Set } }
     ensures local { result.global ≡ false }
 {
     Arg::new(alloc, "script").action(ArgAction::Set)

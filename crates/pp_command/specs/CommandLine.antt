@@ -21,20 +21,15 @@ use Rattle.pp_command.specs.declared.request.Request.TheVariants.{DumpChannels, 
 use Rattle.pp_command.specs.declared.request.Request.TheVariants.{DumpWatches}
 
 -- An entry of a table of commands: a keyword, and what the words after it ask for.
-pub record Entry (A : Type 0) : Type 0 where
-  pub keyword : List ℕ
-  pub reading : WordList → Result A LineFault
-
--- The entry with this keyword and this reading.
 infix 70 ◌⇒◌
-abbrev pub ◌⇒◌ : {A : Type 0} → List ℕ → (WordList → Result A LineFault) → Entry A
-keyword ⇒ reading = record { keyword = keyword; reading = reading }
+pub data Entry (A : Type 0) : Type 0 where
+  ◌⇒◌ : List ℕ → (WordList → Result A LineFault) → Entry A
 
 -- The entry whose keyword is this word, in letters of either case, reads the words after it. Without one it is no command, 01.
 abbrev pub read_by : {A : Type 0} → List (Entry A) → List ℕ → WordList → Result A LineFault
 read_by [] word given = Err NotACommand
-read_by (entry ∷ entries) word given =
-    if str_eq_ignore_ascii_case word entry.keyword then entry.reading given else read_by entries word given
+read_by ((keyword ⇒ reading) ∷ entries) word given =
+    if str_eq_ignore_ascii_case word keyword then reading given else read_by entries word given
 
 -- The first word is the keyword. Without a word there are too few, 02.
 abbrev pub choose : {A : Type 0} → List (Entry A) → WordList → Result A LineFault
@@ -56,11 +51,7 @@ set_cells _ = Err WordCount
 
 -- The state of a channel: I (inactive), E (active and empty) or F (active and full with data).
 unfoldable pub state : List ℕ → Result ChannelState LineFault
-state word =
-    if str_eq_ignore_ascii_case word (codes "I") then Ok Inactive
-    else (if str_eq_ignore_ascii_case word (codes "E") then Ok Empty
-    else (if str_eq_ignore_ascii_case word (codes "F") then Ok Full
-    else Err NotACommand))
+state word = read_by (codes "I" ⇒ none Inactive ∷ codes "E" ⇒ none Empty ∷ codes "F" ⇒ none Full ∷ []) word []
 
 -- SET H c s [v] sets channel c to state s, and its register to v if v is present.
 unfoldable pub set_channel : WordList → Result Request LineFault
@@ -90,14 +81,10 @@ place = choose (
     ∷ codes "H" ⇒ makes Register (one 0o14)
     ∷ [])
 
--- Whether the only word is W.
-abbrev pub is_change : WordList → Bool
-is_change (word ∷ []) = str_eq_ignore_ascii_case word (codes "W")
-is_change _ = false
-
 -- BACK W goes back to a change, and BACK [count] undoes actions.
 unfoldable pub back : WordList → Result Request LineFault
-back given = if is_change given then Ok BackToChange else makes Back count given
+back (word ∷ []) = if str_eq_ignore_ascii_case word (codes "W") then Ok BackToChange else makes Back count (word ∷ [])
+back given = makes Back count given
 
 -- A dump is rejected with 04 if its first address is above its last.
 abbrev pub ordered : ℕ → ℕ → Request → Result Request LineFault
@@ -141,9 +128,7 @@ request_of = read_by (
 -- The request of a line with these words, or nothing if the line is ignored. The first word names the command.
 abbrev pub sentence : WordList → Result (Option Request) LineFault
 sentence [] = Ok None
-sentence (first ∷ given) =
-    if is_ignored (first ∷ given) then Ok None
-    else (request_of first given >>= λ request. Ok (Some request))
+sentence (first ∷ given) = if is_ignored (first ∷ given) then Ok None else makes Some (request_of first) given
 
 -- A tab, byte 9, or a printing ASCII character, bytes 32 to 126 (decimal).
 abbrev pub is_printable : ℕ → Bool

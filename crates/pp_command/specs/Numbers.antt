@@ -1,11 +1,7 @@
 -- The numbers of a command line. All are octal.
-use Rattle.std.specs.Prelude.{ℕ, ◌==◌, if◌then◌else◌, List, [], ◌∷◌, Result, Ok, Err}
+use Rattle.std.specs.Prelude.{ℕ, nat_le, ◌==◌, if◌then◌else◌, List, [], ◌∷◌, Result, Ok, Err}
 use Rattle.std.specs.List.{list_all}
-use Rattle.std.specs.Result.{result_map_both}
-use Rattle.pp_arith.specs.Octal.{is_octal}
-use Rattle.pp_arith.specs.OctalRead.{octal_read}
-use Rattle.pp_arith.specs.declared.reading.OctalFault.{OctalFault}
-use Rattle.pp_arith.specs.declared.reading.OctalFault.TheVariants.{NotOctal, TooLarge}
+use Rattle.pp_arith.specs.Octal.{is_octal, octal_value}
 use Rattle.pp_lines.specs.Results.{◌>>=◌}
 use Rattle.pp_command.specs.declared.fault.LineFault.{LineFault}
 use Rattle.pp_command.specs.declared.fault.LineFault.TheVariants.{WordCount, NotANumber, OutOfRange}
@@ -14,14 +10,10 @@ use Rattle.pp_command.specs.declared.fault.LineFault.TheVariants.{WordCount, Not
 abbrev pub WordList : Type 0
 WordList = List (List ℕ)
 
--- A word that must be a number and is not octal is rejected with 03, and a number above its maximum with 04.
-abbrev pub number_fault : OctalFault → LineFault
-number_fault NotOctal = NotANumber
-number_fault TooLarge = OutOfRange
-
--- The number in a word, from 0 to a maximum.
+-- The number in a word, from 0 to a maximum. A word that is not octal is rejected with 03, and a number above its maximum with 04.
 abbrev pub number_read : ℕ → List ℕ → Result ℕ LineFault
-number_read most word = result_map_both (λ value. value) number_fault (octal_read word most)
+number_read most word =
+    if is_octal word then (if nat_le (octal_value word) most then Ok (octal_value word) else Err OutOfRange) else Err NotANumber
 
 -- If several words must be numbers, all are tested for octal digits before any range.
 abbrev pub if_octal : {A : Type 0} → WordList → Result A LineFault → Result A LineFault

@@ -68,7 +68,7 @@ fn set_cells(text: &[u8]) -> Result<Request, LineFault>
 }
 
 /// Returns the state that a letter names.
-#[tactic(auto, unfolding(crate::specs::CommandLine::state))]
+#[tactic(auto, unfolding(crate::specs::CommandLine::state, crate::specs::Numbers::none))]
 fn state(word: &[u8]) -> Result<ChannelState, LineFault>
     ensures value { result ≡ spec.state word.now }
     ensures in_range { IfOk result (λ state. state_number state < 3) }

@@ -5,7 +5,8 @@ use Rattle.std.specs.List.{position_or_len, flat_map}
 use Rattle.std.proofs.lemmas.List.{drop-map, length-map, map-append, take-append-drop, take-map}
 use Rattle.pp_lines.proofs.OpenTexts.{open-first, feed-cut, feed-none, feed-open, unfinished-text}
 use Rattle.pp_lines.specs.Lines.{finished, unfinished, last_line}
-use Rattle.pp_console.specs.{DisplayCode.character, Paper.marked, Paper.lines_of_paper, Paper.paper_text}
+use Rattle.pp_console.specs.DisplayCode.{character}
+use Rattle.pp_console.specs.Paper.{marked, paper_text}
 use Rattle.pp_console.specs.Inner.PaperCuts.{is_line_end, rest_text}
 
 -- a line feed after a text without one ends the first line
@@ -17,10 +18,13 @@ feed-first (byte ∷ line) later none =
     let rest = feed-first line later first.1 in
     (rw (first.0, rest.0) refl, rw (first.0, rest.0, rest.1) refl)
 
+-- the lines of a paper with these characters
+abbrev lines_of_paper : List ℕ → List ℕ
+lines_of_paper text = flat_map (marked (codes "|")) (finished text) ++ flat_map (marked (codes "/")) (last_line (unfinished text))
+
 -- the first line of the paper, and the others
 paper-first : (line later : List ℕ) → finished line ≡ [] →
     lines_of_paper (line ++ 10 ∷ later) ≡ marked (codes "|") line ++ lines_of_paper later
-unfolding lines_of_paper
 paper-first line later none = let first = feed-first line later none in
     rw (first.0, first.1) (append_assoc (marked (codes "|") line) (flat_map (marked (codes "|")) (finished later))
     (flat_map (marked (codes "/")) (last_line (unfinished later))))
@@ -49,7 +53,7 @@ paper-cut symbols end e =
 
 -- a paper that has no line end
 pub paper-uncut : (symbols : List ℕ) → position is_line_end symbols ≡ None → paper_text symbols ≡ rest_text symbols
-unfolding paper_text lines_of_paper
+unfolding paper_text
 paper-uncut symbols e = let none = feed-none (map character symbols) (first-end symbols ∙ e) in
     rw (none, unfinished-text [] (map character symbols) none) refl
 

@@ -53,14 +53,11 @@ answered v text = record { text = text; value = v; refused = false }
 abbrev pub rejected : Value → List ℕ → Answer
 rejected v text = record { text = text; value = v; refused = true }
 
--- An action is performed if the machine has no fault to find with it. Otherwise the line is rejected with that fault.
+-- SET, WATCH, UNWATCH and DEADSTART: an action is performed if the machine has no fault to find with it. Otherwise the line is
+-- rejected with that fault.
 abbrev pub act_or : Option ActionFault → Action → Value → Answer
 act_or None action v = answered (after_act v action) (codes "OK\n")
 act_or (Some fault) action v = rejected v (action_fault_text fault)
-
--- SET, WATCH, UNWATCH and DEADSTART: an action, rejected with the first fault that the machine finds with it.
-unfoldable pub act_answer : Action → Value → Answer
-act_answer action v = act_or (first_fault (present v) action) action v
 
 -- STEP: turns, up to the first one that changes a watched number, and that change.
 unfoldable pub step_answer : ℕ → Value → Answer
@@ -107,7 +104,7 @@ central_answer first last v =
 
 -- The answer to each command. A dump changes nothing.
 abbrev pub answer : Request → Value → Answer
-answer (Act action) v = act_answer action v
+answer (Act action) v = act_or (first_fault (present v) action) action v
 answer (Step most) v = step_answer most v
 answer (Back actions) v = back_answer actions v
 answer BackToChange v = change_answer v

@@ -1,5 +1,5 @@
 -- The texts of dumps.
-use Rattle.std.specs.Prelude.{ℕ, ◌+◌, ◌-◌, ◌*◌, ◌/◌, ◌==◌, min, if◌then◌else◌, List, [], ◌++◌, length, take, codes}
+use Rattle.std.specs.Prelude.{ℕ, ◌+◌, ◌-◌, ◌*◌, ◌/◌, min, List, [], ◌∷◌, ◌++◌, length, slice_index_or, take, codes}
 use Rattle.std.specs.List.{flat_map, range_with_len}
 use Rattle.pp_machine.specs.Machine.{Machine, number}
 use Rattle.pp_machine.specs.declared.place.Place.TheVariants.{Cell, RegA, RegP, RegQ, Phase, ChannelMode, ChannelWord, Clock}
@@ -31,13 +31,9 @@ processor_text s n =
     ++ field (codes " Q ") 4 (number s (RegQ n)) ++ field (codes " PHASE ") 4 (number s (Phase n))
     ++ field (codes " SLOT ") 2 (number s Slot) ++ codes "\n"
 
--- The state of a channel: inactive, active and empty, active and full with data, or active and full with a function code.
+-- The state of a channel, 0 to 3: inactive, active and empty, active and full with data, or active and full with a function code.
 unfoldable pub state_text : ℕ → List ℕ
-state_text state =
-    if state == 0 then codes " I "
-    else (if state == 1 then codes " E "
-    else (if state == 2 then codes " F "
-    else codes " X "))
+state_text state = slice_index_or (codes " I " ∷ codes " E " ∷ codes " F " ∷ []) state (codes " X ")
 
 -- DUMP H: a channel, its state and its register.
 unfoldable pub channel_line : Machine → ℕ → List ℕ
@@ -64,13 +60,10 @@ frame_line s i = field (codes "XP ") 2 i ++ field (codes " ") 20 (number s (Fram
 unfoldable pub frame_text : Machine → List ℕ
 frame_text s = each (frame_line s) 0 0o20
 
--- The mode of the card reader or the line printer.
+-- The mode of the card reader or the line printer, 0 to 3. Mode 1 is reading or printing.
 unfoldable pub mode_text : List ℕ → ℕ → List ℕ
 mode_text active mode =
-    if mode == 0 then codes " MODE IDLE\n"
-    else (if mode == 1 then active
-    else (if mode == 2 then codes " MODE STATUS\n"
-    else codes " MODE SENT\n"))
+    slice_index_or (codes " MODE IDLE\n" ∷ active ∷ codes " MODE STATUS\n" ∷ []) mode (codes " MODE SENT\n")
 
 -- DUMP CR: the reader's channel, the present card, the number of cards, the column that is read next, and the mode.
 unfoldable pub reader_text : Machine → List ℕ

@@ -8,12 +8,9 @@ use Rattle.pp_console.specs.DisplayCode.{character}
 abbrev pub marked : List ℕ → List ℕ → List ℕ
 marked mark line = mark ++ line ++ codes "\n"
 
--- Each line that has a line end, after a bar, and what comes after the last line end, if anything, after a slash.
-unfoldable pub lines_of_paper : List ℕ → List ℕ
-lines_of_paper characters =
-    flat_map (marked (codes "|")) (finished characters)
-    ++ flat_map (marked (codes "/")) (last_line (unfinished characters))
-
--- The paper, whose symbols are characters of display code and line ends.
+-- The paper, whose symbols are characters of display code and line ends: each line that has a line end, after a bar, and what comes
+-- after the last line end, if anything, after a slash.
 unfoldable pub paper_text : List ℕ → List ℕ
-paper_text symbols = lines_of_paper (map character symbols)
+paper_text symbols =
+    let text = map character symbols in
+    flat_map (marked (codes "|")) (finished text) ++ flat_map (marked (codes "/")) (last_line (unfinished text))

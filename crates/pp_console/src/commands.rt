@@ -3,8 +3,8 @@ ghost use Rattle.std.specs.Prelude.{◌≡◌, ◌≤◌, ◌<◌, ◌++◌, IfE
 ghost use Rattle.pp_lines.specs.Puts.{Puts};
 ghost use Rattle.pp_console.specs.Moves.{moved_text};
 ghost use Rattle.pp_console.specs.Watches.{hit_text};
-ghost use Rattle.pp_console.specs.Commands.{Performs, act_answer, step_answer, back_answer, forward_answer, change_answer};
-ghost use Rattle.pp_console.specs.Commands.{central_answer, answer};
+ghost use Rattle.pp_actions.specs.Admitting.{first_fault};
+ghost use Rattle.pp_console.specs.Commands.{Performs, act_or, answer, back_answer, central_answer, change_answer, forward_answer, present, step_answer};
 ghost use Rattle.pp_console.specs.Script.{answer_line};
 
 use crate::dumps::{put_cells, put_central, put_channels, put_frame, put_processor, put_reader};
@@ -28,9 +28,9 @@ fn reject<W: Sink>(out: &mut W, text: &[u8]) -> Result<bool, Failed>
 }
 
 /// Performs an action, if the machine admits it.
-#[tactic(auto, unfolding(crate::specs::Commands::act_answer))]
 fn act<W: Sink>(session: &mut Session<Rig>, action: Action, out: &mut W) -> Result<bool, Failed>
-    ensures { Performs ⟦<W as Sink>⟧ session.old session.new out.old out.new result (act_answer action) }
+    ensures { Performs ⟦<W as Sink>⟧ session.old session.new out.old out.new result
+        (λ v. act_or (first_fault (present v) action) action v) }
 {
     match session.machine().check(&action) {
         Ok(()) => {

@@ -83,7 +83,7 @@ pub fn put_processor<W: Sink>(machine: &Rig, pp: u8, out: &mut W) -> Result<(), 
 }
 
 /// Returns the letter of a channel's state.
-#[tactic(auto, unfolding(crate::specs::Dumps::state_text))]
+#[tactic(auto, unfolding(crate::specs::Dumps::state_text), using(std::proofs::lemmas::List::get_or_past))]
 fn state_text(state: u64) -> &'static [u8]
     ensures value { result.now ≡ state_text state }
     ensures len { length result.now ≡ 3 }
@@ -169,7 +169,7 @@ pub fn put_central<W: Sink>(machine: &Rig, first: u32, last: u32, out: &mut W) -
 }
 
 /// Returns the name of a device's mode.
-#[tactic(auto, unfolding(crate::specs::Dumps::mode_text))]
+#[tactic(auto, unfolding(crate::specs::Dumps::mode_text), using(std::proofs::lemmas::List::get_or_past))]
 fn mode_text(active: &'static [u8], mode: u64) -> &'static [u8]
     requires { length active.now ≤ 15 }
     ensures value { result.now ≡ mode_text active.now mode }

@@ -8,8 +8,8 @@ use Rattle.pp_files.specs.{declared.progress.TheConstants.KEPT, Rows.Row, Rows.r
 use Rattle.pp_lines.specs.{Lines.lines, Lines.finished, Lines.unfinished, Lines.last_line, Results.◌>>=◌}
 use Rattle.pp_lines.proofs.{LineCuts.lines_split, LineCuts.finished-more, LineCuts.finished-feed, LongLines.read-kept}
 use Rattle.pp_lines.specs.Words.{words, is_ignored}
-use Rattle.pp_files.specs.Inner.Loading.{HasRows}
-use Rattle.pp_files.specs.Files.{Rule, with_line, with_lines, rows_of_lines, lines_of_file, rows_of_file}
+use Rattle.pp_files.specs.Files.{Rule, lines_of_file, rows_of_file, with_lines}
+use Rattle.pp_files.specs.Inner.Loading.{HasRows, rows_of_lines, with_line}
 
 -- ---- one line
 

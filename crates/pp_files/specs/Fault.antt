@@ -5,21 +5,17 @@ use Rattle.pp_lines.specs.Lines.{finished}
 use Rattle.pp_files.specs.declared.fault.LoadFault.{LoadFault}
 use Rattle.pp_files.specs.declared.fault.LoadFault.TheVariants.{NoMemory, ReadFailed}
 use Rattle.pp_files.specs.Rows.{Row, row_of_line}
-use Rattle.pp_files.specs.Files.{Rule, rows_of_lines, file_limit, lines_of_file}
+use Rattle.pp_files.specs.Files.{Rule, with_lines, file_limit, lines_of_file}
 
 -- These lines have no fault.
 abbrev pub HasNoFault : Rule → List (List ℕ) → Type 0
-HasNoFault rule done = (rows : List Row) × (rows_of_lines rule done ≡ Ok rows)
-
--- Line k has a row: it is not ignored, and has no fault of its own.
-abbrev pub IsRow : ℕ → List ℕ → Type 0
-IsRow k line = (row : Row) × (row_of_line k line ≡ Ok (Some row))
+HasNoFault rule done = (rows : List Row) × (with_lines rule 0 [] done ≡ Ok rows)
 
 -- One of the file's lines has a row, and there is no fault up to it and none in it: memory may have run out there.
 abbrev pub RunsOut : Rule → ℕ → List ℕ → Type 0
 RunsOut rule limit bytes =
     (done : List (List ℕ)) × (line : List ℕ) × (later : List (List ℕ)) × (lines_of_file limit bytes ≡ done ++ line ∷ later)
-    × HasNoFault rule (done ++ line ∷ []) × IsRow (length done + 1) line
+    × HasNoFault rule (done ++ line ∷ []) × ((row : Row) × (row_of_line (length done + 1) line ≡ Ok (Some row)))
 
 -- The bytes that were read are within the limit, and their finished lines have no fault: a read may have failed there.
 abbrev pub BreaksOff : Rule → ℕ → List ℕ → Type 0

@@ -19,18 +19,11 @@ abbrev pub with_row : Rule → ℕ → List Row → Option Row → Result (List 
 with_row rule k rows None = Ok rows
 with_row rule k rows (Some row) = rule k rows row
 
--- The rows so far with the row of line k, or its first fault.
-abbrev pub with_line : Rule → ℕ → List Row → List ℕ → Result (List Row) LoadFault
-with_line rule k rows line = row_of_line k line >>= with_row rule k rows
-
 -- The rows so far with the rows of further lines, the first of which is line k + 1, or the first fault.
 unfoldable pub with_lines : Rule → ℕ → List Row → List (List ℕ) → Result (List Row) LoadFault
 with_lines rule k rows [] = Ok rows
-with_lines rule k rows (line ∷ others) = with_line rule (k + 1) rows line >>= λ more. with_lines rule (k + 1) more others
-
--- The rows of lines, which are counted from 1, or their first fault.
-abbrev pub rows_of_lines : Rule → List (List ℕ) → Result (List Row) LoadFault
-rows_of_lines rule all = with_lines rule 0 [] all
+with_lines rule k rows (line ∷ others) =
+    (row_of_line (k + 1) line >>= with_row rule (k + 1) rows) >>= λ more. with_lines rule (k + 1) more others
 
 -- The largest number of bytes in a file.
 abbrev pub file_limit : ℕ
@@ -43,7 +36,7 @@ lines_of_file limit bytes = if nat_le (length bytes) limit then lines bytes else
 -- The rows of a file, or its first fault. It is too long only if no line that counts has a fault.
 unfoldable pub rows_of_file : Rule → ℕ → List ℕ → Result (List Row) LoadFault
 rows_of_file rule limit bytes =
-    rows_of_lines rule (lines_of_file limit bytes) >>= λ rows.
+    with_lines rule 0 [] (lines_of_file limit bytes) >>= λ rows.
     if nat_le (length bytes) limit then Ok rows else Err FileTooLong
 
 -- ---- decks
@@ -52,13 +45,10 @@ rows_of_file rule limit bytes =
 abbrev pub card_rule : Rule
 card_rule k rows row = if nat_le (length row) 80 then Ok (rows ++ row ∷ []) else Err (TooManyWords k)
 
--- A card: a row with zeros for the columns that have no number, 80 (decimal) columns in all.
-abbrev pub card_of_row : Row → Row
-card_of_row row = row ++ replicate (80 - length row) 0
-
--- The cards of a deck file, a card for each line that is not ignored, or the file's first fault.
+-- The cards of a deck file, a card for each line that is not ignored, or the file's first fault. A card has 80 (decimal) columns: the
+-- numbers of its line, and then zeros.
 unfoldable pub deck_of_file : List ℕ → Result (List Row) LoadFault
-deck_of_file bytes = rows_of_file card_rule file_limit bytes >>= λ rows. Ok (map card_of_row rows)
+deck_of_file bytes = rows_of_file card_rule file_limit bytes >>= λ rows. Ok (map (λ row. row ++ replicate (80 - length row) 0) rows)
 
 -- ---- panels
 

@@ -3,9 +3,9 @@ ghost use Rattle.std.specs.Io.KnownBytes.{Consumes, IsAtEnd};
 ghost use Rattle.std.specs.Prelude.{◌≡◌, ◌+◌, ◌∷◌, ◌++◌, [], ℕ, List, IfErr, OnOk, MatchResult, length};
 ghost use Rattle.pp_lines.specs.Device.{all_bytes};
 ghost use Rattle.pp_files.specs.Rows.{Row};
-ghost use Rattle.pp_files.specs.Files.{with_line, file_limit, rows_of_file};
+ghost use Rattle.pp_files.specs.Files.{file_limit, rows_of_file};
 ghost use Rattle.pp_files.specs.Fault.{CountsLoadReads, IsLoadCause};
-ghost use Rattle.pp_files.specs.Inner.Loading.{HasReadFile, Reads, FailsAt, FailsIn, IsLineFault, IsSheetFault};
+ghost use Rattle.pp_files.specs.Inner.Loading.{with_line, HasReadFile, Reads, FailsAt, FailsIn, IsLineFault, IsSheetFault};
 
 use crate::fault::LoadFault;
 use crate::progress::{FILE_LIMIT, LONGEST, Progress};

@@ -7,8 +7,8 @@ ghost use Rattle.std.specs.List.{list_all, concat};
 ghost use Rattle.pp_lines.specs.Words.{words};
 ghost use Rattle.pp_arith.specs.Octal.{octal_value};
 ghost use Rattle.pp_files.specs.Rows.{Row, is_number};
-ghost use Rattle.pp_files.specs.Files.{Rule, card_rule, card_of_row, panel_rule};
-ghost use Rattle.pp_files.specs.Inner.Loading.{Reads, FailsBy, IsLineFault};
+ghost use Rattle.pp_files.specs.Files.{Rule, card_rule, panel_rule};
+ghost use Rattle.pp_files.specs.Inner.Loading.{card_of_row, Reads, FailsBy, IsLineFault};
 
 use crate::fault::LoadFault;
 use crate::rows::numbers;

@@ -13,5 +13,7 @@ Means-asked words options asked line = inl (line, rw asked refl)
 pub Means-rejected : (words : List Text) (fault : ArgFault) → IsCauseOf words fault →
     (of_arguments fault ≡ NoMemory) ⊎ Means (Texts words) (Err (of_arguments fault))
 Means-rejected words argument.NoMemory cause = inl refl
-Means-rejected words fault (inl cause) = inr (inr (fault, grind arith, cause, refl))
+Means-rejected words argument.Help (inl cause) = inr (inr (inl (cause, refl)))
+Means-rejected words argument.BadArguments (inl (kind, among, other)) = inr (inr (inr (kind, among, other, refl)))
+Means-rejected words argument.BadChannel (inl cause) = absurd cause
 Means-rejected words fault (inr (line, asked)) = inr (inl (line, rw asked refl))

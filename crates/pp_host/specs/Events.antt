@@ -25,8 +25,3 @@ pub record NamedFile : Type 0 where
 abbrev pub events_of : NamedFile → Found → List Event
 events_of file Found.Missing = Event.Missing file.kind file.path ∷ []
 events_of file (Content bytes) = Opened file.kind file.path ∷ Closed bytes ∷ []
-
--- What the log has of these files, one after the other, given what was read of each kind.
-abbrev pub events : (FileKind → Found) → List NamedFile → List Event
-events readings [] = []
-events readings (file ∷ later) = events_of file (readings file.kind) ++ events readings later

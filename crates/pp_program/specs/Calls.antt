@@ -14,15 +14,27 @@ use Rattle.pp_lines.specs.declared.device.Sink.{Ghosts as SinkGhosts}
 use Rattle.pp_lines.specs.declared.device.Source.{Ghosts as SourceGhosts}
 use Rattle.pp_program.specs.Course.{Course, after, ends, performing}
 use Rattle.pp_program.specs.Cuts.{IsCutServing}
-use Rattle.pp_program.specs.Outside.{Input, Output, Files, files_of, input_of, output_of}
+use Rattle.pp_program.specs.Outside.{Input, Output, Files}
 use Rattle.pp_program.specs.Program.{Given, script_at, served, session_with}
-use Rattle.pp_program.specs.Run.{Follows}
+use Rattle.pp_program.specs.Run.{IsCutShort, IsWhole}
 use Rattle.pp_program.specs.Traces.{AreRead, IsTyped, Prints, Writes}
 use Rattle.pp_trouble.specs.Message.{line_of}
 use Rattle.pp_trouble.specs.declared.trouble.FileKind.{FileKind}
 use Rattle.pp_trouble.specs.declared.trouble.FileKind.TheVariants.{Deck, Panel, Script}
 use Rattle.pp_trouble.specs.declared.trouble.Trouble.{Trouble}
 use Rattle.pp_trouble.specs.declared.trouble.Trouble.TheVariants.{NoMemory, Help}
+
+-- the files, as the host shows them
+abbrev pub files_of : {H F : Type 0} → HostGhosts H F → H → Files
+files_of H host = record { known = H.known_files host; log = H.log host; failures = H.failure_count host }
+
+-- standard input, as its source shows it
+abbrev pub input_of : {R : Type 0} → SourceGhosts R → R → Input
+input_of R source = record { left = R.rest source; read = R.given source; failures = R.failure_count source }
+
+-- an output, as its sink shows it
+abbrev pub output_of : {W : Type 0} → SinkGhosts W → W → Output
+output_of W sink = record { text = W.text sink; failures = W.failure_count sink }
 
 -- what the program reads while it performs its script, and where it writes the answers
 pub record Devices : Type 0 where
@@ -60,7 +72,7 @@ pub record IsCourse (words : Known Words) (before after : Devices) (ended : Resu
   pub typed : List ℕ
   pub course : Course
   pub known : Agrees words given.words
-  pub follows : Follows before.files.known given readings typed course
+  pub follows : IsWhole before.files.known given course ⊎ IsCutShort before.files.known given readings typed course
   pub traced : IsTraced before after given readings typed course
   pub is_end : course.ended ≡ ended
 

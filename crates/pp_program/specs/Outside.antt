@@ -45,25 +45,13 @@ pub record Outside : Type 0 where
 
 -- ---- how the devices of a call show it
 
--- The files, as the host shows them.
-abbrev pub files_of : {H F : Type 0} → HostGhosts H F → H → Files
-files_of H host = record { known = H.known_files host; log = H.log host; failures = H.failure_count host }
-
--- Standard input, as its source shows it.
-abbrev pub input_of : {R : Type 0} → SourceGhosts R → R → Input
-input_of R source = record { left = R.rest source; read = R.given source; failures = R.failure_count source }
-
--- An output, as its sink shows it.
-abbrev pub output_of : {W : Type 0} → SinkGhosts W → W → Output
-output_of W sink = record { text = W.text sink; failures = W.failure_count sink }
-
 -- All that is outside of the program, as the host and the streams show it.
 abbrev pub outside_of : {H F R W E : Type 0} → HostGhosts H F → SourceGhosts R → SinkGhosts W → SinkGhosts E →
     H → R → W → E → Outside
 outside_of H R W E host input output errors = record {
   words = H.known_words host;
-  files = files_of H host;
-  input = input_of R input;
-  output = output_of W output;
-  errors = output_of E errors;
+  files = record { known = H.known_files host; log = H.log host; failures = H.failure_count host };
+  input = record { left = R.rest input; read = R.given input; failures = R.failure_count input };
+  output = record { text = W.text output; failures = W.failure_count output };
+  errors = record { text = E.text errors; failures = E.failure_count errors };
 }

@@ -1,5 +1,5 @@
 -- What a run of the program is.
-use Rattle.std.specs.Prelude.{◌≡◌, ℕ, List, [], All, IfOk, IfSome, Result, Ok, Err}
+use Rattle.std.specs.Prelude.{◌≡◌, ◌⊎◌, ℕ, List, [], All, IfOk, IfSome, Result, Ok, Err}
 use Rattle.pp_arguments.specs.CommandLine.{Text}
 use Rattle.pp_host.specs.Known.{Agrees, Found, IsContent, IsInput, Known}
 use Rattle.pp_host.specs.Options.{Asked, Means, path_of}
@@ -35,12 +35,6 @@ pub data IsCutShort (files : Text → Known Found) (given : Given) (readings : F
   AfterWords : (asked : Asked) → Means given.words (Ok asked) → AreKnown files given (Ok asked) →
       IsCut asked given readings typed course → IsCutShort files given readings typed course
 
--- The course is whole, or the run was cut short.
-pub data Follows (files : Text → Known Found) (given : Given) (readings : FileKind → Found) (typed : List ℕ)
-    (course : Course) : Type 0 where
-  Whole : IsWhole files given course → Follows files given readings typed course
-  CutShort : IsCutShort files given readings typed course → Follows files given readings typed course
-
 -- ---- the whole run
 
 -- The program was given what is known beforehand. If the bytes of a file or of standard input are not known, it was given those
@@ -66,7 +60,7 @@ pub record IsRun (before after : Outside) (status : ℕ) : Type 0 where
   -- It was given what is known beforehand, or else what it read.
   pub matches : IsGiven before given readings typed course
   -- The course is the one that the program has for what the words mean, unless the run was cut short.
-  pub follows : Follows before.files.known given readings typed course
+  pub follows : IsWhole before.files.known given course ⊎ IsCutShort before.files.known given readings typed course
   -- It asked for the files of the course, in this order, and read these bytes of each.
   pub files : AreRead before.files after.files course readings
   -- It read these bytes of standard input, and none if the course does not perform it.

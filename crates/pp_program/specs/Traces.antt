@@ -1,11 +1,13 @@
 -- What a run reads and writes.
 use Rattle.std.specs.Prelude.{◌≡◌, ℕ, false, if◌then◌else◌, List, [], ◌++◌, ◌⊎◌, Result, Ok, Err}
 use Rattle.std.specs.Io.KnownBytes.{Consumes}
-use Rattle.pp_host.specs.Events.{events}
+use Rattle.std.specs.List.{flat_map}
+use Rattle.pp_host.specs.Events.{events_of}
 use Rattle.pp_host.specs.Failures.{reads_by, writes_by}
 use Rattle.pp_host.specs.Known.{Found}
 use Rattle.pp_lines.specs.Device.{one_more}
-use Rattle.pp_lines.specs.Output.{Appends, AppendsPrefix}
+use Rattle.pp_lines.specs.Output.{Appends}
+use Rattle.pp_lines.specs.Prefixes.{IsProperPrefix}
 use Rattle.pp_program.specs.Course.{Course}
 use Rattle.pp_program.specs.Outside.{Files, Input, Output}
 use Rattle.pp_trouble.specs.Message.{line_of}
@@ -18,7 +20,7 @@ use Rattle.pp_trouble.specs.declared.trouble.Trouble.TheVariants.{Help}
 -- The files of the course were asked for, and these bytes of each were read.
 pub record AreRead (before after : Files) (course : Course) (readings : FileKind → Found) : Type 0 where
   -- The host logged them, in the order of the course, with the bytes that were read.
-  pub logged : after.log ≡ before.log ++ events readings course.opened
+  pub logged : after.log ≡ before.log ++ flat_map (λ file. events_of file (readings file.kind)) course.opened
   -- No read of a file failed, unless a failed read of a file ended the course.
   pub failures : after.failures ≡ (if course.reads_input then before.failures else reads_by course.ended before.failures)
 
@@ -43,7 +45,7 @@ pub record Writes (before after : Output) (bytes : List ℕ) (failures : ℕ) : 
 abbrev pub Prints : Output → Output → List ℕ → Type 0
 Prints before after bytes =
     Writes before after bytes before.failures
-    ⊎ (AppendsPrefix before.text after.text bytes × (after.failures ≡ one_more before.failures))
+    ⊎ ((front : List ℕ) × Writes before after front (one_more before.failures) × IsProperPrefix front bytes)
 
 -- Standard output has the answers, and after them the usage if that was asked for. No write failed, unless a failed write ended
 -- the run.

@@ -1,14 +1,31 @@
 -- Definitions for the inner contracts of loading: a file as far as it was read, and the fault that is reported there.
-use Rattle.std.specs.Prelude.{◌≡◌, ℕ, ◌⊎◌, Bool, IsTrue, List, length, Result, Ok, Err}
+use Rattle.std.specs.Prelude.{◌≡◌, ℕ, ◌-◌, ◌++◌, ◌⊎◌, Bool, IsTrue, List, [], length, replicate, Option, Some, Result, Ok, Err}
+use Rattle.pp_lines.specs.Results.{◌>>=◌}
 use Rattle.pp_lines.specs.LineCutter.{IsPrefixOf}
 use Rattle.pp_lines.specs.Lines.{finished}
 use Rattle.pp_files.specs.declared.fault.LoadFault.{LoadFault}
 use Rattle.pp_files.specs.declared.fault.LoadFault.TheVariants.{NoMemory, ReadFailed}
 use Rattle.pp_files.specs.declared.progress.Progress.{Progress}
 use Rattle.pp_files.specs.declared.progress.TheConstants.{KEPT}
-use Rattle.pp_files.specs.Rows.{Row}
-use Rattle.pp_files.specs.Files.{Rule, with_line, rows_of_lines, file_limit, rows_of_file}
-use Rattle.pp_files.specs.Fault.{IsRow, RunsOut}
+use Rattle.pp_files.specs.Rows.{Row, row_of_line}
+use Rattle.pp_files.specs.Files.{Rule, with_lines, with_row, file_limit, rows_of_file}
+use Rattle.pp_files.specs.Fault.{RunsOut}
+
+-- the rows so far with the row of line k, or its first fault
+abbrev pub with_line : Rule → ℕ → List Row → List ℕ → Result (List Row) LoadFault
+with_line rule k rows line = row_of_line k line >>= with_row rule k rows
+
+-- the rows of lines, which are counted from 1, or their first fault
+abbrev pub rows_of_lines : Rule → List (List ℕ) → Result (List Row) LoadFault
+rows_of_lines rule = with_lines rule 0 []
+
+-- line k has a row: it is not ignored, and has no fault of its own
+abbrev pub IsRow : ℕ → List ℕ → Type 0
+IsRow k line = (row : Row) × (row_of_line k line ≡ Ok (Some row))
+
+-- a card: a row with zeros for the columns that have no number
+abbrev pub card_of_row : Row → Row
+card_of_row row = row ++ replicate (80 - length row) 0
 
 -- there are rows, and the sheet holds them
 abbrev pub Reads : (List Row → Type 0) → Result (List Row) LoadFault → Type 0
