@@ -1,71 +1,98 @@
 -- Several steps of a log, one after the other.
-use Rattle.std.proofs.Common.{◌≡◌, ℕ, ◌+◌, ◌-◌, ◌<◌, Option, Some, IsSomeAnd, set, slice_get, refl, arith}
+use Rattle.std.proofs.Common.{◌≡◌, ℕ, ◌+◌, ◌≤◌, min, List, [], ◌∷◌, length, take, Option, Some, IsSomeAnd, slice_get, ap, arith, length-take}
 use Rattle.circular_buffer.specs.Buffer.{Buffer, buffer}
-use Rattle.pp_history.specs.Joining.{IsActed, IsLog, IsNext, first_of, left_by, log_value}
-use Rattle.pp_history.specs.LogValue.{IsPerformed, IsUndone, LogValue}
+use Rattle.pp_history.specs.Heads.{Halves}
+use Rattle.pp_history.specs.Joining.{IsActed, IsLog, IsNext, IsSide, IsSpan, first_of, kept_in, left_by, log_value}
+use Rattle.pp_history.specs.LogValue.{LogValue}
 use Rattle.pp_history.specs.Parts.{IsSession}
-use Rattle.pp_history.specs.SessionValue.{SessionValue, after_back, after_forward}
-use Rattle.pp_history.specs.Spans.{IsSpan}
-use Rattle.pp_history.specs.Tails.{in_tail}
+use Rattle.pp_history.specs.SessionValue.{SessionValue, after_act, after_back, after_forward}
+use Rattle.pp_history.specs.Tails.{IsKept, in_tail}
 use Rattle.pp_history.specs.declared.reversible.Reversible.{Ghosts}
 use Rattle.pp_history.specs.declared.tails.Tails.{Tails}
-use Rattle.pp_history.proofs.Joins.{ItemAt, NextAt, again_log, again_value, back_log, back_value, item-at, next-at}
-use Rattle.pp_history.proofs.Steps.{after_back-more, after_forward-more, back_at, forward-admitted, forward_at, moved, newest-step}
+use Rattle.pp_history.proofs.Joins.{ItemAt, kept_more, next_put, side_first, side_less, side_more}
+use Rattle.pp_history.proofs.Steps.{after_back-more, after_forward-more, back_at, forward_at, newest-step, put_at}
 
 module _ {M A R P H : Type 0} (rules : Ghosts M A R P H) where
+  abbrev action_of : H → A
+  action_of head = (rules.unpacked head).0
+
   -- no step yet
-  pub span_none : (old : M) (after : SessionValue M A → SessionValue M A) (heads : Buffer (Option H)) (n m : ℕ) (tails : Tails A R) (undone : Buffer A)
-      → ((v : SessionValue M A) → after v ≡ v) → m ≡ n → IsLog rules.unpacked heads tails.ring undone n → IsSession rules old (log_value rules.unpacked heads tails.ring undone n)
-      → IsSpan rules old (log_value rules.unpacked heads tails.ring undone n) after heads m old tails undone
-  span_none old after heads n m tails undone none same log session = rw same (record { log = log; session = session; moves = λ v at. rw (none v) at })
+  pub span_none : (old : M) (after : SessionValue M A → SessionValue M A) (halves : Halves H) (tails : Tails A R) (undone : Buffer A)
+      → ((v : SessionValue M A) → after v ≡ v) → IsLog rules.unpacked halves tails.ring undone → IsSpan rules old (log_value rules.unpacked halves tails.ring undone) after halves old tails undone
+  span_none old after halves tails undone none log = record { log = log; moves = λ v at. rw (none v) at }
 
-  module _ (ahead count : ℕ) {old machine : M} {start : LogValue A R} {heads : Buffer (Option H)} {tails : Tails A R} {undone : Buffer A} {head : Option H} where
-    module _ (span : IsSpan rules old start (λ v. after_back v count) heads (ahead + count) machine tails undone) (found : slice_get heads.items (ahead + count) ≡ Some head) where
-      newest : ItemAt rules.unpacked in_tail (ahead + count) heads.items tails.ring.items head
-      newest = item-at rules.unpacked in_tail (ahead + count) heads.items tails.ring.items head span.log.kept found
+  -- the parts of `IsActed`
+  pub record Acted (old new : M) (action : A) (head : Option H) (tails tails' : Tails A R) : Type 0 where
+    pub back : R
+    pub next : new ≡ rules.after_act old action
+    pub fits : rules.fits back new
+    pub leads_back : rules.after_undo back new ≡ old
+    pub kept : IsKept rules.unpacked head action back tails tails'
 
-      pub fits_newest : IsSomeAnd (first_of rules.unpacked in_tail head tails.ring.items) (λ newest. rules.fits newest.1 machine)
-      fits_newest = rw newest.is (newest-step rules _ _ span.session.is_at newest.item newest.first).fits
+  pub parts : {old new : M} {action : A} {head : Option H} {tails tails' : Tails A R} → IsActed rules old new action head tails tails' → Acted old new action head tails tails'
+  parts acted = let rest = acted.1 in record { back = rest.0; next = acted.0; fits = rest.1; leads_back = rest.2; kept = rest.3 }
 
-      -- one more step back
-      pub back_more : {machine' : M} {tails' : Tails A R} {undone' : Buffer A}
-          → IsSomeAnd (first_of rules.unpacked in_tail head tails.ring.items) (λ newest. (machine' ≡ rules.after_undo newest.1 machine) × IsNext rules.unpacked head newest.0 undone undone')
-          → tails'.ring ≡ buffer (left_by head tails.ring.items) tails.ring.capacity → IsSpan rules old start (λ v. after_back v (count + 1)) heads (ahead + (count + 1)) machine' tails' undone'
+  -- an action was performed and is kept, and the later ones are ahead
+  acted_log : {machine machine' : M} {action : A} {head : Option H} {tails tails' : Tails A R} {undone undone' : Buffer A} {ks hs later : List (Option H)} {capacity : ℕ} (acted : Acted machine machine' action head tails tails') → IsLog rules.unpacked (record { kept = ks; ahead = hs; capacity = capacity }) tails.ring undone
+      → 1 ≤ capacity → IsSide action_of Some later undone' capacity → length later + min capacity (length ks + 1) ≤ capacity
+      → (kept_in rules.unpacked (take capacity (head ∷ ks)) tails'.ring.items ≡ take capacity ((action, acted.back) ∷ kept_in rules.unpacked ks tails.ring.items))
+      × IsLog rules.unpacked (record { kept = take capacity (head ∷ ks); ahead = later; capacity = capacity }) tails'.ring undone'
+  acted_log {action = action} {head = head} {tails = tails} {tails' = tails'} {ks = ks} {capacity = capacity} acted log some side few =
+      let more = kept_more rules.unpacked head action acted.back tails tails' ks capacity acted.kept log.kept some in
+      (more.0, record { kept = more.1; ahead = side; full = omega (arith, few, length-take capacity (head ∷ ks)) })
+
+  module _ {old machine : M} {start : LogValue A R} {ks hs : List (Option H)} {capacity : ℕ} {tails : Tails A R} {undone : Buffer A} where
+    -- one more step back
+    module _ (count : ℕ) (head : Option H) (span : IsSpan rules old start (λ v. after_back v count) (record { kept = head ∷ ks; ahead = hs; capacity = capacity }) machine tails undone) where
+      abbrev newest : ItemAt rules.unpacked in_tail 0 (head ∷ ks) tails.ring.items head
+      newest = side_first rules.unpacked in_tail head ks tails.ring capacity span.log.kept
+
+      pub fits_newest : IsSession rules old start → IsSomeAnd (first_of rules.unpacked in_tail head tails.ring.items) (λ newest. rules.fits newest.1 machine)
+      fits_newest session =
+          let found = ap (λ (entries : List (A × R)). slice_get entries 0) newest.split in
+          rw newest.is (newest-step rules _ _ (span.moves session.value session.is_at) newest.item found).fits
+
+      pub back_more : {machine' : M} {tails' : Tails A R} {undone' : Buffer A} → IsSomeAnd (first_of rules.unpacked in_tail head tails.ring.items) (λ newest. (machine' ≡ rules.after_undo newest.1 machine) × IsNext rules.unpacked head newest.0 undone undone')
+          → tails'.ring ≡ buffer (left_by head tails.ring.items) tails.ring.capacity
+          → IsSpan rules old start (λ v. after_back v (count + 1)) (record { kept = ks; ahead = head ∷ hs; capacity = capacity }) machine' tails' undone'
       back_more {machine' = machine'} {tails' = tails'} {undone' = undone'} undid behind =
           let did = rw newest.is at undid in
-          let next : ahead + (count + 1) ≡ ahead + count + 1 = omega arith in
-          let now = log_value rules.unpacked heads tails.ring undone (ahead + count) in
-          let now' = log_value rules.unpacked heads tails'.ring undone' (ahead + count + 1) in
-          let done : IsUndone rules machine machine' now now' = (newest.item, newest.first, did.0, back_value rules.unpacked heads tails tails' undone undone' (ahead + count) head span.log found newest behind did.1) in
-          let step = back_at rules machine machine' now now' done in
+          let less = side_less rules.unpacked in_tail head ks tails.ring capacity tails'.ring span.log.kept behind in
+          let next = next_put rules.unpacked head newest.item tails.ring.items undone undone' newest.is did.1 in
+          let more = side_more action_of Some head hs undone capacity undone' newest.item.0 next span.log.ahead (omega (arith, span.log.full)) in
           record {
-            log = rw next (back_log rules.unpacked heads tails tails' undone undone' (ahead + count) head span.log found newest behind did.1);
-            session = rw next (moved rules machine machine' now now' (λ v. after_back v 1) (λ v. refl) step span.session);
-            moves = λ v at. rw (next, ← after_back-more v count 1) (step _ (span.moves v at));
+            log = record { kept = less.1; ahead = more.1; full = omega (arith, span.log.full) };
+            moves = λ v at. rw (did.0, more.0, ← after_back-more v count 1) (back_at rules machine newest.item _ _ capacity (after_back v count) (rw less.0 at (span.moves v at)));
           }
 
-    module _ (span : IsSpan rules old start (λ v. after_forward v count) heads (ahead - count) machine tails undone) (some : count < ahead) (found : slice_get heads.items (ahead - count - 1) ≡ Some head) where
-      next : NextAt rules.unpacked (ahead - count) heads.items undone.items head
-      next = next-at rules.unpacked (ahead - count) heads.items undone.items head span.log.ahead (omega (arith, some, span.log.ahead)) found
+    -- one more step forward
+    module _ (count : ℕ) (head : Option H) (span : IsSpan rules old start (λ v. after_forward v count) (record { kept = ks; ahead = head ∷ hs; capacity = capacity }) machine tails undone) where
+      abbrev next : ItemAt action_of Some 0 (head ∷ hs) undone.items head
+      next = side_first action_of Some head hs undone capacity span.log.ahead
 
-      pub admits_next : IsSomeAnd (first_of (λ (h : H). (rules.unpacked h).0) Some head undone.items) (λ action. rules.admitted machine action)
-      admits_next = rw next.is (forward-admitted rules machine (log_value rules.unpacked heads tails.ring undone (ahead - count)) span.session next.action next.first)
+      pub admits_next : IsSession rules old start → IsSomeAnd (first_of action_of Some head undone.items) (λ action. rules.admitted machine action)
+      admits_next session = rw next.is (rw next.split at (span.moves session.value session.is_at).admits_ahead).0
 
-      -- one more step forward
-      pub forward_more : (head' : Option H) {machine' : M} {tails' : Tails A R} {undone' : Buffer A}
-          → IsSomeAnd (first_of (λ (h : H). (rules.unpacked h).0) Some head undone.items) (λ action. IsActed rules machine machine' action head' tails tails')
+      pub forward_more : (head' : Option H) {machine' : M} {tails' : Tails A R} {undone' : Buffer A} → IsSomeAnd (first_of action_of Some head undone.items) (λ action. IsActed rules machine machine' action head' tails tails')
           → undone' ≡ buffer (left_by head undone.items) undone.capacity
-          → IsSpan rules old start (λ v. after_forward v (count + 1)) (buffer (set heads.items (ahead - count - 1) head') heads.capacity) (ahead - (count + 1)) machine' tails' undone'
-      forward_more head' {machine' = machine'} {tails' = tails'} {undone' = undone'} acted behind =
-          let did = rw next.is at acted in
-          let fewer : ahead - (count + 1) ≡ ahead - count - 1 = omega arith in
-          let now = log_value rules.unpacked heads tails.ring undone (ahead - count) in
-          let now' = log_value rules.unpacked (buffer (set heads.items (ahead - count - 1) head') heads.capacity) tails'.ring undone' (ahead - count - 1) in
-          let value = again_value rules.unpacked heads tails tails' undone undone' (ahead - count) (ahead - count - 1) next.more head head' next.action did.1.0 span.log found behind did.1.3 in
-          let done : IsPerformed rules machine machine' now now' = (next.action, did.1.0, next.first, did.0, did.1.1, did.1.2, value) in
-          let step = forward_at rules machine machine' now now' done in
+          → IsSpan rules old start (λ v. after_forward v (count + 1)) (record { kept = take capacity (head' ∷ ks); ahead = hs; capacity = capacity }) machine' tails' undone'
+      forward_more head' {machine' = machine'} {tails' = tails'} {undone' = undone'} did behind =
+          let acted : Acted machine machine' next.item head' tails tails' = parts (rw next.is at did) in
+          let less = side_less action_of Some head hs undone capacity undone' span.log.ahead behind in
+          let more = acted_log acted span.log (omega (arith, span.log.full)) less.1 (omega (arith, span.log.full)) in
           record {
-            log = rw fewer (again_log rules.unpacked heads tails tails' undone undone' (ahead - count) (ahead - count - 1) next.more head head' next.action did.1.0 span.log found behind did.1.3);
-            session = rw fewer (moved rules machine machine' now now' (λ v. after_forward v 1) (λ v. refl) step span.session);
-            moves = λ v at. rw (fewer, ← after_forward-more v count 1) (step _ (span.moves v at));
+            log = more.1;
+            moves = λ v at. rw (more.0, ← after_forward-more v count 1)
+                (forward_at rules machine machine' next.item acted.back _ _ _ capacity acted.next acted.fits acted.leads_back less.0 (after_forward v count) (span.moves v at));
           }
+
+  -- one more action, with none ahead
+  pub act_more : {old machine machine' : M} {start : LogValue A R} {ks : List (Option H)} {capacity : ℕ} {tails tails' : Tails A R} {undone : Buffer A} (after : SessionValue M A → SessionValue M A) (action : A) (head : Option H) → IsSpan rules old start after (record { kept = ks; ahead = []; capacity = capacity }) machine tails undone
+      → 1 ≤ capacity → rules.admitted machine action → Acted machine machine' action head tails tails'
+      → IsSpan rules old start (λ v. after_act (after v) action) (record { kept = take capacity (head ∷ ks); ahead = []; capacity = capacity }) machine' tails' undone
+  act_more {machine = machine} {machine' = machine'} {capacity = capacity} after action head span some admitted acted =
+      let more = acted_log acted span.log some span.log.ahead (omega arith) in
+      record {
+        log = more.1;
+        moves = λ v at. rw more.0 (put_at rules machine machine' action acted.back _ [] [] capacity acted.next acted.fits acted.leads_back admitted tt (omega arith) (after v) (span.moves v at));
+      }

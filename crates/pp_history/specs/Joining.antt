@@ -1,8 +1,11 @@
 -- How heads and rings hold the actions of a session. There is a head for each action. A head may hold what belongs to its
 -- action; what belongs to the others is in a ring, in the same order.
-use Rattle.std.specs.Prelude.{◌≡◌, ℕ, ◌+◌, ◌≤◌, List, [], ◌∷◌, Option, Some, None, length, take, drop, reverse}
+use Rattle.std.specs.Prelude.{◌≡◌, ℕ, ◌+◌, ◌≤◌, List, [], ◌∷◌, Option, Some, None, length, drop}
 use Rattle.circular_buffer.specs.Buffer.{Buffer}
+use Rattle.pp_history.specs.Heads.{Halves}
 use Rattle.pp_history.specs.LogValue.{LogValue, log_of}
+use Rattle.pp_history.specs.Parts.{contents}
+use Rattle.pp_history.specs.SessionValue.{Moves, SessionValue}
 use Rattle.pp_history.specs.Tails.{IsKept, in_tail, pushed}
 use Rattle.pp_history.specs.declared.reversible.Reversible.{Ghosts}
 use Rattle.pp_history.specs.declared.tails.Tails.{Tails}
@@ -30,6 +33,11 @@ module _ {H B X : Type 0} (in_head : H → X) (in_other : B → Option X) where
   joined [] others = []
   joined (head ∷ heads) others = with_first (first_of head others) (joined heads (left_by head others))
 
+-- nothing that belongs to a head is missing
+pub record IsSide {H B X : Type 0} (in_head : H → X) (in_other : B → Option X) (heads : List (Option H)) (ring : Buffer B) (capacity : ℕ) : Type 0 where
+  pub room : ring.capacity ≡ capacity
+  pub all : length (joined in_head in_other heads ring.items) ≡ length heads
+
 module _ {A R H : Type 0} (unpacked : H → A × R) where
   -- the kept actions with their undo records, the newest first
   abbrev pub kept_in : List (Option H) → List (Tail A R) → List (A × R)
@@ -44,22 +52,24 @@ module _ {A R H : Type 0} (unpacked : H → A × R) where
   IsNext (Some head) action old new = new ≡ old
   IsNext None action old new = new ≡ pushed action old
 
-  -- the first n heads are those of undone actions, and the n-th one is that of the next action to perform again
-  abbrev pub log_value : Buffer (Option H) → Buffer (Tail A R) → Buffer A → ℕ → LogValue A R
-  log_value heads tails undone n =
-      log_of (kept_in (drop n heads.items) tails.items) (ahead_in (reverse (take n heads.items)) undone.items) heads.capacity
+  abbrev pub log_value : Halves H → Buffer (Tail A R) → Buffer A → LogValue A R
+  log_value halves tails undone =
+      log_of (kept_in halves.kept tails.items) (ahead_in halves.ahead undone.items) halves.capacity
 
-  -- holds of the parts of every log: nothing is missing
-  pub record IsLog (heads : Buffer (Option H)) (tails : Buffer (Tail A R)) (undone : Buffer A) (n : ℕ) : Type 0 where
-    pub some_room : 1 ≤ heads.capacity
-    pub bounded : heads.capacity ≤ 10000
-    pub room_for_tails : tails.capacity ≡ heads.capacity
-    pub room_for_undone : undone.capacity ≡ heads.capacity
-    pub full : length heads.items ≤ heads.capacity
-    pub ahead : length (ahead_in (reverse (take n heads.items)) undone.items) ≡ n
-    pub kept : n + length (kept_in (drop n heads.items) tails.items) ≡ length heads.items
+  -- holds of the parts of every log
+  pub record IsLog (halves : Halves H) (tails : Buffer (Tail A R)) (undone : Buffer A) : Type 0 where
+    pub kept : IsSide unpacked in_tail halves.kept tails halves.capacity
+    pub ahead : IsSide (λ (head : H). (unpacked head).0) Some halves.ahead undone halves.capacity
+    pub full : length halves.ahead + length halves.kept ≤ halves.capacity
 
--- the action was performed, and is kept with a record that leads back
-abbrev pub IsActed : {M A R P H : Type 0} → Ghosts M A R P H → M → M → A → Option H → Tails A R → Tails A R → Type 0
-IsActed {R = R} rules old new action head tails tails' =
-    (new ≡ rules.after_act old action) × ((back : R) × rules.fits back new × (rules.after_undo back new ≡ old) × IsKept rules.unpacked head action back tails tails')
+module _ {M A R P H : Type 0} (rules : Ghosts M A R P H) where
+  -- the action was performed, and is kept with a record that leads back
+  abbrev pub IsActed : M → M → A → Option H → Tails A R → Tails A R → Type 0
+  IsActed old new action head tails tails' =
+      (new ≡ rules.after_act old action) × ((back : R) × rules.fits back new × (rules.after_undo back new ≡ old) × IsKept rules.unpacked head action back tails tails')
+
+  -- some steps led from a machine and its log to those with these parts, and from a session value to the one that `after`
+  -- makes of it
+  pub record IsSpan (old : M) (start : LogValue A R) (after : SessionValue M A → SessionValue M A) (halves : Halves H) (new : M) (tails : Tails A R) (undone : Buffer A) : Type 0 where
+    pub log : IsLog rules.unpacked halves tails.ring undone
+    pub moves : Moves rules (contents old start) (contents new (log_value rules.unpacked halves tails.ring undone)) after

@@ -1,9 +1,7 @@
 //! The heads of the newest actions, in a ring of blocks.
 
-ghost use Rattle.std.specs.Prelude.{◌≡◌, ◌≤◌, ◌<◌, ◌+◌, ◌-◌, ◌*◌, [], Some, Option, length, drop, min, slice_get, IfOk};
-ghost use Rattle.circular_buffer.specs.Buffer.{buffer};
-ghost use Rattle.pp_history.specs.Heads.{IsHeads, heads_in};
-ghost use Rattle.pp_history.specs.Tails.{pushed};
+ghost use Rattle.std.specs.Prelude.{◌≡◌, ◌≤◌, ◌<◌, ◌+◌, ◌-◌, ◌*◌, [], Some, length, min, slice_get, IfOk};
+ghost use Rattle.pp_history.specs.Heads.{IsHeads, halves};
 
 use circular_buffer::HeapCircularBuffer;
 use std::alloc::{AllocError, Global};
@@ -13,10 +11,12 @@ use std::alloc::{AllocError, Global};
 pub(crate) struct Heads<H> {
     /// Blocks of 256 (decimal) slots each. No block is made or dropped after `new`.
     pub(crate) blocks: HeapCircularBuffer<Vec<Option<H>>>,
-    /// The slot of the first head. The slots before it are free.
+    /// The slot of the newest kept action's head. The heads of older ones are behind it, those of undone actions before it.
     pub(crate) at: usize,
-    /// How many heads there are, from that slot on.
-    pub(crate) len: usize,
+    /// How many heads there are from that slot on.
+    pub(crate) kept: usize,
+    /// How many heads there are before that slot. The slots before them are free.
+    pub(crate) ahead: usize,
     pub(crate) capacity: usize,
 }
 
@@ -24,7 +24,7 @@ impl<H: Drop> Heads<H> {
     /// Returns blocks without heads. Fails if there is no memory left.
     pub(crate) fn new(alloc: Global, capacity: usize) -> Result<Heads<H>, AllocError>
         requires { (1 ≤ capacity) × (capacity ≤ 10000) }
-        ensures { IfOk result (λ heads. IsHeads heads × (heads_in heads ≡ buffer [] capacity)) }
+        ensures { IfOk result (λ heads. IsHeads heads × ((heads.kept ≡ 0) × ((heads.ahead ≡ 0) × (heads.capacity ≡ capacity)))) }
     {
         let count = (capacity - 1) / 256 + 2;
         let mut blocks = HeapCircularBuffer::with_capacity(alloc, count)?;
@@ -34,44 +34,34 @@ impl<H: Drop> Heads<H> {
         Ok(Heads {
             blocks,
             at: 0,
-            len: 0,
+            kept: 0,
+            ahead: 0,
             capacity,
         })
     }
 
-    /// Returns the k-th head, counted from 0.
+    /// Returns the head of the k-th kept action, the newest counted as 0.
     #[inline(always)]
     pub(crate) fn get(&self, k: usize) -> &Option<H>
         requires is { IsHeads self.now }
-        requires within { k < self.now.len }
-        ensures { slice_get (heads_in self.now).items k ≡ Some result.now }
+        requires within { k < self.now.kept }
+        ensures { slice_get (halves self.now).kept k ≡ Some result.now }
     {
         let slot = self.at + k;
         &self.blocks.get(slot / 256).unwrap()[slot % 256]
     }
 
-    /// Discards the first `ahead` heads, and sets `ahead` to 0.
-    #[inline(always)]
-    pub(crate) fn discard(&mut self, ahead: &mut usize)
-        requires is { IsHeads self.old }
-        requires within { ahead.old ≤ self.old.len }
-        ensures is { IsHeads self.new }
-        ensures heads { heads_in self.new ≡ buffer (drop ahead.old (heads_in self.old).items) (heads_in self.old).capacity }
-        ensures none { ahead.new ≡ 0 }
-    {
-        self.at += *ahead;
-        self.len -= *ahead;
-        *ahead = 0;
-    }
-
-    /// Makes a slot before the first head free: if there is none, the ring turns its last block over to the front.
+    /// Discards the heads of undone actions, and makes a slot before the others free: if there is none, the ring turns its
+    /// last block over to the front.
     #[inline(always)]
     pub(crate) fn make_room(&mut self)
         requires is { IsHeads self.old }
         ensures is { IsHeads self.new }
         ensures some { 1 ≤ self.new.at }
-        ensures heads { heads_in self.new ≡ heads_in self.old }
+        ensures none { self.new.ahead ≡ 0 }
+        ensures same { halves self.new ≡ record (halves self.old) { ahead = [] } }
     {
+        self.ahead = 0;
         if self.at == 0 {
             self.turn_over();
         }
@@ -84,37 +74,27 @@ impl<H: Drop> Heads<H> {
         requires none { self.old.at ≡ 0 }
         ensures is { IsHeads self.new }
         ensures some { 1 ≤ self.new.at }
-        ensures heads { heads_in self.new ≡ heads_in self.old }
+        ensures ahead { self.new.ahead ≡ self.old.ahead }
+        ensures same { halves self.new ≡ halves self.old }
     {
         let last = self.blocks.pop_back().unwrap();
         self.blocks.push_front(last);
         self.at = 256;
     }
 
-    /// Adds a head in front, to be overwritten in its slot. If there are too many heads then, the last one is discarded.
-    #[inline(always)]
-    pub(crate) fn push_blank(&mut self)
-        requires is { IsHeads self.old }
-        ensures is { IsHeads self.new }
-        ensures some { 1 ≤ self.new.len }
-        ensures heads { (blank : Option H) × (heads_in self.new ≡ pushed blank (heads_in self.old)) }
-    {
-        self.make_room();
-        self.add(1);
-    }
-
-    /// Adds the heads that are in the last n free slots. If there are too many heads then, the last ones are discarded.
+    /// Adds the heads that are in the n slots before the others. If there are too many heads then, the last ones are
+    /// discarded.
     #[inline(always)]
     pub(crate) fn add(&mut self, n: usize)
-        requires full { self.old.len ≤ self.old.capacity }
+        requires full { self.old.kept ≤ self.old.capacity }
         requires bounded { self.old.capacity ≤ 10000 }
         requires within { (n ≤ self.old.at) × (n ≤ 256) }
-        ensures { self.new ≡ record self.old { at = self.old.at - n; len = min (self.old.len + n) self.old.capacity } }
+        ensures { self.new ≡ record self.old { at = self.old.at - n; kept = min (self.old.kept + n) self.old.capacity } }
     {
         self.at -= n;
-        self.len += n;
-        if self.len > self.capacity {
-            self.len = self.capacity;
+        self.kept += n;
+        if self.kept > self.capacity {
+            self.kept = self.capacity;
         }
     }
 }

@@ -1,16 +1,14 @@
 //! The newest actions with their undo records: one list, held in rings.
 
-ghost use Rattle.std.specs.Prelude.{◌≡◌, ◌∷◌, [], take, drop, slice_get, Some, None, Option, true, ◌+◌, ◌-◌, ◌<◌, ◌≤◌, length, IfOk, IsSomeAnd, MatchOption, IfSome, IsNone, ◌↔◌, ◌*◌, false, min};
-ghost use Rattle.circular_buffer.specs.Buffer.{buffer};
+ghost use Rattle.std.specs.Prelude.{◌≡◌, [], drop, slice_get, Some, None, true, ◌+◌, ◌-◌, ◌<◌, ◌≤◌, length, IfOk, IsSomeAnd, MatchOption, IfSome, IsNone, ◌↔◌, ◌*◌, false, min};
+ghost use Rattle.circular_buffer.specs.Buffer.{Buffer, buffer};
 ghost use Rattle.std.specs.List.{All};
-ghost use Rattle.pp_history.specs.Heads.{IsHeads, heads_in};
-ghost use Rattle.pp_history.specs.Joining.{IsActed, IsLog, IsNext, first_of, left_by, log_value};
-ghost use Rattle.pp_history.specs.Spans.{IsSpan};
-ghost use Rattle.pp_history.specs.LogValue.{IsPerformed, log_of};
+ghost use Rattle.pp_history.specs.Heads.{IsHeads, halves};
+ghost use Rattle.pp_history.specs.Joining.{IsActed, IsLog, IsNext, IsSpan, first_of, left_by, log_value};
 ghost use Rattle.pp_history.specs.Marks.{IsUnmarked};
 ghost use Rattle.pp_history.specs.Parts.{IsSession, contents};
 ghost use Rattle.pp_history.specs.Repeating.{AreUnmarked, after_acts, machine_after};
-ghost use Rattle.pp_history.specs.SessionValue.{Moves, after_back, after_forward};
+ghost use Rattle.pp_history.specs.SessionValue.{Moves, after_act, after_back, after_forward};
 ghost use Rattle.pp_history.specs.Search.{first_changing};
 ghost use Rattle.pp_history.specs.UndoRecord.{whole_record};
 ghost use Rattle.pp_history.specs.Tails.{in_tail, pushed};
@@ -31,27 +29,24 @@ use std::marker::Model;
 /// heads and tails that are made.
 #[derive(Drop)]
 pub(crate) struct Log<T: Reversible> {
-    /// First the heads of the undone actions, the next to perform again last; then those of the kept actions, the newest
-    /// first. An action that is performed overwrites a head in place.
+    /// An action that is performed overwrites a head in place.
     heads: Heads<T::Head>,
     /// The kept actions without a head, the newest first, and then discarded ones.
     tails: Tails<T::Action, T::Record>,
     /// The undone actions without a head, the next to perform again first, and then discarded ones.
     undone: HeapCircularBuffer<T::Action>,
-    /// How many of the heads are those of undone actions.
-    ahead: usize,
 }
 
 impl<T: Reversible> Model for Log<T> {
     ghost use Rattle.pp_history.specs.LogValue.{LogValue};
-    ghost use Rattle.pp_history.specs.Heads.{IsHeads, heads_in};
+    ghost use Rattle.pp_history.specs.Heads.{IsHeads, halves};
     ghost use Rattle.pp_history.specs.Joining.{IsLog, log_value};
 
     ghost Value = { LogValue T.Action T.Record };
 
-    ghost view = { λ l. log_value T.unpacked (heads_in l.heads) l.tails.ring l.undone l.ahead };
+    ghost view = { λ l. log_value T.unpacked (halves l.heads) l.tails.ring l.undone };
 
-    ghost invariant = { λ l. IsHeads l.heads × IsLog T.unpacked (heads_in l.heads) l.tails.ring l.undone l.ahead };
+    ghost invariant = { λ l. IsHeads l.heads × IsLog T.unpacked (halves l.heads) l.tails.ring l.undone };
 }
 
 impl<T: Reversible> Log<T> {
@@ -67,7 +62,6 @@ impl<T: Reversible> Log<T> {
             heads,
             tails,
             undone,
-            ahead: 0,
         })
     }
 
@@ -82,28 +76,29 @@ impl<T: Reversible> Log<T> {
     pub(crate) fn kept(&self) -> u32
         ensures { result ≡ length self.now.records }
     {
-        (self.heads.len - self.ahead) as u32
+        self.heads.kept as u32
     }
 
     /// Returns the number of actions that were undone.
     pub(crate) fn ahead(&self) -> u32
         ensures { result ≡ length self.now.ahead }
     {
-        self.ahead as u32
+        self.heads.ahead as u32
     }
 
     /// Performs an action and keeps it. The actions ahead are discarded, and if the log is full, the oldest action too.
     #[inline(always)]
     pub(crate) fn perform(&mut self, machine: &mut T, action: T::Action)
         requires { T.admitted machine.old action }
-        ensures { IsPerformed T.Reversible machine.old machine.new
-            (log_of (take (self.old.capacity - 1) self.old.records) (action ∷ []) self.old.capacity) self.new }
+        ensures machine { machine.new ≡ T.after_act machine.old action }
+        ensures moves { Moves T.Reversible (contents machine.old self.old) (contents machine.new self.new)
+            (λ v. after_act v action) }
     {
-        self.heads.discard(&mut self.ahead);
-        self.heads.push_blank();
-        let slot = self.heads.at;
-        let block = self.heads.blocks.get_mut(slot / 256).unwrap();
-        machine.perform(action, &mut block[slot % 256], &mut self.tails);
+        self.heads.make_room();
+        let last = self.heads.at - 1;
+        let block = self.heads.blocks.get_mut(last / 256).unwrap();
+        machine.perform(action, &mut block[last % 256], &mut self.tails);
+        self.heads.add(1);
     }
 
     /// Undoes the newest actions, at most n, whose heads are in one block, and returns how many.
@@ -114,16 +109,13 @@ impl<T: Reversible> Log<T> {
         ensures moves { Moves T.Reversible (contents machine.old self.old) (contents machine.new self.new)
             (λ v. after_back v result) }
     {
-        let count = undo_span(
+        undo_span(
             machine,
-            &self.heads,
-            self.ahead,
+            &mut self.heads,
             n,
             &mut self.tails,
             &mut self.undone,
-        );
-        self.ahead += count;
-        count
+        )
     }
 
     /// Performs the first actions ahead again, at most n, whose heads are in one block, and returns how many.
@@ -134,16 +126,13 @@ impl<T: Reversible> Log<T> {
         ensures moves { Moves T.Reversible (contents machine.old self.old) (contents machine.new self.new)
             (λ v. after_forward v result) }
     {
-        let count = perform_span(
+        perform_span(
             machine,
             &mut self.heads,
-            self.ahead,
             n,
             &mut self.tails,
             &mut self.undone,
-        );
-        self.ahead -= count;
-        count
+        )
     }
 
     /// Returns the newest undo record, or `None` if there is none.
@@ -152,10 +141,10 @@ impl<T: Reversible> Log<T> {
         ensures some { IfSome result (λ back. (newest : T.Action × T.Record) × (slice_get self.now.records 0 ≡ Some newest) × (newest.1 ≡ whole_record T.unpacked back)) }
         ensures none { IsNone result ↔ (length self.now.records ≡ 0) }
     {
-        if self.ahead == self.heads.len {
+        if self.heads.kept == 0 {
             return None;
         }
-        undo_record(self.heads.get(self.ahead), &self.tails, 0)
+        undo_record(self.heads.get(0), &self.tails, 0)
     }
 }
 
@@ -183,7 +172,7 @@ impl<T: Marked> Log<T> {
         let marks = Marks::of::<T>(places);
         let mut tail = 0;
         for k in 0..self.kept() {
-            let head = self.heads.get(self.ahead + k as usize);
+            let head = self.heads.get(k as usize);
             let back = undo_record(head, &self.tails, tail).unwrap();
             if is_changed(machine, &back, places, &marks, looks) {
                 return Some(k + 1);
@@ -199,36 +188,56 @@ impl<T: Marked> Log<T> {
 
 impl<T: Repeatable> Log<T> {
     /// Performs the repeatable action 1 to n times, in the free slots of one block, and returns how often. The last time
-    /// is at the latest the first whose undo record may have one of the places that the marks cover. As a function of its
-    /// own it has registers for what its loop needs.
-    #[inline(never)]
+    /// is at the latest the first whose undo record may have one of the places that the marks cover.
     pub(crate) fn repeat(&mut self, machine: &mut T, n: usize, marks: &Marks) -> usize
-        requires some { 1 ≤ n }
-        requires session { IsSession T.Reversible machine.old self.old }
+        requires { 1 ≤ n }
         ensures some { (1 ≤ result) × (result ≤ n) }
         ensures machine { machine.new ≡ machine_after T.Reversible result T.repeated machine.old }
         ensures moves { Moves T.Reversible (contents machine.old self.old) (contents machine.new self.new)
             (after_acts result T.repeated) }
         ensures unmarked { AreUnmarked T.Reversible T.marks_of marks.now T.repeated (result - 1) machine.old }
     {
-        self.heads.discard(&mut self.ahead);
         self.heads.make_room();
-        let last = self.heads.at - 1;
-        let mut most = at_most(n, last % 256 + 1);
-        let block = self.heads.blocks.get_mut(last / 256).unwrap();
-        let tails = &mut self.tails;
-        let mut count = 0;
-        while count < most {
-            let head = &mut block[last % 256 - count];
-            machine.perform(T::repeated(), head, tails);
-            count += 1;
-            if may_be_marked::<T>(head, tails, marks) {
-                most = count;
-            }
-        }
-        self.heads.add(count);
-        count
+        repeat_span(machine, &mut self.heads, n, &mut self.tails, marks)
     }
+}
+
+/// Performs the repeatable action 1 to n times, in the free slots of one block, and returns how often. As a function of
+/// its own it has registers for what its loop needs.
+#[inline(never)]
+fn repeat_span<T: Repeatable>(
+    machine: &mut T,
+    heads: &mut Heads<T::Head>,
+    n: usize,
+    tails: &mut Tails<T::Action, T::Record>,
+    marks: &Marks,
+) -> usize
+    requires is { IsHeads heads.old }
+    requires none { heads.old.ahead ≡ 0 }
+    requires some { (1 ≤ n) × (1 ≤ heads.old.at) }
+    requires room { 1 ≤ tails.old.ring.capacity }
+    ensures is { IsHeads heads.new }
+    ensures some { (1 ≤ result) × (result ≤ n) }
+    ensures machine { machine.new ≡ machine_after T.Reversible result T.repeated machine.old }
+    ensures span { (undone : Buffer T.Action) → IsLog T.unpacked (halves heads.old) tails.old.ring undone → IsSpan T.Reversible machine.old
+        (log_value T.unpacked (halves heads.old) tails.old.ring undone)
+        (after_acts result T.repeated) (halves heads.new) machine.new tails.new undone }
+    ensures unmarked { AreUnmarked T.Reversible T.marks_of marks.now T.repeated (result - 1) machine.old }
+{
+    let last = heads.at - 1;
+    let mut most = at_most(n, last % 256 + 1);
+    let block = heads.blocks.get_mut(last / 256).unwrap();
+    let mut count = 0;
+    while count < most {
+        let head = &mut block[last % 256 - count];
+        machine.perform(T::repeated(), head, tails);
+        count += 1;
+        if may_be_marked::<T>(head, tails, marks) {
+            most = count;
+        }
+    }
+    heads.add(count);
+    count
 }
 
 /// Returns n, or the limit if that is less.
@@ -284,29 +293,28 @@ fn undo_record<'a, T: Reversible>(
 fn perform_span<T: Reversible>(
     machine: &mut T,
     heads: &mut Heads<T::Head>,
-    ahead: usize,
     n: usize,
     tails: &mut Tails<T::Action, T::Record>,
     undone: &mut HeapCircularBuffer<T::Action>,
 ) -> usize
     requires is { IsHeads heads.old }
-    requires some { (1 ≤ n) × (n ≤ ahead) × (ahead ≤ heads.old.len) }
-    requires log { IsLog T.unpacked (heads_in heads.old) tails.old.ring undone.old ahead }
-    requires session { IsSession T.Reversible machine.old
-        (log_value T.unpacked (heads_in heads.old) tails.old.ring undone.old ahead) }
-    ensures some { (1 ≤ result) × (result ≤ n) }
+    requires some { (1 ≤ n) × (n ≤ heads.old.ahead) }
+    requires log { IsLog T.unpacked (halves heads.old) tails.old.ring undone.old }
+    requires session { IsSession T.Reversible machine.old (log_value T.unpacked (halves heads.old) tails.old.ring undone.old) }
     ensures is { IsHeads heads.new }
-    ensures forward { IsSpan T.Reversible machine.old
-        (log_value T.unpacked (heads_in heads.old) tails.old.ring undone.old ahead)
-        (λ v. after_forward v result) (heads_in heads.new) (ahead - result) machine.new tails.new undone.new }
+    ensures some { (1 ≤ result) × (result ≤ n) }
+    ensures span { IsSpan T.Reversible machine.old (log_value T.unpacked (halves heads.old) tails.old.ring undone.old)
+        (λ v. after_forward v result) (halves heads.new) machine.new tails.new undone.new }
 {
-    let last = heads.at + ahead - 1;
-    let count = at_most(n, last % 256 + 1);
+    let last = heads.at - 1;
+    let steps = at_most(n, last % 256 + 1);
     let block = heads.blocks.get_mut(last / 256).unwrap();
-    for step in 0..count {
+    for step in 0..steps {
         perform_next(machine, &mut block[last % 256 - step], tails, undone);
     }
-    count
+    heads.ahead -= steps;
+    heads.add(steps);
+    steps
 }
 
 /// Performs the next action again: that of its head, or else the first of the undone ones, which is taken out.
@@ -355,28 +363,29 @@ fn perform_undone<T: Reversible>(
 #[inline(never)]
 fn undo_span<T: Reversible>(
     machine: &mut T,
-    heads: &Heads<T::Head>,
-    ahead: usize,
+    heads: &mut Heads<T::Head>,
     n: usize,
     tails: &mut Tails<T::Action, T::Record>,
     undone: &mut HeapCircularBuffer<T::Action>,
 ) -> usize
-    requires is { IsHeads heads.now }
-    requires some { (1 ≤ n) × (ahead + n ≤ heads.now.len) }
-    requires log { IsLog T.unpacked (heads_in heads.now) tails.old.ring undone.old ahead }
-    requires session { IsSession T.Reversible machine.old
-        (log_value T.unpacked (heads_in heads.now) tails.old.ring undone.old ahead) }
+    requires is { IsHeads heads.old }
+    requires some { (1 ≤ n) × (n ≤ heads.old.kept) }
+    requires log { IsLog T.unpacked (halves heads.old) tails.old.ring undone.old }
+    requires session { IsSession T.Reversible machine.old (log_value T.unpacked (halves heads.old) tails.old.ring undone.old) }
+    ensures is { IsHeads heads.new }
     ensures some { (1 ≤ result) × (result ≤ n) }
-    ensures back { IsSpan T.Reversible machine.old
-        (log_value T.unpacked (heads_in heads.now) tails.old.ring undone.old ahead)
-        (λ v. after_back v result) (heads_in heads.now) (ahead + result) machine.new tails.new undone.new }
+    ensures span { IsSpan T.Reversible machine.old (log_value T.unpacked (halves heads.old) tails.old.ring undone.old)
+        (λ v. after_back v result) (halves heads.new) machine.new tails.new undone.new }
 {
-    let slot = heads.at + ahead;
+    let slot = heads.at;
     let count = at_most(n, 256 - slot % 256);
     let block = heads.blocks.get(slot / 256).unwrap().as_slice();
     for step in 0..count {
         undo(machine, &block[slot % 256 + step], tails, undone);
     }
+    heads.at += count;
+    heads.kept -= count;
+    heads.ahead += count;
     count
 }
 

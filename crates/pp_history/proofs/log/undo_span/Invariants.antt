@@ -1,10 +1,9 @@
-use Rattle.std.proofs.Common.{◌+◌}
-use Rattle.pp_history.specs.Heads.{heads_in}
-use Rattle.pp_history.specs.Joining.{log_value}
+use Rattle.std.proofs.Common.{◌+◌, ◌-◌}
+use Rattle.pp_history.specs.Heads.{halves, halves_at, slots_in}
+use Rattle.pp_history.specs.Joining.{IsSpan, log_value}
 use Rattle.pp_history.specs.SessionValue.{after_back}
-use Rattle.pp_history.specs.Spans.{IsSpan}
 use Rattle.pp_history.proofs.log.undo_span.Given as goal
 
 abbrev pub invariant-loop-step : goal.invariant-loop-step
-invariant-loop-step g l = let heads = heads_in l.fn.heads in
-    IsSpan g.T.Reversible l.fn.machine (log_value g.T.Reversible.unpacked heads l.fn.tails.ring l.fn.undone l.fn.ahead) (λ v. after_back v l.step) heads (l.fn.ahead + l.step) l.machine l.tails l.undone
+invariant-loop-step g l = let heads = l.fn.heads in
+    IsSpan g.T.Reversible l.fn.machine (log_value g.T.Reversible.unpacked (halves heads) l.fn.tails.ring l.fn.undone) (λ v. after_back v l.step) (halves_at (slots_in heads) (heads.at + l.step) (heads.kept - l.step) (heads.ahead + l.step) heads.capacity) l.machine l.tails l.undone

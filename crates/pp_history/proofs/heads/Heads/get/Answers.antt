@@ -1,7 +1,7 @@
 use Rattle.std.proofs.Common.{◌+◌, ◌∙◌, ap, arith, sym}
 use Rattle.std.proofs.Math.Nat.{div-add-mod}
 use Rattle.std.specs.Option.{option_copied}
-use Rattle.pp_history.proofs.Blocks.{block_whole, head-at}
+use Rattle.pp_history.proofs.Blocks.{block_whole, kept-at, slot_read}
 use Rattle.pp_history.proofs.heads.Heads.get.Goals as goal
 
 pub index-requires : goal.index-requires
@@ -12,4 +12,5 @@ index-requires g c =
 pub returns : goal.returns
 returns g c =
     let found = sym c.get.ensures ∙ ap option_copied c.unwrap.ensures in
-    head-at c.args.self.now c.requires.is c.args.k _ _ c.requires.within (omega arith) (div-add-mod (c.args.self.now.at + c.args.k) 256) c.unwrap.result.now c.index.result.now found c.index.ensures
+    let read = slot_read c.args.self.now c.requires.is _ found _ _ (omega arith) c.index.ensures in
+    kept-at c.args.self.now c.requires.is c.args.k _ (div-add-mod (c.args.self.now.at + c.args.k) 256) read c.requires.within

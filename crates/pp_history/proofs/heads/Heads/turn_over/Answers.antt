@@ -7,7 +7,7 @@ returns-clause-is g c =
     (turned c.args.self.now c.requires.is c.requires.none c.unwrap-last.result (sym c.pop_back.ensures.value ∙ c.unwrap-last.ensures) c.push_front.new.self
     (rw c.pop_back.ensures.items at c.push_front.ensures.items)).0
 
-pub returns-clause-heads : goal.returns-clause-heads
-returns-clause-heads g c =
+pub returns-clause-same : goal.returns-clause-same
+returns-clause-same g c =
     (turned c.args.self.now c.requires.is c.requires.none c.unwrap-last.result (sym c.pop_back.ensures.value ∙ c.unwrap-last.ensures) c.push_front.new.self
     (rw c.pop_back.ensures.items at c.push_front.ensures.items)).1

@@ -1,12 +1,12 @@
 use Rattle.std.proofs.Common.{◌≡◌, ◌+◌, ◌*◌, ◌≤◌, true, length, drop}
-use Rattle.pp_history.specs.Heads.{heads_in}
+use Rattle.pp_history.specs.Heads.{halves}
 use Rattle.pp_history.proofs.Search.{Passed}
 use Rattle.pp_history.proofs.log.Log.find_change.Given as goal
 
 abbrev pub invariant-loop-k : goal.invariant-loop-k
 invariant-loop-k g l = record {
-  passed : Passed g.T.Reversible (g.T.Reversible.value_at l.machine) l.places l.self.records l.k (l.self-inside.ahead + l.k)
-      (heads_in l.self-inside.heads).items (drop l.tail l.self-inside.tails.ring.items);
+  passed : Passed g.T.Reversible (g.T.Reversible.value_at l.machine) l.places l.self.records l.k l.k
+      (halves l.self-inside.heads).kept (drop l.tail l.self-inside.tails.ring.items);
   few : l.tail ≤ l.k;
   counts_up : l.fn.looks.count ≤ l.looks.count;
   cost : l.looks.count ≤ l.fn.looks.count + length l.places * l.k;

@@ -1,4 +1,5 @@
-use Rattle.pp_history.specs.Heads.{heads_in}
+use Rattle.std.proofs.Common.{arith}
+use Rattle.pp_history.specs.Heads.{halves}
 use Rattle.pp_history.specs.Tails.{in_tail}
 use Rattle.pp_history.specs.UndoRecord.{whole_record}
 use Rattle.pp_history.proofs.Joins.{item-at, newest-out}
@@ -6,14 +7,14 @@ use Rattle.pp_history.proofs.log.Log.newest.Goals as goal
 
 pub returns-clause-some : goal.returns-clause-some
 returns-clause-some g c =
-    let rings = c.self.inside in
-    let at = item-at g.T.Reversible.unpacked in_tail rings.ahead (heads_in rings.heads).items rings.tails.ring.items c.get.result.now c.self.invariant.1.kept c.get.ensures in
-    let out = newest-out g.T.Reversible.unpacked (whole_record g.T.Reversible.unpacked) rings.ahead (heads_in rings.heads).items rings.tails.ring.items c.get.result.now c.undo_record.result at (rw at.is at c.undo_record.ensures) in
-    rw (← c.self.view_is) out.0
+    let log = c.self.inside in
+    let unpacked = g.T.Reversible.unpacked in
+    let at = item-at unpacked in_tail 0 (halves log.heads).kept log.tails.ring.items c.get.result.now (omega (arith, c.self.invariant.1.kept.all)) c.get.ensures in
+    rw (← c.self.view_is) (newest-out unpacked (whole_record unpacked) 0 (halves log.heads).kept log.tails.ring.items c.get.result.now c.undo_record.result at (rw at.is at c.undo_record.ensures)).0
 
 pub returns-clause-none : goal.returns-clause-none
 returns-clause-none g c =
-    let rings = c.self.inside in
-    let at = item-at g.T.Reversible.unpacked in_tail rings.ahead (heads_in rings.heads).items rings.tails.ring.items c.get.result.now c.self.invariant.1.kept c.get.ensures in
-    let out = newest-out g.T.Reversible.unpacked (whole_record g.T.Reversible.unpacked) rings.ahead (heads_in rings.heads).items rings.tails.ring.items c.get.result.now c.undo_record.result at (rw at.is at c.undo_record.ensures) in
-    rw (← c.self.view_is) out.1
+    let log = c.self.inside in
+    let unpacked = g.T.Reversible.unpacked in
+    let at = item-at unpacked in_tail 0 (halves log.heads).kept log.tails.ring.items c.get.result.now (omega (arith, c.self.invariant.1.kept.all)) c.get.ensures in
+    rw (← c.self.view_is) (newest-out unpacked (whole_record unpacked) 0 (halves log.heads).kept log.tails.ring.items c.get.result.now c.undo_record.result at (rw at.is at c.undo_record.ensures)).1

@@ -1,14 +1,14 @@
 use Rattle.std.proofs.Common.{◌%◌, ◌+◌, ◌-◌, ◌<◌, ◌≤◌}
 use Rattle.pp_history.specs.Repeating.{AreUnmarked}
 use Rattle.pp_history.proofs.Repeats.{IsRun}
-use Rattle.pp_history.proofs.log.Log.repeat.Given as goal
+use Rattle.pp_history.proofs.log.repeat_span.Given as goal
 
 abbrev pub invariant-loop-count : goal.invariant-loop-count
 invariant-loop-count g l = let action = g.T.Repeatable.repeated in record {
   at_most : l.count ≤ l.most;
   some : 1 ≤ l.most;
   within : (l.most ≤ l.n) × (l.most ≤ l.last % 256 + 1);
-  performed : IsRun g.T.Reversible l.fn.machine l.fn.self action l.last l.initial.block l.initial.tails l.count l.machine l.block l.tails;
+  run : IsRun g.T.Reversible l.fn.machine l.fn.heads l.fn.tails action l.last l.count l.machine l.block l.tails;
   before : AreUnmarked g.T.Reversible g.T.Marked.marks_of l.marks action (l.count - 1) l.fn.machine;
   all : l.count < l.most → AreUnmarked g.T.Reversible g.T.Marked.marks_of l.marks action l.count l.fn.machine;
 }
