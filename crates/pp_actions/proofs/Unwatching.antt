@@ -10,26 +10,26 @@ use Rattle.pp_machine.specs.Prelude.{Machine, over, old_values, put, Has, HasAll
 use Rattle.pp_machine.specs.declared.place.Place.TheVariants.{WatchEntry}
 use Rattle.pp_actions.specs.{Unwatching.moved_up, WatchCodes.watch_code, WatchCodes.watch_entries, WatchCodes.first_zero}
 use Rattle.pp_actions.specs.Watches.{AreWatches, HaveCodes, watched_at, watched_in, watched_place}
-use Rattle.pp_actions.specs.{RecordLists.with_entries, RecordLists.entries_at, WriteLists.entry_writes}
+use Rattle.pp_actions.specs.{RecordLists.with_entries, RecordLists.entries_at, WriteLists.writes_from}
 use Rattle.pp_actions.specs.declared.watched.Watched.{Watched, TheVariants.RegA}
 use Rattle.pp_actions.proofs.WatchCodes.{code-no_zero, first_zero-at, watched_at-code, words_of-at_most, AreWatches-entries}
 use Rattle.pp_actions.proofs.WatchCodes.{entries, length-watched_in}
 
 pub over-entries : (m : Machine) (i : ℕ) (codes : List ℕ) →
-    over m (entry_writes i codes) ≡ record m { watches = with_entries m.watches i codes }
+    over m (writes_from WatchEntry i codes) ≡ record m { watches = with_entries m.watches i codes }
 over-entries m i [] = refl
 over-entries m i (code ∷ codes) = ap (λ (n : Machine). put n (WatchEntry i) code) (over-entries m (i + 1) codes)
 
 pub old_values-entries : (m : Machine) (i : ℕ) (codes : List ℕ) →
-    old_values m (entry_writes i codes) ≡ entry_writes i (entries_at m.watches i codes)
+    old_values m (writes_from WatchEntry i codes) ≡ writes_from WatchEntry i (entries_at m.watches i codes)
 old_values-entries m i [] = refl
 old_values-entries m i (code ∷ codes) = ap (λ w. (WatchEntry i, get_or m.watches i 0) ∷ w) (old_values-entries m (i + 1) codes)
 
-pub length-entry_writes : (i : ℕ) (codes : List ℕ) → length (entry_writes i codes) ≡ length codes
+pub length-entry_writes : (i : ℕ) (codes : List ℕ) → length (writes_from WatchEntry i codes) ≡ length codes
 length-entry_writes i [] = refl
 length-entry_writes i (code ∷ codes) = ap suc (length-entry_writes (i + 1) codes)
 
-pub HasAll-entries : (size i : ℕ) (codes : List ℕ) → i + length codes ≤ 8 → HasAll size (entry_writes i codes)
+pub HasAll-entries : (size i : ℕ) (codes : List ℕ) → i + length codes ≤ 8 → HasAll size (writes_from WatchEntry i codes)
 HasAll-entries size i [] h = tt
 HasAll-entries size i (code ∷ codes) h = (omega arith, HasAll-entries size (i + 1) codes (omega arith))
 

@@ -79,6 +79,7 @@ words_of-at_most size = omega (arith, most_words size)
 
 -- in a machine of at most this many central words, each place is determined by its code
 pub watched_at-code : (size : ℕ) (w : Watched) → size ≤ 2097152 → Has size (watched_place w) → watched_at (watch_code w) ≡ w
+unfolding watched_at
 watched_at-code size w at_most has = grind (arith, nat_tests)
 
 in-codes : (ws : List Watched) (k : ℕ) → All (λ w. watched_at (watch_code w) ≡ w) ws →

@@ -1,15 +1,16 @@
 -- Places and numbers of write lists.
+use Rattle.std.specs.List.{flat_map, range_with_len}
 use Rattle.std.proofs.Common.{arith, zero, suc, ap, ℕ, ◌≡◌, ◌+◌, ◌-◌, ◌<◌, ◌≤◌, false, List, [], ◌∷◌, ◌++◌, drop, take, get_or}
 use Rattle.std.proofs.Common.{length, map, refl}
 use Rattle.std.proofs.lemmas.{Grind.common_steps, List.drop_more}
 use Rattle.pp_machine.specs.{NumberLaws.setup-over, Prelude.same_place, Prelude.old_values-append, declared.place.Write.Write}
 use Rattle.pp_machine.specs.Prelude.{Machine, over, old_values, Has, number, Writes, places, write_list, write_list-append, lookup}
 use Rattle.pp_machine.specs.{declared.place.Place.TheVariants.Cell, declared.place.Place.TheVariants.WatchEntry, Ranges.IsInRange}
-use Rattle.pp_actions.specs.{Deadstart.all_waiting, Deadstart.waiting, WatchCodes.watch_code, declared.watched.Watched.Watched}
+use Rattle.pp_actions.specs.{Deadstart.waiting, WatchCodes.watch_code, declared.watched.Watched.Watched}
 use Rattle.pp_actions.specs.Settings.{AreSettings, IsSetting, IsSetting-at, AreSettings-append, HasAll-settings}
 use Rattle.pp_actions.specs.{declared.watched.Watched.TheVariants.RegA, RecordLists.numbers, RecordLists.with_new_numbers}
 use Rattle.pp_machine.specs.declared.place.Place.{Place}
-use Rattle.pp_actions.specs.WriteLists.{cell_writes, entry_writes}
+use Rattle.pp_actions.specs.WriteLists.{cell_writes, writes_from}
 
 pub length-old_values : (m : Machine) (w : Writes Place) → length (old_values m w) ≡ length w
 length-old_values m [] = refl
@@ -40,14 +41,13 @@ numbers-append (pair ∷ a) b = ap (λ ns. pair.1 ∷ ns) (numbers-append a b)
 
 -- ---- lists that are made pair by pair
 
-pub all_waiting-next : (n count : ℕ) → 0 < count → all_waiting n count ≡ waiting n ++ all_waiting (n + 1) (count - 1)
-unfolding all_waiting
-all_waiting-next n zero h = absurd (omega arith)
-all_waiting-next n (suc count) h = let e : suc count - 1 ≡ count = omega arith in rw e refl
+pub waiting-next : (n count : ℕ) → 0 < count →
+    flat_map waiting (range_with_len n count) ≡ waiting n ++ flat_map waiting (range_with_len (n + 1) (count - 1))
+waiting-next n zero h = absurd (omega arith)
+waiting-next n (suc count) h = let e : suc count - 1 ≡ count = omega arith in rw e refl
 
-pub all_waiting-none : (n : ℕ) → all_waiting n 0 ≡ []
-unfolding all_waiting
-all_waiting-none n = refl
+pub waiting-none : (n : ℕ) → flat_map waiting (range_with_len n 0) ≡ []
+waiting-none n = refl
 
 pub with_new_numbers-none : (w : Writes Place) → with_new_numbers w [] ≡ []
 with_new_numbers-none [] = refl
@@ -55,12 +55,12 @@ with_new_numbers-none (pair ∷ w) = refl
 
 -- what lists that are made pair by pair need
 pub ruleset pair_lists =
-    (common_steps, write_list-append, numbers-append, with_new_numbers-none, all_waiting-next, all_waiting-none)
+    (common_steps, write_list-append, numbers-append, with_new_numbers-none, waiting-next, waiting-none)
 
 -- the first of the watch entries is not at the place
 pub lookup_entry : (i k : ℕ) (ws : List Watched) (p : Place) → k < length ws → same_place (WatchEntry (i + k)) p ≡ false →
-    lookup (entry_writes (i + k) (map watch_code (drop k ws))) p
-    ≡ lookup (entry_writes (i + (k + 1)) (map watch_code (drop (k + 1) ws))) p
+    lookup (writes_from WatchEntry (i + k) (map watch_code (drop k ws))) p
+    ≡ lookup (writes_from WatchEntry (i + (k + 1)) (map watch_code (drop (k + 1) ws))) p
 lookup_entry i k ws p h other = let here : i + k + 1 ≡ i + (k + 1) = omega arith in rw (drop_more ws k (RegA 0) h, other, here) refl
 
 -- ---- settings that are read, and written to the machine: the first part of each conclusion is there for `grind` to look for

@@ -1,10 +1,10 @@
 -- Which actions a machine admits, and why it rejects the others.
-use Rattle.std.specs.Prelude.{ℕ, ◌&&◌, nat_lt, nat_le, Bool, true, List, length, Option, Some, None, if◌then◌else◌}
+use Rattle.std.specs.Prelude.{ℕ, ◌&&◌, ◌^◌, nat_lt, nat_le, Bool, true, List, length, Option, Some, None, is_none, if◌then◌else◌}
 use Rattle.std.specs.List.{list_all}
 use Rattle.pp_machine.specs.ChannelNumbers.{state_number}
 use Rattle.pp_machine.specs.Machine.{Machine}
 use Rattle.pp_machine.specs.Ranges.{processor_count, cell_count, channel_count, watch_count}
-use Rattle.pp_machine.specs.Ranges.{twelve_bits, eighteen_bits, past_sixty_bits}
+use Rattle.pp_machine.specs.Ranges.{twelve_bits}
 use Rattle.pp_machine.specs.declared.channel.ChannelState.TheVariants.{Function}
 use Rattle.pp_actions.specs.Watches.{watches_of, is_watched}
 use Rattle.pp_actions.specs.declared.watched.Watched.{Watched}
@@ -36,28 +36,24 @@ is_in_range size Turn = true
 is_in_range size (SetCells n a values) =
     nat_lt n processor_count &&
     (nat_lt a cell_count && (nat_lt 0 (length values) && list_all (λ value. nat_le value twelve_bits) values))
-is_in_range size (SetA n v) = nat_lt n processor_count && nat_le v eighteen_bits
+is_in_range size (SetA n v) = nat_lt n processor_count && nat_le v 0o777777
 is_in_range size (SetP n v) = nat_lt n processor_count && nat_le v twelve_bits
 is_in_range size (SetQ n v) = nat_lt n processor_count && nat_le v twelve_bits
-is_in_range size (SetWord a v) = nat_lt a size && nat_lt v past_sixty_bits
+is_in_range size (SetWord a v) = nat_lt a size && nat_lt v (2 ^ 60)
 is_in_range size (SetChannel c state word) =
     nat_lt c channel_count && (nat_lt (state_number state) (state_number Function) && is_word_or_none word)
 is_in_range size (Watch w) = is_watchable size w
 is_in_range size (Unwatch w) = is_watchable size w
 is_in_range size Deadstart = true
 
--- A machine without a panel cannot be dead started (this project's choice).
-abbrev pub panel_fault : Option (List ℕ) → Option ActionFault
-panel_fault None = Some NoPanel
-panel_fault (Some panel) = None
-
--- Why an action whose numbers are in range is not admitted (this project's choice).
+-- Why an action whose numbers are in range is not admitted. A machine without a panel cannot be dead started (this project's
+-- choice).
 abbrev pub state_fault : Machine → Action → Option ActionFault
 state_fault s (Watch w) =
     if nat_le watch_count (length (watches_of s)) then Some WatchesFull
     else (if is_watched s w then Some AlreadyWatched else None)
 state_fault s (Unwatch w) = if is_watched s w then None else Some NotWatched
-state_fault s Deadstart = panel_fault s.setup.panel
+state_fault s Deadstart = if is_none s.setup.panel then Some NoPanel else None
 state_fault s _ = None
 
 -- Why an action is not admitted: the first cause that applies (this project's choice).

@@ -1,9 +1,10 @@
 -- What a dead start writes.
-use Rattle.std.specs.Prelude.{ℕ, zero, suc, ◌+◌, List, [], ◌∷◌, ◌++◌, Option, Some, None, replicate}
+use Rattle.std.specs.Prelude.{ℕ, ◌+◌, List, [], ◌∷◌, ◌++◌, Option, Some, None, replicate}
+use Rattle.std.specs.List.{flat_map, range_with_len}
 use Rattle.pp_machine.specs.Writes.{Writes}
 use Rattle.pp_machine.specs.declared.place.Place.{Place}
-use Rattle.pp_machine.specs.declared.place.Place.TheVariants.{Cell, Phase, RegA, RegP, RegQ, Slot}
-use Rattle.pp_actions.specs.WriteLists.{cell_writes, state_writes}
+use Rattle.pp_machine.specs.declared.place.Place.TheVariants.{Cell, ChannelMode, Phase, RegA, RegP, RegQ, Slot}
+use Rattle.pp_actions.specs.WriteLists.{cell_writes, writes_from}
 
 -- Processor 00 has the twelve words of the panel (the manual, peripheral processor instructions) in its cells 0001 to 0014, between
 -- two zeros, and begins at the panel, with P = 0001 (this project's choice).
@@ -16,22 +17,15 @@ loading panel =
 abbrev pub waiting : ℕ → Writes Place
 waiting n = (Cell n 0, 0) ∷ (RegA n, 0o10000) ∷ (RegP n, 0) ∷ (RegQ n, 0) ∷ (Phase n, 0o7100 + n) ∷ []
 
--- This many processors, from n on, do that (this project's choice).
-unfoldable pub all_waiting : ℕ → ℕ → Writes Place
-all_waiting n zero = []
-all_waiting n (suc count) = waiting n ++ all_waiting (n + 1) count
-
 -- Channels 00 to 13 in their order: 01 to 11 are active and empty, 1, and the others inactive, 0 (this project's choice).
 abbrev pub states : List ℕ
 states = 0 ∷ 1 ∷ 1 ∷ 1 ∷ 1 ∷ 1 ∷ 1 ∷ 1 ∷ 1 ∷ 1 ∷ 0 ∷ 0 ∷ []
 
--- the states of all channels (this project's choice)
-unfoldable pub all_states : Writes Place
-all_states = state_writes 0 states
-
--- What a dead start with this panel writes: processor 00, processors 01 to 11, the channels and the slot (this project's choice).
+-- What a dead start with this panel writes: processor 00, processors 01 to 11, the channels and the slot (this project's
+-- choice).
 unfoldable pub deadstart_write_list : List ℕ → Writes Place
-deadstart_write_list panel = loading panel ++ all_waiting 1 0o11 ++ all_states ++ (Slot, 0) ∷ []
+deadstart_write_list panel =
+    loading panel ++ flat_map waiting (range_with_len 1 0o11) ++ writes_from ChannelMode 0 states ++ (Slot, 0) ∷ []
 
 -- What a dead start writes: without a panel nothing (this project's choice).
 abbrev pub deadstart_writes : Option (List ℕ) → Writes Place

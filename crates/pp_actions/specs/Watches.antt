@@ -1,5 +1,5 @@
 -- The watched places of a machine, read from its eight watch entries.
-use Rattle.std.specs.Prelude.{ℕ, ◌/◌, ◌%◌, ◌==◌, ◌≡◌, ◌≢◌, Bool, List, [], ◌∷◌, ◌≤◌, All, length, if◌then◌else◌}
+use Rattle.std.specs.Prelude.{ℕ, ◌/◌, ◌%◌, ◌==◌, ◌≡◌, ◌≢◌, Bool, List, [], ◌∷◌, ◌≤◌, All, length, slice_index_or, if◌then◌else◌}
 use Rattle.std.specs.List.{list_any, AllPairs}
 use Rattle.pp_machine.specs.Prelude.{Machine, Has}
 use Rattle.pp_machine.specs.Ranges.{watch_count}
@@ -18,19 +18,13 @@ watched_place (RegQ n) = place.RegQ n
 watched_place (Central a) = place.Central a
 watched_place (Register c) = if c == 0o14 then place.Clock else place.ChannelWord c
 
--- The watched place of a kind, by the rest of its code (this project's choice).
-abbrev pub watched_of_kind : ℕ → ℕ → Watched
-watched_of_kind kind rest =
-    if kind == 1 then Cell (rest / 0o10000) (rest % 0o10000)
-    else (if kind == 2 then RegA rest
-    else (if kind == 3 then RegP rest
-    else (if kind == 4 then RegQ rest
-    else (if kind == 5 then Central rest
-    else Register rest))))
-
--- The watched place with a code (this project's choice).
-abbrev pub watched_at : ℕ → Watched
-watched_at code = watched_of_kind (code / 0o10000000) (code % 0o10000000)
+-- The watched place with a code: its kind is 1 to 5 in this order, or else it is a register (this project's choice).
+unfoldable pub watched_at : ℕ → Watched
+watched_at code =
+    let rest = code % 0o10000000 in
+    slice_index_or
+    (Register rest ∷ Cell (rest / 0o10000) (rest % 0o10000) ∷ RegA rest ∷ RegP rest ∷ RegQ rest ∷ Central rest ∷ [])
+    (code / 0o10000000) (Register rest)
 
 -- The watched places in their order: those of the entries before the first zero (this project's choice).
 abbrev pub watched_in : List ℕ → List Watched

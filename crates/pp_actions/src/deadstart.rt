@@ -1,12 +1,14 @@
 //! The numbers that a dead start sets.
 #![tactic(auto, using(crate::proofs::WriteLists::pair_lists))]
 
+ghost use Rattle.std.specs.List.{flat_map, range_with_len};
 ghost use Rattle.std.specs.Prelude.{◌≡◌, ◌+◌, ◌<◌, ◌≤◌, ◌^◌, ◌++◌, All, length, replicate};
 ghost use Rattle.arrayvec.specs.ArrayVec.{array_vec_len};
 ghost use Rattle.pp_machine.specs.Prelude.{write_list};
-ghost use Rattle.pp_actions.specs.Deadstart.{all_states, all_waiting, deadstart_write_list, deadstart_places, states, waiting};
+ghost use Rattle.pp_machine.specs.declared.place.Place.TheVariants.{ChannelMode};
+ghost use Rattle.pp_actions.specs.Deadstart.{deadstart_write_list, deadstart_places, states, waiting};
 ghost use Rattle.pp_actions.specs.RecordLists.{with_new_numbers, numbers};
-ghost use Rattle.pp_actions.specs.WriteLists.{register_writes, state_writes};
+ghost use Rattle.pp_actions.specs.WriteLists.{register_writes, writes_from};
 ghost use Rattle.pp_machine.specs.Ranges.{channel_count};
 
 use crate::lists::append;
@@ -29,7 +31,7 @@ fn registers(pp: u8, a: u64, p: u64, q: u64, phase: u64) -> [Write; 4]
 /// Appends the settings that make all processors except the first wait for input on the channel of their number.
 fn push_all_waiting(list: &mut ArrayVec<Write, 76>)
     requires { array_vec_len list.old + 45 ≤ 76 }
-    ensures items { write_list list.new.items ≡ write_list list.old.items ++ all_waiting 1 9 }
+    ensures items { write_list list.new.items ≡ write_list list.old.items ++ flat_map waiting (range_with_len 1 9) }
     ensures len { array_vec_len list.new ≡ array_vec_len list.old + 45 }
 {
     for n in 0..9u8 {
@@ -46,7 +48,7 @@ const STATES: [u64; 12] = [0, 1, 1, 1, 1, 1, 1, 1, 1, 1, 0, 0];
 fn push_states(list: &mut ArrayVec<Write, 76>, states: &[u64])
     requires at_most { length states.now ≤ channel_count }
     requires room { array_vec_len list.old + length states.now ≤ 76 }
-    ensures items { write_list list.new.items ≡ write_list list.old.items ++ state_writes 0 states.now }
+    ensures items { write_list list.new.items ≡ write_list list.old.items ++ writes_from ChannelMode 0 states.now }
     ensures len { array_vec_len list.new ≡ array_vec_len list.old + length states.now }
 {
     for (c, state) in states.iter().enumerate() {
@@ -55,7 +57,7 @@ fn push_states(list: &mut ArrayVec<Write, 76>, states: &[u64])
 }
 
 /// Returns all that a dead start by this panel writes.
-#[tactic(auto, using(crate::proofs::WriteLists::pair_lists), unfolding(crate::specs::Deadstart::deadstart_write_list, crate::specs::Deadstart::all_states))]
+#[tactic(auto, using(crate::proofs::WriteLists::pair_lists), unfolding(crate::specs::Deadstart::deadstart_write_list))]
 pub fn deadstart_settings(panel: &[u16; 12]) -> ArrayVec<Write, 76>
     ensures list { write_list result.items ≡ deadstart_write_list panel.now }
     ensures words { length panel.now ≡ channel_count }

@@ -1,45 +1,60 @@
 -- What a dead start writes fits the machine, and has a known length.
-use Rattle.std.specs.List.{list_all}
+use Rattle.std.specs.List.{flat_map, list_all, range_with_len}
 use Rattle.std.proofs.Common.{arith, zero, suc, lit<, ap, sym, ◌∙◌, ℕ, ◌≡◌, ◌+◌, ◌<◌, ◌≤◌, ◌^◌, Bool, true, false, All, List, [], ◌∷◌, ◌++◌, length, replicate, refl, not, None}
 use Rattle.std.proofs.lemmas.Bool.{and_parts}
 use Rattle.std.proofs.lemmas.Grind.{common_steps}
 use Rattle.pp_machine.specs.Prelude.{Machine, old_values, number, Writes, places, write_list, lookup, same_place, places-append, places-old_values}
 use Rattle.pp_machine.specs.declared.place.Write.{Write}
 use Rattle.pp_machine.specs.declared.place.Place.{Place}
-use Rattle.pp_machine.specs.declared.place.Place.TheVariants.{Central, Slot}
+use Rattle.pp_machine.specs.declared.place.Place.TheVariants.{Central, ChannelMode, Slot}
 use Rattle.pp_actions.specs.CellLaws.{AreSettings-cell_writes}
-use Rattle.pp_actions.specs.Deadstart.{loading, all_waiting, all_states, deadstart_write_list, deadstart_place_count, deadstart_places}
+use Rattle.pp_actions.specs.Deadstart.{loading, states, waiting, deadstart_write_list, deadstart_place_count, deadstart_places}
 use Rattle.pp_machine.specs.Ranges.{IsInRange, twelve_bits}
 use Rattle.pp_actions.specs.Settings.{IsSettable, AreSettings, AreSettings-append, HasAll-settings}
 use Rattle.pp_actions.specs.RecordLists.{numbers, with_new_numbers}
-use Rattle.pp_actions.specs.WriteLists.{cell_writes, register_writes}
+use Rattle.pp_actions.specs.WriteLists.{cell_writes, register_writes, writes_from}
 use Rattle.std.proofs.lemmas.List.{length-append}
 use Rattle.pp_actions.proofs.WriteLists.{length-old_values, places-cell_writes, with_new_numbers-numbers}
 
 pub AreSettings-deadstart : (size : ℕ) (panel : List ℕ) → All (λ word. word ≤ twelve_bits) panel → AreSettings size (deadstart_write_list panel)
-unfolding deadstart_write_list all_waiting all_states
+unfolding deadstart_write_list
 AreSettings-deadstart size panel small =
     let words = AreSettings-cell_writes size 0 1 panel (lit< tt) small in
     let front = cell_writes 0 0 (0 ∷ []) ++ cell_writes 0 1 panel in
     let back = cell_writes 0 0o15 (0 ∷ []) in
     let cells = AreSettings-append size front back (grind arith, words) (grind arith) in
     let first = AreSettings-append size (front ++ back) (register_writes 0 0 1 0 0) cells (grind arith) in
-    let processors = AreSettings-append size (loading panel) (all_waiting 1 9) first (grind arith) in
-    let channels = AreSettings-append size (loading panel ++ all_waiting 1 9) all_states processors (grind arith) in
-    AreSettings-append size (loading panel ++ all_waiting 1 9 ++ all_states) ((Slot, 0) ∷ []) channels (grind arith)
+    let others = flat_map waiting (range_with_len 1 9) in
+    let modes = writes_from ChannelMode 0 states in
+    let processors = AreSettings-append size (loading panel) others first (grind arith) in
+    let channels = AreSettings-append size (loading panel ++ others) modes processors (grind arith) in
+    AreSettings-append size (loading panel ++ others ++ modes) ((Slot, 0) ∷ []) channels (grind arith)
 
 -- ---- its places
 
+places-before : (a b c : Writes Place) → places a ≡ places b → places (a ++ c) ≡ places (b ++ c)
+places-before a b c same = places-append a c ∙ ap (λ ps. ps ++ places c) same ∙ sym (places-append b c)
+
 places-deadstart : (p q : List ℕ) → length p ≡ length q → places (deadstart_write_list p) ≡ places (deadstart_write_list q)
 unfolding deadstart_write_list
-places-deadstart p q e = grind (arith, places-append, places-cell_writes 0 1 p q e)
+places-deadstart p q e =
+    let front = λ (words : List ℕ). cell_writes 0 0 (0 ∷ []) ++ cell_writes 0 1 words in
+    let back = cell_writes 0 0o15 (0 ∷ []) in
+    let others = flat_map waiting (range_with_len 1 9) in
+    let modes = writes_from ChannelMode 0 states in
+    let cells = ap (λ ps. places (cell_writes 0 0 (0 ∷ [])) ++ ps) (places-cell_writes 0 1 p q e) in
+    places-before (loading p ++ others ++ modes) (loading q ++ others ++ modes) ((Slot, 0) ∷ [])
+    (places-before (loading p ++ others) (loading q ++ others) modes
+    (places-before (loading p) (loading q) others
+    (places-before (front p ++ back) (front q ++ back) (register_writes 0 0 1 0 0)
+    (places-before (front p) (front q) back cells))))
 
 pub length-cell_writes : (n a : ℕ) (vs : List ℕ) → length (cell_writes n a vs) ≡ length vs
 length-cell_writes n a [] = refl
 length-cell_writes n a (v ∷ vs) = ap suc (length-cell_writes n (a + 1) vs)
 
 pub length-deadstart_write_list : (panel : List ℕ) → length (deadstart_write_list panel) ≡ length panel + 64
-unfolding deadstart_write_list all_waiting all_states
+unfolding deadstart_write_list
 length-deadstart_write_list panel = simp (length-append, length-cell_writes) (omega arith)
 
 pub length-deadstart : (panel : List ℕ) → length panel ≡ 12 → length (deadstart_write_list panel) ≡ deadstart_place_count
@@ -62,7 +77,7 @@ short-number : (p : Place) (v : ℕ) → is_short p ≡ true → IsSettable p �
 short-number p v s can h = grind arith
 
 short-places : list_all is_short (places deadstart_places) ≡ true
-unfolding deadstart_write_list all_waiting all_states
+unfolding deadstart_write_list
 short-places = refl
 
 short-at : (size : ℕ) (ks : List Write) → list_all is_short (places (write_list ks)) ≡ true → AreSettings size (write_list ks) → All (λ k. k.number < 2 ^ 32) ks
@@ -86,5 +101,5 @@ not_restarted (pair ∷ w) [] p other = refl
 not_restarted (pair ∷ w) (n ∷ ns) p other = grind (arith, not_restarted w ns p)
 
 pub no_word_restarted : (ns : List ℕ) (a : ℕ) → lookup (with_new_numbers deadstart_places ns) (Central a) ≡ None
-unfolding deadstart_write_list all_waiting all_states
+unfolding deadstart_write_list
 no_word_restarted ns a = not_restarted deadstart_places ns (Central a) refl

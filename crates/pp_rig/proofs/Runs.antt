@@ -15,7 +15,7 @@ use Rattle.pp_history.specs.Repeating.{AreUnmarked, after_acts}
 use Rattle.pp_history.specs.SessionValue.{SessionValue, after_act, replay}
 use Rattle.pp_rig.specs.Inner.Marks.{marks_of}
 use Rattle.pp_rig.specs.Rules.{rules}
-use Rattle.pp_rig.specs.Stopping.{after_turns, first_change, hit_of, hit_or, one_turn_more, stopped, turned}
+use Rattle.pp_rig.specs.Stopping.{after_turns, first_change, hit_of, hit_or, stopped, turned}
 use Rattle.pp_rig.specs.Turn.{turn}
 use Rattle.pp_actions.specs.Watches.{watches_of, watched_place}
 use Rattle.pp_history.proofs.Repeats.{acts_replayed, machine_after_more}
@@ -61,14 +61,14 @@ before_end n turns machine none within =
     let left : n - turns ≡ 0 = omega arith in
     rw left (grind arith)
 
-one_more : (part rest : Stopped) → one_turn_more (continued part.turns part.hit rest) ≡ continued (suc part.turns) part.hit rest
+one_more : (part rest : Stopped) → hit_or None (continued part.turns part.hit rest) ≡ continued (suc part.turns) part.hit rest
 unfolding turns_before
 one_more part rest = grind arith
 
 first_turn : (machine : Machine) (n n' : ℕ) (hit : Option Hit) → (rest : Stopped) (part : Stopped) (last : Stopped) → rest ≡ continued part.turns part.hit last →
     hit_or hit rest ≡ continued (hit_or hit part).turns (hit_or hit part).hit last
 unfolding turns_before
-first_turn machine n n' None rest part last is = ap one_turn_more is ∙ one_more part last
+first_turn machine n n' None rest part last is = ap (hit_or None) is ∙ one_more part last
 first_turn machine n n' (Some hit) rest part last is = refl
 
 -- a run of fewer turns, and the turns after it

@@ -10,9 +10,9 @@ use Rattle.pp_machine.proofs.Once.{once, each-once}
 use Rattle.pp_rig.proofs.Deadstart.{length-cell_writes, length-deadstart_write_list}
 use Rattle.pp_rig.specs.Inner.ActionRecords.{most_places, writes}
 use Rattle.pp_actions.specs.Unwatching.{without_entry, moved_up}
-use Rattle.pp_actions.specs.Deadstart.{all_states, all_waiting, deadstart_place_count, deadstart_writes, deadstart_write_list}
+use Rattle.pp_actions.specs.Deadstart.{deadstart_place_count, deadstart_writes, deadstart_write_list}
 use Rattle.pp_actions.specs.WatchCodes.{watch_code}
-use Rattle.pp_actions.specs.WriteLists.{cell_writes, entry_writes}
+use Rattle.pp_actions.specs.WriteLists.{cell_writes, writes_from}
 use Rattle.pp_actions.specs.declared.action.Action.{Action}
 use Rattle.pp_actions.specs.declared.action.Action.TheVariants as action
 
@@ -21,42 +21,29 @@ EachOnce w = AllPairs (λ one other. one ≢ other) (places w)
 
 -- ---- consecutive places
 
--- numbers at the places with these names, from index i on
-abbrev listed : (ℕ → Place) → ℕ → List ℕ → Writes Place
-listed name i [] = []
-listed name i (v ∷ vs) = (name i, v) ∷ listed name (i + 1) vs
-
 -- a family of places in which any `room` consecutive ones differ
 module _ (name : ℕ → Place) (room : ℕ) (apart : (i j : ℕ) → i < j → j < i + room → name i ≢ name j) where
-  behind : (i j : ℕ) (vs : List ℕ) → i < j → j + length vs ≤ i + room → All (λ other. name i ≢ other) (places (listed name j vs))
+  behind : (i j : ℕ) (vs : List ℕ) → i < j → j + length vs ≤ i + room → All (λ other. name i ≢ other) (places (writes_from name j vs))
   behind i j [] less at_most k d within = absurd (omega (arith, within))
   behind i j (v ∷ vs) less at_most zero d within = apart i j less (omega arith)
   behind i j (v ∷ vs) less at_most (suc k) d within = behind i (j + 1) vs (omega arith) (omega arith) k d (omega (arith, within))
 
-  listed-once : (i : ℕ) (vs : List ℕ) → length vs ≤ room → EachOnce (listed name i vs)
+  listed-once : (i : ℕ) (vs : List ℕ) → length vs ≤ room → EachOnce (writes_from name i vs)
   listed-once i [] at_most = λ k l d less within. absurd (omega (arith, within))
   listed-once i (v ∷ vs) at_most =
-      AllPairs-cons (λ one other. one ≢ other) (name i) (places (listed name (i + 1) vs))
+      AllPairs-cons (λ one other. one ≢ other) (name i) (places (writes_from name (i + 1) vs))
       (behind i (i + 1) vs (omega arith) (omega arith))
       (listed-once (i + 1) vs (omega arith))
 
 -- 4096 cells from any address on; cell 0 follows the last
-cell_writes-listed : (n a : ℕ) (vs : List ℕ) → cell_writes n a vs ≡ listed (λ i. Cell n (i % 4096)) a vs
-cell_writes-listed n a [] = refl
-cell_writes-listed n a (v ∷ vs) = ap (λ w. (Cell n (a % 4096), v) ∷ w) (cell_writes-listed n (a + 1) vs)
-
 cells_apart : (n i j : ℕ) → i < j → j < i + 4096 → Cell n (i % 4096) ≢ Cell n (j % 4096)
 cells_apart n i j less near = grind arith
 
 cells-once : (n a : ℕ) (vs : List ℕ) → length vs ≤ 4096 → EachOnce (cell_writes n a vs)
-cells-once n a vs at_most = rw cell_writes-listed (listed-once (λ i. Cell n (i % 4096)) 4096 (cells_apart n) a vs at_most)
+cells-once n a vs at_most = listed-once (λ i. Cell n (i % 4096)) 4096 (cells_apart n) a vs at_most
 
-entry_writes-listed : (i : ℕ) (codes : List ℕ) → entry_writes i codes ≡ listed WatchEntry i codes
-entry_writes-listed i [] = refl
-entry_writes-listed i (code ∷ codes) = ap (λ w. (WatchEntry i, code) ∷ w) (entry_writes-listed (i + 1) codes)
-
-entries-once : (i : ℕ) (codes : List ℕ) → EachOnce (entry_writes i codes)
-entries-once i codes = rw entry_writes-listed (listed-once WatchEntry (length codes) (λ k l less near. grind arith) i codes (omega arith))
+entries-once : (i : ℕ) (codes : List ℕ) → EachOnce (writes_from WatchEntry i codes)
+entries-once i codes = listed-once WatchEntry (length codes) (λ k l less near. grind arith) i codes (omega arith)
 
 without_entry-once : (entries : List ℕ) (found : Option ℕ) → EachOnce (without_entry entries found)
 without_entry-once entries None = λ i j d less within. absurd (omega (arith, within))
@@ -69,7 +56,7 @@ each = each-once same_place same-self
 
 -- the panel does not reach the cell behind it
 panel-once : (panel : List ℕ) → length panel ≤ 12 → once same_place (deadstart_write_list panel) ≡ true
-unfolding deadstart_write_list all_waiting all_states
+unfolding deadstart_write_list
 panel-once [] at_most = refl
 panel-once (_ ∷ []) at_most = refl
 panel-once (_ ∷ _ ∷ []) at_most = refl

@@ -22,13 +22,9 @@ first_change old new (watched ∷ others) =
 abbrev pub hit_of : Machine → Option Hit
 hit_of s = first_change s (turn s) (watches_of s)
 
--- one more turn before the rest of a run
-abbrev pub one_turn_more : Stopped → Stopped
-one_turn_more rest = record { turns = suc rest.turns; hit = rest.hit }
-
--- a run ends with this hit, or continues with the rest
+-- a run ends with this hit, or continues with the rest: then it has one more turn
 abbrev pub hit_or : Option Hit → Stopped → Stopped
-hit_or None rest = one_turn_more rest
+hit_or None rest = record { turns = suc rest.turns; hit = rest.hit }
 hit_or (Some hit) rest = record { turns = 1; hit = Some hit }
 
 -- a run of at most this many turns, which ends with the first that changes a watched number

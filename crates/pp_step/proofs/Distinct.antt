@@ -16,7 +16,7 @@ use Rattle.pp_step.specs.InstructionTable.{Row, row_of, instruction_at}
 use Rattle.pp_step.specs.Rows.{five_cells}
 use Rattle.pp_step.specs.Seen.{same_place, lookup}
 use Rattle.pp_step.specs.Step.{pp_writes}
-use Rattle.pp_step.specs.View.{PpView, PpPlace, A, P, Cell, Central, FrameWord}
+use Rattle.pp_step.specs.View.{PpView, PpPlace, A, P, Q, Cell, Central, FrameWord}
 use Rattle.pp_step.specs.Words.{cell_after, central_after}
 use Rattle.pp_step.specs.declared.code.Code.{Code}
 use Rattle.pp_step.specs.declared.code.Code.TheVariants as code
@@ -71,6 +71,12 @@ effect-once code.Fan i s size = either same_place (is_in Inactive i.d s.states) 
 effect-once code.Fnc i s size = either same_place (is_in Inactive i.d s.states) _ _ (one refl) (one refl)
 effect-once _ i s size = one refl
 
+-- the writes of 63, with the central word or without it
+word-once : (is_there : Bool) (p a q at word : ℕ) →
+    IsOnce same_place ((P, p) ∷ (A, a) ∷ (Q, q) ∷ (if is_there then (Central at, word) ∷ [] else []))
+word-once true p a q at word = one refl
+word-once false p a q at word = one refl
+
 block-once : (s : PpView) → IsOnce same_place (block_writes s)
 block-once s =
     let code = s.phase / 0o100 in
@@ -78,7 +84,7 @@ block-once s =
     either same_place (code == 0o61) _ _
     (either same_place (s.q == 0) _ _ (one refl) (one (five-once s.p (split60 (slice_index s.central s.a)))))
     (either same_place (code == 0o63) _ _
-    (either same_place (s.q == 0) _ _ (one refl) (either same_place (nat_lt s.a (length s.central)) _ _ (one refl) (one refl)))
+    (either same_place (s.q == 0) _ _ (one refl) (word-once (nat_lt s.a (length s.central)) _ _ _ _ _))
     (either same_place (code == 0o71) _ _
     (either same_place (s.a == 0) _ _ (one refl) (either same_place (is_clock d) _ _ (one refl) (either same_place (not (is_active d s.states)) _ _ (one refl) (either same_place (is_in Full d s.states) _ _ (one refl) (one refl)))))
     (either same_place (code == 0o73) _ _

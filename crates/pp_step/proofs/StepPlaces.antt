@@ -89,9 +89,8 @@ module _ (size n : ℕ) (is_processor : n < 10) where
       either (code == 0o61) _ _
       (λ input. either (s.q == 0) _ _ (λ ended. (is_processor, (is_processor, tt))) (λ moves. (is_processor, (is_processor, (is_processor, five_held size n is_processor s.p (split60 (slice_index s.central s.a)))))))
       (λ other. either (code == 0o63) _ _
-      (λ output. either (s.q == 0) _ _ (λ ended. (is_processor, (is_processor, tt))) (λ moves. either (nat_lt s.a (length s.central)) _ _
-      (λ below. (is_processor, (is_processor, (is_processor, (grind (arith, nat_tests, below, words), tt)))))
-      (λ past. (is_processor, (is_processor, (is_processor, tt))))))
+      (λ output. either (s.q == 0) _ _ (λ ended. (is_processor, (is_processor, tt))) (λ moves. (is_processor, (is_processor, (is_processor,
+      either (nat_lt s.a (length s.central)) _ _ (λ below. (grind (arith, nat_tests, below, words), tt)) (λ past. tt))))))
       (λ other. either (code == 0o71) _ _
       (λ input. either (s.a == 0) _ _ (λ ended. (is_processor, (is_processor, tt))) (λ moves. either (is_clock d) _ _
       (λ clock. (is_processor, (is_processor, ((is_processor, h), tt))))

@@ -42,9 +42,8 @@ central_input s =
 abbrev pub central_output : PpView → Writes PpPlace
 central_output s =
     if s.q == 0 then finish s else
-    (if nat_lt s.a (length s.central)
-    then (P, cell_after s.p 5) ∷ (A, central_after s.a 1) ∷ (Q, s.q - 1) ∷ (Central s.a, joined_cells s.p s.cells) ∷ []
-    else (P, cell_after s.p 5) ∷ (A, central_after s.a 1) ∷ (Q, s.q - 1) ∷ [])
+    ((P, cell_after s.p 5) ∷ (A, central_after s.a 1) ∷ (Q, s.q - 1) ∷
+    (if nat_lt s.a (length s.central) then (Central s.a, joined_cells s.p s.cells) ∷ [] else []))
 
 -- 71: if the count is 0, the transfer ends. Channel 14 supplies the clock. If the channel is inactive, cell P becomes 0,
 -- and then the transfer ends: if P is 0000, the address in cell 0000 itself becomes 0 first. If the channel is full with
@@ -53,12 +52,9 @@ central_output s =
 abbrev pub channel_input : ℕ → PpView → Writes PpPlace
 channel_input d s =
     if s.a == 0 then finish s else
-    (if is_clock d
-    then (P, cell_after s.p 1) ∷ (A, s.a - 1) ∷ (Cell s.p, s.clock) ∷ []
-    else
+    (if is_clock d then (P, cell_after s.p 1) ∷ (A, s.a - 1) ∷ (Cell s.p, s.clock) ∷ [] else
     (if not (is_active d s.states)
-    then (P, cell_after (if s.p == 0 then 0 else slice_index s.cells 0) 1) ∷ (Phase, 0) ∷ (Cell s.p, 0) ∷ []
-    else
+    then (P, cell_after (if s.p == 0 then 0 else slice_index s.cells 0) 1) ∷ (Phase, 0) ∷ (Cell s.p, 0) ∷ [] else
     (if is_in Full d s.states
     then (P, cell_after s.p 1) ∷ (A, s.a - 1) ∷ (Cell s.p, slice_index s.registers d) ∷ (State d, state_number Empty) ∷ []
     else [])))

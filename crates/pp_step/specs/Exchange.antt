@@ -31,5 +31,4 @@ loaded a words = map (λ i. frame_word i (slice_index words (central_after a i))
 -- these get the old frame. The package is from the manual, exchange jump; what becomes of each word is this project's
 -- choice.
 abbrev pub exchange : ℕ → ℕ → List ℕ → List ℕ → Writes PpPlace
-exchange next a words frame =
-    (P, next) ∷ (frame_pairs 0 (loaded a words) ++ word_pairs (length words) a 0 frame)
+exchange next a words frame = (P, next) ∷ (frame_pairs 0 (loaded a words) ++ word_pairs (length words) a 0 frame)

@@ -1,5 +1,5 @@
 //! Undo and redo.
-#![tactic(auto, unfolding(pp_step::specs::Step::pp_writes, pp_rig::specs::Turn::turn, pp_rig::specs::Stopping::stopped))]
+#![tactic(auto, unfolding(pp_step::specs::Step::pp_writes, pp_rig::specs::Turn::turn, pp_rig::specs::Stopping::stopped, pp_actions::specs::Watches::watched_at))]
 
 ghost use Rattle.std.specs.Prelude.{◌≡◌, [], ◌∷◌, None, Some};
 ghost use Rattle.pp_history.specs.SessionValue.{after_back, after_forward};

@@ -1,5 +1,5 @@
 //! Turns of the barrel, the clock and dead start.
-#![tactic(auto, unfolding(pp_step::specs::Step::pp_writes, pp_rig::specs::Turn::turn, pp_actions::specs::Deadstart::deadstart_write_list, pp_actions::specs::Deadstart::all_waiting, pp_actions::specs::Deadstart::all_states))]
+#![tactic(auto, unfolding(pp_step::specs::Step::pp_writes, pp_rig::specs::Turn::turn, pp_actions::specs::Deadstart::deadstart_write_list))]
 
 ghost use Rattle.std.specs.Prelude.{◌≡◌, ℕ, [], ◌∷◌, None, length};
 ghost use Rattle.pp_machine.specs.declared.place.Place.TheVariants.{CardColumn, Cell, ChannelMode, ChannelWord, Clock, PaperColumn};

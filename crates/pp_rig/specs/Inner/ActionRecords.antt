@@ -11,7 +11,7 @@ use Rattle.pp_actions.specs.Settings.{AreSettings}
 use Rattle.pp_actions.specs.Watches.{AreWatches, watched_at}
 use Rattle.pp_actions.specs.WatchCodes.{first_zero, watch_code}
 use Rattle.pp_actions.specs.RecordLists.{with_entries, with_new_numbers}
-use Rattle.pp_actions.specs.WriteLists.{entry_writes}
+use Rattle.pp_actions.specs.WriteLists.{writes_from}
 use Rattle.pp_actions.specs.declared.action.Action.{Action}
 use Rattle.pp_actions.specs.declared.action.Action.TheVariants as action
 use Rattle.pp_actions.specs.declared.watched.Watched.{Watched}
@@ -41,7 +41,7 @@ abbrev pub record_pairs : RigRecord → Writes Place
 record_pairs (kept.Turn r) = turn_pairs r
 record_pairs (kept.Settings old) = write_list old.items
 record_pairs (kept.Watched i) = (WatchEntry i, 0) ∷ []
-record_pairs (kept.Unwatched i places) = entry_writes i (map watch_code places.items)
+record_pairs (kept.Unwatched i places) = writes_from WatchEntry i (map watch_code places.items)
 record_pairs (kept.Restarted numbers) = with_new_numbers deadstart_places numbers.items
 
 abbrev pub before : RigRecord → Machine → Machine

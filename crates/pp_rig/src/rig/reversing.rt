@@ -6,7 +6,7 @@ ghost use Rattle.pp_actions.specs.WatchCodes.{watch_code};
 ghost use Rattle.pp_actions.specs.Deadstart.{deadstart_places};
 ghost use Rattle.pp_actions.specs.Settings.{AreSettings};
 ghost use Rattle.pp_actions.specs.RecordLists.{with_new_numbers};
-ghost use Rattle.pp_actions.specs.WriteLists.{entry_writes};
+ghost use Rattle.pp_actions.specs.WriteLists.{writes_from};
 
 use super::{Rig, RigRecord};
 use pp_actions::{Watched, renumbered};
@@ -16,7 +16,7 @@ use pp_machine::{Place, Write, first_write};
 #[tactic(auto, using(pp_actions::proofs::WriteLists::lookup_entry))]
 fn entry_was(i: u8, watches: &[Watched], place: &Place) -> Option<u64>
     requires { length watches.now ≤ 8 }
-    ensures { result ≡ lookup (entry_writes i (map watch_code watches.now)) place.now }
+    ensures { result ≡ lookup (writes_from Place.WatchEntry i (map watch_code watches.now)) place.now }
 {
     for (k, watched) in watches.iter().enumerate() {
         if matches!(*place, Place::WatchEntry { i: n } if usize::from(n) == usize::from(i) + k) {
