@@ -26,7 +26,7 @@ from book.names import Sources, Unresolved  # noqa: E402
 from book.pages import Book, Text, markdown  # noqa: E402
 
 TOP = os.path.dirname(os.path.dirname(os.path.abspath(__file__)))
-CEILINGS = (360, 1490)  # of definitions and of lines
+CEILINGS = (358, 1500)  # of definitions and of lines
 SOURCES = ("the manual", "this project's choice")
 
 

@@ -4,7 +4,6 @@ use Rattle.std.specs.List.{list_all}
 use Rattle.pp_machine.specs.ChannelNumbers.{state_number}
 use Rattle.pp_machine.specs.Machine.{Machine}
 use Rattle.pp_machine.specs.Ranges.{processor_count, cell_count, channel_count, watch_count}
-use Rattle.pp_machine.specs.Ranges.{twelve_bits}
 use Rattle.pp_machine.specs.declared.channel.ChannelState.TheVariants.{Function}
 use Rattle.pp_actions.specs.Watches.{watches_of, is_watched}
 use Rattle.pp_actions.specs.declared.watched.Watched.{Watched}
@@ -27,7 +26,7 @@ is_watchable size (watched.Register c) = nat_le c channel_count
 -- No word, or one of twelve bits (this project's choice).
 abbrev pub is_word_or_none : Option ℕ → Bool
 is_word_or_none None = true
-is_word_or_none (Some word) = nat_le word twelve_bits
+is_word_or_none (Some word) = nat_le word 0o7777
 
 -- Whether every number of the action is in its range, in a machine with this many central words. At least one cell is set, and no
 -- channel is set to `Function` (this project's choice).
@@ -35,10 +34,10 @@ abbrev pub is_in_range : ℕ → Action → Bool
 is_in_range size Turn = true
 is_in_range size (SetCells n a values) =
     nat_lt n processor_count &&
-    (nat_lt a cell_count && (nat_lt 0 (length values) && list_all (λ value. nat_le value twelve_bits) values))
+    (nat_lt a cell_count && (nat_lt 0 (length values) && list_all (λ value. nat_le value 0o7777) values))
 is_in_range size (SetA n v) = nat_lt n processor_count && nat_le v 0o777777
-is_in_range size (SetP n v) = nat_lt n processor_count && nat_le v twelve_bits
-is_in_range size (SetQ n v) = nat_lt n processor_count && nat_le v twelve_bits
+is_in_range size (SetP n v) = nat_lt n processor_count && nat_le v 0o7777
+is_in_range size (SetQ n v) = nat_lt n processor_count && nat_le v 0o7777
 is_in_range size (SetWord a v) = nat_lt a size && nat_lt v (2 ^ 60)
 is_in_range size (SetChannel c state word) =
     nat_lt c channel_count && (nat_lt (state_number state) (state_number Function) && is_word_or_none word)

@@ -30,7 +30,7 @@ hit_or (Some hit) rest = record { turns = 1; hit = Some hit }
 -- a run of at most this many turns, which ends with the first that changes a watched number
 unfoldable pub stopped : ℕ → Machine → Stopped
 stopped zero s = record { turns = 0; hit = None }
-stopped (suc most) s = hit_or (hit_of s) (stopped most (turn s))
+stopped (suc most) s = hit_or (first_change s (turn s) (watches_of s)) (stopped most (turn s))
 
 -- after this many turns
 unfoldable pub after_turns : ℕ → SessionValue Machine Action → SessionValue Machine Action

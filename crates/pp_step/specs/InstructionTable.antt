@@ -2,7 +2,7 @@
 -- and s the state before the step, from which every number is read. A, sums and differences have 18 bits, in one's
 -- complement; the twelve bits of a cell count as positive.
 use Rattle.std.specs.Prelude.{ℕ, ◌+◌, ◌*◌, ◌-◌, ◌/◌, ◌%◌, ◌==◌, ◌^◌, true, if◌then◌else◌, nat_lt, not, bit_and, bit_xor}
-use Rattle.std.specs.Prelude.{List, [], ◌∷◌, ◌++◌, length, slice_index, slice_index_or}
+use Rattle.std.specs.Prelude.{List, [], ◌∷◌, length, slice_index, slice_index_or}
 use Rattle.pp_arith.specs.Arith.{add18, sub18, shift18}
 use Rattle.pp_arith.specs.Words60.{split60}
 use Rattle.pp_machine.specs.Frame.{program_address_of}
@@ -33,20 +33,6 @@ constant18 i = i.d * 0o10000 + i.m
 -- The operand x is the content of the operand's cell (the manual, peripheral processor instructions).
 abbrev pub operand : InstructionNumbers → PpView → ℕ
 operand i s = slice_index s.cells i.address
-
--- The eight rows that use a cell. A store puts A's lower twelve bits into the cell, and the last three replace its content (the
--- manual, peripheral processor instructions).
-abbrev pub cell_rows : Mode → List Row
-cell_rows mode =
-    row mode (λ i s. load i (operand i s))  -- 30 LDD, 40 LDI, 50 LDM
-    ∷ row mode (λ i s. load i (add18 s.a (operand i s)))  -- 31 ADD, 41 ADI, 51 ADM
-    ∷ row mode (λ i s. load i (sub18 s.a (operand i s)))  -- 32 SBD, 42 SBI, 52 SBM
-    ∷ row mode (λ i s. load i (bit_xor s.a (operand i s)))  -- 33 LMD, 43 LMI, 53 LMM
-    ∷ row mode (λ i s. store i (lower12 s.a))  -- 34 STD, 44 STI, 54 STM
-    ∷ row mode (λ i s. replace i (add18 s.a (operand i s)))  -- 35 RAD, 45 RAI, 55 RAM
-    ∷ row mode (λ i s. replace i (add18 (operand i s) 1))  -- 36 AOD, 46 AOI, 56 AOM
-    ∷ row mode (λ i s. replace i (sub18 (operand i s) 1))  -- 37 SOD, 47 SOI, 57 SOM
-    ∷ []
 
 -- The 64 (decimal) rows, in the order of their codes, 00 to 77. The codes are the manual's, peripheral processor
 -- instructions; what is this project's choice is said in between.
@@ -84,11 +70,34 @@ rows =
     ∷ row NoAddress (λ i s. exchange i.next s.a s.central s.frame)  -- 26 EXN
     ∷ row NoAddress (λ i s. load i (program_address_of s.frame))  -- 27 RPN
     -- 30 to 57 use a cell: 30 to 37 use cell d, 40 to 47 the cell that cell d names, and 50 to 57 the cell at m, indexed by
-    -- cell d.
-    ∷ cell_rows Direct ++ cell_rows Indirect ++ cell_rows Memory ++
+    -- cell d. A store puts A's lower twelve bits into the cell. 35 to 37, 45 to 47 and 55 to 57 replace its content.
+    ∷ row Direct (λ i s. load i (operand i s))  -- 30 LDD
+    ∷ row Direct (λ i s. load i (add18 s.a (operand i s)))  -- 31 ADD
+    ∷ row Direct (λ i s. load i (sub18 s.a (operand i s)))  -- 32 SBD
+    ∷ row Direct (λ i s. load i (bit_xor s.a (operand i s)))  -- 33 LMD
+    ∷ row Direct (λ i s. store i (lower12 s.a))  -- 34 STD
+    ∷ row Direct (λ i s. replace i (add18 s.a (operand i s)))  -- 35 RAD
+    ∷ row Direct (λ i s. replace i (add18 (operand i s) 1))  -- 36 AOD
+    ∷ row Direct (λ i s. replace i (sub18 (operand i s) 1))  -- 37 SOD
+    ∷ row Indirect (λ i s. load i (operand i s))  -- 40 LDI
+    ∷ row Indirect (λ i s. load i (add18 s.a (operand i s)))  -- 41 ADI
+    ∷ row Indirect (λ i s. load i (sub18 s.a (operand i s)))  -- 42 SBI
+    ∷ row Indirect (λ i s. load i (bit_xor s.a (operand i s)))  -- 43 LMI
+    ∷ row Indirect (λ i s. store i (lower12 s.a))  -- 44 STI
+    ∷ row Indirect (λ i s. replace i (add18 s.a (operand i s)))  -- 45 RAI
+    ∷ row Indirect (λ i s. replace i (add18 (operand i s) 1))  -- 46 AOI
+    ∷ row Indirect (λ i s. replace i (sub18 (operand i s) 1))  -- 47 SOI
+    ∷ row Memory (λ i s. load i (operand i s))  -- 50 LDM
+    ∷ row Memory (λ i s. load i (add18 s.a (operand i s)))  -- 51 ADM
+    ∷ row Memory (λ i s. load i (sub18 s.a (operand i s)))  -- 52 SBM
+    ∷ row Memory (λ i s. load i (bit_xor s.a (operand i s)))  -- 53 LMM
+    ∷ row Memory (λ i s. store i (lower12 s.a))  -- 54 STM
+    ∷ row Memory (λ i s. replace i (add18 s.a (operand i s)))  -- 55 RAM
+    ∷ row Memory (λ i s. replace i (add18 (operand i s) 1))  -- 56 AOM
+    ∷ row Memory (λ i s. replace i (sub18 (operand i s) 1))  -- 57 SOM
     -- 60 and 62 move one central word between address A and the five cells from d on; 61 and 63 move as many as cell d
     -- says. A central address past the size reads as 0, as `slice_index` does, and is not written (this project's choice).
-    row NoAddress (λ i s. (P, i.next) ∷ five_cells i.d (split60 (slice_index s.central s.a)))  -- 60 CRD
+    ∷ row NoAddress (λ i s. (P, i.next) ∷ five_cells i.d (split60 (slice_index s.central s.a)))  -- 60 CRD
     ∷ row Unindexed issue_counted  -- 61 CRM
     ∷ row NoAddress (λ i s.
     if nat_lt s.a (length s.central) then (P, i.next) ∷ (Central s.a, joined_cells i.d s.cells) ∷ [] else jump i.next)  -- 62 CWD
