@@ -5,8 +5,7 @@ use Rattle.std.specs.List.{position_or_len, flat_map}
 use Rattle.std.proofs.lemmas.List.{drop-map, length-map, map-append, take-append-drop, take-map}
 use Rattle.pp_lines.proofs.OpenTexts.{open-first, feed-cut, feed-none, feed-open, unfinished-text}
 use Rattle.pp_lines.specs.Lines.{finished, unfinished, last_line}
-use Rattle.pp_console.specs.DisplayCode.{character}
-use Rattle.pp_console.specs.Paper.{marked, paper_text}
+use Rattle.pp_console.specs.{DisplayCode.character, Paper.marked, Paper.paper_text}
 use Rattle.pp_console.specs.Inner.PaperCuts.{is_line_end, rest_text}
 
 -- a line feed after a text without one ends the first line

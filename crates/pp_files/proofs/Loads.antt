@@ -3,16 +3,11 @@ use Rattle.std.proofs.Common.{◌≡◌, ◌∙◌, ℕ, ◌+◌, ◌<◌, ◌�
 use Rattle.std.proofs.Common.{Ok, Err, MatchResult, append-nil}
 use Rattle.std.proofs.lemmas.{Bool.Decides.nat_tests, Grind.common_steps}
 use Rattle.std.specs.Io.KnownBytes.{Consumes, IsAtEnd}
-use Rattle.pp_files.specs.Fault.{BreaksOff, IsLoadCause}
+use Rattle.pp_files.specs.{Fault.BreaksOff, Fault.IsLoadCause, Rows.Row, declared.fault.LoadFault.LoadFault}
 use Rattle.pp_files.specs.Files.{Rule, file_limit, lines_of_file, rows_of_file, with_lines}
-use Rattle.pp_files.specs.Rows.{Row}
-use Rattle.pp_files.specs.declared.fault.LoadFault.{LoadFault}
-use Rattle.pp_files.specs.declared.progress.Progress.{Progress}
-use Rattle.pp_files.specs.declared.progress.TheConstants.{KEPT}
-use Rattle.pp_lines.proofs.Limits.{lines-last, lines-whole}
-use Rattle.pp_lines.proofs.LineCuts.{finished-byte, finished-feed}
-use Rattle.pp_lines.specs.Device.{all_bytes}
-use Rattle.pp_lines.specs.Lines.{finished, lines, unfinished}
+use Rattle.pp_files.specs.declared.progress.{Progress.Progress, TheConstants.KEPT}
+use Rattle.pp_lines.proofs.{Limits.lines-last, Limits.lines-whole, LineCuts.finished-byte, LineCuts.finished-feed}
+use Rattle.pp_lines.specs.{Device.all_bytes, Lines.finished, Lines.lines, Lines.unfinished}
 use Rattle.pp_lines.proofs.Reading.{all-read, unread}
 use Rattle.pp_files.specs.Inner.Loading.{with_line, rows_of_lines, HasReadFile, Reads, FailsAt, FailsIn}
 use Rattle.pp_files.proofs.MoreLines.{row-front, lines-next, lines-short, file-fault, file-short, file-long, lines_of_file-feed}

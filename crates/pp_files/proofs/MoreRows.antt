@@ -3,8 +3,7 @@ use Rattle.std.proofs.Common.{◌≡◌, ◌-◌, ◌<◌, List, [], ◌∷◌, 
 use Rattle.std.proofs.lemmas.{Grind.common_steps, List.append-nil, List.drop-replicate, List.map-append, List.Folds.concat-append}
 use Rattle.std.specs.List.{concat}
 use Rattle.std.proofs.lemmas.List.Elements.{All-append, All-replicate}
-use Rattle.pp_files.specs.Inner.Loading.{card_of_row}
-use Rattle.pp_files.specs.Rows.{Row}
+use Rattle.pp_files.specs.{Inner.Loading.card_of_row, Rows.Row}
 
 -- a row in the first columns of a card of zeros
 pub card-front : (row : Row) → row ++ drop (length row) (replicate 80 0) ≡ card_of_row row

@@ -2,11 +2,8 @@
 use Rattle.std.proofs.Common.{arith, ◌≡◌, [], ◌∷◌}
 use Rattle.std.proofs.lemmas.Bool.Decides.{nat_tests}
 use Rattle.pp_machine.proofs.Prelude.{device_step_writes, Machine}
-use Rattle.pp_machine.specs.Inner.AllDevices.{all_model}
-use Rattle.pp_machine.specs.Inner.Printer.{printer_model}
-use Rattle.pp_machine.specs.Inner.Reader.{reader_model}
+use Rattle.pp_machine.specs.{Inner.AllDevices.all_model, Inner.Printer.printer_model, Inner.Reader.reader_model, Reader.reader_step}
 use Rattle.pp_machine.specs.Printer.{printer_step}
-use Rattle.pp_machine.specs.Reader.{reader_step}
 
 reader-step : (s : Machine) → device_step_writes reader_model s ≡ reader_step s
 reader-step s = grind (arith, nat_tests)

@@ -1,8 +1,8 @@
 -- Write lists in which no place occurs twice.
-use Rattle.std.proofs.Common.{◌≡◌, ◌≢◌, ◌∙◌, ℕ, ◌&&◌, Bool, true, false, if◌then◌else◌, [], ◌∷◌, Some, None, sym, subst, refl, arith, Option}
+use Rattle.std.proofs.Common.{◌≡◌, ◌≢◌, ◌∙◌, ℕ, ◌&&◌, Bool, true, false, if◌then◌else◌, [], ◌∷◌, Some, None, sym, subst, refl}
+use Rattle.std.proofs.Common.{arith, Option}
 use Rattle.std.specs.List.{All, AllPairs}
-use Rattle.std.proofs.lemmas.Bool.{and_parts, false≢true}
-use Rattle.std.proofs.lemmas.List.Elements.{All-cons, All-nil}
+use Rattle.std.proofs.lemmas.{Bool.and_parts, Bool.false≢true, List.Elements.All-cons, List.Elements.All-nil}
 use Rattle.std.proofs.lemmas.List.Kept.{AllPairs-cons}
 use Rattle.pp_machine.specs.Writes.{Writes, lookup_by, places}
 
@@ -38,6 +38,5 @@ module _ {P : Type 0} (same : P → P → Bool) where
 
     pub each-once : (ws : Writes P) → once ws ≡ true → AllPairs (λ one other. one ≢ other) (places ws)
     each-once [] h = λ i j d lt within. absurd (omega (arith, within))
-    each-once (pair ∷ rest) h =
-        let parts = and_parts (is_none (lookup_by same rest pair.0)) (once rest) h in
+    each-once (pair ∷ rest) h = let parts = and_parts (is_none (lookup_by same rest pair.0)) (once rest) h in
         AllPairs-cons (λ one other. one ≢ other) pair.0 (places rest) (apart pair.0 rest parts.0) (each-once rest parts.1)

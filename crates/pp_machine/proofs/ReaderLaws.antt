@@ -1,9 +1,10 @@
 -- The laws of the card reader.
 use Rattle.std.proofs.Common.{ℕ, [], ◌≡◌, ◌≢◌, ◌≤◌, ◌<◌, length, lit≤, refl, arith, unwrap_or}
 use Rattle.std.specs.List.{AllPairs}
-use Rattle.pp_machine.proofs.Prelude.{IsAttached, IsDevice, device_old_values, number-over, Machine, Writes, over, number, lookup, renamed, places, Has, HasAll, IsShaped, Place}
-use Rattle.pp_machine.specs.Inner.Reader.{ReaderPlace, ReaderView, Card, Column, Mode, name_own, reader_model, reader_pairs, reader_place, reader_writes}
-use Rattle.pp_machine.specs.declared.reader.ReaderRecord.{ReaderRecord}
+use Rattle.pp_machine.proofs.Prelude.{IsAttached, IsDevice, device_old_values, number-over, Machine, Writes, over, number, lookup}
+use Rattle.pp_machine.proofs.Prelude.{renamed, places, Has, HasAll, IsShaped, Place}
+use Rattle.pp_machine.specs.Inner.Reader.{ReaderPlace, ReaderView, Card, Column, Mode, name_own, reader_model, reader_pairs}
+use Rattle.pp_machine.specs.{Inner.Reader.reader_place, Inner.Reader.reader_writes, declared.reader.ReaderRecord.ReaderRecord}
 use Rattle.pp_machine.specs.declared.reader.ReaderRecord.TheVariants as back
 use Rattle.pp_machine.proofs.DeviceLaws.{IsSound, old_places, sound, sound-has, sound-if, sound-once}
 
@@ -23,7 +24,8 @@ reader-attached = record {
 
 -- ---- the record of a step
 
-pub reader_names : (r : ReaderRecord) (s : ReaderView) (w : Writes ReaderPlace) → reader_pairs r ≡ device_old_values reader_model s w → places (reader_pairs r) ≡ places w
+pub reader_names : (r : ReaderRecord) (s : ReaderView) (w : Writes ReaderPlace) →
+    reader_pairs r ≡ device_old_values reader_model s w → places (reader_pairs r) ≡ places w
 reader_names r s w named = old_places reader_model s w (reader_pairs r) named
 
 pub reader_few : (r : ReaderRecord) → length (reader_pairs r) ≤ 4
@@ -36,8 +38,10 @@ HasAll-reader size c back.Nothing h = tt
 HasAll-reader size c _ h = assumption h
 
 pub reader_restores : (m : Machine) (c : ℕ) (r : ReaderRecord) (place : Place) → IsShaped m.setup.central_words m → c < 12 →
-    number (over m (renamed (reader_place c) (reader_pairs r))) place ≡ unwrap_or (lookup (renamed (reader_place c) (reader_pairs r)) place) (number m place)
-reader_restores m c r place shaped h = number-over m.setup.central_words m _ place shaped (HasAll-reader m.setup.central_words c r h)
+    number (over m (renamed (reader_place c) (reader_pairs r))) place
+    ≡ unwrap_or (lookup (renamed (reader_place c) (reader_pairs r)) place) (number m place)
+reader_restores m c r place shaped h =
+    number-over m.setup.central_words m _ place shaped (HasAll-reader m.setup.central_words c r h)
 
 -- ---- the write list of a step
 
@@ -54,8 +58,15 @@ reader_distinct s = sound-once name_own 0 0 (reader_writes s) (sound-step 0 0 (o
 -- ---- the device
 
 -- a reader is its deck and its numbers
-pub same-reader : (size : ℕ) (m m' : Machine) → ((p : Place) → Has size p → number m p ≡ number m' p) → m.reader.deck ≡ m'.reader.deck → m.reader ≡ m'.reader
-same-reader size m m' each deck = λ i. record { deck = deck i; card = each (name_own Card) tt i; column = each (name_own Column) tt i; mode = each (name_own Mode) tt i }
+pub same-reader : (size : ℕ) (m m' : Machine) → ((p : Place) → Has size p → number m p ≡ number m' p) →
+    m.reader.deck ≡ m'.reader.deck → m.reader ≡ m'.reader
+same-reader size m m' each deck =
+    λ i. record {
+      deck = deck i;
+      card = each (name_own Card) tt i;
+      column = each (name_own Column) tt i;
+      mode = each (name_own Mode) tt i;
+    }
 
 reader-idle : (s : ReaderView) → s.state ≡ 0 → reader_writes s ≡ []
 reader-idle s e = rw e refl

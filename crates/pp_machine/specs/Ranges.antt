@@ -2,7 +2,8 @@
 use Rattle.std.specs.Prelude.{ℕ, ◌<◌, ◌≤◌, ◌^◌, IsTrue}
 use Rattle.pp_machine.specs.Phase.{is_phase}
 use Rattle.pp_machine.specs.declared.place.Place.{Place}
-use Rattle.pp_machine.specs.declared.place.Place.TheVariants.{Cell, RegA, RegP, RegQ, Phase, ChannelMode, ChannelWord, Central, Slot}
+use Rattle.pp_machine.specs.declared.place.Place.TheVariants.{Cell, RegA, RegP, RegQ, Phase, ChannelMode, ChannelWord, Central}
+use Rattle.pp_machine.specs.declared.place.Place.TheVariants.{Slot}
 
 -- ---- how many there are
 

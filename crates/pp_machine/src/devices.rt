@@ -31,13 +31,15 @@ pub trait Devices: Drop {
 
     /// Makes one step of each device, one after another, and returns the undo records.
     fn step(&mut self, channels: &mut Channels) -> Self::Records
-        ensures { (m : Machine) → AreStepped model (attached model m self.old channels.old) (attached model m self.new channels.new) result };
+        ensures { (m : Machine) →
+            AreStepped model (attached model m self.old channels.old) (attached model m self.new channels.new) result };
 
     /// Undoes a step of each device, the last one first. The records must fit the devices, as they do right after the
     /// `step` that returned them.
     fn undo(&mut self, back: &Self::Records, channels: &mut Channels)
         requires fits { (m : Machine) × model.Fits back.now (attached model m self.old channels.old) }
-        ensures undoes { (m : Machine) → attached model m self.new channels.new ≡ over (attached model m self.old channels.old) (model.pairs back.now) };
+        ensures undoes { (m : Machine) →
+            attached model m self.new channels.new ≡ over (attached model m self.old channels.old) (model.pairs back.now) };
 
     /// Returns the old number of a place, or `None` if no record has that place.
     fn was(back: &Self::Records, place: &Place) -> Option<u64>

@@ -21,7 +21,8 @@ impl Model for Unaligned16 {
 
     ghost inverse = { λ v. record { low = v % 0x100; high = v / 0x100 } };
 
-    ghost inverse_ok = { λ n small. ap₂ (λ low high. record { low = low; high = high }) (omega (arith, small)) (omega (arith, small)) };
+    ghost inverse_ok = { λ n small.
+        ap₂ (λ low high. record { low = low; high = high }) (omega (arith, small)) (omega (arith, small)) };
 }
 
 impl Unaligned16 {
@@ -59,7 +60,8 @@ impl Model for Unaligned32 {
 
     ghost inverse = { λ v. record { low = v % 0x10000; high = v / 0x10000 } };
 
-    ghost inverse_ok = { λ n small. ap₂ (λ low high. record { low = low; high = high }) (omega (arith, small)) (omega (arith, small)) };
+    ghost inverse_ok = { λ n small.
+        ap₂ (λ low high. record { low = low; high = high }) (omega (arith, small)) (omega (arith, small)) };
 }
 
 impl Unaligned32 {
@@ -97,7 +99,8 @@ impl Model for Unaligned64 {
 
     ghost inverse = { λ v. record { low = v % 0x100000000; high = v / 0x100000000 } };
 
-    ghost inverse_ok = { λ n small. ap₂ (λ low high. record { low = low; high = high }) (omega (arith, small)) (omega (arith, small)) };
+    ghost inverse_ok = { λ n small.
+        ap₂ (λ low high. record { low = low; high = high }) (omega (arith, small)) (omega (arith, small)) };
 }
 
 impl Unaligned64 {

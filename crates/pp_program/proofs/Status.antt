@@ -3,17 +3,10 @@ use Rattle.std.proofs.Common.{◌≡◌, ℕ, ◌≤◌, List, Option, Some, Non
 use Rattle.pp_arguments.specs.CommandLine.{Text}
 use Rattle.pp_console.specs.Commands.{Value}
 use Rattle.pp_files.specs.Files.{Rule}
-use Rattle.pp_host.specs.Known.{Content, Found, Known, Missing}
-use Rattle.pp_host.specs.Loading.{IsLost}
-use Rattle.pp_host.specs.Options.{Asked}
-use Rattle.pp_program.specs.Course.{Course}
-use Rattle.pp_program.specs.Cuts.{IsCut, IsCutServing}
-use Rattle.pp_program.specs.Outside.{Outside}
-use Rattle.pp_program.specs.Program.{Given, exit_of}
+use Rattle.pp_host.specs.{Known.Content, Known.Found, Known.Known, Known.Missing, Loading.IsLost, Options.Asked}
+use Rattle.pp_program.specs.{Course.Course, Cuts.IsCut, Cuts.IsCutServing, Outside.Outside, Program.Given, Program.exit_of}
 use Rattle.pp_program.specs.Run.{IsCutShort, IsRun, IsWhole}
-use Rattle.pp_trouble.specs.Trouble.{status_of}
-use Rattle.pp_trouble.specs.declared.trouble.FileKind.{FileKind}
-use Rattle.pp_trouble.specs.declared.trouble.FileKind.TheVariants.{Deck}
+use Rattle.pp_trouble.specs.{Trouble.status_of, declared.trouble.FileKind.FileKind, declared.trouble.FileKind.TheVariants.Deck}
 use Rattle.pp_trouble.specs.declared.trouble.Trouble.{Trouble}
 
 lost : (rule : Rule) (path : Option Text) (read content : Found) (trouble : Trouble) → IsLost rule path read content trouble →
@@ -48,7 +41,8 @@ above : (status : ℕ) → (status ≡ 2) ⊎ (status ≡ 3) → status ≤ 1 �
 above status either small = grind arith
 
 whole : (files : Text → Known Found) (given : Given) (readings : FileKind → Found) (typed : List ℕ) (course : Course) →
-    IsWhole files given course ⊎ IsCutShort files given readings typed course → exit_of course.ended ≤ 1 → IsWhole files given course
+    IsWhole files given course ⊎ IsCutShort files given readings typed course →
+    exit_of course.ended ≤ 1 → IsWhole files given course
 whole files given readings typed course (inl is_whole) small = is_whole
 whole files given readings typed course (inr at) small =
     absurd (above (exit_of course.ended) (cut_short files given readings typed course at) small)

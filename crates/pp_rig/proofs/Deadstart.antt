@@ -1,22 +1,20 @@
 -- What a dead start writes fits the machine, and has a known length.
 use Rattle.std.specs.List.{flat_map, list_all, range_with_len}
-use Rattle.std.proofs.Common.{arith, zero, suc, lit<, ap, sym, ◌∙◌, ℕ, ◌≡◌, ◌+◌, ◌<◌, ◌≤◌, ◌^◌, Bool, true, false, All, List, [], ◌∷◌, ◌++◌, length, replicate, refl, not, None}
-use Rattle.std.proofs.lemmas.Bool.{and_parts}
-use Rattle.std.proofs.lemmas.Grind.{common_steps}
-use Rattle.pp_machine.specs.Prelude.{Machine, old_values, number, Writes, places, write_list, lookup, same_place, places-append, places-old_values}
-use Rattle.pp_machine.specs.declared.place.Write.{Write}
-use Rattle.pp_machine.specs.declared.place.Place.{Place}
+use Rattle.std.proofs.Common.{arith, zero, suc, lit<, ap, sym, ◌∙◌, ℕ, ◌≡◌, ◌+◌, ◌<◌, ◌≤◌, ◌^◌, Bool, true, false, All, List, []}
+use Rattle.std.proofs.Common.{◌∷◌, ◌++◌, length, replicate, refl, not, None}
+use Rattle.std.proofs.lemmas.{Bool.and_parts, Grind.common_steps, List.length-append}
+use Rattle.pp_machine.specs.Prelude.{Machine, old_values, number, Writes, places, write_list, lookup, same_place, places-append}
+use Rattle.pp_machine.specs.{Prelude.places-old_values, declared.place.Write.Write, declared.place.Place.Place}
 use Rattle.pp_machine.specs.declared.place.Place.TheVariants.{Central, ChannelMode, Slot}
-use Rattle.pp_actions.specs.CellLaws.{AreSettings-cell_writes}
+use Rattle.pp_actions.specs.{CellLaws.AreSettings-cell_writes, RecordLists.numbers, RecordLists.with_new_numbers}
 use Rattle.pp_actions.specs.Deadstart.{loading, states, waiting, deadstart_write_list, deadstart_place_count, deadstart_places}
 use Rattle.pp_machine.specs.Ranges.{IsInRange, twelve_bits}
 use Rattle.pp_actions.specs.Settings.{IsSettable, AreSettings, AreSettings-append, HasAll-settings}
-use Rattle.pp_actions.specs.RecordLists.{numbers, with_new_numbers}
 use Rattle.pp_actions.specs.WriteLists.{cell_writes, register_writes, writes_from}
-use Rattle.std.proofs.lemmas.List.{length-append}
 use Rattle.pp_actions.proofs.WriteLists.{length-old_values, places-cell_writes, with_new_numbers-numbers}
 
-pub AreSettings-deadstart : (size : ℕ) (panel : List ℕ) → All (λ word. word ≤ twelve_bits) panel → AreSettings size (deadstart_write_list panel)
+pub AreSettings-deadstart : (size : ℕ) (panel : List ℕ) →
+    All (λ word. word ≤ twelve_bits) panel → AreSettings size (deadstart_write_list panel)
 unfolding deadstart_write_list
 AreSettings-deadstart size panel small =
     let words = AreSettings-cell_writes size 0 1 panel (lit< tt) small in
@@ -60,12 +58,15 @@ length-deadstart_write_list panel = simp (length-append, length-cell_writes) (om
 pub length-deadstart : (panel : List ℕ) → length panel ≡ 12 → length (deadstart_write_list panel) ≡ deadstart_place_count
 length-deadstart panel e = omega (arith, length-deadstart_write_list panel)
 
-pub places-old : (m : Machine) (panel : List ℕ) → length panel ≡ 12 → places (old_values m (deadstart_write_list panel)) ≡ places deadstart_places
+pub places-old : (m : Machine) (panel : List ℕ) → length panel ≡ 12 →
+    places (old_values m (deadstart_write_list panel)) ≡ places deadstart_places
 places-old m panel e = places-old_values number m (deadstart_write_list panel) ∙ places-deadstart panel (replicate 12 0) e
 
 -- the old numbers of a dead start, at its places, are its old values
-pub with_new_numbers-old : (m : Machine) (panel : List ℕ) → length panel ≡ 12 → with_new_numbers deadstart_places (numbers (old_values m (deadstart_write_list panel))) ≡ old_values m (deadstart_write_list panel)
-with_new_numbers-old m panel e = with_new_numbers-numbers deadstart_places (old_values m (deadstart_write_list panel)) (sym (places-old m panel e))
+pub with_new_numbers-old : (m : Machine) (panel : List ℕ) → length panel ≡ 12 → with_new_numbers deadstart_places
+    (numbers (old_values m (deadstart_write_list panel))) ≡ old_values m (deadstart_write_list panel)
+with_new_numbers-old m panel e =
+    with_new_numbers-numbers deadstart_places (old_values m (deadstart_write_list panel)) (sym (places-old m panel e))
 
 -- ---- its numbers are short: it writes no central word
 
@@ -80,10 +81,13 @@ short-places : list_all is_short (places deadstart_places) ≡ true
 unfolding deadstart_write_list
 short-places = refl
 
-short-at : (size : ℕ) (ks : List Write) → list_all is_short (places (write_list ks)) ≡ true → AreSettings size (write_list ks) → All (λ k. k.number < 2 ^ 32) ks
+short-at : (size : ℕ) (ks : List Write) → list_all is_short (places (write_list ks)) ≡ true →
+    AreSettings size (write_list ks) → All (λ k. k.number < 2 ^ 32) ks
 short-at size [] a s i d l = absurd (omega arith)
-short-at size (k ∷ ks) a s zero d l = short-number k.place k.number (and_parts (is_short k.place) (list_all is_short (places (write_list ks))) a).0 s.0.settable s.0.in_range
-short-at size (k ∷ ks) a s (suc i) d l = short-at size ks (and_parts (is_short k.place) (list_all is_short (places (write_list ks))) a).1 s.1 i d (omega arith)
+short-at size (k ∷ ks) a s zero d l = short-number k.place k.number
+    (and_parts (is_short k.place) (list_all is_short (places (write_list ks))) a).0 s.0.settable s.0.in_range
+short-at size (k ∷ ks) a s (suc i) d l =
+    short-at size ks (and_parts (is_short k.place) (list_all is_short (places (write_list ks))) a).1 s.1 i d (omega arith)
 
 -- the first part of the conclusion is there for `grind`, which looks for it
 pub short-old : (size : ℕ) (ks : List Write) → AreSettings size (write_list ks) → places (write_list ks) ≡ places deadstart_places →
@@ -91,11 +95,13 @@ pub short-old : (size : ℕ) (ks : List Write) → AreSettings size (write_list 
 short-old size ks s same = (s, short-at size ks (rw same short-places) s)
 
 -- what the undo record of a dead start needs
-pub ruleset deadstarts = (common_steps, places-old, with_new_numbers-old, short-old, length-deadstart, length-old_values, HasAll-settings)
+pub ruleset deadstarts =
+    (common_steps, places-old, with_new_numbers-old, short-old, length-deadstart, length-old_values, HasAll-settings)
 
 -- ---- what a dead start does not write
 
-not_restarted : (w : Writes Place) (ns : List ℕ) (p : Place) → list_all (λ pair. not (same_place pair.0 p)) w ≡ true → lookup (with_new_numbers w ns) p ≡ None
+not_restarted : (w : Writes Place) (ns : List ℕ) (p : Place) →
+    list_all (λ pair. not (same_place pair.0 p)) w ≡ true → lookup (with_new_numbers w ns) p ≡ None
 not_restarted [] ns p other = refl
 not_restarted (pair ∷ w) [] p other = refl
 not_restarted (pair ∷ w) (n ∷ ns) p other = grind (arith, not_restarted w ns p)

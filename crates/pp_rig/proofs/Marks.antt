@@ -1,35 +1,30 @@
 -- What the marks of places say of a turn's undo record.
-use Rattle.std.proofs.Common.{ℕ, true, false, ◌≡◌, ◌==◌, ◌≤◌, ◌||◌, ◌+◌, [], ◌∷◌, List, None, if◌then◌else◌, nat_lt, length, refl, arith}
+use Rattle.std.proofs.Common.{ℕ, true, false, ◌≡◌, ◌==◌, ◌≤◌, ◌||◌, ◌+◌, [], ◌∷◌, List, None, if◌then◌else◌, nat_lt, length, refl}
+use Rattle.std.proofs.Common.{arith}
 use Rattle.std.proofs.lemmas.Bool.Decides.{nat_tests}
-use Rattle.pp_history.specs.Marks.{covers, is_marked, is_set}
-use Rattle.pp_history.specs.declared.marks.Marks.{Marks}
-use Rattle.pp_machine.specs.Inner.AllDevices.{all_model}
+use Rattle.pp_history.specs.{Marks.covers, Marks.is_marked, Marks.is_set, declared.marks.Marks.Marks}
+use Rattle.pp_machine.specs.{Inner.AllDevices.all_model, Writes.AllPlaces, declared.place.Place.Place}
 use Rattle.pp_machine.specs.Prelude.{Writes, renamed, lookup, same_place, words_of}
-use Rattle.pp_machine.specs.Writes.{AllPlaces}
 use Rattle.pp_machine.specs.WriteLaws.{AllPlaces-append, AllPlaces-if, AllPlaces-renamed}
-use Rattle.pp_machine.specs.declared.place.Place.{Place}
 use Rattle.pp_machine.specs.declared.place.Place.TheVariants.{Clock, Slot}
 use Rattle.pp_rig.specs.Inner.Marks.{cell_mark, central_mark, marks_of, AreUnmarked}
 use Rattle.pp_rig.specs.Inner.TurnRecords.{clock_old_values, rest_pairs, turn_pairs}
 use Rattle.pp_rig.specs.declared.rig.TurnRecord.{TurnRecord}
-use Rattle.pp_step.specs.Exchange.{frame_pairs, word_pairs}
-use Rattle.pp_step.specs.Pairs.{pairs_as, target_pairs}
-use Rattle.pp_step.specs.Step.{pp_pairs}
-use Rattle.pp_step.specs.View.{Cell, pp_place}
-use Rattle.pp_step.specs.Words.{cell_after, central_after}
-use Rattle.pp_step.specs.declared.record.ExchangeRecord.{ExchangeRecord}
-use Rattle.pp_step.specs.declared.record.PpRecord.TheVariants.{Step, Exchange}
-use Rattle.pp_step.specs.declared.record.StepRecord.{StepRecord}
+use Rattle.pp_step.specs.{Exchange.frame_pairs, Exchange.word_pairs, Pairs.pairs_as, Pairs.target_pairs, Step.pp_pairs}
+use Rattle.pp_step.specs.{View.Cell, View.pp_place, Words.cell_after, Words.central_after, declared.record.StepRecord.StepRecord}
+use Rattle.pp_step.specs.declared.record.{ExchangeRecord.ExchangeRecord, PpRecord.TheVariants.Step, PpRecord.TheVariants.Exchange}
 use Rattle.pp_step.specs.declared.record.Target.TheVariants as target
 
 -- an unmarked place is no marked place
-different_places : (m : Marks) (p q : Place) → is_marked m (marks_of q) ≡ false → is_marked m (marks_of p) ≡ true → same_place q p ≡ false
+different_places : (m : Marks) (p q : Place) → is_marked m (marks_of q) ≡ false →
+    is_marked m (marks_of p) ≡ true → same_place q p ≡ false
 different_places m p q unmarked marked = grind (arith, nat_tests)
 
 lookup_unmarked : (m : Marks) (ws : Writes Place) (p : Place) → AllPlaces (λ q. is_marked m (marks_of q) ≡ false) ws →
     is_marked m (marks_of p) ≡ true → lookup ws p ≡ None
 lookup_unmarked m [] p unmarked marked = refl
-lookup_unmarked m (w ∷ ws) p unmarked marked = rw (different_places m p w.0 unmarked.0 marked) (lookup_unmarked m ws p unmarked.1 marked)
+lookup_unmarked m (w ∷ ws) p unmarked marked =
+    rw (different_places m p w.0 unmarked.0 marked) (lookup_unmarked m ws p unmarked.1 marked)
 
 -- ---- cells and central words, by blocks
 
@@ -40,16 +35,14 @@ module _ (m : Marks) (n : ℕ) where
   cell_unmarked a i at_most first = grind (arith, nat_tests)
 
   pub cells_unmarked : (r : StepRecord) → is_set m (cell_mark n r.address) ≡ false → AreUnmarked m n (pairs_as target.Cells r)
-  cells_unmarked r first =
-      let cell = λ (i : ℕ) (at_most : i ≤ 4). cell_unmarked r.address i at_most first in
+  cells_unmarked r first = let cell = λ (i : ℕ) (at_most : i ≤ 4). cell_unmarked r.address i at_most first in
       (cell 0 (omega arith), (cell 1 (omega arith), (cell 2 (omega arith), (cell 3 (omega arith), (cell 4 (omega arith), tt)))))
 
   -- a central word at most fifteen behind another has that one's mark among its two
   pub words_unmarked : (size a i : ℕ) (ws : List ℕ) → i + length ws ≤ 16 → is_set m (central_mark a) ≡ false →
       AreUnmarked m n (word_pairs size a i ws)
   words_unmarked size a i [] at_most first = tt
-  words_unmarked size a i (w ∷ ws) at_most first =
-      let rest = words_unmarked size a (i + 1) ws (omega arith) first in
+  words_unmarked size a i (w ∷ ws) at_most first = let rest = words_unmarked size a (i + 1) ws (omega arith) first in
       AllPlaces-if _ (nat_lt (central_after a i) size) _ _ (λ within. (grind (arith, nat_tests), rest)) (λ past. rest)
 
   -- ---- a step: registers of processors and frame words have no marks
@@ -76,9 +69,9 @@ module _ (m : Marks) (n : ℕ) where
 turn_unmarked : (m : Marks) (r : TurnRecord) → r.rest.are_devices_called ≡ false → AreUnmarked m r.rest.slot (pp_pairs r.pp) →
     AllPlaces (λ p. is_marked m (marks_of p) ≡ false) (turn_pairs r)
 unfolding turn_pairs rest_pairs
-turn_unmarked m r idle step =
-    let U = λ (p : Place). is_marked m (marks_of p) ≡ false in
-    AllPlaces-append U (renamed (pp_place r.rest.slot) (pp_pairs r.pp)) _ (AllPlaces-renamed (pp_place r.rest.slot) U (pp_pairs r.pp) step)
+turn_unmarked m r idle step = let U = λ (p : Place). is_marked m (marks_of p) ≡ false in
+    AllPlaces-append U (renamed (pp_place r.rest.slot) (pp_pairs r.pp)) _
+    (AllPlaces-renamed (pp_place r.rest.slot) U (pp_pairs r.pp) step)
     (AllPlaces-append U (if r.rest.are_devices_called then all_model.pairs r.rest.devices else []) _ (rw idle tt)
     (AllPlaces-append U (clock_old_values r.rest.slot r.rest.clock) ((Slot, r.rest.slot) ∷ [])
     (AllPlaces-if U (r.rest.slot == 9) ((Clock, r.rest.clock) ∷ []) [] (λ e. (refl, tt)) (λ e. tt)) (refl, tt)))
@@ -86,5 +79,4 @@ turn_unmarked m r idle step =
 -- a record without a marked place has none that the marks cover
 pub not_in_turn : (m : Marks) (r : TurnRecord) → (r.rest.are_devices_called || m.has_unmarked) ≡ false →
     AreUnmarked m r.rest.slot (pp_pairs r.pp) → (p : Place) → covers marks_of m p ≡ true → lookup (turn_pairs r) p ≡ None
-not_in_turn m r impossible step p covered =
-    lookup_unmarked m (turn_pairs r) p (turn_unmarked m r (grind arith) step) (grind arith)
+not_in_turn m r impossible step p covered = lookup_unmarked m (turn_pairs r) p (turn_unmarked m r (grind arith) step) (grind arith)

@@ -1,20 +1,14 @@
 -- The old values of an action lead back, and are at the places that it writes.
 use Rattle.std.proofs.Common.{arith, IsPermutation, ◌≡◌, ◌≤◌, length, refl, sym}
-use Rattle.std.proofs.lemmas.List.{length-append}
-use Rattle.std.proofs.lemmas.List.Sorted.{IsPermutation-refl}
+use Rattle.std.proofs.lemmas.List.{length-append, Sorted.IsPermutation-refl}
 use Rattle.pp_machine.specs.Prelude.{Machine, over, number, places, places-old_values}
-use Rattle.pp_step.specs.Step.{pp_pairs, most_step_places}
-use Rattle.pp_step.specs.View.{pp_place}
-use Rattle.pp_rig.specs.Inner.ActionRecords.{writes, old_values_of}
-use Rattle.pp_rig.specs.Action.{next}
+use Rattle.pp_step.specs.{Step.pp_pairs, Step.most_step_places, View.pp_place}
+use Rattle.pp_rig.specs.{Inner.ActionRecords.writes, Inner.ActionRecords.old_values_of, Action.next, Turn.turn, Turn.turn_parts}
 use Rattle.pp_rig.specs.Inner.TurnRecords.{most_turn_places, rest_pairs, turn_old_values, turn_pairs, turn_writes}
-use Rattle.pp_rig.specs.Turn.{turn, turn_parts}
-use Rattle.pp_actions.specs.declared.action.Action.{Action}
-use Rattle.pp_actions.specs.declared.action.Action.TheVariants.{Turn}
+use Rattle.pp_actions.specs.declared.action.Action.{Action, TheVariants.Turn}
 use Rattle.pp_rig.specs.declared.rig.TurnRecord.{TurnRecord}
 use Rattle.pp_rig.proofs.Devices.{devices-at_most}
-use Rattle.pp_machine.proofs.MachineStore.{taken_back}
-use Rattle.pp_machine.proofs.Parts.{back-after, over-parts, same_places}
+use Rattle.pp_machine.proofs.{MachineStore.taken_back, Parts.back-after, Parts.over-parts, Parts.same_places}
 use Rattle.pp_machine.specs.WriteLaws.{length-renamed}
 
 -- an action leads to the machine after its write list
@@ -30,7 +24,8 @@ action_taken_back m Turn = back-after turn_parts m
 action_taken_back m action = taken_back m (writes m action)
 
 -- the old values are at the places of the write list
-pub places_old_values_of : (m : Machine) (action : Action) → IsPermutation (places (old_values_of m action)) (places (writes m action))
+pub places_old_values_of : (m : Machine) (action : Action) →
+    IsPermutation (places (old_values_of m action)) (places (writes m action))
 unfolding turn_writes turn_old_values
 places_old_values_of m Turn = same_places turn_parts m
 places_old_values_of m action = rw (places-old_values number m (writes m action)) (IsPermutation-refl (places (writes m action)))

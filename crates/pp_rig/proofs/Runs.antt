@@ -1,33 +1,19 @@
 -- Runs, one turn after another.
-use Rattle.std.proofs.lemmas.Bool.Decides.{nat_tests}
-use Rattle.std.proofs.Common.{add-one, drop, get_or, length, map, ◌≡◌, ◌∙◌, ap, true, false, ◌∷◌, ℕ, zero, suc, ◌+◌, ◌-◌, ◌<◌, ◌≤◌, refl, sym, arith, List, Option, Some, None, [], unwrap_or}
-use Rattle.std.proofs.lemmas.List.Elements.{recursion_from_All}
-use Rattle.std.specs.List.{AllByRecursion}
-use Rattle.std.specs.Option.{is_some}
-use Rattle.pp_machine.specs.NumberLaws.{number-over}
-use Rattle.pp_machine.specs.Prelude.{Machine, number, lookup}
-use Rattle.pp_rig.specs.Inner.ActionRecords.{FitsRecord, before, record_pairs}
-use Rattle.pp_rig.specs.declared.rig.RigRecord.{RigRecord}
-use Rattle.pp_history.specs.Marks.{AreCovered, covers}
-use Rattle.pp_history.specs.declared.marks.Marks.{Marks}
-use Rattle.pp_history.specs.SessionLaws.{machine_at}
+use Rattle.std.proofs.lemmas.{Bool.Decides.nat_tests, List.Elements.recursion_from_All, List.at_drop_more}
+use Rattle.std.proofs.Common.{add-one, drop, get_or, length, map, ◌≡◌, ◌∙◌, ap, true, false, ◌∷◌, ℕ, zero, suc, ◌+◌, ◌-◌, ◌<◌, ◌≤◌}
+use Rattle.std.proofs.Common.{refl, sym, arith, List, Option, Some, None, [], unwrap_or}
+use Rattle.std.specs.{List.AllByRecursion, Option.is_some}
+use Rattle.pp_machine.specs.{NumberLaws.number-over, Prelude.Machine, Prelude.number, Prelude.lookup, declared.place.Place.Place}
+use Rattle.pp_rig.specs.Inner.{ActionRecords.FitsRecord, ActionRecords.before, ActionRecords.record_pairs, Marks.marks_of}
+use Rattle.pp_rig.specs.{declared.rig.RigRecord.RigRecord, Rules.rules, Turn.turn, declared.stopping.Hit.Hit}
+use Rattle.pp_history.specs.{Marks.AreCovered, Marks.covers, declared.marks.Marks.Marks, SessionLaws.machine_at}
 use Rattle.pp_history.specs.Repeating.{AreUnmarked, after_acts}
 use Rattle.pp_history.specs.SessionValue.{SessionValue, after_act, replay}
-use Rattle.pp_rig.specs.Inner.Marks.{marks_of}
-use Rattle.pp_rig.specs.Rules.{rules}
 use Rattle.pp_rig.specs.Stopping.{after_turns, first_change, hit_of, hit_or, stopped, turned}
-use Rattle.pp_rig.specs.Turn.{turn}
-use Rattle.pp_actions.specs.Watches.{watches_of, watched_place}
+use Rattle.pp_actions.specs.{Watches.watches_of, Watches.watched_place, declared.action.Action.Action}
 use Rattle.pp_history.proofs.Repeats.{acts_replayed, machine_after_more}
-use Rattle.pp_rig.proofs.Shortest.{turned-first}
-use Rattle.pp_rig.proofs.Turns.{turn-watches}
-use Rattle.pp_actions.specs.declared.action.Action.{Action}
-use Rattle.pp_actions.specs.declared.action.Action.TheVariants.{Turn}
-use Rattle.pp_actions.specs.declared.watched.Watched.{Watched}
-use Rattle.pp_actions.specs.declared.watched.Watched.TheVariants.{Cell}
-use Rattle.pp_machine.specs.declared.place.Place.{Place}
-use Rattle.std.proofs.lemmas.List.{at_drop_more}
-use Rattle.pp_rig.specs.declared.stopping.Hit.{Hit}
+use Rattle.pp_rig.proofs.{Shortest.turned-first, Turns.turn-watches}
+use Rattle.pp_actions.specs.declared.{action.Action.TheVariants.Turn, watched.Watched.Watched, watched.Watched.TheVariants.Cell}
 use Rattle.pp_rig.specs.declared.stopping.Stopped.{Stopped}
 
 -- this many turns before the rest of a run
@@ -37,9 +23,7 @@ turns_before turns rest = record { turns = turns + rest.turns; hit = rest.hit }
 -- before any turn
 pub before_start : (n : ℕ) (machine : Machine) → stopped n machine ≡ turns_before 0 (stopped (n - 0) machine)
 unfolding turns_before
-before_start n machine =
-    let all : n - 0 ≡ n = omega arith in
-    rw all (grind arith)
+before_start n machine = let all : n - 0 ≡ n = omega arith in rw all (grind arith)
 
 -- turns of which the last made a change, or else the turns after them
 abbrev pub continued : ℕ → Option Hit → Stopped → Stopped
@@ -48,24 +32,23 @@ continued turns (Some hit) rest = record { turns = turns; hit = Some hit }
 
 -- one turn of those that are left
 before_next : (n turns : ℕ) (machine : Machine) → turns < n →
-    turns_before turns (stopped (n - turns) machine) ≡ continued (turns + 1) (hit_of machine) (stopped (n - (turns + 1)) (turn machine))
+    turns_before turns (stopped (n - turns) machine)
+    ≡ continued (turns + 1) (hit_of machine) (stopped (n - (turns + 1)) (turn machine))
 unfolding stopped turns_before
-before_next n turns machine more =
-    let left : n - turns ≡ suc (n - (turns + 1)) = omega arith in
-    rw left (grind arith)
+before_next n turns machine more = let left : n - turns ≡ suc (n - (turns + 1)) = omega arith in rw left (grind arith)
 
 -- no turn is left
-pub before_end : (n turns : ℕ) (machine : Machine) → n ≤ turns → turns ≤ n → turns_before turns (stopped (n - turns) machine) ≡ record { turns = turns; hit = None }
+pub before_end : (n turns : ℕ) (machine : Machine) → n ≤ turns → turns ≤ n →
+    turns_before turns (stopped (n - turns) machine) ≡ record { turns = turns; hit = None }
 unfolding stopped turns_before
-before_end n turns machine none within =
-    let left : n - turns ≡ 0 = omega arith in
-    rw left (grind arith)
+before_end n turns machine none within = let left : n - turns ≡ 0 = omega arith in rw left (grind arith)
 
 one_more : (part rest : Stopped) → hit_or None (continued part.turns part.hit rest) ≡ continued (suc part.turns) part.hit rest
 unfolding turns_before
 one_more part rest = grind arith
 
-first_turn : (machine : Machine) (n n' : ℕ) (hit : Option Hit) → (rest : Stopped) (part : Stopped) (last : Stopped) → rest ≡ continued part.turns part.hit last →
+first_turn : (machine : Machine) (n n' : ℕ) (hit : Option Hit) →
+    (rest : Stopped) (part : Stopped) (last : Stopped) → rest ≡ continued part.turns part.hit last →
     hit_or hit rest ≡ continued (hit_or hit part).turns (hit_or hit part).hit last
 unfolding turns_before
 first_turn machine n n' None rest part last is = ap (hit_or None) is ∙ one_more part last
@@ -73,22 +56,26 @@ first_turn machine n n' (Some hit) rest part last is = refl
 
 -- a run of fewer turns, and the turns after it
 pub run_in_parts : (first n : ℕ) (machine : Machine) → first ≤ n →
-    stopped n machine ≡ continued (stopped first machine).turns (stopped first machine).hit (stopped (n - first) (turned first machine))
+    stopped n machine ≡ continued (stopped first machine).turns
+    (stopped first machine).hit (stopped (n - first) (turned first machine))
 unfolding stopped
 run_in_parts zero n machine within = before_start n machine
 run_in_parts (suc first) zero machine within = absurd (omega arith)
-run_in_parts (suc first) (suc n) machine within =
-    let left : suc n - suc first ≡ n - first = omega arith in
+run_in_parts (suc first) (suc n) machine within = let left : suc n - suc first ≡ n - first = omega arith in
     rw (left, ← turned-first first machine)
-    (first_turn machine n first (hit_of machine) (stopped n (turn machine)) (stopped first (turn machine)) _ (run_in_parts first n (turn machine) (omega arith)))
+    (first_turn machine n first (hit_of machine) (stopped n (turn machine))
+    (stopped first (turn machine)) _ (run_in_parts first n (turn machine) (omega arith)))
 
-pub continued_some : (turns : ℕ) (hit : Option Hit) (rest : Stopped) → is_some hit ≡ true → continued turns hit rest ≡ record { turns = turns; hit = hit }
+pub continued_some : (turns : ℕ) (hit : Option Hit) (rest : Stopped) →
+    is_some hit ≡ true → continued turns hit rest ≡ record { turns = turns; hit = hit }
 continued_some turns hit rest some = grind arith
 
-pub continued_none : (turns : ℕ) (hit : Option Hit) (rest : Stopped) → is_some hit ≡ false → continued turns hit rest ≡ turns_before turns rest
+pub continued_none : (turns : ℕ) (hit : Option Hit) (rest : Stopped) →
+    is_some hit ≡ false → continued turns hit rest ≡ turns_before turns rest
 continued_none turns hit rest none = grind arith
 
-both_before : (turns more : ℕ) (hit : Option Hit) (rest : Stopped) → turns_before turns (continued more hit rest) ≡ continued (turns + more) hit rest
+both_before : (turns more : ℕ) (hit : Option Hit) (rest : Stopped) →
+    turns_before turns (continued more hit rest) ≡ continued (turns + more) hit rest
 unfolding turns_before
 both_before turns more hit rest = grind arith
 
@@ -96,9 +83,9 @@ both_before turns more hit rest = grind arith
 pub part_before : (n turns : ℕ) (machine : Machine) (part : Stopped) → part ≡ stopped part.turns machine → part.turns ≤ n - turns →
     turns_before turns (stopped (n - turns) machine)
     ≡ continued (turns + part.turns) part.hit (stopped (n - (turns + part.turns)) (turned part.turns machine))
-part_before n turns machine part is within =
-    let left : n - turns - part.turns ≡ n - (turns + part.turns) = omega arith in
-    ap (turns_before turns) (rw (← is, left) at (run_in_parts part.turns (n - turns) machine within)) ∙ both_before turns part.turns part.hit _
+part_before n turns machine part is within = let left : n - turns - part.turns ≡ n - (turns + part.turns) = omega arith in
+    ap (turns_before turns) (rw (← is, left) at (run_in_parts part.turns (n - turns) machine within))
+    ∙ both_before turns part.turns part.hit _
 
 -- turns leave the watches
 pub watches_kept : (turns : ℕ) (machine : Machine) → (turned turns machine).watches ≡ machine.watches
@@ -111,11 +98,11 @@ unfolding after_turns after_acts
 turns_are_acts zero v = refl
 turns_are_acts (suc turns) v = ap (λ v. after_act v Turn) (turns_are_acts turns v)
 
-pub after_turns_add : (first turns : ℕ) (v : SessionValue Machine Action) → after_turns turns (after_turns first v) ≡ after_turns (first + turns) v
+pub after_turns_add : (first turns : ℕ) (v : SessionValue Machine Action) →
+    after_turns turns (after_turns first v) ≡ after_turns (first + turns) v
 unfolding after_turns
 after_turns_add first zero v = let all : first + 0 ≡ first = omega arith in rw all refl
-after_turns_add first (suc turns) v =
-    let more : first + suc turns ≡ suc (first + turns) = omega arith in
+after_turns_add first (suc turns) v = let more : first + suc turns ≡ suc (first + turns) = omega arith in
     rw more (ap (λ v. after_act v Turn) (after_turns_add first turns v))
 
 -- before the first turn
@@ -152,14 +139,17 @@ unmarked-hit old new marks back turned fits led_back none covered =
     sym (rw (led_back, turned) at (none_changed new back Covered (watches_of old) fits none all))
 
 -- turns whose records have no marked place
-pub unmarked_turns : (marks : Marks) (n turns : ℕ) (machine : Machine) → turns ≤ n → AreUnmarked rules marks_of marks Turn turns machine →
-    AreCovered marks_of marks (map watched_place (watches_of machine)) → stopped n machine ≡ turns_before turns (stopped (n - turns) (turned turns machine))
+pub unmarked_turns : (marks : Marks) (n turns : ℕ) (machine : Machine) →
+    turns ≤ n → AreUnmarked rules marks_of marks Turn turns machine →
+    AreCovered marks_of marks (map watched_place (watches_of machine)) →
+    stopped n machine ≡ turns_before turns (stopped (n - turns) (turned turns machine))
 unmarked_turns marks n zero machine within none covered = before_start n machine
 unmarked_turns marks n (suc turns) machine within none covered =
     let before = unmarked_turns marks n turns machine (omega arith) (λ k less. none k (omega arith)) covered in
     let s = turned turns machine in
     let (back, fits, led_back, unmarked) = rw add-one at (none turns (omega arith)) in
-    let same : watches_of s ≡ watches_of machine = ap (λ watches. watches_of (record machine { watches = watches })) (watches_kept turns machine) in
+    let same : watches_of s ≡ watches_of machine =
+    ap (λ watches. watches_of (record machine { watches = watches })) (watches_kept turns machine) in
     let hit = unmarked-hit s (turn s) marks back refl fits led_back unmarked (rw same covered) in
     before ∙ (before_next n turns s (omega arith) ∙ rw (← hit, add-one) refl)
 
@@ -168,14 +158,15 @@ pub last_turn : (marks : Marks) (turns : ℕ) (machine : Machine) → AreUnmarke
     AreCovered marks_of marks (map watched_place (watches_of machine)) →
     stopped (turns + 1) machine ≡ record { turns = turns + 1; hit = hit_of (turned turns machine) }
 unfolding turns_before stopped
-last_turn marks turns machine none covered =
-    unmarked_turns marks (turns + 1) turns machine (omega arith) none covered ∙ before_next (turns + 1) turns (turned turns machine) (omega arith) ∙
+last_turn marks turns machine none covered = unmarked_turns marks (turns + 1) turns machine (omega arith) none covered
+    ∙ before_next (turns + 1) turns (turned turns machine) (omega arith) ∙
     (let left : turns + 1 - (turns + 1) ≡ 0 = omega arith in rw left (grind arith))
 
 -- the change that the last of some turns made
 pub last_hit : (turns : ℕ) (old new : Machine) (v : SessionValue Machine Action) (hit : Option Hit) →
     old ≡ replay rules v.start v.standing → new ≡ turned (turns + 1) old →
-    hit ≡ first_change (replay rules (after_acts turns Turn v).start (after_acts turns Turn v).standing) new (watches_of new) → hit ≡ hit_of (turned turns old)
+    hit ≡ first_change (replay rules (after_acts turns Turn v).start (after_acts turns Turn v).standing) new (watches_of new) →
+    hit ≡ hit_of (turned turns old)
 last_hit turns old new v hit replayed last found =
     let s = turned turns old in
     let now : new ≡ turn s = last ∙ machine_after_more rules turns Turn old in

@@ -2,12 +2,9 @@
 use Rattle.std.proofs.Common.{◌≡◌, ◌∙◌, ℕ, zero, suc, ◌+◌, refl, sym, ap, arith, ◌∷◌, ◌++◌, Option, Some, None, replicate}
 use Rattle.pp_history.specs.SessionValue.{SessionValue}
 use Rattle.pp_machine.specs.Machine.{Machine}
-use Rattle.pp_rig.specs.Turn.{turn}
+use Rattle.pp_rig.specs.{Turn.turn, declared.stopping.Hit.Hit, declared.stopping.Stopped.Stopped}
 use Rattle.pp_rig.specs.Stopping.{hit_of, hit_or, stopped, turned, after_turns, IsShortest}
-use Rattle.pp_actions.specs.declared.action.Action.{Action}
-use Rattle.pp_actions.specs.declared.action.Action.TheVariants.{Turn}
-use Rattle.pp_rig.specs.declared.stopping.Hit.{Hit}
-use Rattle.pp_rig.specs.declared.stopping.Stopped.{Stopped}
+use Rattle.pp_actions.specs.declared.action.Action.{Action, TheVariants.Turn}
 
 -- a turn added first, or added last
 pub turned-first : (turns : ℕ) (machine : Machine) → turned turns (turn machine) ≡ turned (suc turns) machine
@@ -15,11 +12,13 @@ turned-first zero machine = refl
 turned-first (suc turns) machine = ap turn (turned-first turns machine)
 
 -- a run that begins with a turn that changed nothing
-none-first : (machine : Machine) (turns : ℕ) → hit_of machine ≡ None → ((rest : ℕ) → turns ≡ suc rest → hit_of (turned rest (turn machine)) ≡ None) → hit_of (turned turns machine) ≡ None
+none-first : (machine : Machine) (turns : ℕ) → hit_of machine ≡ None →
+    ((rest : ℕ) → turns ≡ suc rest → hit_of (turned rest (turn machine)) ≡ None) → hit_of (turned turns machine) ≡ None
 none-first machine zero e f = e
 none-first machine (suc turns) e f = sym (ap hit_of (turned-first turns machine)) ∙ f turns refl
 
-shortest-by : (most : ℕ) (machine : Machine) (rest : Stopped) (found : Option Hit) → hit_of machine ≡ found → IsShortest most (turn machine) rest → IsShortest (suc most) machine (hit_or found rest)
+shortest-by : (most : ℕ) (machine : Machine) (rest : Stopped) (found : Option Hit) → hit_of machine ≡ found →
+    IsShortest most (turn machine) rest → IsShortest (suc most) machine (hit_or found rest)
 shortest-by most machine rest (Some hit) e ih = record {
   within = omega arith;
   earlier = λ turns less. absurd (omega arith);
@@ -29,18 +28,29 @@ shortest-by most machine rest (Some hit) e ih = record {
 shortest-by most machine rest None e ih = record {
   within = omega (arith, ih.within);
   earlier = λ turns less. none-first machine turns e (λ n same. ih.earlier n (omega arith));
-  hit = λ h same. let (earlier, counted, found) = ih.hit h same in
-      (suc earlier, (let count : suc rest.turns ≡ suc earlier + 1 = omega (arith, counted) in count), sym (ap hit_of (turned-first earlier machine)) ∙ found);
-  none = λ same. let all = ih.none same in (ap suc all.0, λ turns less. none-first machine turns e (λ n more. all.1 n (omega arith)));
+  hit = λ h same. let (earlier, counted, found) = ih.hit h same in (
+    suc earlier,
+    (let count : suc rest.turns ≡ suc earlier + 1 = omega (arith, counted) in count),
+    sym (ap hit_of (turned-first earlier machine)) ∙ found,
+  );
+  none = λ same. let all = ih.none same in
+      (ap suc all.0, λ turns less. none-first machine turns e (λ n more. all.1 n (omega arith)));
 }
 
 pub shortest : (most : ℕ) (machine : Machine) → IsShortest most machine (stopped most machine)
 unfolding stopped
-shortest zero machine = record { within = omega arith; earlier = λ turns less. absurd (omega arith); hit = λ h same. cc; none = λ same. (refl, λ turns less. absurd (omega arith)) }
-shortest (suc most) machine = shortest-by most machine (stopped most (turn machine)) (hit_of machine) refl (shortest most (turn machine))
+shortest zero machine = record {
+  within = omega arith;
+  earlier = λ turns less. absurd (omega arith);
+  hit = λ h same. cc;
+  none = λ same. (refl, λ turns less. absurd (omega arith));
+}
+shortest (suc most) machine =
+    shortest-by most machine (stopped most (turn machine)) (hit_of machine) refl (shortest most (turn machine))
 
 -- the turns are the newest actions
-pub standing_turns : (turns : ℕ) (v : SessionValue Machine Action) → (after_turns turns v).standing ≡ replicate turns Turn ++ v.standing
+pub standing_turns : (turns : ℕ) (v : SessionValue Machine Action) →
+    (after_turns turns v).standing ≡ replicate turns Turn ++ v.standing
 unfolding after_turns
 standing_turns zero v = refl
 standing_turns (suc turns) v = ap (λ actions. Turn ∷ actions) (standing_turns turns v)

@@ -1,35 +1,27 @@
 -- The parts of a turn: what each does to the machine, and what its undo record then has.
 use Rattle.std.proofs.Common.{ℕ, Bool, true, false, [], ◌∷◌, ◌<◌, ◌≡◌, ◌==◌, ◌∙◌, refl, ap, get_or, subst, sym}
 use Rattle.std.proofs.lemmas.List.{get_or_read}
-use Rattle.pp_machine.proofs.AllDevices.{all-laws}
-use Rattle.pp_machine.specs.Inner.AllDevices.{all_model}
-use Rattle.pp_machine.specs.NumberLaws.{setup-over}
+use Rattle.pp_machine.proofs.{AllDevices.all-laws, Parts.both-performed, Parts.led_back, Parts.none-performed, Parts.one-performed}
+use Rattle.pp_machine.specs.{Inner.AllDevices.all_model, NumberLaws.setup-over, Parts.after_parts}
 use Rattle.pp_machine.specs.Inner.PartWrites.{AreIdle, ArePerformed, parts_old_values}
-use Rattle.pp_machine.specs.Parts.{after_parts}
 use Rattle.pp_machine.specs.Prelude.{Machine, ProcessorNumbers, over, put, no_processor, Writes, renamed, Has, HasAll}
-use Rattle.pp_step.specs.Step.{pp_pairs, pp_writes, FitsPp, IsStep}
+use Rattle.pp_step.specs.{Step.pp_pairs, Step.pp_writes, Step.FitsPp, Step.IsStep, declared.record.PpRecord.PpRecord}
 use Rattle.pp_step.specs.View.{PpPlace, PpView, over as over_pp, pp_place, view_of as step_view}
-use Rattle.pp_step.specs.declared.record.PpRecord.{PpRecord}
-use Rattle.pp_rig.specs.Inner.IsMachine.{IsMachine}
-use Rattle.pp_rig.specs.Turn.{pp_of, processor_step, turn}
-use Rattle.pp_rig.specs.Inner.Lift.{with_pp}
-use Rattle.pp_rig.specs.Inner.LiftLaws.{step-pp, record-pp}
-use Rattle.pp_rig.specs.Inner.MachineLaws.{has_processor, IsMachine-with_pp}
+use Rattle.pp_rig.specs.{Inner.IsMachine.IsMachine, Turn.pp_of, Turn.processor_step, Turn.turn, Inner.Lift.with_pp, IsSetup.IsSetup}
+use Rattle.pp_rig.specs.Inner.{LiftLaws.step-pp, LiftLaws.record-pp, MachineLaws.has_processor, MachineLaws.IsMachine-with_pp}
 use Rattle.pp_machine.specs.WriteLaws.{AllPlaces-append, AllPlaces-if, over-append}
 use Rattle.pp_step.specs.PpPlaces.{HasAll-pp}
-use Rattle.pp_rig.specs.IsSetup.{IsSetup}
-use Rattle.pp_rig.specs.Inner.Short.{IsTurned}
-use Rattle.pp_rig.specs.Inner.TurnRecords.{FitsRest, FitsTurn, IsSlotStep, device_parts, devices_old_values, end_old_values, end_parts, rest_of_turn, rest_pairs, turn_old_values, turn_pairs}
-use Rattle.pp_rig.specs.declared.rig.TurnRecord.{TurnRecord}
-use Rattle.pp_rig.specs.declared.rig.TurnRest.{TurnRest}
-use Rattle.pp_rig.proofs.Devices.{by_models}
-use Rattle.pp_rig.proofs.Overwritten.{at_most-turn}
-use Rattle.pp_machine.proofs.Parts.{both-performed, led_back, none-performed, one-performed}
+use Rattle.pp_rig.specs.{Inner.Short.IsTurned, declared.rig.TurnRecord.TurnRecord, declared.rig.TurnRest.TurnRest}
+use Rattle.pp_rig.specs.Inner.TurnRecords.{FitsRest, FitsTurn, IsSlotStep, device_parts, devices_old_values, end_old_values}
+use Rattle.pp_rig.specs.Inner.TurnRecords.{end_parts, rest_of_turn, rest_pairs, turn_old_values, turn_pairs}
+use Rattle.pp_rig.proofs.{Devices.by_models, Overwritten.at_most-turn}
 
 -- processor n, as it is read from the list, and as it is put back
-module _ (m : Machine) (n : ℕ) (x : ProcessorNumbers) (ok : IsMachine m) (in_slot : n < 10) (read : x ≡ get_or m.processors n x) where
+module _ (m : Machine) (n : ℕ) (x : ProcessorNumbers) (ok : IsMachine m)
+    (in_slot : n < 10) (read : x ≡ get_or m.processors n x) where
   seen : step_view x m.channels m.central m.frame ≡ pp_of n m
-  seen = ap (λ y. step_view y m.channels m.central m.frame) (get_or_read m.processors n x (has_processor m n ok in_slot) read no_processor)
+  seen = ap (λ y. step_view y m.channels m.central m.frame)
+      (get_or_read m.processors n x (has_processor m n ok in_slot) read no_processor)
 
   module _ (part : PpView) (w : Writes PpPlace) (e : part ≡ over_pp (step_view x m.channels m.central m.frame) w) where
     pub IsMachine-over : IsMachine (with_pp m n part)
@@ -39,7 +31,8 @@ module _ (m : Machine) (n : ℕ) (x : ProcessorNumbers) (ok : IsMachine m) (in_s
     slot-over = step-pp m n (has_processor m n ok in_slot) part w (e ∙ ap (λ s. over_pp s w) seen)
 
 -- its step
-module _ (m : Machine) (x : ProcessorNumbers) (new : PpView) (back : PpRecord) (ok : IsMachine m) (read : x ≡ get_or m.processors m.slot x) where
+module _ (m : Machine) (x : ProcessorNumbers) (new : PpView) (back : PpRecord)
+    (ok : IsMachine m) (read : x ≡ get_or m.processors m.slot x) where
   abbrev stepped : Type 0
   stepped = IsStep (step_view x m.channels m.central m.frame) new back
 
@@ -47,8 +40,7 @@ module _ (m : Machine) (x : ProcessorNumbers) (new : PpView) (back : PpRecord) (
   IsMachine-stepped e = IsMachine-over m m.slot x ok ok.slot read new (pp_writes (step_view x m.channels m.central m.frame)) e.step
 
   pub slot-stepped : stepped → IsSlotStep m (with_pp m m.slot new) back
-  slot-stepped e =
-      let here = subst (λ s. IsStep s new back) (seen m m.slot x ok ok.slot read) e in
+  slot-stepped e = let here = subst (λ s. IsStep s new back) (seen m m.slot x ok ok.slot read) e in
       record {
         step = step-pp m m.slot (has_processor m m.slot ok ok.slot) new (pp_writes (pp_of m.slot m)) here.step;
         old_values = ap (renamed (pp_place m.slot)) here.old_values ∙ record-pp m m.slot (pp_writes (pp_of m.slot m));
@@ -61,7 +53,8 @@ module _ (m : Machine) (x : ProcessorNumbers) (new : PpView) (back : PpRecord) (
   pub slot-same : new ≡ step_view x m.channels m.central m.frame → with_pp m m.slot new ≡ m
   slot-same = slot-over m m.slot x ok ok.slot read new []
 
-  pub IsMachine-short : (done : Bool) → (done ≡ true → stepped) → (done ≡ false → new ≡ step_view x m.channels m.central m.frame) → IsMachine (with_pp m m.slot new)
+  pub IsMachine-short : (done : Bool) → (done ≡ true → stepped) →
+      (done ≡ false → new ≡ step_view x m.channels m.central m.frame) → IsMachine (with_pp m m.slot new)
   IsMachine-short true step same = IsMachine-stepped (step refl)
   IsMachine-short false step same = subst IsMachine (sym (slot-same (same refl))) ok
 
@@ -88,18 +81,20 @@ rest_fits m new back ended in_slot in_clock devices =
 -- the places of a turn's record are places of the machine
 HasAll-turn : (r : TurnRecord) (s : Machine) → IsSetup s.setup → FitsTurn r s → HasAll s.setup.central_words (turn_pairs r)
 unfolding turn_pairs rest_pairs
-HasAll-turn r s ok f =
-    let size = s.setup.central_words in
+HasAll-turn r s ok f = let size = s.setup.central_words in
     AllPlaces-append (Has size) _ _ (HasAll-pp size r.rest.slot f.rest.slot r.pp f.pp)
     (AllPlaces-append (Has size) _ _
-    (AllPlaces-if (Has size) r.rest.are_devices_called _ _ (λ called. all-laws.pairs_has size r.rest.devices (over s (end_old_values r.rest)) (rw (setup-over s (end_old_values r.rest)) ok.channels) (f.rest.devices called)) (λ idle. tt))
+    (AllPlaces-if (Has size) r.rest.are_devices_called _ _ (λ called. all-laws.pairs_has size r.rest.devices
+    (over s (end_old_values r.rest)) (rw (setup-over s (end_old_values r.rest)) ok.channels) (f.rest.devices called)) (λ idle. tt))
     (AllPlaces-append (Has size) _ _ (AllPlaces-if (Has size) (r.rest.slot == 9) _ _ (λ last. (tt, tt)) (λ other. tt)) (tt, tt)))
 
-pub turned : (m m1 new : Machine) (r : TurnRecord) → IsSlotStep m m1 r.pp → ArePerformed rest_of_turn m1 new (rest_pairs r.rest) → FitsRest r.rest new → r.rest.slot ≡ m1.slot → new.setup ≡ m1.setup → IsMachine new → IsTurned m new r
+pub turned : (m m1 new : Machine) (r : TurnRecord) → IsSlotStep m m1 r.pp → ArePerformed rest_of_turn m1 new (rest_pairs r.rest) →
+    FitsRest r.rest new → r.rest.slot ≡ m1.slot → new.setup ≡ m1.setup → IsMachine new → IsTurned m new r
 unfolding turn turn_old_values turn_pairs
 turned m m1 new r step rest fits slot setup ok =
     let first = one-performed processor_step m m1 _ step.step (rw (slot ∙ step.kept.slot) step.old_values) in
-    let performed = subst (λ parts. ArePerformed parts m new (turn_pairs r)) by_models (both-performed (processor_step ∷ []) rest_of_turn m m1 new _ _ first rest) in
+    let performed = subst (λ parts. ArePerformed parts m new (turn_pairs r)) by_models
+    (both-performed (processor_step ∷ []) rest_of_turn m m1 new _ _ first rest) in
     let fits_turn : FitsTurn r new = record { rest = fits; pp = rw setup step.fits } in
     record {
       step = performed.step;
@@ -109,6 +104,7 @@ turned m m1 new r step rest fits slot setup ok =
     }
 
 -- undoing the parts, the processor's last, leads back to the machine before
-pub turn-undone : (r : TurnRecord) (s s1 s0 : Machine) → s1 ≡ over s (rest_pairs r.rest) → s0 ≡ over s1 (renamed (pp_place r.rest.slot) (pp_pairs r.pp)) → s0 ≡ over s (turn_pairs r)
+pub turn-undone : (r : TurnRecord) (s s1 s0 : Machine) → s1 ≡ over s (rest_pairs r.rest) →
+    s0 ≡ over s1 (renamed (pp_place r.rest.slot) (pp_pairs r.pp)) → s0 ≡ over s (turn_pairs r)
 unfolding turn_pairs
 turn-undone r s s1 s0 rest pp = simp (pp, rest, over-append)

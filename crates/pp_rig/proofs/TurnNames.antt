@@ -1,16 +1,12 @@
 -- Which parts of a turn's record may have a place.
 use Rattle.std.proofs.Common.{arith, ℕ, false, ◌≡◌, Option, Some, None, if◌then◌else◌, refl}
-use Rattle.pp_machine.specs.Inner.Attached.{of_device}
-use Rattle.pp_machine.specs.Prelude.{renamed, first_of_two, lookup, same_place}
-use Rattle.pp_machine.specs.WriteLaws.{lookup-append}
-use Rattle.pp_machine.specs.declared.place.Place.{Place}
+use Rattle.pp_machine.specs.{Inner.Attached.of_device, Prelude.renamed, Prelude.first_of_two, Prelude.lookup, Prelude.same_place}
+use Rattle.pp_machine.specs.{WriteLaws.lookup-append, declared.place.Place.Place}
 use Rattle.pp_machine.specs.declared.place.Place.TheVariants.{Clock, Slot}
 use Rattle.pp_rig.specs.Inner.TurnRecords.{devices_old_values, end_old_values, rest_pairs, turn_pairs}
-use Rattle.pp_rig.specs.declared.rig.TurnRecord.{TurnRecord}
+use Rattle.pp_rig.specs.declared.rig.{TurnRecord.TurnRecord, TurnRest.TurnRest}
 use Rattle.pp_rig.proofs.Devices.{not_by_devices}
-use Rattle.pp_rig.specs.declared.rig.TurnRest.{TurnRest}
-use Rattle.pp_step.specs.Step.{pp_pairs}
-use Rattle.pp_step.specs.View.{pp_place}
+use Rattle.pp_step.specs.{Step.pp_pairs, View.pp_place}
 
 -- ---- the rest of a turn's record, by the kind of the place
 
@@ -37,8 +33,10 @@ lookup_parts r p = simp lookup-append
 not_at_end : (r : TurnRest) (p : Place) → same_place Clock p ≡ false → same_place Slot p ≡ false → by_end r p ≡ None
 not_at_end r p clock slot = grind arith
 
-devices_alone : (r : TurnRest) (p : Place) → same_place Clock p ≡ false → same_place Slot p ≡ false → lookup (rest_pairs r) p ≡ (if of_device p then by_devices r p else None)
-devices_alone r p clock slot = grind (arith, lookup_parts r p, not_at_end r p clock slot, first_alone (by_devices r p), not_by_devices r p)
+devices_alone : (r : TurnRest) (p : Place) → same_place Clock p ≡ false → same_place Slot p ≡ false →
+    lookup (rest_pairs r) p ≡ (if of_device p then by_devices r p else None)
+devices_alone r p clock slot =
+    grind (arith, lookup_parts r p, not_at_end r p clock slot, first_alone (by_devices r p), not_by_devices r p)
 
 pub lookup_by_kind : (r : TurnRest) (p : Place) → lookup (rest_pairs r) p ≡ by_kind r p
 lookup_by_kind r Clock = grind (arith, lookup_parts r Clock, not_by_devices r Clock)
@@ -46,10 +44,12 @@ lookup_by_kind r Slot = grind (arith, lookup_parts r Slot, not_by_devices r Slot
 lookup_by_kind r p = devices_alone r p refl refl
 
 -- the first pair for a place in a turn's record
-pub lookup_turn : (r : TurnRecord) (p : Place) → lookup (turn_pairs r) p ≡ first_of_two (lookup (renamed (pp_place r.rest.slot) (pp_pairs r.pp)) p) (lookup (rest_pairs r.rest) p)
+pub lookup_turn : (r : TurnRecord) (p : Place) → lookup (turn_pairs r) p
+    ≡ first_of_two (lookup (renamed (pp_place r.rest.slot) (pp_pairs r.pp)) p) (lookup (rest_pairs r.rest) p)
 unfolding turn_pairs
 lookup_turn r p = simp lookup-append
 
 -- a place that the rest of the turn's record does not have
-pub lookup_processor : (r : TurnRecord) (p : Place) → by_kind r.rest p ≡ None → lookup (turn_pairs r) p ≡ lookup (renamed (pp_place r.rest.slot) (pp_pairs r.pp)) p
+pub lookup_processor : (r : TurnRecord) (p : Place) → by_kind r.rest p ≡ None →
+    lookup (turn_pairs r) p ≡ lookup (renamed (pp_place r.rest.slot) (pp_pairs r.pp)) p
 lookup_processor r p none = grind (arith, lookup_turn r p, lookup_by_kind r.rest p)

@@ -1,19 +1,16 @@
 -- No action other than a turn writes a place twice.
-use Rattle.std.proofs.Common.{◌≡◌, ◌≢◌, ℕ, ◌+◌, ◌%◌, ◌<◌, ◌≤◌, ◌==◌, List, [], ◌∷◌, drop, length, true, zero, suc, refl, ap, arith, Option, Some, None, position}
+use Rattle.std.proofs.Common.{◌≡◌, ◌≢◌, ℕ, ◌+◌, ◌%◌, ◌<◌, ◌≤◌, ◌==◌, List, [], ◌∷◌, drop, length, true, zero, suc, refl, ap, arith}
+use Rattle.std.proofs.Common.{Option, Some, None, position}
 use Rattle.std.specs.List.{All, AllPairs}
 use Rattle.std.proofs.lemmas.List.Kept.{AllPairs-cons}
-use Rattle.pp_machine.specs.Prelude.{Machine, Writes, places, same_place}
-use Rattle.pp_machine.specs.declared.place.Place.{Place}
+use Rattle.pp_machine.specs.{Prelude.Machine, Prelude.Writes, Prelude.places, Prelude.same_place, declared.place.Place.Place}
 use Rattle.pp_machine.specs.declared.place.Place.TheVariants.{Cell, WatchEntry}
-use Rattle.pp_machine.proofs.DeviceLaws.{same-self}
-use Rattle.pp_machine.proofs.Once.{once, each-once}
+use Rattle.pp_machine.proofs.{DeviceLaws.same-self, Once.once, Once.each-once}
 use Rattle.pp_rig.proofs.Deadstart.{length-cell_writes, length-deadstart_write_list}
 use Rattle.pp_rig.specs.Inner.ActionRecords.{most_places, writes}
-use Rattle.pp_actions.specs.Unwatching.{without_entry, moved_up}
+use Rattle.pp_actions.specs.{Unwatching.without_entry, Unwatching.moved_up, WatchCodes.watch_code, declared.action.Action.Action}
 use Rattle.pp_actions.specs.Deadstart.{deadstart_place_count, deadstart_writes, deadstart_write_list}
-use Rattle.pp_actions.specs.WatchCodes.{watch_code}
 use Rattle.pp_actions.specs.WriteLists.{cell_writes, writes_from}
-use Rattle.pp_actions.specs.declared.action.Action.{Action}
 use Rattle.pp_actions.specs.declared.action.Action.TheVariants as action
 
 abbrev EachOnce : Writes Place → Type 0
@@ -23,15 +20,15 @@ EachOnce w = AllPairs (λ one other. one ≢ other) (places w)
 
 -- a family of places in which any `room` consecutive ones differ
 module _ (name : ℕ → Place) (room : ℕ) (apart : (i j : ℕ) → i < j → j < i + room → name i ≢ name j) where
-  behind : (i j : ℕ) (vs : List ℕ) → i < j → j + length vs ≤ i + room → All (λ other. name i ≢ other) (places (writes_from name j vs))
+  behind : (i j : ℕ) (vs : List ℕ) → i < j → j + length vs ≤ i + room →
+      All (λ other. name i ≢ other) (places (writes_from name j vs))
   behind i j [] less at_most k d within = absurd (omega (arith, within))
   behind i j (v ∷ vs) less at_most zero d within = apart i j less (omega arith)
   behind i j (v ∷ vs) less at_most (suc k) d within = behind i (j + 1) vs (omega arith) (omega arith) k d (omega (arith, within))
 
   listed-once : (i : ℕ) (vs : List ℕ) → length vs ≤ room → EachOnce (writes_from name i vs)
   listed-once i [] at_most = λ k l d less within. absurd (omega (arith, within))
-  listed-once i (v ∷ vs) at_most =
-      AllPairs-cons (λ one other. one ≢ other) (name i) (places (writes_from name (i + 1) vs))
+  listed-once i (v ∷ vs) at_most = AllPairs-cons (λ one other. one ≢ other) (name i) (places (writes_from name (i + 1) vs))
       (behind i (i + 1) vs (omega arith) (omega arith))
       (listed-once (i + 1) vs (omega arith))
 
@@ -72,15 +69,19 @@ panel-once (_ ∷ _ ∷ _ ∷ _ ∷ _ ∷ _ ∷ _ ∷ _ ∷ _ ∷ _ ∷ _ ∷ []
 panel-once (_ ∷ _ ∷ _ ∷ _ ∷ _ ∷ _ ∷ _ ∷ _ ∷ _ ∷ _ ∷ _ ∷ _ ∷ []) at_most = refl
 panel-once (_ ∷ _ ∷ _ ∷ _ ∷ _ ∷ _ ∷ _ ∷ _ ∷ _ ∷ _ ∷ _ ∷ _ ∷ _ ∷ rest) at_most = absurd (omega arith)
 
-deadstart-once : (panel : Option (List ℕ)) → length (deadstart_writes panel) ≤ deadstart_place_count → EachOnce (deadstart_writes panel)
+deadstart-once : (panel : Option (List ℕ)) →
+    length (deadstart_writes panel) ≤ deadstart_place_count → EachOnce (deadstart_writes panel)
 deadstart-once None at_most = λ i j d less within. absurd (omega (arith, within))
-deadstart-once (Some panel) at_most = each (deadstart_write_list panel) (panel-once panel (omega (arith, at_most, length-deadstart_write_list panel)))
+deadstart-once (Some panel) at_most =
+    each (deadstart_write_list panel) (panel-once panel (omega (arith, at_most, length-deadstart_write_list panel)))
 
 -- ---- every action
 
-pub written_once : (s : Machine) (done : Action) → done ≢ action.Turn → length (writes s done) ≤ most_places done → EachOnce (writes s done)
+pub written_once : (s : Machine) (done : Action) → done ≢ action.Turn →
+    length (writes s done) ≤ most_places done → EachOnce (writes s done)
 written_once s action.Turn other at_most = absurd (other refl)
-written_once s (action.SetCells n a values) other at_most = cells-once n a values (omega (arith, at_most, length-cell_writes n a values))
+written_once s (action.SetCells n a values) other at_most =
+    cells-once n a values (omega (arith, at_most, length-cell_writes n a values))
 written_once s (action.SetChannel c state None) other at_most = each (writes s (action.SetChannel c state None)) refl
 written_once s (action.SetChannel c state (Some w)) other at_most = each (writes s (action.SetChannel c state (Some w))) refl
 written_once s (action.Unwatch w) other at_most = without_entry-once s.watches (position (λ code. code == watch_code w) s.watches)

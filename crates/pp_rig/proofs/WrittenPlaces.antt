@@ -1,29 +1,19 @@
 -- An admitted action writes only places that the machine has.
-use Rattle.std.proofs.Common.{◌≡◌, ℕ, ◌+◌, ◌<◌, ◌≤◌, ◌==◌, Bool, List, [], ◌∷◌, drop, length, position, refl, subst, arith, length-drop, Option, Some, None, IfSome}
+use Rattle.std.proofs.Common.{◌≡◌, ℕ, ◌+◌, ◌<◌, ◌≤◌, ◌==◌, Bool, List, [], ◌∷◌, drop, length, position, refl, subst, arith}
+use Rattle.std.proofs.Common.{length-drop, Option, Some, None, IfSome}
 use Rattle.std.proofs.lemmas.List.Quantifiers.{position-Some}
 use Rattle.pp_machine.specs.Prelude.{Machine, over, processor, no_processor, Has, HasAll}
-use Rattle.pp_machine.specs.WriteLaws.{AllPlaces-if}
+use Rattle.pp_machine.specs.{WriteLaws.AllPlaces-if, NumberLaws.setup-over, Inner.PartWrites.EachPart, Parts.after_parts}
 use Rattle.pp_step.proofs.StepPlaces.{HasAll-step}
-use Rattle.pp_rig.proofs.Admitting.{settings_fit, is_watch}
-use Rattle.pp_rig.proofs.Deadstart.{AreSettings-deadstart}
-use Rattle.pp_rig.proofs.Devices.{by_models}
-use Rattle.pp_machine.proofs.AllDevices.{all-laws}
-use Rattle.pp_machine.proofs.Parts.{HasAll-parts, each-append}
+use Rattle.pp_rig.proofs.{Admitting.settings_fit, Admitting.is_watch, Deadstart.AreSettings-deadstart, Devices.by_models}
+use Rattle.pp_machine.proofs.{AllDevices.all-laws, Parts.HasAll-parts, Parts.each-append}
 use Rattle.pp_actions.proofs.Unwatching.{HasAll-entries}
-use Rattle.pp_rig.specs.Inner.ActionRecords.{writes}
-use Rattle.pp_actions.specs.Unwatching.{moved_up, without_entry}
-use Rattle.pp_actions.specs.Settings.{set_list, HasAll-settings}
-use Rattle.pp_actions.specs.Admitting.{first_fault}
-use Rattle.pp_actions.specs.Deadstart.{deadstart_writes, deadstart_write_list}
-use Rattle.pp_rig.specs.IsSetup.{IsPanel}
-use Rattle.pp_rig.specs.Turn.{pp_of, processor_step, turn_parts}
-use Rattle.pp_machine.specs.NumberLaws.{setup-over}
-use Rattle.pp_machine.specs.Inner.PartWrites.{EachPart}
-use Rattle.pp_machine.specs.Parts.{after_parts}
+use Rattle.pp_rig.specs.{Inner.ActionRecords.writes, IsSetup.IsPanel, Turn.pp_of, Turn.processor_step, Turn.turn_parts}
+use Rattle.pp_actions.specs.{Unwatching.moved_up, Unwatching.without_entry, Settings.set_list, Settings.HasAll-settings}
+use Rattle.pp_actions.specs.{Admitting.first_fault, Deadstart.deadstart_writes, Deadstart.deadstart_write_list}
 use Rattle.pp_rig.specs.Inner.TurnRecords.{device_parts, end_parts, turn_writes}
-use Rattle.pp_actions.specs.WatchCodes.{watch_code}
+use Rattle.pp_actions.specs.{WatchCodes.watch_code, declared.action.Action.Action}
 use Rattle.pp_rig.specs.WellFormed.{IsProcessor, IsWellFormed}
-use Rattle.pp_actions.specs.declared.action.Action.{Action}
 use Rattle.pp_actions.specs.declared.action.Action.TheVariants as action
 
 -- ---- a turn
@@ -50,21 +40,24 @@ length-moved_up : (codes : List ℕ) → length (moved_up codes) ≤ length code
 length-moved_up [] = omega arith
 length-moved_up (code ∷ codes) = grind (arith, length-moved_up codes)
 
-HasAll-without_entry : (size : ℕ) (test : ℕ → Bool) (entries : List ℕ) (found : Option ℕ) → position test entries ≡ found → length entries ≡ 8 → HasAll size (without_entry entries found)
+HasAll-without_entry : (size : ℕ) (test : ℕ → Bool) (entries : List ℕ) (found : Option ℕ) →
+    position test entries ≡ found → length entries ≡ 8 → HasAll size (without_entry entries found)
 HasAll-without_entry size test entries None e all = tt
-HasAll-without_entry size test entries (Some i) e all =
-    let within = (position-Some test entries i 0 e).0 in
-    HasAll-entries size i (moved_up (drop (i + 1) entries)) (omega (arith, within, all, length-moved_up (drop (i + 1) entries), length-drop (i + 1) entries))
+HasAll-without_entry size test entries (Some i) e all = let within = (position-Some test entries i 0 e).0 in
+    HasAll-entries size i (moved_up (drop (i + 1) entries))
+    (omega (arith, within, all, length-moved_up (drop (i + 1) entries), length-drop (i + 1) entries))
 
 -- ---- a dead start
 
 HasAll-deadstart : (size : ℕ) (panel : Option (List ℕ)) → IfSome panel IsPanel → HasAll size (deadstart_writes panel)
 HasAll-deadstart size None ok = tt
-HasAll-deadstart size (Some panel) ok = HasAll-settings size (deadstart_write_list panel) (AreSettings-deadstart size panel ok.small)
+HasAll-deadstart size (Some panel) ok =
+    HasAll-settings size (deadstart_write_list panel) (AreSettings-deadstart size panel ok.small)
 
 -- ---- every action
 
-pub written_places : (s : Machine) (done : Action) → IsWellFormed s → first_fault s done ≡ None → HasAll s.setup.central_words (writes s done)
+pub written_places : (s : Machine) (done : Action) → IsWellFormed s →
+    first_fault s done ≡ None → HasAll s.setup.central_words (writes s done)
 written_places s action.Turn ok admitted = HasAll-turn_writes s ok
 written_places s (action.Watch w) ok admitted = ((is_watch s w admitted).1.room, tt)
 written_places s (action.Unwatch w) ok admitted =

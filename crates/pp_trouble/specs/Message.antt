@@ -5,7 +5,8 @@ use Rattle.pp_files.specs.declared.fault.LoadFault.TheVariants as load
 use Rattle.pp_trouble.specs.declared.trouble.FileKind.{FileKind}
 use Rattle.pp_trouble.specs.declared.trouble.FileKind.TheVariants.{Deck, Panel, Script}
 use Rattle.pp_trouble.specs.declared.trouble.Trouble.{Trouble}
-use Rattle.pp_trouble.specs.declared.trouble.Trouble.TheVariants.{BadArguments, BadChannel, CannotOpen, DeckTooLong, Help, LineLimit, Load, NoMemory, ReadFailed, SameChannel, WriteFailed}
+use Rattle.pp_trouble.specs.declared.trouble.Trouble.TheVariants.{BadArguments, BadChannel, CannotOpen, DeckTooLong, Help}
+use Rattle.pp_trouble.specs.declared.trouble.Trouble.TheVariants.{LineLimit, Load, NoMemory, ReadFailed, SameChannel, WriteFailed}
 
 -- The name of a file in these texts.
 abbrev pub file_name : FileKind → List ℕ

@@ -10,7 +10,8 @@ use Rattle.pp_actions.specs.declared.setup.SetupFault.{SetupFault}
 use Rattle.pp_actions.specs.declared.setup.SetupFault.TheVariants as setup
 use Rattle.pp_trouble.specs.declared.trouble.FileKind.{FileKind}
 use Rattle.pp_trouble.specs.declared.trouble.Trouble.{Trouble}
-use Rattle.pp_trouble.specs.declared.trouble.Trouble.TheVariants.{BadArguments, BadChannel, DeckTooLong, Help, LineLimit, Load, NoMemory, ReadFailed, SameChannel, WriteFailed}
+use Rattle.pp_trouble.specs.declared.trouble.Trouble.TheVariants.{BadArguments, BadChannel, DeckTooLong, Help, LineLimit, Load}
+use Rattle.pp_trouble.specs.declared.trouble.Trouble.TheVariants.{NoMemory, ReadFailed, SameChannel, WriteFailed}
 
 -- A fault of the words of the command line ends the program.
 abbrev pub of_arguments : ArgFault → Trouble

@@ -22,10 +22,15 @@ all_model = on reader_model (on printer_model no_devices)
 
 -- the devices of a machine, each with its channel
 abbrev pub devices_of : Machine → AllNumbers
-devices_of s = record { channel = s.setup.reader_channel; device = s.reader; others = record { channel = s.setup.printer_channel; device = s.printer; others = record {} } }
+devices_of s = record {
+  channel = s.setup.reader_channel;
+  device = s.reader;
+  others = record { channel = s.setup.printer_channel; device = s.printer; others = record {} };
+}
 
 -- the machine with these parts
-abbrev pub machine_with : AllNumbers → List ProcessorNumbers → ChannelNumbers → List ℕ → List ℕ → ℕ → List ℕ → ℕ → Option (List ℕ) → Machine
+abbrev pub machine_with : AllNumbers → List ProcessorNumbers → ChannelNumbers →
+    List ℕ → List ℕ → ℕ → List ℕ → ℕ → Option (List ℕ) → Machine
 machine_with devices processors channels central frame slot watches words panel = record {
   processors = processors;
   channels = channels;
@@ -35,7 +40,8 @@ machine_with devices processors channels central frame slot watches words panel 
   printer = devices.others.device;
   slot = slot;
   watches = watches;
-  setup = record { central_words = words; panel = panel; reader_channel = devices.channel; printer_channel = devices.others.channel };
+  setup =
+      record { central_words = words; panel = panel; reader_channel = devices.channel; printer_channel = devices.others.channel };
 }
 
 -- the numbers of each device are in range

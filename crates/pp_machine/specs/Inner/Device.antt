@@ -1,6 +1,7 @@
 -- A device as the machine sees it: numbers of its own, and the state and register of its channel.
 use Rattle.std.specs.Prelude.{ℕ, ◌≡◌, slice_index}
-use Rattle.pp_machine.specs.Prelude.{ChannelNumbers, state_number, with_channel, Machine, Setup, Writes, over_by, old_values_by, renamed, Place, ChannelMode, ChannelWord}
+use Rattle.pp_machine.specs.Prelude.{ChannelNumbers, state_number, with_channel, Machine, Setup, Writes, over_by, old_values_by}
+use Rattle.pp_machine.specs.Prelude.{renamed, Place, ChannelMode, ChannelWord}
 use Rattle.pp_machine.specs.declared.channel.Channel.{Channel}
 
 -- what a step of a device reads and writes
@@ -45,7 +46,8 @@ number_at own s (AtOwn x) = own s.device x
 number_at own s AtState = s.state
 number_at own s AtWord = s.word
 
-abbrev pub put_at : {Numbers Own : Type 0} → (Numbers → Own → ℕ → Numbers) → DeviceView Numbers → DevicePlace Own → ℕ → DeviceView Numbers
+abbrev pub put_at : {Numbers Own : Type 0} → (Numbers → Own → ℕ → Numbers) →
+    DeviceView Numbers → DevicePlace Own → ℕ → DeviceView Numbers
 put_at own s (AtOwn x) v = record s { device = own s.device x v }
 put_at own s AtState v = record s { state = v }
 put_at own s AtWord v = record s { word = v }
@@ -89,7 +91,8 @@ module _ {Numbers Own Record : Type 0} (d : DeviceModel Numbers Own Record) wher
   device_pairs c r = renamed (device_place c) (d.pairs r)
 
 -- A step by a write list leads from one view to another: the record has the old values, and can be undone.
-pub record IsStep {Numbers Own Record : Type 0} (d : DeviceModel Numbers Own Record) (w : Writes (DevicePlace Own)) (old new : DeviceView Numbers) (r : Record) : Type 0 where
+pub record IsStep {Numbers Own Record : Type 0} (d : DeviceModel Numbers Own Record)
+    (w : Writes (DevicePlace Own)) (old new : DeviceView Numbers) (r : Record) : Type 0 where
   pub step : new ≡ over_device d old w
   pub old_values : d.pairs r ≡ device_old_values d old w
   pub fits : d.Fits r new

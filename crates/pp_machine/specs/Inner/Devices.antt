@@ -71,15 +71,19 @@ module _ {Numbers Records : Type 0} (o : DevicesModel Numbers Records) where
   -- What holds of the devices in a machine.
   pub record AreDevices : Type 0 where
     pub channels : (m : Machine) (n : Numbers) → (o.attach m n).channels ≡ m.channels
-    pub apart : (m : Machine) (n : Numbers) (channels : ChannelNumbers) → with_channels (o.attach m n) channels ≡ o.attach (with_channels m channels) n
+    pub apart : (m : Machine) (n : Numbers) (channels : ChannelNumbers) →
+        with_channels (o.attach m n) channels ≡ o.attach (with_channels m channels) n
     pub watches : (s : Machine) → EachPart (λ part m. (over m (part m)).watches ≡ m.watches) o.parts s
-    pub writes_has : (size : ℕ) (s : Machine) → AreOnChannels (o.channels s.setup) → EachPart (λ part m. HasAll size (part m)) o.parts s
-    pub pairs_has : (size : ℕ) (r : Records) (s : Machine) → AreOnChannels (o.channels s.setup) → o.Fits r s → HasAll size (o.pairs r)
+    pub writes_has : (size : ℕ) (s : Machine) → AreOnChannels (o.channels s.setup) →
+        EachPart (λ part m. HasAll size (part m)) o.parts s
+    pub pairs_has : (size : ℕ) (r : Records) (s : Machine) →
+        AreOnChannels (o.channels s.setup) → o.Fits r s → HasAll size (o.pairs r)
     pub at_most : (r : Records) → length (o.pairs r) ≤ o.most
     pub not_by : (r : Records) (p : Place) → of_device p ≡ false → lookup (o.pairs r) p ≡ None
 
 -- A device can be put before these devices: the laws hold, and it is at other places of the machine than they are.
-pub record AreJoined {Numbers Own Record Others Records : Type 0} (d : DeviceModel Numbers Own Record) (o : DevicesModel Others Records) : Type 0 where
+pub record AreJoined {Numbers Own Record Others Records : Type 0}
+    (d : DeviceModel Numbers Own Record) (o : DevicesModel Others Records) : Type 0 where
   pub device : IsDevice d
   pub others : AreDevices o
   pub apart : (m : Machine) (c : ℕ) (n : Numbers) (x : Others) → d.attach (o.attach m x) c n ≡ o.attach (d.attach m c n) x

@@ -3,7 +3,8 @@ use Rattle.std.specs.Prelude.{ℕ, ◌+◌, ◌/◌, ◌%◌, ◌<◌, ◌≤◌
 use Rattle.pp_machine.specs.Prelude.{state_number, Writes, Place}
 use Rattle.pp_machine.specs.Inner.Device.{DeviceModel, DevicePlace, DeviceView, AtOwn, AtState, AtWord, device_place}
 use Rattle.pp_machine.specs.declared.printer.PrinterRecord.{PrinterRecord}
-use Rattle.pp_machine.specs.declared.printer.PrinterRecord.TheVariants.{Nothing, Called, LineEnded, WordDropped, UpperPrinted, WordPrinted, StatusSent, StatusEnded}
+use Rattle.pp_machine.specs.declared.printer.PrinterRecord.TheVariants.{Nothing, Called, LineEnded, WordDropped, UpperPrinted}
+use Rattle.pp_machine.specs.declared.printer.PrinterRecord.TheVariants.{WordPrinted, StatusSent, StatusEnded}
 use Rattle.pp_machine.specs.declared.printer.PrinterMode.TheVariants.{Idle, Printing, Status, Sent}
 use Rattle.pp_machine.specs.Printer.{fit, printer_status}
 use Rattle.pp_machine.specs.PrinterNumbers.{PrinterNumbers, printer_mode_number as number_of}
@@ -50,7 +51,8 @@ PrinterPlace = DevicePlace PrinterOwn
 abbrev pub line_end_writes : PrinterView → Writes PrinterPlace
 line_end_writes s =
     if fit s.device 1
-    then (AtState, state_number Inactive) ∷ (AtOwn (Symbol s.device.length), 0o100) ∷ (AtOwn Length, s.device.length + 1) ∷ (AtOwn Column, 0) ∷ []
+    then (AtState, state_number Inactive) ∷ (AtOwn (Symbol s.device.length), 0o100) ∷
+    (AtOwn Length, s.device.length + 1) ∷ (AtOwn Column, 0) ∷ []
     else []
 
 -- a function code in the channel: 0001, 0002 or 0003; any other code has no effect
@@ -65,9 +67,13 @@ function_writes s =
 abbrev pub word_writes : PrinterView → Writes PrinterPlace
 word_writes s =
     if nat_le (s.device.column + 2) 136
-    then (AtState, state_number Empty) ∷ (AtOwn (Symbol (s.device.length + 1)), s.word % 0o100) ∷ (AtOwn (Symbol s.device.length), s.word / 0o100) ∷ (AtOwn Length, s.device.length + 2) ∷ (AtOwn Column, s.device.column + 2) ∷ []
+    then (AtState, state_number Empty) ∷ (AtOwn (Symbol (s.device.length + 1)), s.word % 0o100) ∷ (
+      AtOwn (Symbol s.device.length),
+      s.word / 0o100,
+    ) ∷ (AtOwn Length, s.device.length + 2) ∷ (AtOwn Column, s.device.column + 2) ∷ []
     else (if nat_le (s.device.column + 1) 136
-    then (AtState, state_number Empty) ∷ (AtOwn (Symbol s.device.length), s.word / 0o100) ∷ (AtOwn Length, s.device.length + 1) ∷ (AtOwn Column, s.device.column + 1) ∷ []
+    then (AtState, state_number Empty) ∷ (AtOwn (Symbol s.device.length), s.word / 0o100) ∷
+    (AtOwn Length, s.device.length + 1) ∷ (AtOwn Column, s.device.column + 1) ∷ []
     else (AtState, state_number Empty) ∷ (AtOwn Length, s.device.length) ∷ (AtOwn Column, s.device.column) ∷ [])
 
 -- a full channel: its word is taken in mode Printing, if two symbols fit
@@ -79,7 +85,8 @@ output_writes s =
 -- an empty channel, by the printer's mode
 abbrev pub input_writes : PrinterView → Writes PrinterPlace
 input_writes s =
-    if s.device.mode == number_of Status then (AtWord, printer_status s.device) ∷ (AtState, state_number Full) ∷ (AtOwn Mode, number_of Sent) ∷ []
+    if s.device.mode == number_of Status
+    then (AtWord, printer_status s.device) ∷ (AtState, state_number Full) ∷ (AtOwn Mode, number_of Sent) ∷ []
     else (if s.device.mode == number_of Sent then (AtState, state_number Inactive) ∷ (AtOwn Mode, number_of Idle) ∷ []
     else [])
 
@@ -97,10 +104,13 @@ printer_writes s =
 abbrev pub printer_pairs : PrinterRecord → Writes PrinterPlace
 printer_pairs Nothing = []
 printer_pairs (Called mode) = (AtState, state_number Function) ∷ (AtOwn Mode, number_of mode) ∷ []
-printer_pairs (LineEnded len column) = (AtState, state_number Function) ∷ (AtOwn (Symbol len), 0) ∷ (AtOwn Length, len) ∷ (AtOwn Column, column) ∷ []
+printer_pairs (LineEnded len column) =
+    (AtState, state_number Function) ∷ (AtOwn (Symbol len), 0) ∷ (AtOwn Length, len) ∷ (AtOwn Column, column) ∷ []
 printer_pairs (WordDropped len column) = (AtState, state_number Full) ∷ (AtOwn Length, len) ∷ (AtOwn Column, column) ∷ []
-printer_pairs (UpperPrinted len column) = (AtState, state_number Full) ∷ (AtOwn (Symbol len), 0) ∷ (AtOwn Length, len) ∷ (AtOwn Column, column) ∷ []
-printer_pairs (WordPrinted len column) = (AtState, state_number Full) ∷ (AtOwn (Symbol (len + 1)), 0) ∷ (AtOwn (Symbol len), 0) ∷ (AtOwn Length, len) ∷ (AtOwn Column, column) ∷ []
+printer_pairs (UpperPrinted len column) =
+    (AtState, state_number Full) ∷ (AtOwn (Symbol len), 0) ∷ (AtOwn Length, len) ∷ (AtOwn Column, column) ∷ []
+printer_pairs (WordPrinted len column) = (AtState, state_number Full) ∷ (AtOwn (Symbol (len + 1)), 0) ∷
+    (AtOwn (Symbol len), 0) ∷ (AtOwn Length, len) ∷ (AtOwn Column, column) ∷ []
 printer_pairs (StatusSent word) = (AtWord, word) ∷ (AtState, state_number Empty) ∷ (AtOwn Mode, number_of Status) ∷ []
 printer_pairs StatusEnded = (AtState, state_number Empty) ∷ (AtOwn Mode, number_of Sent) ∷ []
 

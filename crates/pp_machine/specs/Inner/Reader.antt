@@ -5,7 +5,8 @@ use Rattle.pp_machine.specs.Inner.Device.{DeviceModel, DevicePlace, DeviceView, 
 use Rattle.pp_machine.specs.Reader.{mode_at, reader_status}
 use Rattle.pp_machine.specs.ReaderNumbers.{ReaderNumbers, IsReader, reader_mode_number as number_of}
 use Rattle.pp_machine.specs.declared.reader.ReaderRecord.{ReaderRecord}
-use Rattle.pp_machine.specs.declared.reader.ReaderRecord.TheVariants.{Nothing, Started, Skipped, StatusCalled, ColumnSent, CardEnded, StatusSent, StatusEnded}
+use Rattle.pp_machine.specs.declared.reader.ReaderRecord.TheVariants.{Nothing, Started, Skipped, StatusCalled, ColumnSent}
+use Rattle.pp_machine.specs.declared.reader.ReaderRecord.TheVariants.{CardEnded, StatusSent, StatusEnded}
 use Rattle.pp_machine.specs.declared.reader.ReaderMode.TheVariants.{Idle, Reading, Status, Sent}
 use Rattle.pp_machine.specs.declared.channel.ChannelState.TheVariants.{Inactive, Empty, Full, Function}
 use Rattle.pp_machine.specs.declared.place.Place.TheVariants as place
@@ -46,7 +47,8 @@ ReaderPlace = DevicePlace ReaderOwn
 abbrev pub start_writes : ReaderView → Writes ReaderPlace
 start_writes s =
     if nat_lt 0 s.device.column
-    then (AtState, state_number Inactive) ∷ (AtOwn Card, s.device.card + 1) ∷ (AtOwn Column, 0) ∷ (AtOwn Mode, mode_at s.device (s.device.card + 1)) ∷ []
+    then (AtState, state_number Inactive) ∷ (AtOwn Card, s.device.card + 1) ∷
+    (AtOwn Column, 0) ∷ (AtOwn Mode, mode_at s.device (s.device.card + 1)) ∷ []
     else (AtState, state_number Inactive) ∷ (AtOwn Column, 0) ∷ (AtOwn Mode, mode_at s.device s.device.card) ∷ []
 
 -- a function code in the channel: 0001 or 0002; any other code has no effect
@@ -60,14 +62,16 @@ function_writes s =
 abbrev pub column_writes : ReaderView → Writes ReaderPlace
 column_writes s =
     if nat_lt s.device.column 80
-    then (AtWord, slice_index (slice_index_or s.device.deck s.device.card []) s.device.column) ∷ (AtState, state_number Full) ∷ (AtOwn Column, s.device.column + 1) ∷ []
+    then (AtWord, slice_index (slice_index_or s.device.deck s.device.card []) s.device.column) ∷
+    (AtState, state_number Full) ∷ (AtOwn Column, s.device.column + 1) ∷ []
     else (AtState, state_number Inactive) ∷ (AtOwn Card, s.device.card + 1) ∷ (AtOwn Column, 0) ∷ (AtOwn Mode, number_of Idle) ∷ []
 
 -- an empty channel, by the reader's mode
 abbrev pub input_writes : ReaderView → Writes ReaderPlace
 input_writes s =
     if s.device.mode == number_of Reading then column_writes s
-    else (if s.device.mode == number_of Status then (AtWord, reader_status s.device) ∷ (AtState, state_number Full) ∷ (AtOwn Mode, number_of Sent) ∷ []
+    else (if s.device.mode == number_of Status
+    then (AtWord, reader_status s.device) ∷ (AtState, state_number Full) ∷ (AtOwn Mode, number_of Sent) ∷ []
     else (if s.device.mode == number_of Sent then (AtState, state_number Inactive) ∷ (AtOwn Mode, number_of Idle) ∷ []
     else []))
 
@@ -84,10 +88,12 @@ reader_writes s =
 abbrev pub reader_pairs : ReaderRecord → Writes ReaderPlace
 reader_pairs Nothing = []
 reader_pairs (Started mode) = (AtState, state_number Function) ∷ (AtOwn Column, 0) ∷ (AtOwn Mode, number_of mode) ∷ []
-reader_pairs (Skipped card column mode) = (AtState, state_number Function) ∷ (AtOwn Card, card) ∷ (AtOwn Column, column) ∷ (AtOwn Mode, number_of mode) ∷ []
+reader_pairs (Skipped card column mode) =
+    (AtState, state_number Function) ∷ (AtOwn Card, card) ∷ (AtOwn Column, column) ∷ (AtOwn Mode, number_of mode) ∷ []
 reader_pairs (StatusCalled mode) = (AtState, state_number Function) ∷ (AtOwn Mode, number_of mode) ∷ []
 reader_pairs (ColumnSent word column) = (AtWord, word) ∷ (AtState, state_number Empty) ∷ (AtOwn Column, column) ∷ []
-reader_pairs (CardEnded card) = (AtState, state_number Empty) ∷ (AtOwn Card, card) ∷ (AtOwn Column, 80) ∷ (AtOwn Mode, number_of Reading) ∷ []
+reader_pairs (CardEnded card) =
+    (AtState, state_number Empty) ∷ (AtOwn Card, card) ∷ (AtOwn Column, 80) ∷ (AtOwn Mode, number_of Reading) ∷ []
 reader_pairs (StatusSent word) = (AtWord, word) ∷ (AtState, state_number Empty) ∷ (AtOwn Mode, number_of Status) ∷ []
 reader_pairs StatusEnded = (AtState, state_number Empty) ∷ (AtOwn Mode, number_of Sent) ∷ []
 

@@ -29,7 +29,11 @@ pub fn all_devices(
 ) -> AllDevices
     requires reads { reader_channel < channel_count }
     requires prints { printer_channel < channel_count }
-    ensures { result ≡ record { channel = reader_channel; device = reader; others = record { channel = printer_channel; device = printer; others = record {} } } }
+    ensures { result ≡ record {
+      channel = reader_channel;
+      device = reader;
+      others = record { channel = printer_channel; device = printer; others = record {} };
+    } }
 {
     let others = On::new(printer_channel, printer, NoDevices);
     On::new(reader_channel, reader, others)

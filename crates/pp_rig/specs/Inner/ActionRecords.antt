@@ -73,8 +73,10 @@ old_or_now None old now e = e
 old_or_now (Some v) old now e = e
 
 -- with a record put back, a place has its old number if the record has that place, and else its present number
-pub record_restores : (r : RigRecord) (s : Machine) (p : Place) → FitsRecord r s → MatchOption (lookup (record_pairs r) p) (number (before r s) p ≡ number s p) (λ was. number (before r s) p ≡ was)
-record_restores r s p f = old_or_now (lookup (record_pairs r) p) (number (before r s) p) (number s p) (number-over s.setup.central_words s (record_pairs r) p f.shaped f.places)
+pub record_restores : (r : RigRecord) (s : Machine) (p : Place) → FitsRecord r s →
+    MatchOption (lookup (record_pairs r) p) (number (before r s) p ≡ number s p) (λ was. number (before r s) p ≡ was)
+record_restores r s p f = old_or_now (lookup (record_pairs r) p) (number (before r s) p)
+    (number s p) (number-over s.setup.central_words s (record_pairs r) p f.shaped f.places)
 
 -- a machine has the same places with a record put back
 pub keeps_place : (r : RigRecord) (s : Machine) (p : Place) → Has s.setup.central_words p → Has (before r s).setup.central_words p

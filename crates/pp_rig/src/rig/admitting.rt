@@ -53,7 +53,8 @@ impl Rig {
 
     /// Checks an action whose numbers are in their ranges. Fails with the first cause for which it is not admitted.
     fn check_state(&self, action: &Action) -> Result<(), ActionFault>
-        ensures { MatchResult result (λ _. state_fault self.now action.now ≡ None) (λ fault. state_fault self.now action.now ≡ Some fault) }
+        ensures { MatchResult result (λ _. state_fault self.now action.now ≡ None)
+            (λ fault. state_fault self.now action.now ≡ Some fault) }
     {
         let fault = match action {
             Action::Watch(_) if self.watches.is_full() => ActionFault::WatchesFull,
@@ -80,7 +81,8 @@ impl Rig {
     /// - `NoPanel` if a machine without a dead start panel is to be dead started
     #[tactic(auto, unfolding(pp_actions::specs::Admitting::first_fault))]
     pub fn check(&self, action: &Action) -> Result<(), ActionFault>
-        ensures { MatchResult result (λ _. first_fault self.now action.now ≡ None) (λ fault. first_fault self.now action.now ≡ Some fault) }
+        ensures { MatchResult result (λ _. first_fault self.now action.now ≡ None)
+            (λ fault. first_fault self.now action.now ≡ Some fault) }
     {
         if self.has_range(action) {
             self.check_state(action)

@@ -74,7 +74,8 @@ impl ShortTurn {
     #[inline(always)]
     #[tactic(auto, using(crate::proofs::Marks::not_in_turn, crate::proofs::Marks::step_unmarked))]
     pub(super) fn may_be_marked(&self, marks: &Marks) -> bool
-        ensures { result ≡ false → (p : Place) → covers marks_of marks.now p ≡ true → lookup (turn_pairs (whole_turn self.now)) p ≡ None }
+        ensures { result ≡ false → (p : Place) → covers marks_of marks.now p ≡ true →
+            lookup (turn_pairs (whole_turn self.now)) p ≡ None }
     {
         self.rest.must_search(marks) || is_target_marked(self.rest.slot, &self.pp, marks)
     }

@@ -7,7 +7,8 @@ ghost use Rattle.pp_machine.specs.Prelude.{over};
 ghost use Rattle.pp_rig.specs.Inner.IsMachine.{IsMachine};
 ghost use Rattle.pp_rig.specs.Turn.{pp_of};
 ghost use Rattle.pp_rig.specs.Inner.Short.{IsTurned, unpacked, whole_turn};
-ghost use Rattle.pp_rig.specs.Inner.TurnRecords.{AreDevicesStepped, FitsRest, FitsTurn, KeepsSlot, end_old_values, end_parts, rest_of_turn, rest_pairs, turn_pairs};
+ghost use Rattle.pp_rig.specs.Inner.TurnRecords.{AreDevicesStepped, FitsRest, FitsTurn, KeepsSlot, end_old_values, end_parts};
+ghost use Rattle.pp_rig.specs.Inner.TurnRecords.{rest_of_turn, rest_pairs, turn_pairs};
 ghost use Rattle.pp_step.specs.Step.{IsExchange};
 ghost use Rattle.pp_machine.specs.Ranges.{cell_count, processor_count};
 

@@ -1,7 +1,6 @@
 use Rattle.std.proofs.Common.{◌≡◌, ◌+◌, ◌++◌, drop}
 use Rattle.arrayvec.specs.ArrayVec.{array_vec_len}
-use Rattle.pp_machine.specs.WriteList.{write_list}
-use Rattle.pp_machine.specs.declared.place.Place.TheVariants.{ChannelMode}
+use Rattle.pp_machine.specs.{WriteList.write_list, declared.place.Place.TheVariants.ChannelMode}
 use Rattle.pp_actions.specs.WriteLists.{writes_from}
 use Rattle.pp_actions.proofs.deadstart.push_states.Given as goal
 

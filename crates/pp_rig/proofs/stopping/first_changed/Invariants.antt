@@ -1,12 +1,9 @@
 use Rattle.std.proofs.Common.{◌≡◌, drop}
 use Rattle.pp_history.specs.UndoRecord.{whole_record}
-use Rattle.pp_rig.specs.Inner.ActionRecords.{before}
-use Rattle.pp_rig.specs.Inner.Short.{unpacked}
-use Rattle.pp_rig.specs.Stopping.{first_change}
+use Rattle.pp_rig.specs.{Inner.ActionRecords.before, Inner.Short.unpacked, Stopping.first_change}
 use Rattle.pp_actions.specs.Watches.{watches_of}
 use Rattle.pp_rig.proofs.stopping.first_changed.Given as goal
 
 abbrev pub invariant-loop-i : goal.invariant-loop-i
-invariant-loop-i l =
-    let old = before (whole_record unpacked l.back) l.machine in
+invariant-loop-i l = let old = before (whole_record unpacked l.back) l.machine in
     first_change old l.machine (watches_of l.machine) ≡ first_change old l.machine (drop l.i (watches_of l.machine))

@@ -1,7 +1,6 @@
 use Rattle.std.proofs.Common.{◌≡◌, ◌-◌, ◌≤◌}
 use Rattle.pp_history.specs.SessionValue.{Moves}
-use Rattle.pp_rig.specs.Rules.{rules}
-use Rattle.pp_rig.specs.Stopping.{after_turns, stopped}
+use Rattle.pp_rig.specs.{Rules.rules, Stopping.after_turns, Stopping.stopped}
 use Rattle.pp_actions.specs.Watches.{watches_of}
 use Rattle.pp_rig.proofs.Runs.{turns_before}
 use Rattle.pp_rig.proofs.stopping.run.Given as goal

@@ -1,7 +1,6 @@
 use Rattle.std.proofs.Common.{arith, sym, ◌∙◌, length, ◌≡◌}
 use Rattle.pp_step.specs.View.{pp_view}
-use Rattle.pp_step.proofs.Exchanged.{old_values-swap}
-use Rattle.pp_step.proofs.Swapped.{length-loaded}
+use Rattle.pp_step.proofs.{Exchanged.old_values-swap, Swapped.length-loaded}
 use Rattle.pp_step.proofs.package.write_old_values.Goals as goal
 
 pub returns-clause-old_values : goal.returns-clause-old_values
@@ -10,4 +9,5 @@ returns-clause-old_values c = λ cells channels next.
     let size : length s.frame ≡ 16 = rw c.package-back.ensures.value at c.package-back.ensures.package.size in
     let read = c.read_words.ensures in
     rw (c.package-back.ensures.value, c.size-back.ensures)
-    (sym (old_values-swap s next s.a _ s.frame c.read_words.new.words (size ∙ sym (length-loaded s.a s.central)) (read.size ∙ sym size) (λ k h. read.value k (omega (arith, size)))))
+    (sym (old_values-swap s next s.a _ s.frame c.read_words.new.words (size ∙ sym (length-loaded s.a s.central))
+    (read.size ∙ sym size) (λ k h. read.value k (omega (arith, size)))))

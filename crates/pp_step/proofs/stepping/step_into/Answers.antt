@@ -1,7 +1,6 @@
 use Rattle.std.proofs.Common.{rules, ◌≡◌}
 use Rattle.pp_step.proofs.Store.{leads_back}
-use Rattle.pp_step.specs.Step.{pp_pairs, pp_writes}
-use Rattle.pp_step.specs.View.{old_values, over, pp_view}
+use Rattle.pp_step.specs.{Step.pp_pairs, Step.pp_writes, View.old_values, View.over, View.pp_view}
 use Rattle.pp_step.proofs.stepping.step_into.Goals as goal
 
 pub returns-then-is_exchange : goal.returns-then-is_exchange

@@ -1,20 +1,16 @@
 use Rattle.std.proofs.Common.{◌∙◌, arith, refl, sym}
 use Rattle.pp_machine.proofs.Parts.{over-parts}
-use Rattle.pp_machine.specs.NumberLaws.{setup-over}
-use Rattle.pp_machine.specs.Inner.PartWrites.{parts_writes}
-use Rattle.pp_rig.specs.Inner.MachineLaws.{IsMachine-over}
-use Rattle.pp_rig.specs.Inner.RigView.{machine_of}
-use Rattle.pp_rig.specs.Inner.TurnRecords.{device_parts}
+use Rattle.pp_machine.specs.{NumberLaws.setup-over, Inner.PartWrites.parts_writes}
+use Rattle.pp_rig.specs.Inner.{MachineLaws.IsMachine-over, RigView.machine_of, TurnRecords.device_parts}
 use Rattle.pp_rig.proofs.rig.Rig.step_called_devices.Goals as goal
 
 pub invariant_of-self : goal.invariant_of-self
-invariant_of-self c =
-    let m = machine_of c.self.inside in
-    IsMachine-over m _ (parts_writes device_parts m) c.self.invariant ((c.step-back.ensures m).performed.step ∙ sym (over-parts device_parts m)) refl refl
+invariant_of-self c = let m = machine_of c.self.inside in
+    IsMachine-over m _ (parts_writes device_parts m) c.self.invariant
+    ((c.step-back.ensures m).performed.step ∙ sym (over-parts device_parts m)) refl refl
 
 pub returns : goal.returns
-returns c =
-    let stepped = c.step-back.ensures (machine_of c.self.inside) in
+returns c = let stepped = c.step-back.ensures (machine_of c.self.inside) in
     rw (← c.self.view_is) (record {
       performed = stepped.performed;
       fits = λ called. stepped.fits;

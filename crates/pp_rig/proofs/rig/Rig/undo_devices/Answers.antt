@@ -1,15 +1,14 @@
 use Rattle.std.proofs.Common.{arith, refl}
-use Rattle.pp_machine.specs.Inner.AllDevices.{all_model}
-use Rattle.pp_machine.specs.NumberLaws.{setup-over}
-use Rattle.pp_rig.specs.Inner.MachineLaws.{IsMachine-over}
-use Rattle.pp_rig.specs.Inner.RigView.{machine_of}
+use Rattle.pp_machine.specs.{Inner.AllDevices.all_model, NumberLaws.setup-over}
+use Rattle.pp_rig.specs.Inner.{MachineLaws.IsMachine-over, RigView.machine_of}
 use Rattle.pp_rig.proofs.rig.Rig.undo_devices.Goals as goal
 
 pub undo-requires : goal.undo-requires
 undo-requires c = record { fits = (machine_of c.self.inside, rw (← c.self.view_is) at c.requires) }
 
 pub invariant_of-self : goal.invariant_of-self
-invariant_of-self c = IsMachine-over _ _ (all_model.pairs c.args.back.now) c.self.invariant (c.undo.ensures.undoes (machine_of c.self.inside)) refl refl
+invariant_of-self c = IsMachine-over _ _ (all_model.pairs c.args.back.now) c.self.invariant
+    (c.undo.ensures.undoes (machine_of c.self.inside)) refl refl
 
 pub returns : goal.returns
 returns c = grind (arith, setup-over, c.undo.ensures.undoes (machine_of c.self.inside))

@@ -1,14 +1,11 @@
 use Rattle.std.proofs.Common.{◌∙◌}
-use Rattle.pp_step.specs.Step.{pp_pairs}
-use Rattle.pp_step.specs.declared.record.PpRecord.TheVariants.{Step}
-use Rattle.pp_rig.specs.Inner.RigView.{machine_of}
-use Rattle.pp_rig.specs.Inner.Short.{whole_turn}
+use Rattle.pp_step.specs.{Step.pp_pairs, declared.record.PpRecord.TheVariants.Step}
+use Rattle.pp_rig.specs.Inner.{RigView.machine_of, Short.whole_turn}
 use Rattle.pp_rig.proofs.Stepped.{IsMachine-over, slot-over, turn-undone}
 use Rattle.pp_rig.proofs.rig.Rig.undo_turn_short.Goals as goal
 
 pub invariant_of-self : goal.invariant_of-self
-invariant_of-self c =
-    let read = rw (← c.processor.view_is) at c.index_mut-processor.ensures.value in
+invariant_of-self c = let read = rw (← c.processor.view_is) at c.index_mut-processor.ensures.value in
     IsMachine-over (machine_of c.self.inside) c.args.back.now.rest.slot _ c.self.invariant c.requires.rest.slot read _
     (pp_pairs (Step c.args.back.now.pp)) (c.undo_short.ensures c.self.inside.frame)
 
