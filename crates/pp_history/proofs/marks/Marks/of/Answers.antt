@@ -1,4 +1,4 @@
-use Rattle.std.proofs.Common.{arith, ℕ, true, ◌≡◌, Option, Some, IfSome, take_all}
+use Rattle.std.proofs.Common.{arith, ℕ, true, ◌≡◌, Option, Some, IfSome}
 use Rattle.std.proofs.lemmas.Bool.Decides.{nat_tests}
 use Rattle.std.proofs.lemmas.List.Elements.{All-more, All-weaker}
 use Rattle.pp_history.specs.Marks.{covers, is_covered}
@@ -19,6 +19,3 @@ loop-place-preserved g c =
     All-more (λ p. covers marks_of new p ≡ true) c.args.places.now c.loop-place.place-index place c.loop-place-test.true
     (All-weaker (λ p. covers marks_of c.loop-place.marks p ≡ true) (λ p. covers marks_of new p ≡ true)
     (λ p. c.add.ensures.keeps_covered (marks_of p)) _ c.loop-place.invariant) (rw c.place-item.is at added)
-
-pub returns : goal.returns
-returns g c = rw (take_all c.loop-place.place-index c.args.places.now c.loop-place-test.false) at c.loop-place.invariant
