@@ -1,7 +1,4 @@
-use Rattle.std.proofs.Common.{arith}
-use Rattle.pp_history.specs.Heads.{halves}
-use Rattle.pp_history.specs.Tails.{in_tail}
-use Rattle.pp_history.specs.UndoRecord.{whole_record}
+use Rattle.pp_history.proofs.Names.{arith, halves, in_tail, whole_record}
 use Rattle.pp_history.proofs.Joins.{item-at, newest-out}
 use Rattle.pp_history.proofs.log.Log.newest.Goals as goal
 
