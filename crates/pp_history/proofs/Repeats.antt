@@ -49,7 +49,7 @@ module _ {M A R P H : Type 0} (rules : Ghosts M A R P H) where
   acts_replayed zero action v = refl
   acts_replayed (suc count) action v = ap (λ machine. rules.after_act machine action) (acts_replayed count action v)
 
-  machine_after_more : (count : ℕ) (action : A) (machine : M) → machine_after rules (count + 1) action machine ≡ rules.after_act (machine_after rules count action machine) action
+  pub machine_after_more : (count : ℕ) (action : A) (machine : M) → machine_after rules (count + 1) action machine ≡ rules.after_act (machine_after rules count action machine) action
   machine_after_more count action machine = rw add-one refl
 
   -- once more, without a covered place

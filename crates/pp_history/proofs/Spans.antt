@@ -21,7 +21,7 @@ module _ {M A R P H : Type 0} (rules : Ghosts M A R P H) where
     pub kept : IsKept rules.unpacked head action back tails tails'
 
   pub parts : {old new : M} {action : A} {head : Option H} {tails tails' : Tails A R} → IsActed rules old new action head tails tails' → Acted old new action head tails tails'
-  parts acted = let rest = acted.1 in record { back = rest.0; next = acted.0; fits = rest.1; leads_back = rest.2; kept = rest.3 }
+  parts (next, (back, fits, leads_back, kept)) = record { back = back; next = next; fits = fits; leads_back = leads_back; kept = kept }
 
   -- an action was performed and is kept, and the later ones are ahead
   acted_log : {machine machine' : M} {action : A} {head : Option H} {tails tails' : Tails A R} {undone undone' : Buffer A} {ks hs later : List (Option H)} {capacity : ℕ} (acted : Acted machine machine' action head tails tails') → IsLog rules.unpacked (record { kept = ks; ahead = hs; capacity = capacity }) tails.ring undone
