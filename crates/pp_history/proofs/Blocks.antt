@@ -1,16 +1,5 @@
 -- Blocks hold the heads of a log, and continue to hold them.
-use Rattle.std.proofs.Common.{◌≡◌, ℕ, zero, suc, ◌+◌, ◌-◌, ◌*◌, ◌<◌, ◌≤◌, min, List, [], ◌∷◌, ◌++◌, length, take, drop, reverse, set, Option, Some, slice_get, Vec, Global, get_or, inl, inr, refl, sym, ◌∙◌, ap, arith, length-take, length-drop}
-use Rattle.std.proofs.lemmas.List.{length-append, length-reverse, length-set, take_all, take-append-le, take-take, take-set, drop-set, set-append_left, set-append_right, set-get_or, set_split}
-use Rattle.std.proofs.lemmas.Bool.{cases_lt}
-use Rattle.std.proofs.lemmas.Grind.{flat_map-append}
-use Rattle.std.proofs.lemmas.Option.{get_or_from_slice_get, slice_get_read, slice_get_within}
-use Rattle.std.proofs.Math.Seq.{drop-append_seam}
-use Rattle.std.proofs.ByRecursion.{All-set, All-take}
-use Rattle.std.specs.List.{AllByRecursion, flat_map}
-use Rattle.circular_buffer.proofs.Places.{slice_get-append_left, slice_get-append_right, slice_get-drop, slice_get-take}
-use Rattle.circular_buffer.specs.Buffer.{Buffer, buffer}
-use Rattle.pp_history.specs.Heads.{IsHeads, halves, slots_in}
-use Rattle.pp_history.specs.declared.heads.Heads.{Heads}
+use Rattle.pp_history.proofs.Names.{◌≡◌, ℕ, zero, suc, ◌+◌, ◌-◌, ◌*◌, ◌<◌, ◌≤◌, min, List, [], ◌∷◌, ◌++◌, length, take, drop, reverse, set, Option, Some, slice_get, Vec, Global, get_or, inl, inr, refl, sym, ◌∙◌, ap, arith, length-take, length-drop, length-append, length-reverse, length-set, take_all, take-append-le, take-take, take-set, drop-set, set-append_left, set-append_right, set-get_or, set_split, cases_lt, flat_map-append, get_or_from_slice_get, slice_get_read, slice_get_within, drop-append_seam, All-set, All-take, AllByRecursion, flat_map, slice_get-append_left, slice_get-append_right, slice_get-drop, slice_get-take, Buffer, buffer, IsHeads, halves, slots_in, Heads}
 use Rattle.pp_history.proofs.Joins.{drop-at, reverse-one, take-one}
 
 module _ {B X : Type 0} (items : B → List X) where

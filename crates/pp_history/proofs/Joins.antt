@@ -1,14 +1,5 @@
 -- Rings hold one list of actions with their undo records, and continue to hold it.
-use Rattle.std.proofs.Common.{reverse, add-one, Option, Some, None, slice_get, ◌≡◌, ℕ, zero, suc, ◌+◌, ◌-◌, ◌<◌, ◌≤◌, List, [], ◌∷◌, ◌++◌, length, take, drop, refl, ◌∙◌, ap, arith, drop-cons, IfSome, IsNone, ◌↔◌}
-use Rattle.std.proofs.lemmas.List.{reverse-append, length-take}
-use Rattle.std.proofs.Math.Seq.{take-suc}
-use Rattle.std.proofs.lemmas.Option.{get_or_from_slice_get, slice_get_within}
-use Rattle.std.specs.Option.{option_and_then, option_map}
-use Rattle.circular_buffer.specs.Buffer.{Buffer, buffer}
-use Rattle.pp_history.specs.Joining.{IsNext, IsSide, with_first, first_of, left_by, joined, kept_in}
-use Rattle.pp_history.specs.Tails.{IsKept, both, in_tail, pushed}
-use Rattle.pp_history.specs.declared.tails.Tail.{Tail}
-use Rattle.pp_history.specs.declared.tails.Tails.{Tails}
+use Rattle.pp_history.proofs.Names.{reverse, add-one, Option, Some, None, slice_get, ◌≡◌, ℕ, zero, suc, ◌+◌, ◌-◌, ◌<◌, ◌≤◌, List, [], ◌∷◌, ◌++◌, length, take, drop, refl, ◌∙◌, ap, arith, drop-cons, IfSome, IsNone, ◌↔◌, reverse-append, length-take, take-suc, get_or_from_slice_get, slice_get_within, option_and_then, option_map, Buffer, buffer, IsNext, IsSide, with_first, first_of, left_by, joined, kept_in, IsKept, both, in_tail, pushed, Tail, Tails}
 
 pub drop-at : {X : Type 0} (n : ℕ) (xs : List X) (x : X) → slice_get xs n ≡ Some x → drop n xs ≡ x ∷ drop (suc n) xs
 drop-at n xs x found = rw (drop-cons xs n x (slice_get_within xs n x found), get_or_from_slice_get xs n x x found)

@@ -1,20 +1,5 @@
 -- An action that is performed again and again.
-use Rattle.std.proofs.Common.{◌≡◌, ℕ, zero, suc, ◌+◌, ◌-◌, ◌*◌, ◌/◌, ◌%◌, ◌≤◌, ◌∙◌, [], slice_get, Vec, Global, length, Option, Some, None, IfSome, set, add-one, arith, ap, refl, inl, inr}
-use Rattle.std.proofs.lemmas.Bool.{cases_lt}
-use Rattle.std.proofs.lemmas.List.{length-set}
-use Rattle.std.proofs.Math.Nat.{div-add-mod}
-use Rattle.circular_buffer.specs.Buffer.{Buffer}
-use Rattle.pp_history.specs.Heads.{Halves, IsHeads, halves}
-use Rattle.pp_history.specs.Joining.{IsLog, IsSpan, first_of, log_value}
-use Rattle.pp_history.specs.Marks.{IsUnmarked}
-use Rattle.pp_history.specs.Parts.{contents}
-use Rattle.pp_history.specs.Repeating.{AreUnmarked, after_acts, machine_after}
-use Rattle.pp_history.specs.SessionValue.{Moves, SessionValue, after_act, replay}
-use Rattle.pp_history.specs.Tails.{IsKept, in_tail}
-use Rattle.pp_history.specs.declared.heads.Heads.{Heads}
-use Rattle.pp_history.specs.declared.marks.Marks.{Marks}
-use Rattle.pp_history.specs.declared.reversible.Reversible.{Ghosts}
-use Rattle.pp_history.specs.declared.tails.Tails.{Tails}
+use Rattle.pp_history.proofs.Names.{◌≡◌, ℕ, zero, suc, ◌+◌, ◌-◌, ◌*◌, ◌/◌, ◌%◌, ◌≤◌, ◌∙◌, [], slice_get, Vec, Global, length, Option, Some, None, IfSome, set, add-one, arith, ap, refl, inl, inr, cases_lt, length-set, div-add-mod, Buffer, Halves, IsHeads, halves, IsLog, IsSpan, first_of, log_value, IsUnmarked, contents, AreUnmarked, after_acts, machine_after, Moves, SessionValue, after_act, replay, IsKept, in_tail, Heads, Marks, Ghosts, Tails}
 use Rattle.pp_history.proofs.Blocks.{written, written_more, written_none}
 use Rattle.pp_history.proofs.Spans.{Acted, act_more, span_none}
 use Rattle.pp_history.proofs.Steps.{alone_at}
@@ -64,7 +49,7 @@ module _ {M A R P H : Type 0} (rules : Ghosts M A R P H) where
   acts_replayed zero action v = refl
   acts_replayed (suc count) action v = ap (λ machine. rules.after_act machine action) (acts_replayed count action v)
 
-  machine_after_more : (count : ℕ) (action : A) (machine : M) → machine_after rules (count + 1) action machine ≡ rules.after_act (machine_after rules count action machine) action
+  pub machine_after_more : (count : ℕ) (action : A) (machine : M) → machine_after rules (count + 1) action machine ≡ rules.after_act (machine_after rules count action machine) action
   machine_after_more count action machine = rw add-one refl
 
   -- once more, without a covered place

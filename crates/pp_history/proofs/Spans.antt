@@ -1,14 +1,5 @@
 -- Several steps of a log, one after the other.
-use Rattle.std.proofs.Common.{◌≡◌, ℕ, ◌+◌, ◌≤◌, min, List, [], ◌∷◌, length, take, Option, Some, IsSomeAnd, slice_get, ap, arith, length-take}
-use Rattle.circular_buffer.specs.Buffer.{Buffer, buffer}
-use Rattle.pp_history.specs.Heads.{Halves}
-use Rattle.pp_history.specs.Joining.{IsActed, IsLog, IsNext, IsSide, IsSpan, first_of, kept_in, left_by, log_value}
-use Rattle.pp_history.specs.LogValue.{LogValue}
-use Rattle.pp_history.specs.Parts.{IsSession}
-use Rattle.pp_history.specs.SessionValue.{SessionValue, after_act, after_back, after_forward}
-use Rattle.pp_history.specs.Tails.{IsKept, in_tail}
-use Rattle.pp_history.specs.declared.reversible.Reversible.{Ghosts}
-use Rattle.pp_history.specs.declared.tails.Tails.{Tails}
+use Rattle.pp_history.proofs.Names.{◌≡◌, ℕ, ◌+◌, ◌≤◌, min, List, [], ◌∷◌, length, take, Option, Some, IsSomeAnd, slice_get, ap, arith, length-take, Buffer, buffer, Halves, IsActed, IsLog, IsNext, IsSide, IsSpan, first_of, kept_in, left_by, log_value, LogValue, IsSession, SessionValue, after_act, after_back, after_forward, IsKept, in_tail, Ghosts, Tails}
 use Rattle.pp_history.proofs.Joins.{ItemAt, kept_more, next_put, side_first, side_less, side_more}
 use Rattle.pp_history.proofs.Steps.{after_back-more, after_forward-more, back_at, forward_at, newest-step, put_at}
 
@@ -30,7 +21,7 @@ module _ {M A R P H : Type 0} (rules : Ghosts M A R P H) where
     pub kept : IsKept rules.unpacked head action back tails tails'
 
   pub parts : {old new : M} {action : A} {head : Option H} {tails tails' : Tails A R} → IsActed rules old new action head tails tails' → Acted old new action head tails tails'
-  parts acted = let rest = acted.1 in record { back = rest.0; next = acted.0; fits = rest.1; leads_back = rest.2; kept = rest.3 }
+  parts (next, (back, fits, leads_back, kept)) = record { back = back; next = next; fits = fits; leads_back = leads_back; kept = kept }
 
   -- an action was performed and is kept, and the later ones are ahead
   acted_log : {machine machine' : M} {action : A} {head : Option H} {tails tails' : Tails A R} {undone undone' : Buffer A} {ks hs later : List (Option H)} {capacity : ℕ} (acted : Acted machine machine' action head tails tails') → IsLog rules.unpacked (record { kept = ks; ahead = hs; capacity = capacity }) tails.ring undone

@@ -1,10 +1,4 @@
-use Rattle.std.proofs.Common.{◌≡◌, ◌+◌, ◌-◌, ◌*◌, ◌/◌, ◌%◌, ◌∙◌, ap, arith, refl, sym}
-use Rattle.std.proofs.Math.Nat.{div-add-mod}
-use Rattle.std.proofs.lemmas.List.{length-set}
-use Rattle.std.specs.Option.{option_copied_mut}
-use Rattle.std.specs.Vec.{with_item}
-use Rattle.pp_history.specs.Heads.{halves}
-use Rattle.pp_history.specs.SessionValue.{after_forward}
+use Rattle.pp_history.proofs.Names.{◌≡◌, ◌+◌, ◌-◌, ◌*◌, ◌/◌, ◌%◌, ◌∙◌, ap, arith, refl, sym, div-add-mod, length-set, option_copied_mut, with_item, halves, after_forward}
 use Rattle.pp_history.proofs.Blocks.{block_whole, written_is, written_more, written_next, written_none}
 use Rattle.pp_history.proofs.Spans.{admits_next, forward_more, span_none}
 use Rattle.pp_history.proofs.Steps.{after_forward_zero}

@@ -1,7 +1,4 @@
-use Rattle.std.proofs.Common.{◌≡◌, ◌-◌, ◌/◌, length}
-use Rattle.pp_history.specs.Heads.{halves}
-use Rattle.pp_history.specs.Joining.{IsSpan, log_value}
-use Rattle.pp_history.specs.SessionValue.{after_forward}
+use Rattle.pp_history.proofs.Names.{◌≡◌, ◌-◌, ◌/◌, length, halves, IsSpan, log_value, after_forward}
 use Rattle.pp_history.proofs.Blocks.{written}
 use Rattle.pp_history.proofs.log.perform_span.Given as goal
 

@@ -1,6 +1,4 @@
-use Rattle.std.proofs.Common.{◌≡◌, ◌+◌, ◌-◌, ◌%◌, ◌∙◌, ap, arith, refl, sym}
-use Rattle.std.specs.Option.{option_copied_mut}
-use Rattle.std.specs.Vec.{with_item}
+use Rattle.pp_history.proofs.Names.{◌≡◌, ◌+◌, ◌-◌, ◌%◌, ◌∙◌, ap, arith, refl, sym, option_copied_mut, with_item}
 use Rattle.pp_history.proofs.Spans.{Acted, parts}
 use Rattle.pp_history.proofs.Blocks.{block_whole, written_is}
 use Rattle.pp_history.proofs.Repeats.{run_more, run_none, unmarked_more}
@@ -75,20 +73,14 @@ loop-count-preserved-then-may_be_marked g c =
 pub add-requires-clause-within : goal.add-requires-clause-within
 add-requires-clause-within g c = let bounds = c.loop-count.invariant in (omega (arith, bounds.within, bounds.at_most, c.requires.some), omega (arith, bounds.within, bounds.at_most))
 
-pub returns-clause-is : goal.returns-clause-is
-returns-clause-is g c =
+pub returns : goal.returns
+returns g c =
     let bounds = c.loop-count.invariant in
     let found = sym c.get_mut.ensures.value ∙ ap option_copied_mut c.unwrap-block.ensures in
-    rw c.add.ensures (written_is c.args.heads.now c.requires.is _ found c.loop-count.count c.args.heads.now.ahead c.loop-count.block bounds.run.long (omega (arith, bounds.within, bounds.at_most, c.requires.some, c.requires.none)) (omega (arith, c.requires.none)))
-
-pub returns-clause-some : goal.returns-clause-some
-returns-clause-some g c = (omega (arith, c.loop-count.invariant.some, c.loop-count-test.false), omega (arith, c.loop-count.invariant.within, c.loop-count.invariant.at_most))
-
-pub returns-clause-machine : goal.returns-clause-machine
-returns-clause-machine g c = c.loop-count.invariant.run.same
-
-pub returns-clause-span : goal.returns-clause-span
-returns-clause-span g c = rw c.add.ensures c.loop-count.invariant.run.span
-
-pub returns-clause-unmarked : goal.returns-clause-unmarked
-returns-clause-unmarked g c = c.loop-count.invariant.before
+    rw c.add.ensures (record {
+      is = written_is c.args.heads.now c.requires.is _ found c.loop-count.count c.args.heads.now.ahead c.loop-count.block bounds.run.long (omega (arith, bounds.within, bounds.at_most, c.requires.some, c.requires.none)) (omega (arith, c.requires.none));
+      some = (omega (arith, bounds.some, c.loop-count-test.false), omega (arith, bounds.within, bounds.at_most));
+      machine = bounds.run.same;
+      span = bounds.run.span;
+      unmarked = bounds.before;
+    })

@@ -1,5 +1,4 @@
-use Rattle.std.proofs.Common.{◌%◌, ◌+◌, ◌-◌, ◌<◌, ◌≤◌}
-use Rattle.pp_history.specs.Repeating.{AreUnmarked}
+use Rattle.pp_history.proofs.Names.{◌%◌, ◌+◌, ◌-◌, ◌<◌, ◌≤◌, AreUnmarked}
 use Rattle.pp_history.proofs.Repeats.{IsRun}
 use Rattle.pp_history.proofs.log.repeat_span.Given as goal
 

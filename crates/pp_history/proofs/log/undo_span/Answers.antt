@@ -1,8 +1,4 @@
-use Rattle.std.proofs.Common.{◌≡◌, ◌+◌, ◌-◌, ◌*◌, ◌/◌, ◌%◌, ◌∙◌, ap, arith, suc, sym}
-use Rattle.std.proofs.Math.Nat.{div-add-mod}
-use Rattle.std.specs.Option.{option_copied}
-use Rattle.pp_history.specs.Heads.{halves, slots_in}
-use Rattle.pp_history.specs.SessionValue.{after_back}
+use Rattle.pp_history.proofs.Names.{◌≡◌, ◌+◌, ◌-◌, ◌*◌, ◌/◌, ◌%◌, ◌∙◌, ap, arith, suc, sym, div-add-mod, option_copied, halves, slots_in, after_back}
 use Rattle.pp_history.proofs.Blocks.{first_before, first_behind, slot_read}
 use Rattle.pp_history.proofs.Spans.{back_more, fits_newest, span_none}
 use Rattle.pp_history.proofs.Steps.{after_back_zero}

@@ -1,7 +1,4 @@
-use Rattle.std.proofs.Common.{◌+◌, ◌-◌}
-use Rattle.pp_history.specs.Heads.{halves, halves_at, slots_in}
-use Rattle.pp_history.specs.Joining.{IsSpan, log_value}
-use Rattle.pp_history.specs.SessionValue.{after_back}
+use Rattle.pp_history.proofs.Names.{◌+◌, ◌-◌, halves, halves_at, slots_in, IsSpan, log_value, after_back}
 use Rattle.pp_history.proofs.log.undo_span.Given as goal
 
 abbrev pub invariant-loop-step : goal.invariant-loop-step

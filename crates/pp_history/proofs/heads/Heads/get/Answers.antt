@@ -1,6 +1,4 @@
-use Rattle.std.proofs.Common.{◌+◌, ◌∙◌, ap, arith, sym}
-use Rattle.std.proofs.Math.Nat.{div-add-mod}
-use Rattle.std.specs.Option.{option_copied}
+use Rattle.pp_history.proofs.Names.{◌+◌, ◌∙◌, ap, arith, sym, div-add-mod, option_copied}
 use Rattle.pp_history.proofs.Blocks.{block_whole, kept-at, slot_read}
 use Rattle.pp_history.proofs.heads.Heads.get.Goals as goal
 

@@ -1,5 +1,4 @@
-use Rattle.std.proofs.Common.{◌≡◌, length}
-use Rattle.std.specs.List.{AllByRecursion}
+use Rattle.pp_history.proofs.Names.{◌≡◌, length, AllByRecursion}
 use Rattle.pp_history.proofs.heads.Heads.new.Given as goal
 
 abbrev pub invariant-loop-block : goal.invariant-loop-block

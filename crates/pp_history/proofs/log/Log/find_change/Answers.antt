@@ -1,8 +1,4 @@
-use Rattle.std.proofs.Common.{◌≡◌, ◌+◌, ◌≤◌, ◌∙◌, Some, None, Option, ap, arith, drop, refl, rules, sym}
-use Rattle.std.specs.Option.{IsSome, option_map}
-use Rattle.std.proofs.lemmas.List.{drop-drop}
-use Rattle.pp_history.specs.Joining.{left_by}
-use Rattle.pp_history.specs.UndoRecord.{whole_record}
+use Rattle.pp_history.proofs.Names.{◌≡◌, ◌+◌, ◌≤◌, ◌∙◌, Some, None, Option, ap, arith, drop, refl, rules, sym, IsSome, option_map, drop-drop, left_by, whole_record}
 use Rattle.pp_history.proofs.Search.{here, found-here, pass-on}
 use Rattle.pp_history.proofs.log.Log.find_change.Goals as goal
 use Rattle.pp_history.proofs.log.Log.find_change.Goals.{in-Some, in-None}

@@ -1,5 +1,4 @@
-use Rattle.std.proofs.Common.{◌≡◌, ◌+◌, ◌*◌, ◌≤◌, true, length, drop}
-use Rattle.pp_history.specs.Heads.{halves}
+use Rattle.pp_history.proofs.Names.{◌≡◌, ◌+◌, ◌*◌, ◌≤◌, true, length, drop, halves}
 use Rattle.pp_history.proofs.Search.{Passed}
 use Rattle.pp_history.proofs.log.Log.find_change.Given as goal
 

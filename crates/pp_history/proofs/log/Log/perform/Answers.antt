@@ -1,6 +1,4 @@
-use Rattle.std.proofs.Common.{◌≡◌, ◌-◌, ◌%◌, ◌∙◌, ap, arith, refl, sym}
-use Rattle.std.specs.Option.{option_copied_mut}
-use Rattle.std.specs.Vec.{with_item}
+use Rattle.pp_history.proofs.Names.{◌≡◌, ◌-◌, ◌%◌, ◌∙◌, ap, arith, refl, sym, option_copied_mut, with_item}
 use Rattle.pp_history.proofs.Blocks.{block_whole, written_is}
 use Rattle.pp_history.proofs.Repeats.{after_acts_one, alone_log, alone_moves, run_more, run_none}
 use Rattle.pp_history.proofs.Spans.{Acted, parts}
