@@ -1,6 +1,12 @@
 -- Blocks hold the heads of a log, and continue to hold them.
-use Rattle.pp_history.proofs.Names.{◌≡◌, ℕ, zero, suc, ◌+◌, ◌-◌, ◌*◌, ◌<◌, ◌≤◌, min, List, [], ◌∷◌, ◌++◌, length, take, drop, reverse, set, Option, Some, slice_get, Vec, Global, get_or, inl, inr, refl, sym, ◌∙◌, ap, arith, length-take, length-drop, length-append, length-reverse, length-set, take_all, take-append-le, take-take, take-set, drop-set, set-append_left, set-append_right, set-get_or, set_split, cases_lt, flat_map-append, get_or_from_slice_get, slice_get_read, slice_get_within, drop-append_seam, All-set, All-take, AllByRecursion, flat_map, slice_get-append_left, slice_get-append_right, slice_get-drop, slice_get-take, Buffer, buffer, IsHeads, halves, slots_in, Heads}
-use Rattle.pp_history.proofs.Joins.{drop-at, reverse-one, take-one}
+use Rattle.pp_history.proofs.Names.{◌≡◌, ℕ, zero, suc, ◌+◌, ◌-◌, ◌*◌, ◌<◌, ◌≤◌, min, List, [], ◌∷◌, ◌++◌, length, take, drop}
+use Rattle.pp_history.proofs.Names.{reverse, set, Option, Some, slice_get, Vec, Global, get_or, inl, inr, refl, sym, ◌∙◌, ap, arith}
+use Rattle.pp_history.proofs.Names.{length-take, length-drop, length-append, length-reverse, length-set, take_all, take-append-le}
+use Rattle.pp_history.proofs.Names.{take-take, take-set, drop-set, set-append_left, set-append_right, set-get_or, set_split}
+use Rattle.pp_history.proofs.Names.{cases_lt, flat_map-append, get_or_from_slice_get, slice_get_read, slice_get_within}
+use Rattle.pp_history.proofs.Names.{drop-append_seam, All-set, All-take, AllByRecursion, flat_map, slice_get-append_left}
+use Rattle.pp_history.proofs.Names.{slice_get-append_right, slice_get-drop, slice_get-take, Buffer, buffer, IsHeads, halves}
+use Rattle.pp_history.proofs.{Names.slots_in, Names.Heads, Joins.drop-at, Joins.reverse-one, Joins.take-one}
 
 module _ {B X : Type 0} (items : B → List X) where
   abbrev AreWhole : List B → Type 0
@@ -39,14 +45,16 @@ module _ {B X : Type 0} (items : B → List X) where
         ∙ slice_get-append_left (items block) behind j (slice_get_within (items block) j x here) ∙ here)
 
     -- it is overwritten
-    slot-set : (block new : B) (j : ℕ) (x : X) → j < length (items block) → items new ≡ set (items block) j x → flat_map items (set blocks k new) ≡ set (flat_map items (set blocks k block)) (256 * k + j) x
+    slot-set : (block new : B) (j : ℕ) (x : X) → j < length (items block) → items new ≡ set (items block) j x →
+        flat_map items (set blocks k new) ≡ set (flat_map items (set blocks k block)) (256 * k + j) x
     slot-set block new j x less is =
         let at : 256 * k + j - 256 * k ≡ j = omega arith in
         rw (slots_with new, slots_with block, is) (sym (set-append_right before (items block ++ behind) (256 * k) (256 * k + j) x length_before (omega arith)
         ∙ ap (λ n. before ++ set (items block ++ behind) n x) at ∙ ap (λ slots. before ++ slots) (set-append_left (items block) behind j x less)))
 
   -- the last block in front, with its slots free
-  last-first : (blocks : List B) (last : B) (n : ℕ) → AreWhole blocks → slice_get blocks (length blocks - 1) ≡ Some last → n + 256 ≤ 256 * length blocks → take n (drop 256 (flat_map items (last ∷ take (length blocks - 1) blocks))) ≡ take n (flat_map items blocks)
+  last-first : (blocks : List B) (last : B) (n : ℕ) → AreWhole blocks → slice_get blocks (length blocks - 1) ≡ Some last →
+      n + 256 ≤ 256 * length blocks → take n (drop 256 (flat_map items (last ∷ take (length blocks - 1) blocks))) ≡ take n (flat_map items blocks)
   last-first blocks last n whole found few =
       let rest = take (length blocks - 1) blocks in
       let long = block_whole blocks (length blocks - 1) last whole found in
@@ -78,7 +86,13 @@ module _ {H : Type 0} where
 
   -- after `count` more heads were written, in the slots of the k-th block
   abbrev pub written : Heads H → ℕ → ℕ → ℕ → Vec (Option H) Global → Heads H
-  written heads k count ahead block = record { blocks = buffer (set heads.blocks.items k block) heads.blocks.capacity; at = heads.at - count; kept = min (heads.kept + count) heads.capacity; ahead = ahead; capacity = heads.capacity }
+  written heads k count ahead block = record {
+    blocks = buffer (set heads.blocks.items k block) heads.blocks.capacity;
+    at = heads.at - count;
+    kept = min (heads.kept + count) heads.capacity;
+    ahead = ahead;
+    capacity = heads.capacity;
+  }
 
 module _ {H : Type 0} (heads : Heads H) (is : IsHeads heads) where
   long_slots : length (slots_in heads) ≡ 256 * length heads.blocks.items
@@ -88,7 +102,15 @@ module _ {H : Type 0} (heads : Heads H) (is : IsHeads heads) where
   length_kept = omega (arith, length-take heads.kept (drop heads.at (slots_in heads)), length-drop heads.at (slots_in heads), long_slots, is.within)
 
   pub length_ahead : length (halves heads).ahead ≡ heads.ahead
-  length_ahead = omega (arith, length-take heads.ahead (reverse (take heads.at (slots_in heads))), length-reverse (take heads.at (slots_in heads)), length-take heads.at (slots_in heads), long_slots, is.within, is.before)
+  length_ahead = omega (
+    arith,
+    length-take heads.ahead (reverse (take heads.at (slots_in heads))),
+    length-reverse (take heads.at (slots_in heads)),
+    length-take heads.at (slots_in heads),
+    long_slots,
+    is.within,
+    is.before,
+  )
 
   module _ (k : ℕ) {old : Vec (Option H) Global} (found : slice_get heads.blocks.items k ≡ Some old) where
     -- a slot that is read in its block
@@ -103,7 +125,8 @@ module _ {H : Type 0} (heads : Heads H) (is : IsHeads heads) where
         let kept : min (heads.kept + 0) heads.capacity ≡ heads.kept = omega (arith, is.full) in
         rw (same_block items heads.blocks.items k old found, at, kept, ← same) refl
 
-    pub written_is : (count ahead : ℕ) (block : Vec (Option H) Global) → length block.items ≡ 256 → ahead + count ≤ heads.at → ahead + min (heads.kept + count) heads.capacity ≤ heads.capacity → IsHeads (written heads k count ahead block)
+    pub written_is : (count ahead : ℕ) (block : Vec (Option H) Global) → length block.items ≡ 256 → ahead + count ≤ heads.at →
+        ahead + min (heads.kept + count) heads.capacity ≤ heads.capacity → IsHeads (written heads k count ahead block)
     written_is count ahead block long few full =
         let many = length-set heads.blocks.items k block in
         record {
@@ -136,13 +159,15 @@ module _ {H : Type 0} (heads : Heads H) (is : IsHeads heads) where
       written_more head less set_is =
           let slot = 256 * k + j in
           let slots = slots_in (written heads k count ahead block) in
-          let now : slots_in (written heads k (count + 1) ahead' new) ≡ set slots slot head = slot-set items heads.blocks.items k is.whole found block new j head (omega (arith, less, long)) set_is in
+          let now : slots_in (written heads k (count + 1) ahead' new) ≡ set slots slot head =
+          slot-set items heads.blocks.items k is.whole found block new j head (omega (arith, less, long)) set_is in
           let here : heads.at - (count + 1) ≡ slot = omega (arith, at) in
           let next : heads.at - count ≡ slot + 1 = omega (arith, at) in
           let kept : min (heads.kept + (count + 1)) heads.capacity ≡ min (min (heads.kept + count) heads.capacity + 1) heads.capacity = omega arith in
           let whole = All-set (λ block. length block.items ≡ 256) heads.blocks.items k block long is.whole in
           let within : slot < length slots = omega (arith, length_slots items (set heads.blocks.items k block) whole, length-set heads.blocks.items k block, at, is.within) in
-          rw (now, here, next, kept, drop-set slots slot head within, take-set slots slot head, first_taken (min (heads.kept + count) heads.capacity) heads.capacity head (drop (slot + 1) slots)) refl
+          rw (now, here, next, kept, drop-set slots slot head within, take-set slots slot head, first_taken (min (heads.kept + count) heads.capacity) heads.capacity head (drop (slot + 1) slots))
+          refl
 
   -- the k-th kept head is in its slot
   pub kept-at : (k n : ℕ) → n ≡ heads.at + k → {x : Option H} → slice_get (slots_in heads) n ≡ Some x → k < heads.kept → slice_get (halves heads).kept k ≡ Some x
@@ -158,7 +183,8 @@ module _ {H : Type 0} (heads : Heads H) (is : IsHeads heads) where
       let some = slice_get_within old (length old - 1) last found in
       let many = length-take (length old - 1) old in
       let long : length (last ∷ take (length old - 1) old) ≡ length old = omega (arith, many, some) in
-      let all : blocks ≡ buffer (last ∷ take (length old - 1) old) heads.blocks.capacity = new ∙ ap (λ items. buffer items heads.blocks.capacity) (take_all heads.blocks.capacity (last ∷ take (length old - 1) old) (omega (arith, long, is.all))) in
+      let all : blocks ≡ buffer (last ∷ take (length old - 1) old) heads.blocks.capacity = new ∙ ap (λ items. buffer items
+      heads.blocks.capacity) (take_all heads.blocks.capacity (last ∷ take (length old - 1) old) (omega (arith, long, is.all))) in
       let ahead : heads.ahead ≡ 0 = omega (arith, none, is.before) in
       let kept = last-first items old last heads.kept is.whole found (omega (arith, is.spare, is.full)) in (
         record {

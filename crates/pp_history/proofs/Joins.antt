@@ -1,5 +1,9 @@
 -- Rings hold one list of actions with their undo records, and continue to hold it.
-use Rattle.pp_history.proofs.Names.{reverse, add-one, Option, Some, None, slice_get, ◌≡◌, ℕ, zero, suc, ◌+◌, ◌-◌, ◌<◌, ◌≤◌, List, [], ◌∷◌, ◌++◌, length, take, drop, refl, ◌∙◌, ap, arith, drop-cons, IfSome, IsNone, ◌↔◌, reverse-append, length-take, take-suc, get_or_from_slice_get, slice_get_within, option_and_then, option_map, Buffer, buffer, IsNext, IsSide, with_first, first_of, left_by, joined, kept_in, IsKept, both, in_tail, pushed, Tail, Tails}
+use Rattle.pp_history.proofs.Names.{reverse, add-one, Option, Some, None, slice_get, ◌≡◌, ℕ, zero, suc, ◌+◌, ◌-◌, ◌<◌, ◌≤◌, List}
+use Rattle.pp_history.proofs.Names.{[], ◌∷◌, ◌++◌, length, take, drop, refl, ◌∙◌, ap, arith, drop-cons, IfSome, IsNone, ◌↔◌}
+use Rattle.pp_history.proofs.Names.{reverse-append, length-take, take-suc, get_or_from_slice_get, slice_get_within, option_and_then}
+use Rattle.pp_history.proofs.Names.{option_map, Buffer, buffer, IsNext, IsSide, with_first, first_of, left_by, joined, kept_in}
+use Rattle.pp_history.proofs.Names.{IsKept, both, in_tail, pushed, Tail, Tails}
 
 pub drop-at : {X : Type 0} (n : ℕ) (xs : List X) (x : X) → slice_get xs n ≡ Some x → drop n xs ≡ x ∷ drop (suc n) xs
 drop-at n xs x found = rw (drop-cons xs n x (slice_get_within xs n x found), get_or_from_slice_get xs n x x found)
@@ -19,7 +23,8 @@ module _ {H B X : Type 0} (in_head : H → X) (in_other : B → Option X) where
   joined_take zero heads others = refl
   joined_take (suc n) [] others = refl
   joined_take (suc n) (head ∷ heads) others =
-      ap (with_first (first_of in_head in_other head others)) (joined_take n heads (left_by head others)) ∙ first_take n (first_of in_head in_other head others) (joined in_head in_other heads (left_by head others))
+      ap (with_first (first_of in_head in_other head others)) (joined_take n heads (left_by head others))
+      ∙ first_take n (first_of in_head in_other head others) (joined in_head in_other heads (left_by head others))
 
   -- n items of the second ring are enough for n heads
   joined_enough : (n : ℕ) (heads : List (Option H)) (others : List B) → length heads ≤ n → joined in_head in_other heads (take n others) ≡ joined in_head in_other heads others
@@ -38,7 +43,8 @@ module _ {H B X : Type 0} (in_head : H → X) (in_other : B → Option X) where
     pub is : first_of in_head in_other head others ≡ Some item
     pub split : joined in_head in_other (drop n heads) others ≡ item ∷ joined in_head in_other (drop (n + 1) heads) (left_by head others)
 
-  pub item-at : (n : ℕ) (heads : List (Option H)) (others : List B) (head : Option H) → n + length (joined in_head in_other (drop n heads) others) ≡ length heads → slice_get heads n ≡ Some head → ItemAt n heads others head
+  pub item-at : (n : ℕ) (heads : List (Option H)) (others : List B) (head : Option H) → n + length
+      (joined in_head in_other (drop n heads) others) ≡ length heads → slice_get heads n ≡ Some head → ItemAt n heads others head
   item-at n heads others head all found =
       let first = first_of in_head in_other head others in
       let later = joined in_head in_other (drop (suc n) heads) (left_by head others) in
@@ -86,13 +92,16 @@ module _ {A R H : Type 0} (unpacked : H → A × R) where
   kept_put (Some head) action back old new kept = (kept.0, ap (λ tails. tails.ring) kept.1)
   kept_put None action back old new kept = (record { action = Some action; back = Some back }, (refl, kept))
 
-  pub next_put : (head : Option H) (newest : A × R) (tails : List (Tail A R)) (old new : Buffer A) → first_of unpacked in_tail head tails ≡ Some newest → IsNext unpacked head newest.0 old new → IsPut (λ (h : H). (unpacked h).0) Some head newest.0 old new
+  pub next_put : (head : Option H) (newest : A × R) (tails : List (Tail A R)) (old new : Buffer A) → first_of unpacked in_tail head
+      tails ≡ Some newest → IsNext unpacked head newest.0 old new → IsPut (λ (h : H). (unpacked h).0) Some head newest.0 old new
   next_put (Some head) newest tails old new is next = let same : unpacked head ≡ newest = cc in (ap (λ entry. entry.0) same, next)
   next_put None newest tails old new is next = (newest.0, (refl, next))
 
   -- a kept action more. If there are too many then, the last one is discarded
-  pub kept_more : (head : Option H) (action : A) (back : R) (old new : Tails A R) (heads : List (Option H)) (capacity : ℕ) → IsKept unpacked head action back old new → IsSide unpacked in_tail heads old.ring capacity → 1 ≤ capacity
-      → (kept_in unpacked (take capacity (head ∷ heads)) new.ring.items ≡ take capacity ((action, back) ∷ kept_in unpacked heads old.ring.items)) × IsSide unpacked in_tail (take capacity (head ∷ heads)) new.ring capacity
+  pub kept_more : (head : Option H) (action : A) (back : R) (old new : Tails A R) (heads : List (Option H)) (capacity : ℕ) →
+      IsKept unpacked head action back old new → IsSide unpacked in_tail heads old.ring capacity → 1 ≤ capacity
+      → (kept_in unpacked (take capacity (head ∷ heads)) new.ring.items ≡ take capacity ((action, back) ∷
+      kept_in unpacked heads old.ring.items)) × IsSide unpacked in_tail (take capacity (head ∷ heads)) new.ring capacity
   kept_more head action back old new heads zero kept side some = absurd (omega (arith, some))
   kept_more head action back old new heads (suc n) kept side some =
       let same = joined_take unpacked in_tail n heads old.ring.items in
@@ -105,19 +114,23 @@ module _ {A R H : Type 0} (unpacked : H → A × R) where
       (more.0 ∙ ap (λ entries. (action, back) ∷ entries) same, more.1)
 
   -- the undo record of the newest head is handed out
-  pub newest-out : {X : Type 0} (f : X → R) (n : ℕ) (heads : List (Option H)) (tails : List (Tail A R)) (head : Option H) (result : Option X) → (at : ItemAt unpacked in_tail n heads tails head) → option_map f result ≡ Some (at.item.1) →
-      IfSome result (λ back. (newest : A × R) × (slice_get (kept_in unpacked (drop n heads) tails) 0 ≡ Some newest) × (newest.1 ≡ f back)) × (IsNone result ↔ (length (kept_in unpacked (drop n heads) tails) ≡ 0))
+  pub newest-out : {X : Type 0} (f : X → R) (n : ℕ) (heads : List (Option H)) (tails : List (Tail A R)) (head : Option H)
+      (result : Option X) → (at : ItemAt unpacked in_tail n heads tails head) → option_map f result ≡ Some (at.item.1) →
+      IfSome result (λ back. (newest : A × R) × (slice_get (kept_in unpacked (drop n heads) tails) 0 ≡ Some newest)
+      × (newest.1 ≡ f back)) × (IsNone result ↔ (length (kept_in unpacked (drop n heads) tails) ≡ 0))
   newest-out f n heads tails head None at is = cc
   newest-out f n heads tails head (Some back) at is =
       let first = ap (λ (entries : List (A × R)). slice_get entries 0) at.split in
       ((at.item, first, cc), (λ none. cc, λ none. absurd (omega (arith, none, slice_get_within (kept_in unpacked (drop n heads) tails) 0 at.item first))))
 
   -- the undo record of the tail behind n others
-  back_at : (n : ℕ) (tails : List (Tail A R)) → IfSome (first_of unpacked in_tail None (drop n tails)) (λ entry. option_and_then (λ (tail : Tail A R). tail.back) (slice_get tails n) ≡ Some (entry.1))
+  back_at : (n : ℕ) (tails : List (Tail A R)) → IfSome (first_of unpacked in_tail None (drop n tails))
+      (λ entry. option_and_then (λ (tail : Tail A R). tail.back) (slice_get tails n) ≡ Some (entry.1))
   back_at zero [] = tt
   back_at zero (tail ∷ tails) = back-both tail.action tail.back
   back_at (suc n) [] = tt
   back_at (suc n) (tail ∷ tails) = back_at n tails
 
-  pub back_out : (n : ℕ) (head : Option H) (tails : List (Tail A R)) {found : Option (Tail A R)} {result : Option R} → head ≡ None → found ≡ slice_get tails n → option_and_then (λ (tail : Tail A R). tail.back) found ≡ result → IfSome (first_of unpacked in_tail head (drop n tails)) (λ entry. result ≡ Some (entry.1))
+  pub back_out : (n : ℕ) (head : Option H) (tails : List (Tail A R)) {found : Option (Tail A R)} {result : Option R} → head ≡ None →
+      found ≡ slice_get tails n → option_and_then (λ (tail : Tail A R). tail.back) found ≡ result → IfSome (first_of unpacked in_tail head (drop n tails)) (λ entry. result ≡ Some (entry.1))
   back_out n head tails none at is = rw (none, ← is, at) (back_at n tails)

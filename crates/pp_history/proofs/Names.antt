@@ -1,6 +1,11 @@
 -- The names that the proofs of this crate cite, passed on from one place. Declares nothing.
-pub use Rattle.std.proofs.Common.{reverse, add-one, Option, Some, None, slice_get, ◌≡◌, ℕ, zero, suc, ◌+◌, ◌-◌, ◌<◌, ◌≤◌, List, [], ◌∷◌, ◌++◌, length, take, drop, refl, ◌∙◌, ap, arith, drop-cons, IfSome, IsNone, ◌↔◌, ◌*◌, min, set, Vec, Global, get_or, inl, inr, sym, length-drop, append_assoc, subst, IsSomeAnd, ◌/◌, ◌%◌, sub-one, Bool, true, false, cond, rules}
-pub use Rattle.std.proofs.lemmas.List.{reverse-append, length-take, length-append, length-reverse, length-set, take_all, take-append-le, take-take, take-set, drop-set, set-append_left, set-append_right, set-get_or, set_split, drop-drop, reverse-reverse, take-append-drop}
+pub use Rattle.std.proofs.Common.{reverse, add-one, Option, Some, None, slice_get, ◌≡◌, ℕ, zero, suc, ◌+◌, ◌-◌, ◌<◌, ◌≤◌, List, []}
+pub use Rattle.std.proofs.Common.{◌∷◌, ◌++◌, length, take, drop, refl, ◌∙◌, ap, arith, drop-cons, IfSome, IsNone, ◌↔◌, ◌*◌, min}
+pub use Rattle.std.proofs.Common.{set, Vec, Global, get_or, inl, inr, sym, length-drop, append_assoc, subst, IsSomeAnd, ◌/◌, ◌%◌}
+pub use Rattle.std.proofs.Common.{sub-one, Bool, true, false, cond, rules}
+pub use Rattle.std.proofs.lemmas.List.{reverse-append, length-take, length-append, length-reverse, length-set, take_all}
+pub use Rattle.std.proofs.lemmas.List.{take-append-le, take-take, take-set, drop-set, set-append_left, set-append_right, set-get_or}
+pub use Rattle.std.proofs.lemmas.List.{set_split, drop-drop, reverse-reverse, take-append-drop}
 pub use Rattle.std.proofs.Math.Seq.{take-suc, drop-append_seam, take-add}
 pub use Rattle.std.proofs.lemmas.Option.{get_or_from_slice_get, slice_get_within, slice_get_read}
 pub use Rattle.std.specs.Option.{option_and_then, option_map, IsSome, option_copied_mut, option_copied}

@@ -1,8 +1,11 @@
 -- An action that is performed again and again.
-use Rattle.pp_history.proofs.Names.{◌≡◌, ℕ, zero, suc, ◌+◌, ◌-◌, ◌*◌, ◌/◌, ◌%◌, ◌≤◌, ◌∙◌, [], slice_get, Vec, Global, length, Option, Some, None, IfSome, set, add-one, arith, ap, refl, inl, inr, cases_lt, length-set, div-add-mod, Buffer, Halves, IsHeads, halves, IsLog, IsSpan, first_of, log_value, IsUnmarked, contents, AreUnmarked, after_acts, machine_after, Moves, SessionValue, after_act, replay, IsKept, in_tail, Heads, Marks, Ghosts, Tails}
-use Rattle.pp_history.proofs.Blocks.{written, written_more, written_none}
+use Rattle.pp_history.proofs.Names.{◌≡◌, ℕ, zero, suc, ◌+◌, ◌-◌, ◌*◌, ◌/◌, ◌%◌, ◌≤◌, ◌∙◌, [], slice_get, Vec, Global, length}
+use Rattle.pp_history.proofs.Names.{Option, Some, None, IfSome, set, add-one, arith, ap, refl, inl, inr, cases_lt, length-set}
+use Rattle.pp_history.proofs.Names.{div-add-mod, Buffer, Halves, IsHeads, halves, IsLog, IsSpan, first_of, log_value, IsUnmarked}
+use Rattle.pp_history.proofs.Names.{contents, AreUnmarked, after_acts, machine_after, Moves, SessionValue, after_act, replay}
+use Rattle.pp_history.proofs.Names.{IsKept, in_tail, Heads, Marks, Ghosts, Tails}
+use Rattle.pp_history.proofs.{Blocks.written, Blocks.written_more, Blocks.written_none, Steps.alone_at}
 use Rattle.pp_history.proofs.Spans.{Acted, act_more, span_none}
-use Rattle.pp_history.proofs.Steps.{alone_at}
 
 module _ {M A : Type 0} where
   -- once more
@@ -38,7 +41,8 @@ put_first unpacked None tails tails' action back room kept =
     let one : tails.ring.capacity ≡ suc (tails.ring.capacity - 1) = omega (arith, room) in
     rw (kept, one) refl
 
-kept_capacity : {A R H : Type 0} (unpacked : H → A × R) (head : Option H) (action : A) (back : R) (old new : Tails A R) → IsKept unpacked head action back old new → new.ring.capacity ≡ old.ring.capacity
+kept_capacity : {A R H : Type 0} (unpacked : H → A × R) (head : Option H) (action : A) (back : R) (old new : Tails A R) →
+    IsKept unpacked head action back old new → new.ring.capacity ≡ old.ring.capacity
 kept_capacity unpacked head action back old new kept = grind arith
 
 module _ {M A R P H : Type 0} (rules : Ghosts M A R P H) where
@@ -71,9 +75,11 @@ module _ {M A R P H : Type 0} (rules : Ghosts M A R P H) where
     pub room : 1 ≤ tails.ring.capacity
     pub long : length block.items ≡ 256
     pub span : (undone : Buffer A) → IsLog rules.unpacked (halves heads) before.ring undone
-        → IsSpan rules start (log_value rules.unpacked (halves heads) before.ring undone) (after_acts count action) (halves (written heads (last / 256) count heads.ahead block)) machine tails undone
+        → IsSpan rules start (log_value rules.unpacked (halves heads) before.ring undone) (after_acts count action)
+        (halves (written heads (last / 256) count heads.ahead block)) machine tails undone
 
-  module _ (start : M) (heads : Heads H) (before : Tails A R) (action : A) (last : ℕ) {old : Vec (Option H) Global} (is : IsHeads heads) (found : slice_get heads.blocks.items (last / 256) ≡ Some old) where
+  module _ (start : M) (heads : Heads H) (before : Tails A R) (action : A) (last : ℕ) {old : Vec (Option H) Global}
+      (is : IsHeads heads) (found : slice_get heads.blocks.items (last / 256) ≡ Some old) where
     pub run_none : 1 ≤ before.ring.capacity → length old.items ≡ 256 → IsRun start heads before action last 0 start old before
     unfolding after_acts
     run_none room long = record {
@@ -101,13 +107,16 @@ module _ {M A R P H : Type 0} (rules : Ghosts M A R P H) where
         }
 
   -- the actions ahead were discarded before
-  module _ (count : ℕ) (action : A) (machine machine' : M) (all alone new : Halves H) (tails tails' : Tails A R) (undone : Buffer A) (same : alone ≡ record all { ahead = [] }) (log : IsLog rules.unpacked all tails.ring undone)
-      (span : (undone : Buffer A) → IsLog rules.unpacked alone tails.ring undone → IsSpan rules machine (log_value rules.unpacked alone tails.ring undone) (after_acts count action) new machine' tails' undone) where
+  module _ (count : ℕ) (action : A) (machine machine' : M) (all alone new : Halves H) (tails tails' : Tails A R)
+      (undone : Buffer A) (same : alone ≡ record all { ahead = [] }) (log : IsLog rules.unpacked all tails.ring undone)
+      (span : (undone : Buffer A) → IsLog rules.unpacked alone tails.ring undone → IsSpan rules machine (log_value rules.unpacked
+      alone tails.ring undone) (after_acts count action) new machine' tails' undone) where
     alone_span : IsSpan rules machine (log_value rules.unpacked (record all { ahead = [] }) tails.ring undone) (after_acts count action) new machine' tails' undone
     alone_span = (rw same at span) undone (record { kept = log.kept; ahead = record { room = log.ahead.room; all = refl }; full = omega (arith, log.full) })
 
     pub alone_log : IsLog rules.unpacked new tails'.ring undone
     alone_log = alone_span.log
 
-    pub alone_moves : 1 ≤ count → Moves rules (contents machine (log_value rules.unpacked all tails.ring undone)) (contents machine' (log_value rules.unpacked new tails'.ring undone)) (after_acts count action)
+    pub alone_moves : 1 ≤ count → Moves rules (contents machine (log_value rules.unpacked all tails.ring undone))
+        (contents machine' (log_value rules.unpacked new tails'.ring undone)) (after_acts count action)
     alone_moves some = λ v at. rw (← after_acts_alone count action v some) (alone_span.moves _ (alone_at rules machine _ _ _ v at))

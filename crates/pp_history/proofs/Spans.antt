@@ -1,5 +1,8 @@
 -- Several steps of a log, one after the other.
-use Rattle.pp_history.proofs.Names.{◌≡◌, ℕ, ◌+◌, ◌≤◌, min, List, [], ◌∷◌, length, take, Option, Some, IsSomeAnd, slice_get, ap, arith, length-take, Buffer, buffer, Halves, IsActed, IsLog, IsNext, IsSide, IsSpan, first_of, kept_in, left_by, log_value, LogValue, IsSession, SessionValue, after_act, after_back, after_forward, IsKept, in_tail, Ghosts, Tails}
+use Rattle.pp_history.proofs.Names.{◌≡◌, ℕ, ◌+◌, ◌≤◌, min, List, [], ◌∷◌, length, take, Option, Some, IsSomeAnd, slice_get, ap}
+use Rattle.pp_history.proofs.Names.{arith, length-take, Buffer, buffer, Halves, IsActed, IsLog, IsNext, IsSide, IsSpan, first_of}
+use Rattle.pp_history.proofs.Names.{kept_in, left_by, log_value, LogValue, IsSession, SessionValue, after_act, after_back}
+use Rattle.pp_history.proofs.Names.{after_forward, IsKept, in_tail, Ghosts, Tails}
 use Rattle.pp_history.proofs.Joins.{ItemAt, kept_more, next_put, side_first, side_less, side_more}
 use Rattle.pp_history.proofs.Steps.{after_back-more, after_forward-more, back_at, forward_at, newest-step, put_at}
 
@@ -24,7 +27,9 @@ module _ {M A R P H : Type 0} (rules : Ghosts M A R P H) where
   parts (next, (back, fits, leads_back, kept)) = record { back = back; next = next; fits = fits; leads_back = leads_back; kept = kept }
 
   -- an action was performed and is kept, and the later ones are ahead
-  acted_log : {machine machine' : M} {action : A} {head : Option H} {tails tails' : Tails A R} {undone undone' : Buffer A} {ks hs later : List (Option H)} {capacity : ℕ} (acted : Acted machine machine' action head tails tails') → IsLog rules.unpacked (record { kept = ks; ahead = hs; capacity = capacity }) tails.ring undone
+  acted_log : {machine machine' : M} {action : A} {head : Option H} {tails tails' : Tails A R} {undone undone' : Buffer A}
+      {ks hs later : List (Option H)} {capacity : ℕ} (acted : Acted machine machine' action head tails tails') →
+      IsLog rules.unpacked (record { kept = ks; ahead = hs; capacity = capacity }) tails.ring undone
       → 1 ≤ capacity → IsSide action_of Some later undone' capacity → length later + min capacity (length ks + 1) ≤ capacity
       → (kept_in rules.unpacked (take capacity (head ∷ ks)) tails'.ring.items ≡ take capacity ((action, acted.back) ∷ kept_in rules.unpacked ks tails.ring.items))
       × IsLog rules.unpacked (record { kept = take capacity (head ∷ ks); ahead = later; capacity = capacity }) tails'.ring undone'
@@ -43,7 +48,8 @@ module _ {M A R P H : Type 0} (rules : Ghosts M A R P H) where
           let found = ap (λ (entries : List (A × R)). slice_get entries 0) newest.split in
           rw newest.is (newest-step rules _ _ (span.moves session.value session.is_at) newest.item found).fits
 
-      pub back_more : {machine' : M} {tails' : Tails A R} {undone' : Buffer A} → IsSomeAnd (first_of rules.unpacked in_tail head tails.ring.items) (λ newest. (machine' ≡ rules.after_undo newest.1 machine) × IsNext rules.unpacked head newest.0 undone undone')
+      pub back_more : {machine' : M} {tails' : Tails A R} {undone' : Buffer A} →
+          IsSomeAnd (first_of rules.unpacked in_tail head tails.ring.items) (λ newest. (machine' ≡ rules.after_undo newest.1 machine) × IsNext rules.unpacked head newest.0 undone undone')
           → tails'.ring ≡ buffer (left_by head tails.ring.items) tails.ring.capacity
           → IsSpan rules old start (λ v. after_back v (count + 1)) (record { kept = ks; ahead = head ∷ hs; capacity = capacity }) machine' tails' undone'
       back_more {machine' = machine'} {tails' = tails'} {undone' = undone'} undid behind =
@@ -64,7 +70,8 @@ module _ {M A R P H : Type 0} (rules : Ghosts M A R P H) where
       pub admits_next : IsSession rules old start → IsSomeAnd (first_of action_of Some head undone.items) (λ action. rules.admitted machine action)
       admits_next session = rw next.is (rw next.split at (span.moves session.value session.is_at).admits_ahead).0
 
-      pub forward_more : (head' : Option H) {machine' : M} {tails' : Tails A R} {undone' : Buffer A} → IsSomeAnd (first_of action_of Some head undone.items) (λ action. IsActed rules machine machine' action head' tails tails')
+      pub forward_more : (head' : Option H) {machine' : M} {tails' : Tails A R} {undone' : Buffer A} →
+          IsSomeAnd (first_of action_of Some head undone.items) (λ action. IsActed rules machine machine' action head' tails tails')
           → undone' ≡ buffer (left_by head undone.items) undone.capacity
           → IsSpan rules old start (λ v. after_forward v (count + 1)) (record { kept = take capacity (head' ∷ ks); ahead = hs; capacity = capacity }) machine' tails' undone'
       forward_more head' {machine' = machine'} {tails' = tails'} {undone' = undone'} did behind =
@@ -78,7 +85,9 @@ module _ {M A R P H : Type 0} (rules : Ghosts M A R P H) where
           }
 
   -- one more action, with none ahead
-  pub act_more : {old machine machine' : M} {start : LogValue A R} {ks : List (Option H)} {capacity : ℕ} {tails tails' : Tails A R} {undone : Buffer A} (after : SessionValue M A → SessionValue M A) (action : A) (head : Option H) → IsSpan rules old start after (record { kept = ks; ahead = []; capacity = capacity }) machine tails undone
+  pub act_more : {old machine machine' : M} {start : LogValue A R} {ks : List (Option H)} {capacity : ℕ}
+      {tails tails' : Tails A R} {undone : Buffer A} (after : SessionValue M A → SessionValue M A) (action : A) (head : Option H) →
+      IsSpan rules old start after (record { kept = ks; ahead = []; capacity = capacity }) machine tails undone
       → 1 ≤ capacity → rules.admitted machine action → Acted machine machine' action head tails tails'
       → IsSpan rules old start (λ v. after_act (after v) action) (record { kept = take capacity (head ∷ ks); ahead = []; capacity = capacity }) machine' tails' undone
   act_more {machine = machine} {machine' = machine'} {capacity = capacity} after action head span some admitted acted =

@@ -1,6 +1,5 @@
 use Rattle.pp_history.proofs.Names.{◌≡◌, ◌+◌, ◌-◌, ◌%◌, ◌∙◌, ap, arith, refl, sym, option_copied_mut, with_item}
-use Rattle.pp_history.proofs.Spans.{Acted, parts}
-use Rattle.pp_history.proofs.Blocks.{block_whole, written_is}
+use Rattle.pp_history.proofs.{Spans.Acted, Spans.parts, Blocks.block_whole, Blocks.written_is}
 use Rattle.pp_history.proofs.Repeats.{run_more, run_none, unmarked_more}
 use Rattle.pp_history.proofs.log.repeat_span.Goals as goal
 
@@ -36,9 +35,11 @@ loop-count-preserved g c =
     let heads = c.args.heads.now in
     let found = sym c.get_mut.ensures.value ∙ ap option_copied_mut c.unwrap-block.ensures in
     let before = c.loop-count.invariant in
-    let acted : Acted rules c.loop-count.machine c.perform.new.self c.repeated.result c.perform.new.head c.loop-count.tails c.perform.new.tails = parts rules (c.perform.ensures.next, c.perform.ensures.kept) in
+    let acted : Acted rules c.loop-count.machine c.perform.new.self c.repeated.result c.perform.new.head
+    c.loop-count.tails c.perform.new.tails = parts rules (c.perform.ensures.next, c.perform.ensures.kept) in
     let did = rw c.repeated.ensures at acted in
-    let more = run_more rules c.args.machine.now heads c.args.tails.now g.T.Repeatable.repeated (heads.at - 1) c.requires.is found {new = with_item c.loop-count.block ((heads.at - 1) % 256 - c.loop-count.count) c.perform.new.head} c.requires.none before.run
+    let more = run_more rules c.args.machine.now heads c.args.tails.now g.T.Repeatable.repeated (heads.at - 1) c.requires.is found
+    {new = with_item c.loop-count.block ((heads.at - 1) % 256 - c.loop-count.count) c.perform.new.head} c.requires.none before.run
     (omega (arith, c.requires.some)) (omega (arith, c.loop-count-test.true, before.within)) refl (g.met.T.Repeatable.is_admitted c.loop-count.machine) did in
     let count : c.loop-count.count + 1 - 1 ≡ c.loop-count.count = omega arith in
     record {
@@ -47,7 +48,8 @@ loop-count-preserved g c =
       within = before.within;
       run = more;
       before = rw count (before.all c.loop-count-test.true);
-      all = λ less. unmarked_more rules g.T.Marked.marks_of c.args.marks.now before.run.same more.same did before.run.room (c.may_be_marked.ensures c.if-may_be_marked.false) (before.all c.loop-count-test.true);
+      all = λ less. unmarked_more rules g.T.Marked.marks_of c.args.marks.now before.run.same more.same did before.run.room
+          (c.may_be_marked.ensures c.if-may_be_marked.false) (before.all c.loop-count-test.true);
     }
 
 pub loop-count-preserved-then-may_be_marked : goal.loop-count-preserved-then-may_be_marked
@@ -56,9 +58,11 @@ loop-count-preserved-then-may_be_marked g c =
     let heads = c.args.heads.now in
     let found = sym c.get_mut.ensures.value ∙ ap option_copied_mut c.unwrap-block.ensures in
     let before = c.loop-count.invariant in
-    let acted : Acted rules c.loop-count.machine c.perform.new.self c.repeated.result c.perform.new.head c.loop-count.tails c.perform.new.tails = parts rules (c.perform.ensures.next, c.perform.ensures.kept) in
+    let acted : Acted rules c.loop-count.machine c.perform.new.self c.repeated.result c.perform.new.head
+    c.loop-count.tails c.perform.new.tails = parts rules (c.perform.ensures.next, c.perform.ensures.kept) in
     let did = rw c.repeated.ensures at acted in
-    let more = run_more rules c.args.machine.now heads c.args.tails.now g.T.Repeatable.repeated (heads.at - 1) c.requires.is found {new = with_item c.loop-count.block ((heads.at - 1) % 256 - c.loop-count.count) c.perform.new.head} c.requires.none before.run
+    let more = run_more rules c.args.machine.now heads c.args.tails.now g.T.Repeatable.repeated (heads.at - 1) c.requires.is found
+    {new = with_item c.loop-count.block ((heads.at - 1) % 256 - c.loop-count.count) c.perform.new.head} c.requires.none before.run
     (omega (arith, c.requires.some)) (omega (arith, c.loop-count-test.true, before.within)) refl (g.met.T.Repeatable.is_admitted c.loop-count.machine) did in
     let count : c.loop-count.count + 1 - 1 ≡ c.loop-count.count = omega arith in
     record {
@@ -78,7 +82,8 @@ returns g c =
     let bounds = c.loop-count.invariant in
     let found = sym c.get_mut.ensures.value ∙ ap option_copied_mut c.unwrap-block.ensures in
     rw c.add.ensures (record {
-      is = written_is c.args.heads.now c.requires.is _ found c.loop-count.count c.args.heads.now.ahead c.loop-count.block bounds.run.long (omega (arith, bounds.within, bounds.at_most, c.requires.some, c.requires.none)) (omega (arith, c.requires.none));
+      is = written_is c.args.heads.now c.requires.is _ found c.loop-count.count c.args.heads.now.ahead c.loop-count.block bounds.run.long
+          (omega (arith, bounds.within, bounds.at_most, c.requires.some, c.requires.none)) (omega (arith, c.requires.none));
       some = (omega (arith, bounds.some, c.loop-count-test.false), omega (arith, bounds.within, bounds.at_most));
       machine = bounds.run.same;
       span = bounds.run.span;

@@ -1,7 +1,6 @@
 use Rattle.pp_history.proofs.Names.{◌≡◌, ◌+◌, ◌-◌, ◌*◌, ◌/◌, ◌%◌, ◌∙◌, ap, arith, suc, sym, div-add-mod, option_copied, halves, slots_in, after_back}
-use Rattle.pp_history.proofs.Blocks.{first_before, first_behind, slot_read}
+use Rattle.pp_history.proofs.{Blocks.first_before, Blocks.first_behind, Blocks.slot_read, Steps.after_back_zero}
 use Rattle.pp_history.proofs.Spans.{back_more, fits_newest, span_none}
-use Rattle.pp_history.proofs.Steps.{after_back_zero}
 use Rattle.pp_history.proofs.log.undo_span.Goals as goal
 
 pub loop-step-init : goal.loop-step-init
@@ -17,8 +16,10 @@ undo-requires-clause-fits g c =
     let heads = c.args.heads.now in
     let step = c.loop-step.step in
     let place : 256 * (heads.at / 256) + (heads.at % 256 + step) ≡ heads.at + step = omega (arith, div-add-mod heads.at 256) in
-    let found = rw place at (slot_read heads c.requires.is (heads.at / 256) (sym c.get.ensures ∙ ap option_copied c.unwrap.ensures) (heads.at % 256 + step) c.index-block-slot.result (omega (arith, c.loop-step-test.true, c.at_most-count.ensures.within)) (rw c.as_slice-block.ensures.value at c.index-block-slot.is)) in
-    let kept = first_behind (slots_in heads) (heads.at + step) c.index-block-slot.result found (heads.kept - step) (heads.kept - (step + 1)) (omega (arith, c.requires.some, c.loop-step-test.true, c.at_most-count.ensures.within)) in
+    let found = rw place at (slot_read heads c.requires.is (heads.at / 256) (sym c.get.ensures ∙ ap option_copied c.unwrap.ensures)
+    (heads.at % 256 + step) c.index-block-slot.result (omega (arith, c.loop-step-test.true, c.at_most-count.ensures.within)) (rw c.as_slice-block.ensures.value at c.index-block-slot.is)) in
+    let kept = first_behind (slots_in heads) (heads.at + step) c.index-block-slot.result found (heads.kept - step)
+    (heads.kept - (step + 1)) (omega (arith, c.requires.some, c.loop-step-test.true, c.at_most-count.ensures.within)) in
     fits_newest g.T.Reversible step c.index-block-slot.result (rw kept at c.loop-step.invariant) c.requires.session
 
 pub loop-step-preserved : goal.loop-step-preserved
@@ -26,8 +27,10 @@ loop-step-preserved g c =
     let heads = c.args.heads.now in
     let step = c.loop-step.step in
     let place : 256 * (heads.at / 256) + (heads.at % 256 + step) ≡ heads.at + step = omega (arith, div-add-mod heads.at 256) in
-    let found = rw place at (slot_read heads c.requires.is (heads.at / 256) (sym c.get.ensures ∙ ap option_copied c.unwrap.ensures) (heads.at % 256 + step) c.index-block-slot.result (omega (arith, c.loop-step-test.true, c.at_most-count.ensures.within)) (rw c.as_slice-block.ensures.value at c.index-block-slot.is)) in
-    let kept = first_behind (slots_in heads) (heads.at + step) c.index-block-slot.result found (heads.kept - step) (heads.kept - (step + 1)) (omega (arith, c.requires.some, c.loop-step-test.true, c.at_most-count.ensures.within)) in
+    let found = rw place at (slot_read heads c.requires.is (heads.at / 256) (sym c.get.ensures ∙ ap option_copied c.unwrap.ensures)
+    (heads.at % 256 + step) c.index-block-slot.result (omega (arith, c.loop-step-test.true, c.at_most-count.ensures.within)) (rw c.as_slice-block.ensures.value at c.index-block-slot.is)) in
+    let kept = first_behind (slots_in heads) (heads.at + step) c.index-block-slot.result found (heads.kept - step)
+    (heads.kept - (step + 1)) (omega (arith, c.requires.some, c.loop-step-test.true, c.at_most-count.ensures.within)) in
     let ahead = first_before (slots_in heads) (heads.at + step) c.index-block-slot.result found (heads.ahead + (step + 1)) (heads.ahead + step) (omega arith) in
     let next : heads.at + (step + 1) ≡ suc (heads.at + step) = omega arith in
     rw (next, ahead) (back_more g.T.Reversible step c.index-block-slot.result (rw kept at c.loop-step.invariant) c.undo.ensures.undone c.undo.ensures.tails)

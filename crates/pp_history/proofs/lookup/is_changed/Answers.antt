@@ -1,7 +1,6 @@
 use Rattle.std.proofs.Common.{arith, refl}
 use Rattle.std.proofs.lemmas.List.Folds.{list_any_none}
-use Rattle.pp_history.specs.Search.{differs_from}
-use Rattle.pp_history.specs.UndoRecord.{whole_record}
+use Rattle.pp_history.specs.{Search.differs_from, UndoRecord.whole_record}
 use Rattle.pp_history.proofs.lookup.is_changed.Goals as goal
 
 pub returns-then-not-may_be_marked : goal.returns-then-not-may_be_marked

@@ -1,5 +1,4 @@
-use Rattle.pp_history.proofs.Names.{arith, halves, in_tail, whole_record}
-use Rattle.pp_history.proofs.Joins.{item-at, newest-out}
+use Rattle.pp_history.proofs.{Names.arith, Names.halves, Names.in_tail, Names.whole_record, Joins.item-at, Joins.newest-out}
 use Rattle.pp_history.proofs.log.Log.newest.Goals as goal
 
 pub returns : goal.returns

@@ -1,9 +1,12 @@
 -- The body is empty. The borrow is opened, and closed with the counter that the call's proof names.
-use Rattle.pp_history.proofs.Walks.{refl, List, [], ◌∷◌, named, Val, vunit, vptr, emp, via, fst∗, ftrue, flft, fact_i, ‵, ◌⊛◌, ◌$◌, ◌∵◌, !, qed, by, move, keep, drop, split, join, fsplit, fsplit3, fjoin, fjoin3, feq_i, suffices, frame, unit_lit, of_opd, returns, enter, alloc_all, pass_all, free_all, look_at, sets, owns, mut_vals, mut_Tells, types_at, plain, nothing, opens, closes, Stays, stay_ref, Goes-ref, ends_at, proved}
+use Rattle.pp_history.proofs.Walks.{refl, List, [], ◌∷◌, named, Val, vunit, vptr, emp, via, fst∗, ftrue, flft, fact_i, ‵, ◌⊛◌, ◌$◌}
+use Rattle.pp_history.proofs.Walks.{◌∵◌, !, qed, by, move, keep, drop, split, join, fsplit, fsplit3, fjoin, fjoin3, feq_i, suffices}
+use Rattle.pp_history.proofs.Walks.{frame, unit_lit, of_opd, returns, enter, alloc_all, pass_all, free_all, look_at, sets, owns}
+use Rattle.pp_history.proofs.Walks.{mut_vals, mut_Tells, types_at, plain, nothing, opens, closes, Stays, stay_ref, Goes-ref}
+use Rattle.pp_history.proofs.{Walks.ends_at, Walks.proved, looks.Looks.set.Statement.statement}
 use Rattle.pp_history.specs.declared.looks.Looks.{Looks}
 use Rattle.pp_history.specs.contracts.looks.Looks as T
 use Rattle.pp_history.specs.contracts.looks.Looks.set as it
-use Rattle.pp_history.proofs.looks.Looks.set.Statement.{statement}
 use Rattle.pp_history.proofs.looks.Looks.set.Code as code
 
 abbrev stayed : Stays (it.ended).signature.params (it.ended).kept

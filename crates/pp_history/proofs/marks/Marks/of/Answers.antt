@@ -1,8 +1,6 @@
 use Rattle.std.proofs.Common.{arith, ℕ, true, ◌≡◌, Option, Some, IfSome}
-use Rattle.std.proofs.lemmas.Bool.Decides.{nat_tests}
-use Rattle.std.proofs.lemmas.List.Elements.{All-more, All-weaker}
-use Rattle.pp_history.specs.Marks.{covers, is_covered}
-use Rattle.pp_history.specs.declared.marks.Marks.{Marks}
+use Rattle.std.proofs.lemmas.{Bool.Decides.nat_tests, List.Elements.All-more, List.Elements.All-weaker}
+use Rattle.pp_history.specs.{Marks.covers, Marks.is_covered, declared.marks.Marks.Marks}
 use Rattle.pp_history.proofs.marks.Marks.of.Goals as goal
 
 -- a place is covered if the marks that are returned for it were added

@@ -1,5 +1,4 @@
-use Rattle.pp_history.proofs.Repeats.{after_acts_capacity}
-use Rattle.pp_history.proofs.Steps.{moved}
+use Rattle.pp_history.proofs.{Repeats.after_acts_capacity, Steps.moved}
 use Rattle.pp_history.proofs.session.Session.repeat.Goals as goal
 
 pub invariant_of-self : goal.invariant_of-self
