@@ -4,7 +4,7 @@ use Rattle.std.specs.{Bool.Decides, List.list_all}
 use Rattle.std.proofs.lemmas.Bool.Decides.{nat_tests, Decides-and, Decides-by_and, Decides-ltb}
 use Rattle.pp_command.specs.Ranges.{CanBeAsked, IsActionInRange, IsPlaceInRange, IsPlaceWithin, IsWithin, most_central_words}
 use Rattle.pp_actions.specs.{Admitting.is_in_range, Admitting.is_watchable, declared.action.Action.Action}
-use Rattle.pp_machine.specs.Ranges.{past_sixty_bits, twelve_bits}
+use Rattle.pp_machine.specs.Ranges.{past_sixty_bits}
 use Rattle.pp_actions.specs.declared.action.Action.TheVariants.{SetWord, Watch, Unwatch}
 use Rattle.pp_actions.specs.declared.watched.Watched.{Watched, TheVariants.Central}
 
@@ -47,6 +47,6 @@ within size action h = tt
 
 -- ---- the words of SET M
 
-pub are_words : (values : List ℕ) → All (λ v. v ≤ twelve_bits) values → list_all (λ v. nat_le v twelve_bits) values ≡ true
-are_words values = (Decides-by_and (λ v. nat_le v twelve_bits) (λ v. v ≤ twelve_bits) (list_all (λ v. nat_le v twelve_bits))
+pub are_words : (values : List ℕ) → All (λ v. v ≤ 0o7777) values → list_all (λ v. nat_le v 0o7777) values ≡ true
+are_words values = (Decides-by_and (λ v. nat_le v 0o7777) (λ v. v ≤ 0o7777) (list_all (λ v. nat_le v 0o7777))
     (λ v. (λ h. grind (arith, nat_tests), λ h. grind (arith, nat_tests))) refl (λ _ _. refl) values).1
