@@ -3,28 +3,29 @@ pub use Rattle.std.proofs.Common.{reverse, add-one, Option, Some, None, slice_ge
 pub use Rattle.std.proofs.Common.{◌∷◌, ◌++◌, length, take, drop, refl, ◌∙◌, ap, arith, drop-cons, IfSome, IsNone, ◌↔◌, ◌*◌, min}
 pub use Rattle.std.proofs.Common.{set, Vec, Global, get_or, inl, inr, sym, length-drop, append_assoc, subst, IsSomeAnd, ◌/◌, ◌%◌}
 pub use Rattle.std.proofs.Common.{sub-one, Bool, true, false, cond, rules}
-pub use Rattle.std.proofs.lemmas.List.{reverse-append, length-take, length-append, length-reverse, length-set, take_all}
+pub use Rattle.std.proofs.lemmas.List.{reverse-append, length-take, length-append, length-reverse, length-set, take_all, drop_all, append-nil}
 pub use Rattle.std.proofs.lemmas.List.{take-append-le, take-take, take-set, drop-set, set-append_left, set-append_right, set-get_or}
 pub use Rattle.std.proofs.lemmas.List.{set_split, drop-drop, reverse-reverse, take-append-drop}
 pub use Rattle.std.proofs.Math.Seq.{take-suc, drop-append_seam, take-add}
 pub use Rattle.std.proofs.lemmas.Option.{get_or_from_slice_get, slice_get_within, slice_get_read}
 pub use Rattle.std.specs.Option.{option_and_then, option_map, IsSome, option_copied_mut, option_copied}
 pub use Rattle.circular_buffer.specs.Buffer.{Buffer, buffer}
-pub use Rattle.pp_history.specs.Joining.{IsNext, IsSide, with_first, first_of, left_by, joined, kept_in, IsActed, IsLog, IsSpan, log_value}
+pub use Rattle.pp_history.specs.Joining.{IsNext, IsSide, with_first, first_of, left_by, joined, kept_in, IsActed, IsJoined, session_with}
+pub use Rattle.pp_history.specs.Logs.{IsLog, halves_in, records_of, session_of}
 pub use Rattle.pp_history.specs.Tails.{IsKept, both, in_tail, pushed}
 pub use Rattle.pp_history.specs.declared.tails.Tail.{Tail}
 pub use Rattle.pp_history.specs.declared.tails.Tails.{Tails}
 pub use Rattle.std.proofs.lemmas.Bool.{cases_lt}
 pub use Rattle.std.proofs.lemmas.Grind.{flat_map-append, common_steps}
-pub use Rattle.std.proofs.ByRecursion.{All-set, All-take}
+pub use Rattle.std.proofs.ByRecursion.{All-take, All-drop, All-push}
 pub use Rattle.std.specs.List.{AllByRecursion, flat_map}
 pub use Rattle.circular_buffer.proofs.Places.{slice_get-append_left, slice_get-append_right, slice_get-drop, slice_get-take}
-pub use Rattle.pp_history.specs.Heads.{IsHeads, halves, slots_in, Halves, halves_at}
+pub use Rattle.pp_history.specs.Heads.{IsHeads, IsSame, Halves, halves, behind, before, others_in}
 pub use Rattle.pp_history.specs.declared.heads.Heads.{Heads}
+pub use Rattle.pp_history.specs.declared.log.Log.{Log}
 pub use Rattle.pp_history.specs.declared.reversible.Reversible.{Ghosts}
-pub use Rattle.pp_history.specs.Contents.{Contents}
-pub use Rattle.pp_history.specs.LogValue.{LogValue, log_of}
-pub use Rattle.pp_history.specs.Parts.{IsSession, contents}
+pub use Rattle.pp_history.specs.Contents.{Contents, contents}
+pub use Rattle.pp_history.specs.Parts.{IsSession}
 pub use Rattle.pp_history.specs.SessionLaws.{replayed}
 pub use Rattle.pp_history.specs.SessionValue.{SessionValue, fresh, after_back, after_forward, replay, LeadsBack, AdmitsInTurn, IsAt, after_act, Moves, performed, put_back}
 pub use Rattle.std.proofs.Math.Nat.{div-add-mod}

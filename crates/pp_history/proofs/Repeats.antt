@@ -1,11 +1,9 @@
 -- An action that is performed again and again.
-use Rattle.pp_history.proofs.Names.{◌≡◌, ℕ, zero, suc, ◌+◌, ◌-◌, ◌*◌, ◌/◌, ◌%◌, ◌≤◌, ◌∙◌, [], slice_get, Vec, Global, length}
-use Rattle.pp_history.proofs.Names.{Option, Some, None, IfSome, set, add-one, arith, ap, refl, inl, inr, cases_lt, length-set}
-use Rattle.pp_history.proofs.Names.{div-add-mod, Buffer, Halves, IsHeads, halves, IsLog, IsSpan, first_of, log_value, IsUnmarked}
-use Rattle.pp_history.proofs.Names.{contents, AreUnmarked, after_acts, machine_after, Moves, SessionValue, after_act, replay}
-use Rattle.pp_history.proofs.Names.{IsKept, in_tail, Heads, Marks, Ghosts, Tails}
-use Rattle.pp_history.proofs.{Blocks.written, Blocks.written_more, Blocks.written_none, Steps.alone_at}
-use Rattle.pp_history.proofs.Spans.{Acted, act_more, span_none}
+use Rattle.pp_history.proofs.Names.{◌≡◌, ℕ, zero, suc, ◌+◌, ◌-◌, ◌≤◌, Option, Some, None, IfSome, add-one, arith, ap, refl, inl}
+use Rattle.pp_history.proofs.Names.{inr, cases_lt, first_of, IsUnmarked, AreUnmarked, after_acts, machine_after, SessionValue}
+use Rattle.pp_history.proofs.{Names.after_act, Names.replay, Names.IsKept, Names.in_tail, Names.Marks, Names.Ghosts, Names.Tails, Names.Log, Names.Heads}
+use Rattle.pp_history.proofs.Names.{IsLog, IsHeads, IsSame, Vec, Global, set, min, ◌<◌, ◌∙◌}
+use Rattle.pp_history.proofs.Runs.{Acted, IsRun, act_more, run_none, run_turned, with_head}
 
 module _ {M A : Type 0} where
   -- once more
@@ -13,25 +11,10 @@ module _ {M A : Type 0} where
   unfolding after_acts
   after_acts_more count action v = rw add-one refl
 
-  pub after_acts_one : (action : A) (v : SessionValue M A) → after_acts 1 action v ≡ after_act v action
-  unfolding after_acts
-  after_acts_one action v = refl
-
   pub after_acts_capacity : (count : ℕ) (action : A) (v : SessionValue M A) → (after_acts count action v).capacity ≡ v.capacity
   unfolding after_acts
   after_acts_capacity zero action v = refl
   after_acts_capacity (suc count) action v = after_acts_capacity count action v
-
-  -- the first time discards the actions ahead
-  acts_alone : (count : ℕ) (action : A) (v : SessionValue M A) → after_acts count action (record v { ahead = [] }) ≡ record (after_acts count action v) { ahead = [] }
-  unfolding after_acts
-  acts_alone zero action v = refl
-  acts_alone (suc count) action v = ap (λ v. after_act v action) (acts_alone count action v)
-
-  after_acts_alone : (count : ℕ) (action : A) (v : SessionValue M A) → 1 ≤ count → after_acts count action (record v { ahead = [] }) ≡ after_acts count action v
-  unfolding after_acts
-  after_acts_alone zero action v some = absurd (omega (arith, some))
-  after_acts_alone (suc count) action v some = acts_alone (suc count) action v
 
 -- the action that was kept is that of its head, or else of the newest tail
 put_first : {A R H : Type 0} (unpacked : H → A × R) (head : Option H) (tails tails' : Tails A R) (action : A) (back : R) → 1 ≤ tails.ring.capacity →
@@ -40,10 +23,6 @@ put_first unpacked (Some head) tails tails' action back room kept = ap Some kept
 put_first unpacked None tails tails' action back room kept =
     let one : tails.ring.capacity ≡ suc (tails.ring.capacity - 1) = omega (arith, room) in
     rw (kept, one) refl
-
-kept_capacity : {A R H : Type 0} (unpacked : H → A × R) (head : Option H) (action : A) (back : R) (old new : Tails A R) →
-    IsKept unpacked head action back old new → new.ring.capacity ≡ old.ring.capacity
-kept_capacity unpacked head action back old new kept = grind arith
 
 module _ {M A R P H : Type 0} (rules : Ghosts M A R P H) where
   -- the replay after the action was performed this many times
@@ -69,54 +48,24 @@ module _ {M A R P H : Type 0} (rules : Ghosts M A R P H) where
         rw (here, ← old, ← new) (done.back, done.fits, done.leads_back, rw first at unmarked)
   ]
 
-  -- the machine and the parts of its log after the action was performed this many times, in the slots of a block
-  pub record IsRun (start : M) (heads : Heads H) (before : Tails A R) (action : A) (last count : ℕ) (machine : M) (block : Vec (Option H) Global) (tails : Tails A R) : Type 0 where
-    pub same : machine ≡ machine_after rules count action start
-    pub room : 1 ≤ tails.ring.capacity
-    pub long : length block.items ≡ 256
-    pub span : (undone : Buffer A) → IsLog rules.unpacked (halves heads) before.ring undone
-        → IsSpan rules start (log_value rules.unpacked (halves heads) before.ring undone) (after_acts count action)
-        (halves (written heads (last / 256) count heads.ahead block)) machine tails undone
+  -- the machine and its log after the action was performed this many times
+  pub record IsRepeated (start : M) (old : Log M A R P H) (action : A) (count : ℕ) (machine : M) (log : Log M A R P H) : Type 0 where
+    pub machine_is : machine ≡ machine_after rules count action start
+    pub run : IsRun rules start old (after_acts count action) machine log
 
-  module _ (start : M) (heads : Heads H) (before : Tails A R) (action : A) (last : ℕ) {old : Vec (Option H) Global}
-      (is : IsHeads heads) (found : slice_get heads.blocks.items (last / 256) ≡ Some old) where
-    pub run_none : 1 ≤ before.ring.capacity → length old.items ≡ 256 → IsRun start heads before action last 0 start old before
-    unfolding after_acts
-    run_none room long = record {
-      same = refl;
-      room = room;
-      long = long;
-      span = λ undone log. rw (written_none heads is (last / 256) found heads.ahead refl) (span_none rules start (after_acts 0 action) (halves heads) before undone (λ v. refl) log);
-    }
+  pub repeat_none : (machine : M) (log : Log M A R P H) (action : A) → IsLog rules.unpacked log → IsRepeated machine log action 0 machine log
+  unfolding after_acts
+  repeat_none machine log action is = record { machine_is = refl; run = run_none rules machine log (after_acts 0 action) (λ v. refl) is }
 
-    -- once more, in the slot before
-    pub run_more : {count : ℕ} {machine machine' : M} {block new : Vec (Option H) Global} {tails tails' : Tails A R} {head : Option H}
-        → heads.ahead ≡ 0 → IsRun start heads before action last count machine block tails → heads.at ≡ last + 1 → count ≤ last % 256 → new.items ≡ set block.items (last % 256 - count) head
-        → rules.admitted machine action → Acted rules machine machine' action head tails tails'
-        → IsRun start heads before action last (count + 1) machine' new tails'
-    run_more {count = count} {block = block} {new = new} {tails = tails} {tails' = tails'} {head = head} none run at within set_is admitted acted =
-        let place : 256 * (last / 256) + (last % 256 - count) + count + 1 ≡ heads.at = omega (arith, within, at, div-add-mod last 256) in
-        record {
-          same = rw (machine_after_more count action start, ← run.same) acted.next;
-          room = omega (arith, run.room, kept_capacity rules.unpacked head action acted.back tails tails' acted.kept);
-          long = rw set_is (length-set block.items (last % 256 - count) head ∙ run.long);
-          span = λ undone log.
-              let more = act_more rules (after_acts count action) action head (rw none at (run.span undone log)) is.some_room admitted acted in
-              rw (none, written_more heads is (last / 256) found count (last % 256 - count) 0 0 block new run.long place head (omega arith) set_is)
-              (record { log = more.log; moves = λ v at. rw (after_acts_more count action v) (more.moves v at) });
-        }
-
-  -- the actions ahead were discarded before
-  module _ (count : ℕ) (action : A) (machine machine' : M) (all alone new : Halves H) (tails tails' : Tails A R)
-      (undone : Buffer A) (same : alone ≡ record all { ahead = [] }) (log : IsLog rules.unpacked all tails.ring undone)
-      (span : (undone : Buffer A) → IsLog rules.unpacked alone tails.ring undone → IsSpan rules machine (log_value rules.unpacked
-      alone tails.ring undone) (after_acts count action) new machine' tails' undone) where
-    alone_span : IsSpan rules machine (log_value rules.unpacked (record all { ahead = [] }) tails.ring undone) (after_acts count action) new machine' tails' undone
-    alone_span = (rw same at span) undone (record { kept = log.kept; ahead = record { room = log.ahead.room; all = refl }; full = omega (arith, log.full) })
-
-    pub alone_log : IsLog rules.unpacked new tails'.ring undone
-    alone_log = alone_span.log
-
-    pub alone_moves : 1 ≤ count → Moves rules (contents machine (log_value rules.unpacked all tails.ring undone))
-        (contents machine' (log_value rules.unpacked new tails'.ring undone)) (after_acts count action)
-    alone_moves some = λ v at. rw (← after_acts_alone count action v some) (alone_span.moves _ (alone_at rules machine _ _ _ v at))
+  pub repeat_more : {start : M} {old : Log M A R P H} {action : A} {count : ℕ} {machine : M} {log : Log M A R P H} →
+      IsRepeated start old action count machine log → (heads : Heads H) (slot : ℕ) → IsHeads heads → slot < 256 → IsSame log.heads log.at heads (slot + 1) →
+      (head : Option H) (block : Vec (Option H) Global) → block.items ≡ set heads.block.items slot head → {machine' : M} {tails' : Tails A R} (kept : ℕ) →
+      kept ≡ min (log.kept + 1) heads.capacity → rules.admitted machine action → Acted rules machine machine' action head log.tails tails' →
+      IsRepeated start old action (count + 1) machine' (with_head rules (record log { heads = heads; at = slot + 1 }) slot block kept 0 tails' log.undone)
+  unfolding after_acts
+  repeat_more {start = start} {action = action} {count = count} repeated heads slot is within same head block set_is kept counted admitted acted =
+      let turned = run_turned rules repeated.run heads (slot + 1) is (omega (arith, within)) same in
+      rw add-one (record {
+        machine_is = acted.next ∙ ap (λ machine. rules.after_act machine action) repeated.machine_is;
+        run = act_more rules slot refl turned head block set_is action kept admitted acted counted;
+      })

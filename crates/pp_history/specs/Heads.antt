@@ -1,5 +1,5 @@
 -- How blocks hold the heads of a log.
-use Rattle.std.specs.Prelude.{◌≡◌, ℕ, ◌+◌, ◌*◌, ◌≤◌, List, length, take, drop, reverse, Option}
+use Rattle.std.specs.Prelude.{◌≡◌, ℕ, ◌*◌, ◌≤◌, List, ◌++◌, length, take, drop, reverse, Option}
 use Rattle.std.specs.List.{AllByRecursion, flat_map}
 use Rattle.pp_history.specs.declared.heads.Heads.{Heads}
 
@@ -10,26 +10,35 @@ pub record Halves (H : Type 0) : Type 0 where
   pub ahead : List (Option H)
   pub capacity : ℕ
 
--- the heads of the kept actions are in the slots from `at` on, and those of the undone ones before it
-abbrev pub halves_at : {H : Type 0} → List (Option H) → ℕ → ℕ → ℕ → ℕ → Halves H
-halves_at slots at kept ahead capacity =
-    record { kept = take kept (drop at slots); ahead = take ahead (reverse (take at slots)); capacity = capacity }
+module _ {H : Type 0} where
+  -- all slots of the blocks that are not in use, laid end to end
+  abbrev pub others_in : Heads H → List (Option H)
+  others_in heads = flat_map (λ block. block.items) heads.others.items
 
--- all slots of the blocks, laid end to end
-abbrev pub slots_in : {H : Type 0} → Heads H → List (Option H)
-slots_in heads = flat_map (λ block. block.items) heads.blocks.items
+  -- the slots behind the n-th of the block in use, with that slot
+  abbrev pub behind : Heads H → ℕ → List (Option H)
+  behind heads n = drop n heads.block.items ++ others_in heads
 
-abbrev pub halves : {H : Type 0} → Heads H → Halves H
-halves heads = halves_at (slots_in heads) heads.at heads.kept heads.ahead heads.capacity
+  -- the slots before it, the nearest first
+  abbrev pub before : Heads H → ℕ → List (Option H)
+  before heads n = reverse (others_in heads ++ take n heads.block.items)
 
--- holds of the heads of every log: the last block is free if the first one is used up
+  -- so many heads of kept actions are behind the n-th slot, and so many of undone ones before it
+  abbrev pub halves : Heads H → ℕ → ℕ → ℕ → Halves H
+  halves heads n kept ahead =
+      record { kept = take kept (behind heads n); ahead = take ahead (before heads n); capacity = heads.capacity }
+
+  -- the same heads are behind and before the one slot as behind and before the other
+  pub record IsSame (old : Heads H) (n : ℕ) (new : Heads H) (m : ℕ) : Type 0 where
+    pub capacity : new.capacity ≡ old.capacity
+    pub halves : (kept ahead : ℕ) → kept ≤ old.capacity → ahead ≤ old.capacity → halves new m kept ahead ≡ halves old n kept ahead
+
+-- holds of the heads of every log: the other blocks alone have enough slots
 pub record IsHeads {H : Type 0} (heads : Heads H) : Type 0 where
-  pub whole : AllByRecursion (λ block. length block.items ≡ 256) heads.blocks.items
-  pub all : length heads.blocks.items ≡ heads.blocks.capacity
+  pub block : length heads.block.items ≡ 256
+  pub others : AllByRecursion (λ block. length block.items ≡ 256) heads.others.items
+  pub all : length heads.others.items ≡ heads.others.capacity
   pub some_room : 1 ≤ heads.capacity
   pub bounded : heads.capacity ≤ 10000
-  pub full : heads.ahead + heads.kept ≤ heads.capacity
-  pub before : heads.ahead ≤ heads.at
-  pub within : heads.at + heads.kept ≤ 256 * length heads.blocks.items
-  pub spare : heads.capacity + 256 ≤ 256 * length heads.blocks.items
-  pub few : length heads.blocks.items ≤ 41
+  pub enough : heads.capacity ≤ 256 * length heads.others.items
+  pub few : length heads.others.items ≤ 40

@@ -3,9 +3,7 @@
 use Rattle.std.specs.Prelude.{◌≡◌, ℕ, ◌+◌, ◌≤◌, List, [], ◌∷◌, Option, Some, None, length, drop}
 use Rattle.circular_buffer.specs.Buffer.{Buffer}
 use Rattle.pp_history.specs.Heads.{Halves}
-use Rattle.pp_history.specs.LogValue.{LogValue, log_of}
-use Rattle.pp_history.specs.Parts.{contents}
-use Rattle.pp_history.specs.SessionValue.{Moves, SessionValue}
+use Rattle.pp_history.specs.Contents.{Contents, contents}
 use Rattle.pp_history.specs.Tails.{IsKept, in_tail, pushed}
 use Rattle.pp_history.specs.declared.reversible.Reversible.{Ghosts}
 use Rattle.pp_history.specs.declared.tails.Tails.{Tails}
@@ -52,12 +50,13 @@ module _ {A R H : Type 0} (unpacked : H → A × R) where
   IsNext (Some head) action old new = new ≡ old
   IsNext None action old new = new ≡ pushed action old
 
-  abbrev pub log_value : Halves H → Buffer (Tail A R) → Buffer A → LogValue A R
-  log_value halves tails undone =
-      log_of (kept_in halves.kept tails.items) (ahead_in halves.ahead undone.items) halves.capacity
+  -- the machine with what the heads and the rings hold
+  abbrev pub session_with : {M : Type 0} → M → Halves H → Buffer (Tail A R) → Buffer A → Contents M A R
+  session_with machine halves tails undone =
+      contents machine (kept_in halves.kept tails.items) (ahead_in halves.ahead undone.items) halves.capacity
 
-  -- holds of the parts of every log
-  pub record IsLog (halves : Halves H) (tails : Buffer (Tail A R)) (undone : Buffer A) : Type 0 where
+  -- no action is missing in the heads and the rings
+  pub record IsJoined (halves : Halves H) (tails : Buffer (Tail A R)) (undone : Buffer A) : Type 0 where
     pub kept : IsSide unpacked in_tail halves.kept tails halves.capacity
     pub ahead : IsSide (λ (head : H). (unpacked head).0) Some halves.ahead undone halves.capacity
     pub full : length halves.ahead + length halves.kept ≤ halves.capacity
@@ -67,9 +66,3 @@ module _ {M A R P H : Type 0} (rules : Ghosts M A R P H) where
   abbrev pub IsActed : M → M → A → Option H → Tails A R → Tails A R → Type 0
   IsActed old new action head tails tails' =
       (new ≡ rules.after_act old action) × ((back : R) × rules.fits back new × (rules.after_undo back new ≡ old) × IsKept rules.unpacked head action back tails tails')
-
-  -- some steps led from a machine and its log to those with these parts, and from a session value to the one that `after`
-  -- makes of it
-  pub record IsSpan (old : M) (start : LogValue A R) (after : SessionValue M A → SessionValue M A) (halves : Halves H) (new : M) (tails : Tails A R) (undone : Buffer A) : Type 0 where
-    pub log : IsLog rules.unpacked halves tails.ring undone
-    pub moves : Moves rules (contents old start) (contents new (log_value rules.unpacked halves tails.ring undone)) after

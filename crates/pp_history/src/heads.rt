@@ -1,22 +1,19 @@
-//! The heads of the newest actions, in a ring of blocks.
+//! Slots for the heads of actions, in blocks.
 
-ghost use Rattle.std.specs.Prelude.{◌≡◌, ◌≤◌, ◌<◌, ◌+◌, ◌-◌, ◌*◌, [], Some, length, min, slice_get, IfOk};
-ghost use Rattle.pp_history.specs.Heads.{IsHeads, halves};
+ghost use Rattle.std.specs.Prelude.{◌≡◌, ◌≤◌, ◌<◌, ◌+◌, ℕ, Some, length, slice_get, take, IfOk};
+ghost use Rattle.pp_history.specs.Heads.{IsHeads, IsSame, behind};
 
 use circular_buffer::HeapCircularBuffer;
 use std::alloc::{AllocError, Global};
+use std::mem::replace;
 
-/// At most `capacity` heads, in the slots of blocks that are laid end to end.
+/// Slots for at least `capacity` heads behind each slot, and for as many before it. No block is made or dropped after `new`.
 #[derive(Drop)]
 pub(crate) struct Heads<H> {
-    /// Blocks of 256 (decimal) slots each. No block is made or dropped after `new`.
-    pub(crate) blocks: HeapCircularBuffer<Vec<Option<H>>>,
-    /// The slot of the newest kept action's head. The heads of older ones are behind it, those of undone actions before it.
-    pub(crate) at: usize,
-    /// How many heads there are from that slot on.
-    pub(crate) kept: usize,
-    /// How many heads there are before that slot. The slots before them are free.
-    pub(crate) ahead: usize,
+    /// The block in use. All have 256 (decimal) slots.
+    pub(crate) block: Vec<Option<H>>,
+    /// The other blocks in a ring, the next one behind the block in use first, and the next one before it last.
+    pub(crate) others: HeapCircularBuffer<Vec<Option<H>>>,
     pub(crate) capacity: usize,
 }
 
@@ -24,78 +21,89 @@ impl<H: Drop> Heads<H> {
     /// Returns blocks without heads. Fails if there is no memory left.
     pub(crate) fn new(alloc: Global, capacity: usize) -> Result<Heads<H>, AllocError>
         requires { (1 ≤ capacity) × (capacity ≤ 10000) }
-        ensures { IfOk result (λ heads. IsHeads heads × ((heads.kept ≡ 0) × ((heads.ahead ≡ 0) × (heads.capacity ≡ capacity)))) }
+        ensures { IfOk result (λ heads. IsHeads heads × (heads.capacity ≡ capacity)) }
     {
-        let count = (capacity - 1) / 256 + 2;
-        let mut blocks = HeapCircularBuffer::with_capacity(alloc, count)?;
+        let count = (capacity - 1) / 256 + 1;
+        let mut others = HeapCircularBuffer::with_capacity(alloc, count)?;
         for _block in 0..count {
-            blocks.push_back(empty_block(alloc)?);
+            others.push_back(empty_block(alloc)?);
         }
         Ok(Heads {
-            blocks,
-            at: 0,
-            kept: 0,
-            ahead: 0,
+            block: empty_block(alloc)?,
+            others,
             capacity,
         })
     }
 
-    /// Returns the head of the k-th kept action, the newest counted as 0.
+    /// Returns the head in the k-th slot behind a slot of the block in use, counted from 0.
     #[inline(always)]
-    pub(crate) fn get(&self, k: usize) -> &Option<H>
+    pub(crate) fn get(&self, at: usize, k: usize) -> &Option<H>
         requires is { IsHeads self.now }
-        requires within { k < self.now.kept }
-        ensures { slice_get (halves self.now).kept k ≡ Some result.now }
+        requires within { (at ≤ 256) × (k < self.now.capacity) }
+        ensures { (kept : ℕ) → k < kept → slice_get (take kept (behind self.now at)) k ≡ Some result.now }
     {
-        let slot = self.at + k;
-        &self.blocks.get(slot / 256).unwrap()[slot % 256]
-    }
-
-    /// Discards the heads of undone actions, and makes a slot before the others free: if there is none, the ring turns its
-    /// last block over to the front.
-    #[inline(always)]
-    pub(crate) fn make_room(&mut self)
-        requires is { IsHeads self.old }
-        ensures is { IsHeads self.new }
-        ensures some { 1 ≤ self.new.at }
-        ensures none { self.new.ahead ≡ 0 }
-        ensures same { halves self.new ≡ record (halves self.old) { ahead = [] } }
-    {
-        self.ahead = 0;
-        if self.at == 0 {
-            self.turn_over();
+        let slot = at + k;
+        if slot < 256 {
+            &self.block[slot]
+        } else {
+            &self.others.get(slot / 256 - 1).unwrap()[slot % 256]
         }
     }
 
-    /// Turns the last block over to the front.
+    /// Returns the first slot from the place `at` on: that of its number, or else the first one of the next block, which
+    /// comes into use.
+    #[inline(always)]
+    pub(crate) fn slot_behind(&mut self, at: usize) -> usize
+        requires is { IsHeads self.old }
+        requires within { at ≤ 256 }
+        ensures is { IsHeads self.new }
+        ensures within { result < 256 }
+        ensures same { IsSame self.old at self.new result }
+    {
+        if at == 256 {
+            self.turn_back();
+            return 0;
+        }
+        at
+    }
+
+    /// Returns the last slot before the place `at`: that of the number before, or else the last one of the block before,
+    /// which comes into use.
+    #[inline(always)]
+    pub(crate) fn slot_before(&mut self, at: usize) -> usize
+        requires is { IsHeads self.old }
+        requires within { at ≤ 256 }
+        ensures is { IsHeads self.new }
+        ensures within { result < 256 }
+        ensures same { IsSame self.old at self.new (result + 1) }
+    {
+        if at == 0 {
+            self.turn_forward();
+            return 255;
+        }
+        at - 1
+    }
+
+    /// The next block behind comes into use.
     #[inline(never)]
-    fn turn_over(&mut self)
+    fn turn_back(&mut self)
         requires is { IsHeads self.old }
-        requires none { self.old.at ≡ 0 }
         ensures is { IsHeads self.new }
-        ensures some { 1 ≤ self.new.at }
-        ensures ahead { self.new.ahead ≡ self.old.ahead }
-        ensures same { halves self.new ≡ halves self.old }
+        ensures same { IsSame self.old 256 self.new 0 }
     {
-        let last = self.blocks.pop_back().unwrap();
-        self.blocks.push_front(last);
-        self.at = 256;
+        let next = self.others.pop_front().unwrap();
+        self.others.push_back(replace(&mut self.block, next));
     }
 
-    /// Adds the heads that are in the n slots before the others. If there are too many heads then, the last ones are
-    /// discarded.
-    #[inline(always)]
-    pub(crate) fn add(&mut self, n: usize)
-        requires full { self.old.kept ≤ self.old.capacity }
-        requires bounded { self.old.capacity ≤ 10000 }
-        requires within { (n ≤ self.old.at) × (n ≤ 256) }
-        ensures { self.new ≡ record self.old { at = self.old.at - n; kept = min (self.old.kept + n) self.old.capacity } }
+    /// The next block before comes into use.
+    #[inline(never)]
+    fn turn_forward(&mut self)
+        requires is { IsHeads self.old }
+        ensures is { IsHeads self.new }
+        ensures same { IsSame self.old 0 self.new 256 }
     {
-        self.at -= n;
-        self.kept += n;
-        if self.kept > self.capacity {
-            self.kept = self.capacity;
-        }
+        let next = self.others.pop_back().unwrap();
+        self.others.push_front(replace(&mut self.block, next));
     }
 }
 

@@ -1,18 +1,19 @@
-//! The newest actions with their undo records: one list, held in rings.
+//! The newest actions with their undo records: one list, held in blocks and rings.
 
 ghost use Rattle.std.specs.Prelude.{◌≡◌, [], drop, slice_get, Some, None, true, ◌+◌, ◌-◌, ◌<◌, ◌≤◌, length, IfOk, IsSomeAnd, MatchOption, IfSome, IsNone, ◌↔◌, ◌*◌, false, min};
-ghost use Rattle.circular_buffer.specs.Buffer.{Buffer, buffer};
+ghost use Rattle.circular_buffer.specs.Buffer.{buffer};
 ghost use Rattle.std.specs.List.{All};
-ghost use Rattle.pp_history.specs.Heads.{IsHeads, halves};
-ghost use Rattle.pp_history.specs.Joining.{IsActed, IsLog, IsNext, IsSpan, first_of, left_by, log_value};
-ghost use Rattle.pp_history.specs.Marks.{IsUnmarked};
-ghost use Rattle.pp_history.specs.Parts.{IsSession, contents};
-ghost use Rattle.pp_history.specs.Repeating.{AreUnmarked, after_acts, machine_after};
-ghost use Rattle.pp_history.specs.SessionValue.{Moves, after_act, after_back, after_forward};
-ghost use Rattle.pp_history.specs.Search.{first_changing};
-ghost use Rattle.pp_history.specs.UndoRecord.{whole_record};
-ghost use Rattle.pp_history.specs.Tails.{in_tail, pushed};
 ghost use Rattle.std.specs.Option.{option_map};
+ghost use Rattle.pp_history.specs.Contents.{contents};
+ghost use Rattle.pp_history.specs.Joining.{IsActed, IsNext, first_of, left_by};
+ghost use Rattle.pp_history.specs.Logs.{IsLog, records_of, session_of};
+ghost use Rattle.pp_history.specs.Marks.{IsUnmarked};
+ghost use Rattle.pp_history.specs.Parts.{IsSession};
+ghost use Rattle.pp_history.specs.Repeating.{AreUnmarked, after_acts, machine_after};
+ghost use Rattle.pp_history.specs.Search.{first_changing};
+ghost use Rattle.pp_history.specs.SessionValue.{Moves, after_act, after_back, after_forward};
+ghost use Rattle.pp_history.specs.Tails.{in_tail, pushed};
+ghost use Rattle.pp_history.specs.UndoRecord.{whole_record};
 
 use crate::heads::Heads;
 use crate::looks::Looks;
@@ -23,128 +24,112 @@ use crate::reversible::{Reversible, UndoRecord};
 use crate::tails::{Tails, push};
 use circular_buffer::HeapCircularBuffer;
 use std::alloc::{AllocError, Global};
-use std::marker::Model;
 
-/// The newest actions, at most `capacity`. Some were undone; the others have undo records. Memory is touched only for
-/// heads and tails that are made.
+/// The newest actions, at most as many as the capacity of the heads. Some were undone; the others have undo records.
+/// Memory is touched only for heads and tails that are made.
 #[derive(Drop)]
 pub(crate) struct Log<T: Reversible> {
     /// An action that is performed overwrites a head in place.
-    heads: Heads<T::Head>,
+    pub(crate) heads: Heads<T::Head>,
+    /// The place between the slots: the heads of the kept actions are behind it, those of the undone ones before it.
+    pub(crate) at: usize,
+    /// How many actions are kept.
+    pub(crate) kept: usize,
+    /// How many actions were undone and can be performed again.
+    pub(crate) ahead: usize,
     /// The kept actions without a head, the newest first, and then discarded ones.
-    tails: Tails<T::Action, T::Record>,
+    pub(crate) tails: Tails<T::Action, T::Record>,
     /// The undone actions without a head, the next to perform again first, and then discarded ones.
-    undone: HeapCircularBuffer<T::Action>,
-}
-
-impl<T: Reversible> Model for Log<T> {
-    ghost use Rattle.pp_history.specs.LogValue.{LogValue};
-    ghost use Rattle.pp_history.specs.Heads.{IsHeads, halves};
-    ghost use Rattle.pp_history.specs.Joining.{IsLog, log_value};
-
-    ghost Value = { LogValue T.Action T.Record };
-
-    ghost view = { λ l. log_value T.unpacked (halves l.heads) l.tails.ring l.undone };
-
-    ghost invariant = { λ l. IsHeads l.heads × IsLog T.unpacked (halves l.heads) l.tails.ring l.undone };
+    pub(crate) undone: HeapCircularBuffer<T::Action>,
 }
 
 impl<T: Reversible> Log<T> {
     /// Returns an empty log. Fails if there is no memory left.
     pub(crate) fn new(alloc: Global, capacity: u32) -> Result<Log<T>, AllocError>
         requires { (1 ≤ capacity) × (capacity ≤ 10000) }
-        ensures { IfOk result (λ log. log ≡ record { records = []; ahead = []; capacity = capacity }) }
+        ensures { IfOk result (λ log. IsLog T.unpacked log × ((machine : T) → session_of T.unpacked machine log ≡ contents machine [] [] capacity)) }
     {
         let heads = Heads::new(alloc, capacity as usize)?;
         let tails = Tails::new(alloc, capacity as usize)?;
         let undone = HeapCircularBuffer::with_capacity(alloc, capacity as usize)?;
         Ok(Log {
             heads,
+            at: 0,
+            kept: 0,
+            ahead: 0,
             tails,
             undone,
         })
     }
 
-    /// Returns the most actions that the log holds.
-    pub(crate) fn capacity(&self) -> u32
-        ensures { result ≡ self.now.capacity }
-    {
-        self.heads.capacity as u32
-    }
-
-    /// Returns the number of undo records.
-    pub(crate) fn kept(&self) -> u32
-        ensures { result ≡ length self.now.records }
-    {
-        self.heads.kept as u32
-    }
-
-    /// Returns the number of actions that were undone.
-    pub(crate) fn ahead(&self) -> u32
-        ensures { result ≡ length self.now.ahead }
-    {
-        self.heads.ahead as u32
-    }
-
     /// Performs an action and keeps it. The actions ahead are discarded, and if the log is full, the oldest action too.
     #[inline(always)]
     pub(crate) fn perform(&mut self, machine: &mut T, action: T::Action)
-        requires { T.admitted machine.old action }
+        requires log { IsLog T.unpacked self.old }
+        requires admitted { T.admitted machine.old action }
+        ensures log { IsLog T.unpacked self.new }
         ensures machine { machine.new ≡ T.after_act machine.old action }
-        ensures moves { Moves T.Reversible (contents machine.old self.old) (contents machine.new self.new)
+        ensures moves { Moves T.Reversible (session_of T.unpacked machine.old self.old) (session_of T.unpacked machine.new self.new)
             (λ v. after_act v action) }
     {
-        self.heads.make_room();
-        let last = self.heads.at - 1;
-        let block = self.heads.blocks.get_mut(last / 256).unwrap();
-        machine.perform(action, &mut block[last % 256], &mut self.tails);
-        self.heads.add(1);
+        self.ahead = 0;
+        self.at = self.heads.slot_before(self.at);
+        machine.perform(action, &mut self.heads.block[self.at], &mut self.tails);
+        self.kept = at_most(self.kept + 1, self.heads.capacity);
     }
 
-    /// Undoes the newest actions, at most n, whose heads are in one block, and returns how many.
-    pub(crate) fn take_back(&mut self, machine: &mut T, n: usize) -> usize
-        requires some { (1 ≤ n) × (n ≤ length self.old.records) }
-        requires session { IsSession T.Reversible machine.old self.old }
-        ensures some { (1 ≤ result) × (result ≤ n) }
-        ensures moves { Moves T.Reversible (contents machine.old self.old) (contents machine.new self.new)
-            (λ v. after_back v result) }
+    /// Undoes the newest n actions. As a function of its own it has registers for what its loop needs.
+    #[inline(never)]
+    pub(crate) fn take_back(&mut self, machine: &mut T, n: usize)
+        requires enough { n ≤ self.old.kept }
+        requires log { IsLog T.unpacked self.old }
+        requires session { IsSession T.Reversible (session_of T.unpacked machine.old self.old) }
+        ensures log { IsLog T.unpacked self.new }
+        ensures moves { Moves T.Reversible (session_of T.unpacked machine.old self.old) (session_of T.unpacked machine.new self.new)
+            (λ v. after_back v n) }
     {
-        undo_span(
-            machine,
-            &mut self.heads,
-            n,
-            &mut self.tails,
-            &mut self.undone,
-        )
+        let mut at = self.at;
+        for _step in 0..n {
+            let slot = self.heads.slot_behind(at);
+            undo(machine, &self.heads.block[slot], &mut self.tails, &mut self.undone);
+            at = slot + 1;
+        }
+        self.at = at;
+        self.kept -= n;
+        self.ahead += n;
     }
 
-    /// Performs the first actions ahead again, at most n, whose heads are in one block, and returns how many.
-    pub(crate) fn perform_again(&mut self, machine: &mut T, n: usize) -> usize
-        requires some { (1 ≤ n) × (n ≤ length self.old.ahead) }
-        requires session { IsSession T.Reversible machine.old self.old }
-        ensures some { (1 ≤ result) × (result ≤ n) }
-        ensures moves { Moves T.Reversible (contents machine.old self.old) (contents machine.new self.new)
-            (λ v. after_forward v result) }
+    /// Performs the first n actions ahead again. As a function of its own it has registers for what its loop needs.
+    #[inline(never)]
+    pub(crate) fn perform_again(&mut self, machine: &mut T, n: usize)
+        requires enough { n ≤ self.old.ahead }
+        requires log { IsLog T.unpacked self.old }
+        requires session { IsSession T.Reversible (session_of T.unpacked machine.old self.old) }
+        ensures log { IsLog T.unpacked self.new }
+        ensures moves { Moves T.Reversible (session_of T.unpacked machine.old self.old) (session_of T.unpacked machine.new self.new)
+            (λ v. after_forward v n) }
     {
-        perform_span(
-            machine,
-            &mut self.heads,
-            n,
-            &mut self.tails,
-            &mut self.undone,
-        )
+        let mut at = self.at;
+        for _step in 0..n {
+            at = self.heads.slot_before(at);
+            perform_next(machine, &mut self.heads.block[at], &mut self.tails, &mut self.undone);
+        }
+        self.at = at;
+        self.kept += n;
+        self.ahead -= n;
     }
 
     /// Returns the newest undo record, or `None` if there is none.
     #[inline(always)]
     pub(crate) fn newest(&self) -> Option<UndoRecord<T>>
-        ensures some { IfSome result (λ back. (newest : T.Action × T.Record) × (slice_get self.now.records 0 ≡ Some newest) × (newest.1 ≡ whole_record T.unpacked back)) }
-        ensures none { IsNone result ↔ (length self.now.records ≡ 0) }
+        requires { IsLog T.unpacked self.now }
+        ensures some { IfSome result (λ back. (newest : T.Action × T.Record) × (slice_get (records_of T.unpacked self.now) 0 ≡ Some newest) × (newest.1 ≡ whole_record T.unpacked back)) }
+        ensures none { IsNone result ↔ (self.now.kept ≡ 0) }
     {
-        if self.heads.kept == 0 {
+        if self.kept == 0 {
             return None;
         }
-        undo_record(self.heads.get(0), &self.tails, 0)
+        undo_record(self.heads.get(self.at, 0), &self.tails, 0)
     }
 }
 
@@ -157,25 +142,26 @@ impl<T: Marked> Log<T> {
         places: &[T::Place],
         looks: &mut Looks,
     ) -> Option<u32>
+        requires log { IsLog T.unpacked self.now }
         requires has_places { All (λ place. T.has_place machine.now place) places.now }
         requires started { looks.old.is_started ≡ true }
-        ensures value { result ≡ first_changing T.Reversible (T.value_at machine.now) places.now self.now.records }
+        ensures value { result ≡ first_changing T.Reversible (T.value_at machine.now) places.now (records_of T.unpacked self.now) }
         ensures counts_up { looks.old.count ≤ looks.new.count }
         ensures cost { MatchOption result
-            (looks.new.count ≤ looks.old.count + length places.now * length self.now.records)
+            (looks.new.count ≤ looks.old.count + length places.now * self.now.kept)
             (λ k. looks.new.count ≤ looks.old.count + length places.now * k) }
         ensures looks_at_each { 1 ≤ length places.now → MatchOption result
-            (looks.old.count + length self.now.records ≤ looks.new.count)
+            (looks.old.count + self.now.kept ≤ looks.new.count)
             (λ k. looks.old.count + k ≤ looks.new.count) }
-        ensures kept { IfSome result (λ k. k ≤ length self.now.records) }
+        ensures kept { IfSome result (λ k. k ≤ self.now.kept) }
     {
         let marks = Marks::of::<T>(places);
         let mut tail = 0;
-        for k in 0..self.kept() {
-            let head = self.heads.get(k as usize);
+        for k in 0..self.kept {
+            let head = self.heads.get(self.at, k);
             let back = undo_record(head, &self.tails, tail).unwrap();
             if is_changed(machine, &back, places, &marks, looks) {
-                return Some(k + 1);
+                return Some(k as u32 + 1);
             }
             match head {
                 Some(_) => {}
@@ -187,64 +173,43 @@ impl<T: Marked> Log<T> {
 }
 
 impl<T: Repeatable> Log<T> {
-    /// Performs the repeatable action 1 to n times, in the free slots of one block, and returns how often. The last time
-    /// is at the latest the first whose undo record may have one of the places that the marks cover.
-    pub(crate) fn repeat(&mut self, machine: &mut T, n: usize, marks: &Marks) -> usize
-        requires { 1 ≤ n }
+    /// Performs the repeatable action 1 to n times, and returns how often. The last time is at the latest the first whose
+    /// undo record may have one of the places that the marks cover. As a function of its own it has registers for what its
+    /// loop needs.
+    #[inline(never)]
+    pub(crate) fn repeat(&mut self, machine: &mut T, n: u32, marks: &Marks) -> u32
+        requires log { IsLog T.unpacked self.old }
+        requires some { 1 ≤ n }
+        ensures log { IsLog T.unpacked self.new }
         ensures some { (1 ≤ result) × (result ≤ n) }
         ensures machine { machine.new ≡ machine_after T.Reversible result T.repeated machine.old }
-        ensures moves { Moves T.Reversible (contents machine.old self.old) (contents machine.new self.new)
+        ensures moves { Moves T.Reversible (session_of T.unpacked machine.old self.old) (session_of T.unpacked machine.new self.new)
             (after_acts result T.repeated) }
         ensures unmarked { AreUnmarked T.Reversible T.marks_of marks.now T.repeated (result - 1) machine.old }
     {
-        self.heads.make_room();
-        repeat_span(machine, &mut self.heads, n, &mut self.tails, marks)
-    }
-}
-
-/// Performs the repeatable action 1 to n times, in the free slots of one block, and returns how often. As a function of
-/// its own it has registers for what its loop needs.
-#[inline(never)]
-fn repeat_span<T: Repeatable>(
-    machine: &mut T,
-    heads: &mut Heads<T::Head>,
-    n: usize,
-    tails: &mut Tails<T::Action, T::Record>,
-    marks: &Marks,
-) -> usize
-    requires is { IsHeads heads.old }
-    requires none { heads.old.ahead ≡ 0 }
-    requires some { (1 ≤ n) × (1 ≤ heads.old.at) }
-    requires room { 1 ≤ tails.old.ring.capacity }
-    ensures is { IsHeads heads.new }
-    ensures some { (1 ≤ result) × (result ≤ n) }
-    ensures machine { machine.new ≡ machine_after T.Reversible result T.repeated machine.old }
-    ensures span { (undone : Buffer T.Action) → IsLog T.unpacked (halves heads.old) tails.old.ring undone → IsSpan T.Reversible machine.old
-        (log_value T.unpacked (halves heads.old) tails.old.ring undone)
-        (after_acts result T.repeated) (halves heads.new) machine.new tails.new undone }
-    ensures unmarked { AreUnmarked T.Reversible T.marks_of marks.now T.repeated (result - 1) machine.old }
-{
-    let last = heads.at - 1;
-    let mut most = at_most(n, last % 256 + 1);
-    let block = heads.blocks.get_mut(last / 256).unwrap();
-    let mut count = 0;
-    while count < most {
-        let head = &mut block[last % 256 - count];
-        machine.perform(T::repeated(), head, tails);
-        count += 1;
-        if may_be_marked::<T>(head, tails, marks) {
-            most = count;
+        let mut at = self.at;
+        let mut most = n;
+        let mut count = 0;
+        while count < most {
+            self.ahead = 0;
+            at = self.heads.slot_before(at);
+            let head = &mut self.heads.block[at];
+            machine.perform(T::repeated(), head, &mut self.tails);
+            count += 1;
+            if may_be_marked::<T>(head, &self.tails, marks) {
+                most = count;
+            }
         }
+        self.at = at;
+        self.kept = at_most(self.kept + count as usize, self.heads.capacity);
+        count
     }
-    heads.add(count);
-    count
 }
 
 /// Returns n, or the limit if that is less.
 #[inline(always)]
 fn at_most(n: usize, limit: usize) -> usize
-    ensures value { result ≡ min n limit }
-    ensures within { (result ≤ n) × (result ≤ limit) × (1 ≤ n → 1 ≤ limit → 1 ≤ result) }
+    ensures { result ≡ min n limit }
 {
     if n < limit { n } else { limit }
 }
@@ -287,36 +252,6 @@ fn undo_record<'a, T: Reversible>(
     }
 }
 
-/// Performs the first actions ahead again, at most n, whose heads are in one block, and returns how many. As a function of
-/// its own it has registers for what its loop needs.
-#[inline(never)]
-fn perform_span<T: Reversible>(
-    machine: &mut T,
-    heads: &mut Heads<T::Head>,
-    n: usize,
-    tails: &mut Tails<T::Action, T::Record>,
-    undone: &mut HeapCircularBuffer<T::Action>,
-) -> usize
-    requires is { IsHeads heads.old }
-    requires some { (1 ≤ n) × (n ≤ heads.old.ahead) }
-    requires log { IsLog T.unpacked (halves heads.old) tails.old.ring undone.old }
-    requires session { IsSession T.Reversible machine.old (log_value T.unpacked (halves heads.old) tails.old.ring undone.old) }
-    ensures is { IsHeads heads.new }
-    ensures some { (1 ≤ result) × (result ≤ n) }
-    ensures span { IsSpan T.Reversible machine.old (log_value T.unpacked (halves heads.old) tails.old.ring undone.old)
-        (λ v. after_forward v result) (halves heads.new) machine.new tails.new undone.new }
-{
-    let last = heads.at - 1;
-    let steps = at_most(n, last % 256 + 1);
-    let block = heads.blocks.get_mut(last / 256).unwrap();
-    for step in 0..steps {
-        perform_next(machine, &mut block[last % 256 - step], tails, undone);
-    }
-    heads.ahead -= steps;
-    heads.add(steps);
-    steps
-}
-
 /// Performs the next action again: that of its head, or else the first of the undone ones, which is taken out.
 #[inline(always)]
 fn perform_next<T: Reversible>(
@@ -356,37 +291,6 @@ fn perform_undone<T: Reversible>(
 {
     let action = undone.pop_front().unwrap();
     machine.perform(action, head, tails);
-}
-
-/// Undoes the newest actions, at most n, whose heads are in one block, and returns how many. As a function of its own it
-/// has registers for what its loop needs.
-#[inline(never)]
-fn undo_span<T: Reversible>(
-    machine: &mut T,
-    heads: &mut Heads<T::Head>,
-    n: usize,
-    tails: &mut Tails<T::Action, T::Record>,
-    undone: &mut HeapCircularBuffer<T::Action>,
-) -> usize
-    requires is { IsHeads heads.old }
-    requires some { (1 ≤ n) × (n ≤ heads.old.kept) }
-    requires log { IsLog T.unpacked (halves heads.old) tails.old.ring undone.old }
-    requires session { IsSession T.Reversible machine.old (log_value T.unpacked (halves heads.old) tails.old.ring undone.old) }
-    ensures is { IsHeads heads.new }
-    ensures some { (1 ≤ result) × (result ≤ n) }
-    ensures span { IsSpan T.Reversible machine.old (log_value T.unpacked (halves heads.old) tails.old.ring undone.old)
-        (λ v. after_back v result) (halves heads.new) machine.new tails.new undone.new }
-{
-    let slot = heads.at;
-    let count = at_most(n, 256 - slot % 256);
-    let block = heads.blocks.get(slot / 256).unwrap().as_slice();
-    for step in 0..count {
-        undo(machine, &block[slot % 256 + step], tails, undone);
-    }
-    heads.at += count;
-    heads.kept -= count;
-    heads.ahead += count;
-    count
 }
 
 /// Undoes the newest action, by its head or else by the newest tail, which is discarded. The action is then the next to

@@ -10,28 +10,28 @@ some-mapped f (Some x) y e = refl
 
 pub unwrap-back-requires : goal.unwrap-back-requires
 unwrap-back-requires g c =
-    let newest = here g.T.Reversible c.loop-k.invariant.passed c.get-head.ensures in
+    let newest = here g.T.Reversible c.loop-k.invariant.passed (c.get-head.ensures c.args.self.now.kept c.loop-k-test.true) in
     some-mapped (whole_record g.T.Reversible.unpacked) c.undo_record.result newest.item.1 (rw newest.is at c.undo_record.ensures)
 
 pub returns-then-is_changed-clause-value : goal.returns-then-is_changed-clause-value
 returns-then-is_changed-clause-value g c =
     let T = g.T.Reversible in
-    let newest = here T c.loop-k.invariant.passed c.get-head.ensures in
+    let newest = here T c.loop-k.invariant.passed (c.get-head.ensures c.args.self.now.kept c.loop-k-test.true) in
     let record_is = rw newest.is at c.undo_record.ensures in
     let is = sym (ap (option_map (whole_record T.unpacked)) c.unwrap-back.ensures) ∙ record_is in
     let changed = sym c.is_changed.ensures.value ∙ c.if-is_changed.true in
-    sym (found-here T c.loop-k.invariant.passed c.get-head.ensures _ is changed)
+    sym (found-here T c.loop-k.invariant.passed (c.get-head.ensures c.args.self.now.kept c.loop-k-test.true) _ is changed)
 
 pub loop-k-preserved : goal.loop-k-preserved
 loop-k-preserved g c =
     let T = g.T.Reversible in
-    let newest = here T c.loop-k.invariant.passed c.get-head.ensures in
+    let newest = here T c.loop-k.invariant.passed (c.get-head.ensures c.args.self.now.kept c.loop-k-test.true) in
     let record_is = rw newest.is at c.undo_record.ensures in
     let is = sym (ap (option_map (whole_record T.unpacked)) c.unwrap-back.ensures) ∙ record_is in
     let same = sym c.is_changed.ensures.value ∙ c.if-is_changed.false in
     let tail = c.loop-k.tail in
     let tail' = c.match-head.tail in
-    let tails = c.self.inside.tails.ring.items in
+    let tails = c.args.self.now.tails.ring.items in
     let left : drop tail' tails ≡ left_by c.get-head.result.now (drop tail tails) = elim c.match-head.branch [
       | in-Some w ↦ rw (w.tail-is, w.in-Some.is) refl
       | in-None w ↦ rw (w.tail-is, w.in-None.is) (sym (drop-drop 1 tail tails))
@@ -41,7 +41,7 @@ loop-k-preserved g c =
       | in-None w ↦ omega (arith, w.tail-is)
     ] in
     record {
-      passed = pass-on T c.loop-k.invariant.passed c.get-head.ensures _ is same _ _ (omega arith) left;
+      passed = pass-on T c.loop-k.invariant.passed (c.get-head.ensures c.args.self.now.kept c.loop-k-test.true) _ is same _ _ (omega arith) left;
       few = omega (arith, few);
       counts_up = search rules;
       cost = search rules;
