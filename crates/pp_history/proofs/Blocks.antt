@@ -50,7 +50,7 @@ module _ {B X : Type 0} (items : B → List X) where
     turned_before =
         let other = slots ++ items there in
         let many : length (reverse other) ≡ 256 * (length rest + 1) =
-            omega (arith, length-reverse other, length-append slots (items there), length_slots rest whole, long) in
+        omega (arith, length-reverse other, length-append slots (items there), length_slots rest whole, long) in
         rw (all, append-nil other, take_all 256 (items there) (omega (arith, long)), append_assoc (items here) slots (items there), reverse-append (items here) other)
         (sym (take-append-le n (reverse other) (reverse (items here)) (omega (arith, many, few))))
 
@@ -120,8 +120,13 @@ module _ {H : Type 0} (heads : Heads H) (is : IsHeads heads) (n : ℕ) (within :
   length_behind = omega (arith, length-append (drop n heads.block.items) (others_in heads), length_slots items heads.others.items is.others, is.enough)
 
   length_before : heads.capacity ≤ length (before heads n)
-  length_before = omega (arith, length-reverse (others_in heads ++ take n heads.block.items),
-      length-append (others_in heads) (take n heads.block.items), length_slots items heads.others.items is.others, is.enough)
+  length_before = omega (
+    arith,
+    length-reverse (others_in heads ++ take n heads.block.items),
+    length-append (others_in heads) (take n heads.block.items),
+    length_slots items heads.others.items is.others,
+    is.enough,
+  )
 
   module _ (kept ahead : ℕ) (full : ahead + kept ≤ heads.capacity) where
     pub length_kept : length (halves heads n kept ahead).kept ≡ kept
@@ -134,7 +139,7 @@ module _ {H : Type 0} (heads : Heads H) (is : IsHeads heads) (n : ℕ) (within :
   module _ (k slot : ℕ) (x : Option H) (at : slot ≡ n + k) (kept : ℕ) (less : k < kept) where
     pub slot_here : slot < 256 → x ≡ get_or heads.block.items slot x → slice_get (take kept (behind heads n)) k ≡ Some x
     slot_here within here =
-        slice_get-take kept (behind heads n) k less ∙ slice_get-append_left (drop n heads.block.items) (others_in heads) k 
+        slice_get-take kept (behind heads n) k less ∙ slice_get-append_left (drop n heads.block.items) (others_in heads) k
         (omega (arith, at, within, length-drop n heads.block.items, is.block))
         ∙ slice_get-drop n heads.block.items k slot at ∙ slice_get_read heads.block.items 256 slot x (sym is.block) within here
 

@@ -10,8 +10,8 @@ pub use Rattle.std.proofs.Math.Seq.{take-suc, drop-append_seam, take-add}
 pub use Rattle.std.proofs.lemmas.Option.{get_or_from_slice_get, slice_get_within, slice_get_read}
 pub use Rattle.std.specs.Option.{option_and_then, option_map, IsSome, option_copied_mut, option_copied}
 pub use Rattle.circular_buffer.specs.Buffer.{Buffer, buffer}
-pub use Rattle.pp_history.specs.Joining.{IsNext, IsSide, with_first, first_of, left_by, joined, kept_in, IsActed, IsJoined, session_with}
-pub use Rattle.pp_history.specs.Logs.{IsLog, halves_in, records_of, session_of}
+pub use Rattle.pp_history.specs.Joining.{IsNext, IsSide, with_first, first_of, left_by, joined, kept_in, IsActed, IsJoined, ahead_in, contents_with}
+pub use Rattle.pp_history.specs.Parts.{IsSession, contents_of, halves_in}
 pub use Rattle.pp_history.specs.Tails.{IsKept, both, in_tail, pushed}
 pub use Rattle.pp_history.specs.declared.tails.Tail.{Tail}
 pub use Rattle.pp_history.specs.declared.tails.Tails.{Tails}
@@ -25,7 +25,6 @@ pub use Rattle.pp_history.specs.declared.heads.Heads.{Heads}
 pub use Rattle.pp_history.specs.declared.log.Log.{Log}
 pub use Rattle.pp_history.specs.declared.reversible.Reversible.{Ghosts}
 pub use Rattle.pp_history.specs.Contents.{Contents, contents}
-pub use Rattle.pp_history.specs.Parts.{IsSession}
 pub use Rattle.pp_history.specs.SessionLaws.{replayed}
 pub use Rattle.pp_history.specs.SessionValue.{SessionValue, fresh, after_back, after_forward, replay, LeadsBack, AdmitsInTurn, IsAt, after_act, Moves, performed, put_back}
 pub use Rattle.std.proofs.Math.Nat.{div-add-mod}

@@ -2,19 +2,14 @@
 use Rattle.pp_history.proofs.Names.{◌≡◌, ℕ, zero, suc, ◌+◌, ◌-◌, ◌≤◌, Option, Some, None, IfSome, add-one, arith, ap, refl, inl}
 use Rattle.pp_history.proofs.Names.{inr, cases_lt, first_of, IsUnmarked, AreUnmarked, after_acts, machine_after, SessionValue}
 use Rattle.pp_history.proofs.{Names.after_act, Names.replay, Names.IsKept, Names.in_tail, Names.Marks, Names.Ghosts, Names.Tails, Names.Log, Names.Heads}
-use Rattle.pp_history.proofs.Names.{IsLog, IsHeads, IsSame, Vec, Global, set, min, ◌<◌, ◌∙◌}
-use Rattle.pp_history.proofs.Runs.{Acted, IsRun, act_more, run_none, run_turned, with_head}
+use Rattle.pp_history.proofs.Names.{IsSession, IsHeads, IsSame, Vec, Global, set, min, ◌<◌, ◌∙◌}
+use Rattle.pp_history.proofs.Runs.{Acted, IsRun, run_none}
 
 module _ {M A : Type 0} where
   -- once more
   pub after_acts_more : (count : ℕ) (action : A) (v : SessionValue M A) → after_acts (count + 1) action v ≡ after_act (after_acts count action v) action
   unfolding after_acts
   after_acts_more count action v = rw add-one refl
-
-  pub after_acts_capacity : (count : ℕ) (action : A) (v : SessionValue M A) → (after_acts count action v).capacity ≡ v.capacity
-  unfolding after_acts
-  after_acts_capacity zero action v = refl
-  after_acts_capacity (suc count) action v = after_acts_capacity count action v
 
 -- the action that was kept is that of its head, or else of the newest tail
 put_first : {A R H : Type 0} (unpacked : H → A × R) (head : Option H) (tails tails' : Tails A R) (action : A) (back : R) → 1 ≤ tails.ring.capacity →
@@ -48,24 +43,18 @@ module _ {M A R P H : Type 0} (rules : Ghosts M A R P H) where
         rw (here, ← old, ← new) (done.back, done.fits, done.leads_back, rw first at unmarked)
   ]
 
-  -- the machine and its log after the action was performed this many times
+  -- the session after the action was performed this many times
   pub record IsRepeated (start : M) (old : Log M A R P H) (action : A) (count : ℕ) (machine : M) (log : Log M A R P H) : Type 0 where
     pub machine_is : machine ≡ machine_after rules count action start
     pub run : IsRun rules start old (after_acts count action) machine log
 
-  pub repeat_none : (machine : M) (log : Log M A R P H) (action : A) → IsLog rules.unpacked log → IsRepeated machine log action 0 machine log
+  pub repeat_none : (machine : M) (log : Log M A R P H) (action : A) → IsSession rules machine log → IsRepeated machine log action 0 machine log
   unfolding after_acts
   repeat_none machine log action is = record { machine_is = refl; run = run_none rules machine log (after_acts 0 action) (λ v. refl) is }
 
-  pub repeat_more : {start : M} {old : Log M A R P H} {action : A} {count : ℕ} {machine : M} {log : Log M A R P H} →
-      IsRepeated start old action count machine log → (heads : Heads H) (slot : ℕ) → IsHeads heads → slot < 256 → IsSame log.heads log.at heads (slot + 1) →
-      (head : Option H) (block : Vec (Option H) Global) → block.items ≡ set heads.block.items slot head → {machine' : M} {tails' : Tails A R} (kept : ℕ) →
-      kept ≡ min (log.kept + 1) heads.capacity → rules.admitted machine action → Acted rules machine machine' action head log.tails tails' →
-      IsRepeated start old action (count + 1) machine' (with_head rules (record log { heads = heads; at = slot + 1 }) slot block kept 0 tails' log.undone)
+  pub repeat_more : {start : M} {old : Log M A R P H} {action : A} {count : ℕ} {now : M} {log : Log M A R P H} → IsRepeated start old action count now log →
+      {machine : M} {log' : Log M A R P H} → machine ≡ rules.after_act now action →
+      IsRun rules start old (λ v. after_act (after_acts count action v) action) machine log' → IsRepeated start old action (count + 1) machine log'
   unfolding after_acts
-  repeat_more {start = start} {action = action} {count = count} repeated heads slot is within same head block set_is kept counted admitted acted =
-      let turned = run_turned rules repeated.run heads (slot + 1) is (omega (arith, within)) same in
-      rw add-one (record {
-        machine_is = acted.next ∙ ap (λ machine. rules.after_act machine action) repeated.machine_is;
-        run = act_more rules slot refl turned head block set_is action kept admitted acted counted;
-      })
+  repeat_more {action = action} repeated next run =
+      rw add-one (record { machine_is = next ∙ ap (λ machine. rules.after_act machine action) repeated.machine_is; run = run })

@@ -1,6 +1,6 @@
 -- How heads and rings hold the actions of a session. There is a head for each action. A head may hold what belongs to its
 -- action; what belongs to the others is in a ring, in the same order.
-use Rattle.std.specs.Prelude.{◌≡◌, ℕ, ◌+◌, ◌≤◌, List, [], ◌∷◌, Option, Some, None, length, drop}
+use Rattle.std.specs.Prelude.{◌≡◌, ℕ, List, [], ◌∷◌, Option, Some, None, length, drop}
 use Rattle.circular_buffer.specs.Buffer.{Buffer}
 use Rattle.pp_history.specs.Heads.{Halves}
 use Rattle.pp_history.specs.Contents.{Contents, contents}
@@ -51,15 +51,14 @@ module _ {A R H : Type 0} (unpacked : H → A × R) where
   IsNext None action old new = new ≡ pushed action old
 
   -- the machine with what the heads and the rings hold
-  abbrev pub session_with : {M : Type 0} → M → Halves H → Buffer (Tail A R) → Buffer A → Contents M A R
-  session_with machine halves tails undone =
+  abbrev pub contents_with : {M : Type 0} → M → Halves H → Buffer (Tail A R) → Buffer A → Contents M A R
+  contents_with machine halves tails undone =
       contents machine (kept_in halves.kept tails.items) (ahead_in halves.ahead undone.items) halves.capacity
 
   -- no action is missing in the heads and the rings
   pub record IsJoined (halves : Halves H) (tails : Buffer (Tail A R)) (undone : Buffer A) : Type 0 where
     pub kept : IsSide unpacked in_tail halves.kept tails halves.capacity
     pub ahead : IsSide (λ (head : H). (unpacked head).0) Some halves.ahead undone halves.capacity
-    pub full : length halves.ahead + length halves.kept ≤ halves.capacity
 
 module _ {M A R P H : Type 0} (rules : Ghosts M A R P H) where
   -- the action was performed, and is kept with a record that leads back

@@ -13,8 +13,8 @@ returns g c =
     let many : length (old.block ∷ rest) ≡ length others = omega (arith, some, length-take (length others - 1) others) in
     let split : others ≡ rest ++ next ∷ [] = sym (take_all (suc (length others - 1)) others (omega (arith, some))) ∙ take-one (length others - 1) others next found in
     let now : c.push_front.new.self ≡ buffer (old.block ∷ rest) old.others.capacity =
-        rw (c.pop_back.ensures.items, c.replace.ensures.value, take_all old.others.capacity (old.block ∷ rest) (omega (arith, many, c.requires.is.all))) at c.push_front.ensures.items in
+    rw (c.pop_back.ensures.items, c.replace.ensures.value, take_all old.others.capacity (old.block ∷ rest) (omega (arith, many, c.requires.is.all))) at c.push_front.ensures.items in
     let is = is_still c.requires.is (block_whole (λ block. block.items) others _ next c.requires.is.others found)
-        (c.requires.is.block, All-take (λ block. length block.items ≡ 256) (length others - 1) others c.requires.is.others) many refl refl in
+    (c.requires.is.block, All-take (λ block. length block.items ≡ 256) (length others - 1) others c.requires.is.others) many refl refl in
     let same = turned old _ rest split refl c.requires.is is refl in
     rw (now, c.replace.ensures.after) (record { is = is; same = record { capacity = refl; halves = λ kept ahead few few'. sym (same kept ahead few few') } })

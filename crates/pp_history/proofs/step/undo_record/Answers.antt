@@ -1,5 +1,5 @@
 use Rattle.pp_history.proofs.Joins.{back_out}
-use Rattle.pp_history.proofs.log.undo_record.Goals as goal
+use Rattle.pp_history.proofs.step.undo_record.Goals as goal
 
 pub returns-in_err-back-in-None : goal.returns-in_err-back-in-None
 returns-in_err-back-in-None g c =

@@ -1,0 +1,140 @@
+//! One step of a session, back or forward.
+
+ghost use Rattle.std.specs.Prelude.{◌≡◌, ◌≤◌, Some, None, IfSome, IsSomeAnd, drop, min, false};
+ghost use Rattle.std.specs.Option.{option_map};
+ghost use Rattle.circular_buffer.specs.Buffer.{buffer};
+ghost use Rattle.pp_history.specs.Joining.{IsActed, IsNext, first_of, left_by};
+ghost use Rattle.pp_history.specs.Marks.{IsUnmarked};
+ghost use Rattle.pp_history.specs.Tails.{in_tail, pushed};
+ghost use Rattle.pp_history.specs.UndoRecord.{whole_record};
+
+use crate::marks::{Marked, Marks};
+use crate::reversible::{Reversible, UndoRecord};
+use crate::tails::{Tails, push};
+use circular_buffer::HeapCircularBuffer;
+
+/// Returns n, or the limit if that is less.
+#[inline(always)]
+pub(crate) fn at_most(n: usize, limit: usize) -> usize
+    ensures { result ≡ min n limit }
+{
+    if n < limit { n } else { limit }
+}
+
+/// Returns `false` only if the undo record of a head, or else of the newest tail, has none of the places that the marks
+/// cover. The marks say so: this is no look at the record.
+#[inline(always)]
+pub(crate) fn may_be_marked<T: Marked>(
+    head: &Option<T::Head>,
+    tails: &Tails<T::Action, T::Record>,
+    marks: &Marks,
+) -> bool
+    ensures { result ≡ false → IfSome (first_of T.unpacked in_tail head.now tails.now.ring.items) (λ newest.
+        IsUnmarked T.marks_of T.old_value marks.now newest.1) }
+{
+    if !marks.has_places {
+        return false;
+    }
+    match undo_record::<T>(head, tails, 0) {
+        Some(back) => T::may_be_marked(&back, marks),
+        None => true,
+    }
+}
+
+/// Returns the undo record of a head, or else that of the tail behind `tail` others.
+#[inline(always)]
+pub(crate) fn undo_record<'a, T: Reversible>(
+    head: &'a Option<T::Head>,
+    tails: &'a Tails<T::Action, T::Record>,
+    tail: usize,
+) -> Option<UndoRecord<'a, T>>
+    ensures { IfSome (first_of T.unpacked in_tail head.now (drop tail tails.now.ring.items)) (λ entry. option_map (whole_record T.unpacked) result ≡ Some entry.1) }
+{
+    match head {
+        Some(head) => Some(UndoRecord::Head(head)),
+        None => match &tails.ring.get(tail)?.back {
+            Some(back) => Some(UndoRecord::Tail(back)),
+            None => None,
+        },
+    }
+}
+
+/// Performs the next action again: that of its head, or else the first of the undone ones, which is taken out.
+#[inline(always)]
+pub(crate) fn perform_next<T: Reversible>(
+    machine: &mut T,
+    head: &mut Option<T::Head>,
+    tails: &mut Tails<T::Action, T::Record>,
+    undone: &mut HeapCircularBuffer<T::Action>,
+)
+    requires admitted { IsSomeAnd (first_of (λ head. (T.unpacked head).0) Some head.old undone.old.items) (λ action. T.admitted machine.old action) }
+    requires room { 1 ≤ tails.old.ring.capacity }
+    ensures kept { IsSomeAnd (first_of (λ head. (T.unpacked head).0) Some head.old undone.old.items) (λ action.
+        IsActed T.Reversible machine.old machine.new action head.new tails.old tails.new) }
+    ensures undone { undone.new ≡ buffer (left_by head.old undone.old.items) undone.old.capacity }
+{
+    match head {
+        Some(held) => {
+            let action = T::unpack(held).0;
+            machine.perform(action, head, tails);
+        }
+        None => perform_undone(machine, head, tails, undone),
+    }
+}
+
+/// Performs the first undone action without a head again, and takes it out.
+#[inline(never)]
+fn perform_undone<T: Reversible>(
+    machine: &mut T,
+    head: &mut Option<T::Head>,
+    tails: &mut Tails<T::Action, T::Record>,
+    undone: &mut HeapCircularBuffer<T::Action>,
+)
+    requires admitted { IsSomeAnd (first_of (λ head. (T.unpacked head).0) Some None undone.old.items) (λ action. T.admitted machine.old action) }
+    requires room { 1 ≤ tails.old.ring.capacity }
+    ensures kept { IsSomeAnd (first_of (λ head. (T.unpacked head).0) Some None undone.old.items) (λ action.
+        IsActed T.Reversible machine.old machine.new action head.new tails.old tails.new) }
+    ensures undone { undone.new ≡ buffer (drop 1 undone.old.items) undone.old.capacity }
+{
+    let action = undone.pop_front().unwrap();
+    machine.perform(action, head, tails);
+}
+
+/// Undoes the newest action, by its head or else by the newest tail, which is discarded. The action is then the next to
+/// perform again.
+#[inline(always)]
+pub(crate) fn undo<T: Reversible>(
+    machine: &mut T,
+    head: &Option<T::Head>,
+    tails: &mut Tails<T::Action, T::Record>,
+    undone: &mut HeapCircularBuffer<T::Action>,
+)
+    requires fits { IsSomeAnd (first_of T.unpacked in_tail head.now tails.old.ring.items) (λ newest. T.fits newest.1 machine.old) }
+    requires room { 1 ≤ undone.old.capacity }
+    ensures undone { IsSomeAnd (first_of T.unpacked in_tail head.now tails.old.ring.items) (λ newest.
+        (machine.new ≡ T.after_undo newest.1 machine.old) × IsNext T.unpacked head.now newest.0 undone.old undone.new) }
+    ensures tails { tails.new.ring ≡ buffer (left_by head.now tails.old.ring.items) tails.old.ring.capacity }
+{
+    match head {
+        Some(head) => machine.undo_head(head),
+        None => undo_tail(machine, tails, undone),
+    }
+}
+
+/// Undoes the action of the newest tail, which is discarded. The action is then the next to perform again.
+#[inline(never)]
+fn undo_tail<T: Reversible>(
+    machine: &mut T,
+    tails: &mut Tails<T::Action, T::Record>,
+    undone: &mut HeapCircularBuffer<T::Action>,
+)
+    requires fits { IsSomeAnd (first_of T.unpacked in_tail None tails.old.ring.items) (λ newest. T.fits newest.1 machine.old) }
+    requires room { 1 ≤ undone.old.capacity }
+    ensures undone { IsSomeAnd (first_of T.unpacked in_tail None tails.old.ring.items) (λ newest.
+        (machine.new ≡ T.after_undo newest.1 machine.old) × (undone.new ≡ pushed newest.0 undone.old)) }
+    ensures tails { tails.new.ring ≡ buffer (drop 1 tails.old.ring.items) tails.old.ring.capacity }
+{
+    let tail = tails.ring.pop_front().unwrap();
+    machine.undo(tail.back.unwrap());
+    push(undone, tail.action.unwrap());
+}
