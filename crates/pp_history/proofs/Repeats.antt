@@ -2,8 +2,8 @@
 use Rattle.pp_history.proofs.Names.{◌≡◌, ℕ, zero, suc, ◌+◌, ◌-◌, ◌≤◌, Option, Some, None, IfSome, add-one, arith, ap, refl, inl}
 use Rattle.pp_history.proofs.Names.{inr, cases_lt, first_of, IsUnmarked, AreUnmarked, after_acts, machine_after, SessionValue}
 use Rattle.pp_history.proofs.{Names.after_act, Names.replay, Names.IsKept, Names.in_tail, Names.Marks, Names.Ghosts, Names.Tails, Names.Log, Names.Heads}
-use Rattle.pp_history.proofs.Names.{IsSession, IsHeads, IsSame, Vec, Global, set, min, ◌<◌, ◌∙◌}
-use Rattle.pp_history.proofs.Runs.{Acted, IsRun, run_none}
+use Rattle.pp_history.proofs.Names.{IsActed, IsSession, IsHeads, IsSame, Vec, Global, set, min, ◌<◌, ◌∙◌}
+use Rattle.pp_history.proofs.Runs.{IsRun, run_none}
 
 module _ {M A : Type 0} where
   -- once more
@@ -32,7 +32,7 @@ module _ {M A R P H : Type 0} (rules : Ghosts M A R P H) where
 
   -- once more, without a covered place
   pub unmarked_more : (marks_of : P → Option (ℕ × ℕ)) (marks : Marks) {action : A} {count : ℕ} {start machine machine' : M} {head' : Option H} {tails tails' : Tails A R}
-      → machine ≡ machine_after rules count action start → machine' ≡ machine_after rules (count + 1) action start → Acted rules machine machine' action head' tails tails'
+      → machine ≡ machine_after rules count action start → machine' ≡ machine_after rules (count + 1) action start → IsActed rules machine machine' action head' tails tails'
       → 1 ≤ tails.ring.capacity → IfSome (first_of rules.unpacked in_tail head' tails'.ring.items) (λ newest. IsUnmarked marks_of rules.old_value marks newest.1)
       → AreUnmarked rules marks_of marks action count start → AreUnmarked rules marks_of marks action (count + 1) start
   unmarked_more marks_of marks {action = action} {count = count} {head' = head'} {tails = tails} {tails' = tails'} old new done room unmarked before k less = elim (cases_lt k count) [

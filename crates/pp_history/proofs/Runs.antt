@@ -20,17 +20,10 @@ module _ {M A R P H : Type 0} (rules : Ghosts M A R P H) where
     pub ahead_is : log.ahead ≡ length (contents_of rules.unpacked machine log).ahead
     ahead_is = sym (is.joined.ahead.all ∙ length_ahead log.heads is.heads log.at is.within log.kept log.ahead is.full)
 
-  -- the parts of `IsActed`
-  pub record Acted (old new : M) (action : A) (head : Option H) (tails tails' : Tails A R) : Type 0 where
-    pub back : R
-    pub next : new ≡ rules.after_act old action
-    pub fits : rules.fits back new
-    pub leads_back : rules.after_undo back new ≡ old
-    pub kept : IsKept rules.unpacked head action back tails tails'
-
-  pub parts : {old new : M} {action : A} {head : Option H} {tails tails' : Tails A R} →
-      IsActed rules old new action head tails tails' → Acted old new action head tails tails'
-  parts (next, (back, fits, leads_back, kept)) = record { back = back; next = next; fits = fits; leads_back = leads_back; kept = kept }
+  pub acted : {old new : M} {action : A} {head : Option H} {tails tails' : Tails A R} → new ≡ rules.after_act old action →
+      ((back : R) × rules.fits back new × (rules.after_undo back new ≡ old) × IsKept rules.unpacked head action back tails tails') →
+      IsActed rules old new action head tails tails'
+  acted next (back, fits, leads_back, kept) = record { next = next; back = back; fits = fits; leads_back = leads_back; kept = kept }
 
   -- what the heads and the rings hold after some steps, which make `after v` of the session value v
   pub record IsSpan (start : Contents M A R) (after : SessionValue M A → SessionValue M A) (halves : Halves H) (machine : M)
@@ -129,7 +122,7 @@ module _ {M A R P H : Type 0} (rules : Ghosts M A R P H) where
     -- an action was performed, and its head is written in the slot before
     module _ {after : SessionValue M A → SessionValue M A} (run : IsRun start old after now log) (slot : ℕ) (at : log.at ≡ slot + 1)
         (head : Option H) (block : Vec (Option H) Global) (set_is : block.items ≡ set log.heads.block.items slot head)
-        {machine : M} {action : A} {tails : Tails A R} (acted : Acted now machine action head log.tails tails)
+        {machine : M} {action : A} {tails : Tails A R} (acted : IsActed rules now machine action head log.tails tails)
         (kept : ℕ) (counted : kept ≡ min (log.kept + 1) log.heads.capacity) where
       abbrev later : ℕ → List (Option H)
       later ahead = take ahead (before log.heads slot)
@@ -167,17 +160,6 @@ module _ {M A R P H : Type 0} (rules : Ghosts M A R P H) where
             });
           }
 
-      -- one more action, and none is ahead
-      act_more : rules.admitted now action → IsRun start old (λ v. after_act (after v) action) machine (record log {
-        heads = record log.heads { block = block };
-        at = slot;
-        kept = kept;
-        ahead = 0;
-        tails = tails;
-      })
-      act_more admitted =
-          acted_run log.undone 0 (omega (arith, counted)) (record { room = run.span.joined.ahead.room; all = refl }) admitted tt _ (λ v was. refl)
-
     -- one more step forward
     module _ (count : ℕ) (run : IsRun start old (λ v. after_forward v count) now log) (slot : ℕ) (at : log.at ≡ slot + 1)
         (head : Option H) (found : slice_get log.heads.block.items slot ≡ Some head) (less : ℕ) (one : log.ahead ≡ suc less) where
@@ -208,7 +190,7 @@ module _ {M A R P H : Type 0} (rules : Ghosts M A R P H) where
           })
       unfolding next
       forward_more session head' block set_is {machine = machine} tails {undone = undone} kept counted did left =
-          let acted : Acted now machine next.item head' log.tails tails = parts (rw next.is at did) in
+          let acted = rw next.is at did in
           let fewer = side_less action_of Some head (take less (before log.heads slot)) log.undone log.heads.capacity undone there.joined.ahead left in
           let admits = rw fewer.0 at (there.moves session.value session.is_at).admits_ahead in
           acted_run run slot at head' block set_is acted kept (omega (arith, run.full, counted, one)) undone less (omega (arith, run.full, counted, one))
@@ -219,7 +201,7 @@ module _ {M A R P H : Type 0} (rules : Ghosts M A R P H) where
   pub act_next : {start : M} {old : Log M A R P H} {after : SessionValue M A → SessionValue M A} {now : M} {log : Log M A R P H} →
       IsRun start old after now log → (heads : Heads H) (slot : ℕ) → IsHeads heads → slot < 256 → IsSame log.heads log.at heads (slot + 1) →
       (head : Option H) (block : Vec (Option H) Global) → block.items ≡ set heads.block.items slot head → {machine : M} {action : A} {tails : Tails A R} →
-      Acted now machine action head log.tails tails → (kept : ℕ) → kept ≡ min (log.kept + 1) heads.capacity → rules.admitted now action →
+      IsActed rules now machine action head log.tails tails → (kept : ℕ) → kept ≡ min (log.kept + 1) heads.capacity → rules.admitted now action →
       IsRun start old (λ v. after_act (after v) action) machine (record log {
         heads = record heads { block = block };
         at = slot;
@@ -228,4 +210,6 @@ module _ {M A R P H : Type 0} (rules : Ghosts M A R P H) where
         tails = tails;
       })
   act_next run heads slot is within same head block set_is acted kept counted admitted =
-      act_more (run_turned run heads (slot + 1) is (omega (arith, within)) same) slot refl head block set_is acted kept counted admitted
+      let turned = run_turned run heads (slot + 1) is (omega (arith, within)) same in
+      acted_run turned slot refl head block set_is acted kept counted _ 0 (omega (arith, counted))
+      (record { room = turned.span.joined.ahead.room; all = refl }) admitted tt _ (λ v was. refl)

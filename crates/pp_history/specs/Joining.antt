@@ -60,8 +60,10 @@ module _ {A R H : Type 0} (unpacked : H → A × R) where
     pub kept : IsSide unpacked in_tail halves.kept tails halves.capacity
     pub ahead : IsSide (λ (head : H). (unpacked head).0) Some halves.ahead undone halves.capacity
 
-module _ {M A R P H : Type 0} (rules : Ghosts M A R P H) where
-  -- the action was performed, and is kept with a record that leads back
-  abbrev pub IsActed : M → M → A → Option H → Tails A R → Tails A R → Type 0
-  IsActed old new action head tails tails' =
-      (new ≡ rules.after_act old action) × ((back : R) × rules.fits back new × (rules.after_undo back new ≡ old) × IsKept rules.unpacked head action back tails tails')
+-- the action was performed, and is kept with a record that leads back
+pub record IsActed {M A R P H : Type 0} (rules : Ghosts M A R P H) (old new : M) (action : A) (head : Option H) (tails tails' : Tails A R) : Type 0 where
+  pub next : new ≡ rules.after_act old action
+  pub back : R
+  pub fits : rules.fits back new
+  pub leads_back : rules.after_undo back new ≡ old
+  pub kept : IsKept rules.unpacked head action back tails tails'

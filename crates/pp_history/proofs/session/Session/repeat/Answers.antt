@@ -1,5 +1,5 @@
 use Rattle.pp_history.proofs.Names.{◌≡◌, ◌+◌, ◌-◌, arith, refl, min, with_item}
-use Rattle.pp_history.proofs.{Runs.Acted, Runs.act_next, Runs.parts, Runs.run_ends, Repeats.repeat_more, Repeats.repeat_none, Repeats.unmarked_more}
+use Rattle.pp_history.proofs.{Runs.act_next, Runs.acted, Runs.run_ends, Repeats.repeat_more, Repeats.repeat_none, Repeats.unmarked_more}
 use Rattle.pp_history.proofs.session.Session.repeat.Goals as goal
 
 pub loop-count-init : goal.loop-count-init
@@ -25,9 +25,7 @@ loop-count-preserved g c =
     let T = g.T.Reversible in
     let before = c.loop-count.invariant in
     let slot = c.slot_before-at.ensures in
-    let acted : Acted T c.loop-count.self-inside.machine c.perform.new.self c.repeated.result c.perform.new.head c.loop-count.self-inside.log.tails
-    c.perform.new.tails = parts T (c.perform.ensures.next, c.perform.ensures.kept) in
-    let acted = rw c.repeated.ensures at acted in
+    let acted = rw c.repeated.ensures at (acted T c.perform.ensures.next c.perform.ensures.kept) in
     let more = repeat_more T before.repeated acted.next (act_next T before.repeated.run _ _ slot.is slot.within slot.same c.perform.new.head
     (with_item c.slot_before-at.new.self.block c.slot_before-at.result c.perform.new.head) refl acted
     (min (c.self.inside.log.kept + (c.loop-count.count + 1)) c.slot_before-at.new.self.capacity) (omega (arith, slot.same.capacity))
@@ -49,9 +47,7 @@ loop-count-preserved-then-may_be_marked g c =
     let T = g.T.Reversible in
     let before = c.loop-count.invariant in
     let slot = c.slot_before-at.ensures in
-    let acted : Acted T c.loop-count.self-inside.machine c.perform.new.self c.repeated.result c.perform.new.head c.loop-count.self-inside.log.tails
-    c.perform.new.tails = parts T (c.perform.ensures.next, c.perform.ensures.kept) in
-    let acted = rw c.repeated.ensures at acted in
+    let acted = rw c.repeated.ensures at (acted T c.perform.ensures.next c.perform.ensures.kept) in
     let count : c.loop-count.count + 1 - 1 ≡ c.loop-count.count = omega arith in
     record {
       at_most = omega arith;
