@@ -1,6 +1,5 @@
-use Rattle.pp_history.proofs.Names.{◌≡◌, ◌+◌, length, Option, Some, None, IfSome, IsNone, option_map, refl, arith}
-use Rattle.pp_history.proofs.Names.{halves_in, in_tail, kept_in, whole_record}
-use Rattle.pp_history.proofs.Joins.{item-at}
+use Rattle.pp_history.proofs.Names.{◌≡◌, Option, Some, None, IfSome, IsNone, option_map, refl, arith}
+use Rattle.pp_history.proofs.{Names.halves_in, Names.in_tail, Names.whole_record, Joins.item-at}
 use Rattle.pp_history.proofs.log.Log.newest.Goals as goal
 
 -- the undo record of an item is handed out
@@ -13,9 +12,7 @@ pub returns : goal.returns
 returns g c =
     let log = c.args.self.now in
     let unpacked = g.T.Reversible.unpacked in
-    let found = c.get.ensures log.kept (omega (arith, c.if-self-eq0.false)) in
-    let heads = (halves_in log).kept in
-    let all : 0 + length (kept_in unpacked heads log.tails.ring.items) ≡ length heads = omega (arith, c.requires.joined.kept.all) in
-    let at = item-at unpacked in_tail 0 heads log.tails.ring.items c.get.result.now all found in
+    let found = c.get.ensures log.kept (omega arith) in
+    let at = item-at unpacked in_tail 0 (halves_in log).kept log.tails.ring.items _ (omega arith) found in
     let handed = out (whole_record unpacked) c.undo_record.result at.item (rw at.is at c.undo_record.ensures) in
     record { some = rw at.split handed.0; none = (λ none. absurd (handed.1 none), λ none. absurd (c.if-self-eq0.false none)) }
