@@ -37,16 +37,6 @@ module _ {H B X : Type 0} (in_head : H → X) (in_other : B → Option X) where
   IsPut (Some head) item old new = (in_head head ≡ item) × (new ≡ old)
   IsPut None item old new = (other : B) × ((in_other other ≡ Some item) × (new ≡ pushed other old))
 
-  -- a side with one more head in front. If there are too many then, the last one is discarded
-  side_put : (head : Option H) (heads : List (Option H)) (item : X) (old new : Buffer B) (capacity : ℕ) → IsPut head item old new →
-      IsSide in_head in_other heads old capacity → 1 ≤ capacity → (joined in_head in_other (take capacity (head ∷ heads)) new.items
-      ≡ take capacity (item ∷ joined in_head in_other heads old.items))
-      × IsSide in_head in_other (take capacity (head ∷ heads)) new capacity
-  side_put head heads item old new zero is side some = absurd (omega (arith, some))
-  side_put head heads item old new (suc n) is side some =
-      let many = n + length old.items in
-      grind (arith, joined_take n many heads old.items, take_all many old.items, joined_take n n heads old.items, length-take)
-
   module _ (head : Option H) (heads : List (Option H)) (old : Buffer B) (capacity : ℕ) where
     -- what belongs to the first head of a side
     pub side_first : IsSide in_head in_other (head ∷ heads) old capacity → ItemAt 0 (head ∷ heads) old.items head
@@ -58,13 +48,15 @@ module _ {H B X : Type 0} (in_head : H → X) (in_other : B → Option X) where
         ≡ (side_first side).item ∷ joined in_head in_other heads new.items) × IsSide in_head in_other heads new capacity
     side_less new side behind = rw behind (grind (arith, (side_first side).split))
 
-    -- a side with one more head in front
-    pub side_more : (new : Buffer B) (item : X) → IsPut head item old new → IsSide in_head in_other heads old capacity →
-        length heads < capacity → (joined in_head in_other (head ∷ heads) new.items
-        ≡ item ∷ joined in_head in_other heads old.items) × IsSide in_head in_other (head ∷ heads) new capacity
-    side_more new item is side few =
-        let more = side_put head heads item old new capacity is side in
-        grind (arith, more, take_all capacity (head ∷ heads), take_all capacity (item ∷ joined in_head in_other heads old.items))
+  -- a side with one more head in front
+  pub side_more : (head : Option H) (heads : List (Option H)) (old : Buffer B) (capacity : ℕ) (new : Buffer B) (item : X) →
+      IsPut head item old new → IsSide in_head in_other heads old capacity → length heads < capacity →
+      (joined in_head in_other (head ∷ heads) new.items ≡ item ∷ joined in_head in_other heads old.items)
+      × IsSide in_head in_other (head ∷ heads) new capacity
+  side_more head heads old zero new item is side few = absurd (omega arith)
+  side_more head heads old (suc n) new item is side few =
+      let enough = joined_take (length heads) n heads old.items (omega arith) in
+      grind (arith, enough, take_all (length heads) heads, take_all (length heads) (joined in_head in_other heads old.items))
 
 module _ {A R H : Type 0} (unpacked : H → A × R) where
   pub next_put : (head : Option H) (newest : A × R) (tails : List (Tail A R)) (old new : Buffer A) → first_of unpacked in_tail head
@@ -76,5 +68,8 @@ module _ {A R H : Type 0} (unpacked : H → A × R) where
       IsKept unpacked head action back old new → IsSide unpacked in_tail heads old.ring capacity → 1 ≤ capacity
       → (kept_in unpacked (take capacity (head ∷ heads)) new.ring.items ≡ take capacity ((action, back) ∷
       kept_in unpacked heads old.ring.items)) × IsSide unpacked in_tail (take capacity (head ∷ heads)) new.ring capacity
-  kept_more head action back old new heads capacity kept side some =
-      side_put unpacked in_tail head heads (action, back) old.ring new.ring capacity (grind arith) side some
+  kept_more head action back old new heads zero kept side some = absurd (omega (arith, some))
+  kept_more head action back old new heads (suc n) kept side some =
+      let many = n + length old.ring.items in
+      let more = side_more unpacked in_tail head (take n heads) old.ring (suc n) new.ring (action, back) in
+      grind (arith, more, joined_take unpacked in_tail n many heads old.ring.items, take_all many old.ring.items, length-take)
