@@ -1,6 +1,6 @@
 -- Rings hold one list of actions with their undo records, and continue to hold it.
 use Rattle.pp_history.proofs.Names.{◌≡◌, ℕ, zero, suc, ◌+◌, ◌<◌, ◌≤◌, List, [], ◌∷◌, ◌++◌, length, take, drop, Option, Some, None}
-use Rattle.pp_history.proofs.Names.{slice_get, refl, ap, ◌∙◌, arith, drop-cons, length-take, take-suc, take_all}
+use Rattle.pp_history.proofs.Names.{slice_get, refl, ap, ◌∙◌, arith, drop-cons, common_steps, take-suc}
 use Rattle.pp_history.proofs.Names.{get_or_from_slice_get, slice_get_within, Buffer, buffer, IsNext, IsSide, first_of, left_by}
 use Rattle.pp_history.proofs.Names.{joined, kept_in, IsKept, in_tail, pushed, Tail, Tails}
 
@@ -55,8 +55,7 @@ module _ {H B X : Type 0} (in_head : H → X) (in_other : B → Option X) where
       × IsSide in_head in_other (head ∷ heads) new capacity
   side_more head heads old zero new item is side few = absurd (omega arith)
   side_more head heads old (suc n) new item is side few =
-      let enough = joined_take (length heads) n heads old.items (omega arith) in
-      grind (arith, enough, take_all (length heads) heads, take_all (length heads) (joined in_head in_other heads old.items))
+      grind (arith, common_steps, joined_take (length heads) n heads old.items)
 
 module _ {A R H : Type 0} (unpacked : H → A × R) where
   pub next_put : (head : Option H) (newest : A × R) (tails : List (Tail A R)) (old new : Buffer A) → first_of unpacked in_tail head
@@ -70,6 +69,5 @@ module _ {A R H : Type 0} (unpacked : H → A × R) where
       kept_in unpacked heads old.ring.items)) × IsSide unpacked in_tail (take capacity (head ∷ heads)) new.ring capacity
   kept_more head action back old new heads zero kept side some = absurd (omega (arith, some))
   kept_more head action back old new heads (suc n) kept side some =
-      let many = n + length old.ring.items in
       let more = side_more unpacked in_tail head (take n heads) old.ring (suc n) new.ring (action, back) in
-      grind (arith, more, joined_take unpacked in_tail n many heads old.ring.items, take_all many old.ring.items, length-take)
+      grind (arith, common_steps, more, joined_take unpacked in_tail n (n + length old.ring.items) heads old.ring.items)
