@@ -1,6 +1,6 @@
 -- Rings hold one list of actions with their undo records, and continue to hold it.
 use Rattle.pp_history.proofs.Names.{◌≡◌, ℕ, zero, suc, ◌+◌, ◌<◌, ◌≤◌, List, [], ◌∷◌, ◌++◌, length, take, drop, Option, Some, None}
-use Rattle.pp_history.proofs.Names.{slice_get, refl, ap, ◌∙◌, arith, drop-cons, common_steps, take-suc}
+use Rattle.pp_history.proofs.Names.{slice_get, refl, arith, drop-cons, common_steps, take-suc}
 use Rattle.pp_history.proofs.Names.{get_or_from_slice_get, slice_get_within, Buffer, buffer, IsNext, IsSide, first_of, left_by}
 use Rattle.pp_history.proofs.Names.{joined, kept_in, IsKept, in_tail, pushed, Tail, Tails}
 
