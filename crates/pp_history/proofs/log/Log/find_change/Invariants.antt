@@ -4,8 +4,8 @@ use Rattle.pp_history.proofs.log.Log.find_change.Given as goal
 
 abbrev pub invariant-loop-k : goal.invariant-loop-k
 invariant-loop-k g l = record {
-  passed : Passed g.T.Reversible (g.T.Reversible.value_at l.machine) l.places (records_of g.T.Reversible.unpacked l.self) l.k l.k
-      (halves_in l.self).kept (drop l.tail l.self.tails.ring.items);
+  passed : Passed g.T.Reversible (g.T.Reversible.value_at l.machine) l.places (records_of g.T.Reversible.unpacked l.self)
+      (halves_in l.self).kept l.k (drop l.tail l.self.tails.ring.items);
   few : l.tail ≤ l.k;
   counts_up : l.fn.looks.count ≤ l.looks.count;
   cost : l.looks.count ≤ l.fn.looks.count + length l.places * l.k;
