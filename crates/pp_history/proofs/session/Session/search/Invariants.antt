@@ -4,8 +4,8 @@ use Rattle.pp_history.proofs.session.Session.search.Given as goal
 
 abbrev pub invariant-loop-k : goal.invariant-loop-k
 invariant-loop-k g l = record {
-  passed : Passed g.T.Reversible (g.T.Reversible.value_at l.self.machine) l.places l.self.records l.k l.k
-      (halves_in l.self-inside.log).kept (drop l.tail l.self-inside.log.tails.ring.items);
+  passed : Passed g.T.Reversible (g.T.Reversible.value_at l.self.machine) l.places l.self.records
+      (halves_in l.self-inside.log).kept l.k (drop l.tail l.self-inside.log.tails.ring.items);
   few : l.tail ≤ l.k;
   counts_up : l.fn.looks.count ≤ l.looks.count;
   cost : l.looks.count ≤ l.fn.looks.count + length l.places * l.k;
