@@ -4,7 +4,7 @@ use Rattle.pp_history.proofs.Names.{drop, reverse, set, Option, Some, slice_get,
 use Rattle.pp_history.proofs.Names.{length-take, length-drop, length-append, length-reverse, take_all, drop_all, append-nil, append_assoc}
 use Rattle.pp_history.proofs.Names.{take-append-le, take-take, take-set, drop-set, reverse-append, cases_lt, flat_map, flat_map-append}
 use Rattle.pp_history.proofs.Names.{slice_get_within, slice_get-append_left, slice_get-append_right, slice_get-drop, slice_get-take, AllByRecursion, div-add-mod}
-use Rattle.pp_history.proofs.Names.{add-one, get_or, slice_get_read, Heads, Halves, IsHeads, IsSame, behind, before, halves, others_in}
+use Rattle.pp_history.proofs.Names.{common_steps, All-get_or, get_or_from_slice_get, add-one, get_or, slice_get_read, Heads, Halves, IsHeads, IsSame, behind, before, halves, others_in}
 use Rattle.pp_history.proofs.Joins.{drop-at, take-one}
 
 module _ {B X : Type 0} (items : B → List X) where
@@ -16,21 +16,17 @@ module _ {B X : Type 0} (items : B → List X) where
   length_slots (block ∷ blocks) whole = omega (arith, length-append (items block) (flat_map items blocks), whole.0, length_slots blocks whole.1)
 
   pub block_whole : (blocks : List B) (k : ℕ) (block : B) → AreWhole blocks → slice_get blocks k ≡ Some block → length (items block) ≡ 256
-  block_whole [] k block whole found = absurd (omega (arith, slice_get_within [] k block found))
-  block_whole (first ∷ blocks) zero block whole found = let same : first ≡ block = cc in rw same at whole.0
-  block_whole (first ∷ blocks) (suc k) block whole found = block_whole blocks k block whole.1 found
+  block_whole blocks k block whole found =
+      grind (arith, All-get_or (λ block. length (items block) ≡ 256) blocks k block, get_or_from_slice_get blocks k block block, slice_get_within blocks k block found)
 
   -- a slot of the k-th block, among all slots
   slot_in : (blocks : List B) (k : ℕ) (block : B) (j n : ℕ) (x : X) → n ≡ 256 * k + j → AreWhole blocks →
       slice_get blocks k ≡ Some block → slice_get (items block) j ≡ Some x → slice_get (flat_map items blocks) n ≡ Some x
   slot_in [] k block j n x at whole found here = absurd (omega (arith, slice_get_within [] k block found))
   slot_in (first ∷ blocks) zero block j n x at whole found here =
-      let same : first ≡ block = cc in
-      let at : n ≡ j = omega (arith, at) in
-      rw (same, at) (slice_get-append_left (items block) (flat_map items blocks) j (slice_get_within (items block) j x here) ∙ here)
+      grind (arith, slice_get-append_left (items block) (flat_map items blocks) j, slice_get_within (items block) j x here)
   slot_in (first ∷ blocks) (suc k) block j n x at whole found here =
-      slice_get-append_right (items first) (flat_map items blocks) n (256 * k + j) (omega (arith, at, whole.0))
-      ∙ slot_in blocks k block j (256 * k + j) x refl whole.1 found here
+      grind (arith, slice_get-append_right (items first) (flat_map items blocks) n (256 * k + j), slot_in blocks k block j (256 * k + j) x)
 
   -- the slots behind and before a place between two blocks, with the one of them or the other in use
   module _ (here there : B) (rest : List B) (n : ℕ) (long : length (items there) ≡ 256) (whole : AreWhole rest) (few : n ≤ 256 * (length rest + 1)) where
@@ -56,10 +52,7 @@ module _ {B X : Type 0} (items : B → List X) where
 
 -- one more item in front of the first len ones, at most n
 first_taken : {X : Type 0} (len n : ℕ) (x : X) (xs : List X) → take (min (len + 1) n) (x ∷ xs) ≡ take n (x ∷ take len xs)
-first_taken len n x xs = elim (cases_lt len n) [
-  | inl less ↦ let is : min (len + 1) n ≡ suc len = omega (arith, less) in rw is (sym (take_all n (x ∷ take len xs) (omega (arith, less, length-take len xs))))
-  | inr past ↦ let is : min (len + 1) n ≡ n = omega (arith, past) in rw is (sym (take-take n (suc len) (x ∷ xs) (omega (arith, past))))
-]
+first_taken len n x xs = grind (arith, common_steps, cases_lt len n)
 
 module _ {H : Type 0} where
   abbrev items : Vec (Option H) Global → List (Option H)
@@ -85,7 +78,7 @@ module _ {H : Type 0} where
     -- the head of a slot is the first behind it, and the last before the next one
     module _ (found : slice_get heads.block.items n ≡ Some x) (kept ahead : ℕ) where
       pub halves_behind : halves heads n (suc kept) ahead ≡ record (halves heads n kept ahead) { kept = x ∷ take kept (behind heads (n + 1)) }
-      halves_behind = rw (add-one, drop-at n heads.block.items x found) refl
+      halves_behind = grind (arith, drop-at n heads.block.items x found)
 
       pub halves_before : halves heads (n + 1) kept (suc ahead) ≡ record (halves heads (n + 1) kept ahead) { ahead = x ∷ take ahead (before heads n) }
       halves_before = rw (
@@ -100,33 +93,19 @@ module _ {H : Type 0} where
         (kept kept' ahead : ℕ) → kept' ≡ min (kept + 1) heads.capacity → halves (record heads { block = block }) n kept' ahead
         ≡ record (halves heads n kept ahead) { kept = take heads.capacity (x ∷ take kept (behind heads (n + 1))) }
     halves_written block within is kept kept' ahead more =
-        rw (more, is, drop-set heads.block.items n x within, take-set heads.block.items n x, first_taken kept heads.capacity x (drop (n + 1) heads.block.items ++ others_in heads)) refl
+        grind (arith, common_steps, drop-set heads.block.items n x within, take-set heads.block.items n x, first_taken kept heads.capacity x (drop (n + 1) heads.block.items ++ others_in heads))
 
 -- other blocks of the same sizes
 pub is_still : {H : Type 0} {old new : Heads H} → IsHeads old → length new.block.items ≡ 256 → AreWhole items new.others.items →
     length new.others.items ≡ length old.others.items → new.others.capacity ≡ old.others.capacity → new.capacity ≡ old.capacity → IsHeads new
-is_still is long whole many room same = record {
-  block = long;
-  others = whole;
-  all = many ∙ is.all ∙ sym room;
-  some_room = rw same is.some_room;
-  bounded = rw same is.bounded;
-  enough = rw (same, many) is.enough;
-  few = rw many is.few;
-}
+is_still is long whole many room same = grind arith
 
 module _ {H : Type 0} (heads : Heads H) (is : IsHeads heads) (n : ℕ) (within : n ≤ 256) where
   length_behind : heads.capacity ≤ length (behind heads n)
-  length_behind = omega (arith, length-append (drop n heads.block.items) (others_in heads), length_slots items heads.others.items is.others, is.enough)
+  length_behind = grind (arith, common_steps, length_slots items heads.others.items is.others)
 
   length_before : heads.capacity ≤ length (before heads n)
-  length_before = omega (
-    arith,
-    length-reverse (others_in heads ++ take n heads.block.items),
-    length-append (others_in heads) (take n heads.block.items),
-    length_slots items heads.others.items is.others,
-    is.enough,
-  )
+  length_before = grind (arith, common_steps, length_slots items heads.others.items is.others)
 
   module _ (kept ahead : ℕ) (full : ahead + kept ≤ heads.capacity) where
     pub length_kept : length (halves heads n kept ahead).kept ≡ kept

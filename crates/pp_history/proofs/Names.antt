@@ -17,7 +17,7 @@ pub use Rattle.pp_history.specs.declared.tails.Tail.{Tail}
 pub use Rattle.pp_history.specs.declared.tails.Tails.{Tails}
 pub use Rattle.std.proofs.lemmas.Bool.{cases_lt}
 pub use Rattle.std.proofs.lemmas.Grind.{flat_map-append, common_steps}
-pub use Rattle.std.proofs.ByRecursion.{All-take, All-drop, All-push}
+pub use Rattle.std.proofs.ByRecursion.{All-get_or, All-take, All-drop, All-push}
 pub use Rattle.std.specs.List.{AllByRecursion, flat_map}
 pub use Rattle.circular_buffer.proofs.Places.{slice_get-append_left, slice_get-append_right, slice_get-drop, slice_get-take}
 pub use Rattle.pp_history.specs.Heads.{IsHeads, IsSame, Halves, halves, behind, before, others_in}

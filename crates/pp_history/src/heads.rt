@@ -85,6 +85,7 @@ impl<H: Drop> Heads<H> {
     }
 
     /// The next block behind comes into use.
+    #[cold]
     #[inline(never)]
     fn turn_back(&mut self)
         requires is { IsHeads self.old }
@@ -96,6 +97,7 @@ impl<H: Drop> Heads<H> {
     }
 
     /// The next block before comes into use.
+    #[cold]
     #[inline(never)]
     fn turn_forward(&mut self)
         requires is { IsHeads self.old }

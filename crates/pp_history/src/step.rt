@@ -1,6 +1,6 @@
 //! One step of a session, back or forward.
 
-ghost use Rattle.std.specs.Prelude.{◌≡◌, ◌≤◌, Some, None, IfSome, IsSomeAnd, drop, min, false};
+ghost use Rattle.std.specs.Prelude.{◌≡◌, ◌≤◌, Some, None, IfSome, IsSomeAnd, drop, false};
 ghost use Rattle.std.specs.Option.{option_map};
 ghost use Rattle.circular_buffer.specs.Buffer.{buffer};
 ghost use Rattle.pp_history.specs.Joining.{IsActed, IsNext, first_of, left_by};
@@ -12,14 +12,6 @@ use crate::marks::{Marked, Marks};
 use crate::reversible::{Reversible, UndoRecord};
 use crate::tails::{Tails, push};
 use circular_buffer::HeapCircularBuffer;
-
-/// Returns n, or the limit if that is less.
-#[inline(always)]
-pub(crate) fn at_most(n: usize, limit: usize) -> usize
-    ensures { result ≡ min n limit }
-{
-    if n < limit { n } else { limit }
-}
 
 /// Returns `false` only if the undo record of a head, or else of the newest tail, has none of the places that the marks
 /// cover. The marks say so: this is no look at the record.

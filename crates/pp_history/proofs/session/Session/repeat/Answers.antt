@@ -60,7 +60,7 @@ loop-count-preserved-then-may_be_marked g c =
 
 pub invariant_of-self : goal.invariant_of-self
 invariant_of-self g c =
-    rw c.at_most-self-inside.ensures (run_ends g.T.Reversible c.self.invariant c.loop-count.invariant.repeated.run)
+    rw c.min-self-inside.ensures (run_ends g.T.Reversible c.self.invariant c.loop-count.invariant.repeated.run)
 
 pub returns-clause-unmarked : goal.returns-clause-unmarked
 returns-clause-unmarked g c = rw (← c.self.view_is) c.loop-count.invariant.before
