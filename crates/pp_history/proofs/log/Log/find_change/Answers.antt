@@ -1,24 +1,21 @@
-use Rattle.pp_history.proofs.Names.{◌∙◌, arith, drop-drop, rules, sym, whole_record}
+use Rattle.pp_history.proofs.Names.{◌∙◌, arith, drop-drop, rules, sym}
 use Rattle.pp_history.proofs.Search.{seen}
 use Rattle.pp_history.proofs.log.Log.find_change.Goals as goal
 use Rattle.pp_history.proofs.log.Log.find_change.Goals.{in-Some, in-None}
 
 pub unwrap-back-requires : goal.unwrap-back-requires
 unwrap-back-requires g c =
-    let found = c.get-head.ensures c.args.self.now.kept c.loop-k-test.true in
-    let next = seen g.T.Reversible (whole_record g.T.Reversible.unpacked) _ c.loop-k.invariant.passed found c.undo_record.ensures in
+    let next = seen g.T.Reversible _ _ c.loop-k.invariant.passed (c.get-head.ensures _ c.loop-k-test.true) c.undo_record.ensures in
     grind (arith, next)
 
 pub returns-then-is_changed-clause-value : goal.returns-then-is_changed-clause-value
 returns-then-is_changed-clause-value g c =
-    let found = c.get-head.ensures c.args.self.now.kept c.loop-k-test.true in
-    let next = seen g.T.Reversible (whole_record g.T.Reversible.unpacked) _ c.loop-k.invariant.passed found c.undo_record.ensures in
+    let next = seen g.T.Reversible _ _ c.loop-k.invariant.passed (c.get-head.ensures _ c.loop-k-test.true) c.undo_record.ensures in
     sym ((rw c.unwrap-back.ensures at next).0 (sym c.is_changed.ensures.value ∙ c.if-is_changed.true))
 
 pub loop-k-preserved : goal.loop-k-preserved
 loop-k-preserved g c =
-    let found = c.get-head.ensures c.args.self.now.kept c.loop-k-test.true in
-    let next = seen g.T.Reversible (whole_record g.T.Reversible.unpacked) _ c.loop-k.invariant.passed found c.undo_record.ensures in
+    let next = seen g.T.Reversible _ _ c.loop-k.invariant.passed (c.get-head.ensures _ c.loop-k-test.true) c.undo_record.ensures in
     let passed = (rw c.unwrap-back.ensures at next).1 (sym c.is_changed.ensures.value ∙ c.if-is_changed.false) in
     elim c.match-head.branch [
       | in-Some w ↦ let passed = rw w.in-Some.is at passed in rw w.tail-is (search rules)
