@@ -58,10 +58,6 @@ module _ {H B X : Type 0} (in_head : H → X) (in_other : B → Option X) where
       grind (arith, common_steps, joined_take (length heads) n heads old.items)
 
 module _ {A R H : Type 0} (unpacked : H → A × R) where
-  pub next_put : (head : Option H) (newest : A × R) (tails : List (Tail A R)) (old new : Buffer A) → first_of unpacked in_tail head
-      tails ≡ Some newest → IsNext unpacked head newest.0 old new → IsPut (λ (h : H). (unpacked h).0) Some head newest.0 old new
-  next_put head newest tails old new is next = grind arith
-
   -- a kept action more. If there are too many then, the last one is discarded
   pub kept_more : (head : Option H) (action : A) (back : R) (old new : Tails A R) (heads : List (Option H)) (capacity : ℕ) →
       IsKept unpacked head action back old new → IsSide unpacked in_tail heads old.ring capacity → 1 ≤ capacity

@@ -5,7 +5,7 @@ use Rattle.pp_history.proofs.Names.{Halves, Heads, halves, behind, before, IsAct
 use Rattle.pp_history.proofs.Names.{AdmitsInTurn, IsAt, ahead_in, first_of, halves_in, kept_in, left_by, contents_of, contents_with, Contents, IsSession, Moves}
 use Rattle.pp_history.proofs.Names.{SessionValue, after_act, after_back, after_forward, IsKept, in_tail, Ghosts, Tails}
 use Rattle.pp_history.proofs.Blocks.{halves_before, halves_behind, halves_written, is_still, length_ahead, length_kept}
-use Rattle.pp_history.proofs.Joins.{ItemAt, kept_more, next_put, side_first, side_less, side_more}
+use Rattle.pp_history.proofs.Joins.{ItemAt, kept_more, side_first, side_less, side_more}
 use Rattle.pp_history.proofs.Steps.{after_back-more, after_forward-more, back_at, forward_is, newest-step, put_at}
 
 module _ {M A R P H : Type 0} (rules : Ghosts M A R P H) where
@@ -105,8 +105,7 @@ module _ {M A R P H : Type 0} (rules : Ghosts M A R P H) where
       back_more {machine = machine} {tails = tails} {undone = undone} more counted within undid left =
           let did = rw newest.is at undid in
           let fewer = side_less rules.unpacked in_tail head ks log.tails.ring log.heads.capacity tails.ring here.joined.kept left in
-          let next = next_put rules.unpacked head newest.item log.tails.ring.items log.undone undone newest.is did.1 in
-          let longer = side_more action_of Some head hs log.undone log.heads.capacity undone newest.item.0 next here.joined.ahead
+          let longer = side_more action_of Some head hs log.undone log.heads.capacity undone newest.item.0 (grind (arith, newest.is, did.1)) here.joined.ahead
           (omega (arith, run.full, one, length-take log.ahead (before log.heads log.at))) in
           record {
             heads = run.heads;

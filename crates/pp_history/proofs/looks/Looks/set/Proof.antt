@@ -7,12 +7,10 @@ use Rattle.pp_history.specs.{declared.looks.Looks.Looks, contracts.looks.Looks.t
 use Rattle.pp_history.specs.contracts.looks.Looks.set as it
 use Rattle.pp_history.proofs.looks.Looks.set.{Statement.statement, Code.function, Code.unfolded}
 
-abbrev stayed : Stays (it.ended).signature.params (it.ended).kept
-stayed = (stay_ref (0 ∷ []) tt (plain (λ _. Row)), tt)
-
 pub set_spec : {M : Type 1} → statement M
 set_spec 𝓤 𝓛 𝓜 𝓡 wired =
     let c = it.clauses 𝓛 𝓜.mem 𝓡.returns in
+    let stayed : Stays (it.ended).signature.params (it.ended).kept = (stay_ref (0 ∷ []) tt (plain (λ _. Row)), tt) in
     proved 𝓛 it.ended stayed c 𝓜 𝓡 (Goes-ref 𝓛 1 0 tt (plain (λ _. Row)), tt)
     it.Key.name function (unfolded 𝓤 𝓛.H 𝓜 𝓡 wired)
     (λ κs. (mut_vals, tt)) (λ κs. (mut_Tells (named 0) κs.0 Row, tt)) (λ κs qs bounds a g are.

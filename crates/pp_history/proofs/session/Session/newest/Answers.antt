@@ -1,5 +1,5 @@
 use Rattle.pp_history.proofs.Names.{◌≡◌, Option, Some, None, IfSome, IsNone, option_map, List, length, slice_get, ap, arith, halves_in, in_tail, whole_record}
-use Rattle.pp_history.proofs.{Joins.item-at, Steps.newest-leads, Steps.newest-step}
+use Rattle.pp_history.proofs.{Joins.item-at, Steps.newest-step}
 use Rattle.std.proofs.lemmas.Option.{IfSome_then}
 use Rattle.pp_history.proofs.session.Session.newest.Goals as goal
 
@@ -20,7 +20,7 @@ returns g c =
     rw (← c.self.view_is) (record {
       fits = IfSome_then c.undo_record.result handed.0 (λ back is.
           rw (← is) (newest-step T _ c.self.invariant.value c.self.invariant.is_at at.item first).fits);
-      leads_back = IfSome_then c.undo_record.result handed.0 (λ back is. λ v was. rw (← is) (newest-leads T _ v was at.item first));
+      leads_back = IfSome_then c.undo_record.result handed.0 (λ back is. λ v was. rw (← is) (newest-step T _ v was at.item first).leads);
       none_kept = (λ none. absurd (handed.1 none), λ none. absurd (omega (arith, none, ap length at.split)));
       some_room = c.self.invariant.heads.some_room;
     })
