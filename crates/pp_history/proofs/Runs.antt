@@ -31,6 +31,11 @@ module _ {M A R P H : Type 0} (rules : Ghosts M A R P H) where
     pub joined : IsJoined rules.unpacked halves tails.ring undone
     pub moves : Moves rules start (contents_with rules.unpacked machine halves tails.ring undone) after
 
+  -- the log with a head more, in a slot of the block in use
+  abbrev pub with_head : Log M A R P H → Vec (Option H) Global → ℕ → ℕ → ℕ → Tails A R → Buffer A → Log M A R P H
+  with_head log block slot kept ahead tails undone =
+      record { heads = record log.heads { block = block }; at = slot; kept = kept; ahead = ahead; tails = tails; undone = undone }
+
   -- a session after some steps
   pub record IsRun (start : M) (old : Log M A R P H) (after : SessionValue M A → SessionValue M A) (machine : M) (log : Log M A R P H) : Type 0 where
     pub heads : IsHeads log.heads
@@ -133,14 +138,7 @@ module _ {M A R P H : Type 0} (rules : Ghosts M A R P H) where
             standing = action ∷ (after v).standing;
             kept = min (after v).capacity ((after v).kept + 1);
             ahead = ahead_in rules.unpacked (later ahead) undone.items;
-          }) → IsRun start old then machine (record log {
-            heads = record log.heads { block = block };
-            at = slot;
-            kept = kept;
-            ahead = ahead;
-            tails = tails;
-            undone = undone;
-          })
+          }) → IsRun start old then machine (with_head log block slot kept ahead tails undone)
       acted_run undone ahead full side admitted admits then is =
           let within : slot < length log.heads.block.items = omega (arith, at, run.within, run.heads.block) in
           let ks = take log.kept (behind log.heads (slot + 1)) in
@@ -179,14 +177,8 @@ module _ {M A R P H : Type 0} (rules : Ghosts M A R P H) where
       pub forward_more : IsSession rules start old → (head' : Option H) (block : Vec (Option H) Global) → block.items ≡ set log.heads.block.items slot head' →
           {machine : M} (tails : Tails A R) {undone : Buffer A} (kept : ℕ) → kept ≡ log.kept + 1 →
           IsSomeAnd (first_of action_of Some head log.undone.items) (λ action. IsActed rules now machine action head' log.tails tails) →
-          undone ≡ buffer (left_by head log.undone.items) log.undone.capacity → IsRun start old (λ v. after_forward v (count + 1)) machine (record log {
-            heads = record log.heads { block = block };
-            at = slot;
-            kept = kept;
-            ahead = less;
-            tails = tails;
-            undone = undone;
-          })
+          undone ≡ buffer (left_by head log.undone.items) log.undone.capacity →
+          IsRun start old (λ v. after_forward v (count + 1)) machine (with_head log block slot kept less tails undone)
       unfolding next
       forward_more session head' block set_is {machine = machine} tails {undone = undone} kept counted did left =
           let acted = rw next.is at did in
@@ -201,13 +193,7 @@ module _ {M A R P H : Type 0} (rules : Ghosts M A R P H) where
       IsRun start old after now log → (heads : Heads H) (slot : ℕ) → IsHeads heads → slot < 256 → IsSame log.heads log.at heads (slot + 1) →
       (head : Option H) (block : Vec (Option H) Global) → block.items ≡ set heads.block.items slot head → {machine : M} {action : A} {tails : Tails A R} →
       IsActed rules now machine action head log.tails tails → (kept : ℕ) → kept ≡ min (log.kept + 1) heads.capacity → rules.admitted now action →
-      IsRun start old (λ v. after_act (after v) action) machine (record log {
-        heads = record heads { block = block };
-        at = slot;
-        kept = kept;
-        ahead = 0;
-        tails = tails;
-      })
+      IsRun start old (λ v. after_act (after v) action) machine (with_head (record log { heads = heads }) block slot kept 0 tails log.undone)
   act_next run heads slot is within same head block set_is acted kept counted admitted =
       let turned = run_turned run heads (slot + 1) is (omega (arith, within)) same in
       acted_run turned slot refl head block set_is acted kept counted _ 0 (omega (arith, counted))
