@@ -1,10 +1,10 @@
 -- Blocks hold the heads of a log, and continue to hold them.
 use Rattle.pp_history.proofs.Names.{◌≡◌, ℕ, zero, suc, ◌+◌, ◌-◌, ◌*◌, ◌/◌, ◌%◌, ◌<◌, ◌≤◌, min, List, [], ◌∷◌, ◌++◌, length, take}
-use Rattle.pp_history.proofs.Names.{drop, reverse, set, Option, Some, slice_get, Vec, Global, inl, inr, refl, sym, ◌∙◌, ap, arith}
+use Rattle.pp_history.proofs.Names.{drop, reverse, set, Option, Some, slice_get, Vec, Global, refl, sym, ◌∙◌, ap, arith}
 use Rattle.pp_history.proofs.Names.{length-take, length-drop, length-append, length-reverse, take_all, drop_all, append-nil, append_assoc}
-use Rattle.pp_history.proofs.Names.{take-append-le, take-take, take-set, drop-set, reverse-append, cases_lt, flat_map, flat_map-append}
+use Rattle.pp_history.proofs.Names.{take-append-le, take-set, drop-set, reverse-append, cases_lt, flat_map, flat_map-append}
 use Rattle.pp_history.proofs.Names.{slice_get_within, slice_get-append_left, slice_get-append_right, slice_get-drop, slice_get-take, AllByRecursion, div-add-mod}
-use Rattle.pp_history.proofs.Names.{common_steps, All-get_or, get_or_from_slice_get, add-one, get_or, slice_get_read, Heads, Halves, IsHeads, IsSame, behind, before, halves, others_in}
+use Rattle.pp_history.proofs.Names.{common_steps, All-get_or, get_or_from_slice_get, add-one, get_or, slice_get_read, Heads, IsHeads, behind, before, halves, others_in}
 use Rattle.pp_history.proofs.Joins.{drop-at, take-one}
 
 module _ {B X : Type 0} (items : B → List X) where

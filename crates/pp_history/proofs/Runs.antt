@@ -1,8 +1,8 @@
 -- Several steps of a session, one after the other.
-use Rattle.pp_history.proofs.Names.{◌≡◌, ℕ, suc, ◌+◌, ◌≤◌, ◌<◌, ◌∙◌, min, List, [], ◌∷◌, length, take, set, Option, Some, IsSomeAnd}
-use Rattle.pp_history.proofs.Names.{slice_get, add-one, ap, arith, refl, subst, sym, length-take, length-set, Vec, Global, Buffer, buffer}
-use Rattle.pp_history.proofs.Names.{Halves, Heads, halves, behind, before, IsActed, IsHeads, IsJoined, IsNext, IsSame, IsSide, Log}
-use Rattle.pp_history.proofs.Names.{AdmitsInTurn, IsAt, ahead_in, first_of, halves_in, kept_in, left_by, contents_of, contents_with, Contents, IsSession, Moves}
+use Rattle.pp_history.proofs.Names.{◌≡◌, ℕ, suc, ◌+◌, ◌≤◌, ◌<◌, ◌∙◌, min, List, ◌∷◌, length, take, set, Option, Some, IsSomeAnd}
+use Rattle.pp_history.proofs.Names.{slice_get, ap, arith, refl, sym, length-take, length-set, Vec, Global, Buffer, buffer}
+use Rattle.pp_history.proofs.Names.{Halves, Heads, behind, before, IsActed, IsHeads, IsJoined, IsNext, IsSame, IsSide, Log}
+use Rattle.pp_history.proofs.Names.{AdmitsInTurn, IsAt, ahead_in, first_of, halves_in, left_by, contents_of, contents_with, Contents, IsSession, Moves}
 use Rattle.pp_history.proofs.Names.{SessionValue, after_act, after_back, after_forward, IsKept, in_tail, Ghosts, Tails}
 use Rattle.pp_history.proofs.Blocks.{halves_before, halves_behind, halves_written, is_still, length_ahead, length_kept}
 use Rattle.pp_history.proofs.Joins.{ItemAt, kept_more, side_first, side_less, side_more}

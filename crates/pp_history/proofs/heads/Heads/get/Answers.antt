@@ -1,4 +1,4 @@
-use Rattle.pp_history.proofs.Names.{◌+◌, ◌∙◌, ap, arith, refl, sym, option_copied}
+use Rattle.pp_history.proofs.Names.{◌∙◌, ap, arith, refl, sym, option_copied}
 use Rattle.pp_history.proofs.Blocks.{block_whole, slot_here, slot_there}
 use Rattle.pp_history.proofs.heads.Heads.get.Goals as goal
 

@@ -1,4 +1,4 @@
-use Rattle.pp_history.proofs.Names.{◌≡◌, ◌+◌, ◌-◌, ◌∙◌, ◌++◌, ◌∷◌, [], length, drop, arith, refl, sym, length-append, length-drop, slice_get_within, All-drop, All-push, buffer, Heads}
+use Rattle.pp_history.proofs.Names.{◌≡◌, ◌-◌, ◌∙◌, ◌++◌, ◌∷◌, [], length, drop, arith, refl, sym, length-append, length-drop, slice_get_within, All-drop, All-push, buffer}
 use Rattle.pp_history.proofs.{Blocks.block_whole, Blocks.is_still, Blocks.turned, Joins.drop-at}
 use Rattle.pp_history.proofs.heads.Heads.turn_back.Goals as goal
 

@@ -1,4 +1,4 @@
-use Rattle.pp_history.proofs.Names.{◌≡◌, ◌-◌, ◌∙◌, ◌++◌, ◌∷◌, [], suc, length, take, arith, refl, sym, length-take, take_all, slice_get_within, All-take, buffer, Heads}
+use Rattle.pp_history.proofs.Names.{◌≡◌, ◌-◌, ◌∙◌, ◌++◌, ◌∷◌, [], suc, length, take, arith, refl, sym, length-take, take_all, slice_get_within, All-take, buffer}
 use Rattle.pp_history.proofs.{Blocks.block_whole, Blocks.is_still, Blocks.turned, Joins.take-one}
 use Rattle.pp_history.proofs.heads.Heads.turn_forward.Goals as goal
 
