@@ -1,8 +1,7 @@
 -- An action that is performed again and again.
 use Rattle.pp_history.proofs.Names.{◌≡◌, ℕ, zero, suc, ◌+◌, ◌-◌, ◌≤◌, Option, Some, None, IfSome, add-one, arith, ap, refl, inl}
 use Rattle.pp_history.proofs.Names.{inr, cases_lt, first_of, IsUnmarked, AreUnmarked, after_acts, machine_after, SessionValue}
-use Rattle.pp_history.proofs.{Names.after_act, Names.replay, Names.IsKept, Names.in_tail, Names.Marks, Names.Ghosts, Names.Tails, Names.Log}
-use Rattle.pp_history.proofs.Names.{IsActed, IsSession, ◌∙◌}
+use Rattle.pp_history.proofs.Names.{after_act, replay, IsKept, in_tail, Marks, Ghosts, Tails, Log, IsActed, IsSession, ◌∙◌}
 use Rattle.pp_history.proofs.Runs.{IsRun, run_none}
 
 module _ {M A : Type 0} where

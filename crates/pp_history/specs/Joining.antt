@@ -2,12 +2,8 @@
 -- action; what belongs to the others is in a ring, in the same order.
 use Rattle.std.specs.Prelude.{◌≡◌, ℕ, List, [], ◌∷◌, Option, Some, None, length, drop}
 use Rattle.circular_buffer.specs.Buffer.{Buffer}
-use Rattle.pp_history.specs.Heads.{Halves}
-use Rattle.pp_history.specs.Contents.{Contents, contents}
-use Rattle.pp_history.specs.Tails.{IsKept, in_tail, pushed}
-use Rattle.pp_history.specs.declared.reversible.Reversible.{Ghosts}
-use Rattle.pp_history.specs.declared.tails.Tails.{Tails}
-use Rattle.pp_history.specs.declared.tails.Tail.{Tail}
+use Rattle.pp_history.specs.{Heads.Halves, Contents.Contents, Contents.contents, Tails.IsKept, Tails.in_tail, Tails.pushed}
+use Rattle.pp_history.specs.{declared.reversible.Reversible.Ghosts, declared.tails.Tails.Tails, declared.tails.Tail.Tail}
 
 -- an item in front of others; the list ends where an item is missing
 abbrev pub with_first : {X : Type 0} → Option X → List X → List X

@@ -1,9 +1,7 @@
 -- An action that is performed again and again.
 use Rattle.std.specs.Prelude.{◌≡◌, ℕ, zero, suc, ◌+◌, ◌<◌, Option, replicate}
-use Rattle.pp_history.specs.declared.marks.Marks.{Marks}
-use Rattle.pp_history.specs.declared.reversible.Reversible.{Ghosts}
-use Rattle.pp_history.specs.Marks.{IsUnmarked}
-use Rattle.pp_history.specs.SessionValue.{SessionValue, after_act, replay}
+use Rattle.pp_history.specs.{declared.marks.Marks.Marks, declared.reversible.Reversible.Ghosts, Marks.IsUnmarked}
+use Rattle.pp_history.specs.{SessionValue.SessionValue, SessionValue.after_act, SessionValue.replay}
 
 -- after the action was performed this many times
 unfoldable pub after_acts : {M A : Type 0} → ℕ → A → SessionValue M A → SessionValue M A

@@ -1,8 +1,7 @@
 -- The actions that no head holds.
 use Rattle.std.specs.Prelude.{◌≡◌, ◌∷◌, Option, Some, None, slice_set, take}
 use Rattle.circular_buffer.specs.Buffer.{Buffer, buffer}
-use Rattle.pp_history.specs.declared.tails.Tail.{Tail}
-use Rattle.pp_history.specs.declared.tails.Tails.{Tails}
+use Rattle.pp_history.specs.{declared.tails.Tail.Tail, declared.tails.Tails.Tails}
 
 -- the action and the undo record of a tail
 abbrev pub both : {A R : Type 0} → Option A → Option R → Option (A × R)

@@ -1,5 +1,4 @@
-use Rattle.std.proofs.Common.{arith}
-use Rattle.std.proofs.lemmas.List.Folds.{list_any_none}
+use Rattle.std.{proofs.Common.arith, proofs.lemmas.List.Folds.list_any_none}
 use Rattle.pp_history.proofs.lookup.is_changed.Goals as goal
 
 pub returns-then-not-may_be_marked : goal.returns-then-not-may_be_marked

@@ -1,5 +1,4 @@
-use Rattle.std.proofs.Common.{arith}
-use Rattle.std.proofs.lemmas.{Bool.Decides.nat_tests, Grind.common_steps}
+use Rattle.std.{proofs.Common.arith, proofs.lemmas.Bool.Decides.nat_tests, proofs.lemmas.Grind.common_steps}
 use Rattle.pp_history.proofs.marks.Marks.of.Goals as goal
 
 pub loop-place-preserved : goal.loop-place-preserved

@@ -1,5 +1,4 @@
-use Rattle.pp_history.proofs.Names.{◌+◌, ◌-◌, ◌<◌, ◌≤◌, min, AreUnmarked}
-use Rattle.pp_history.proofs.Repeats.{IsRepeated}
+use Rattle.pp_history.proofs.{Names.◌+◌, Names.◌-◌, Names.◌<◌, Names.◌≤◌, Names.min, Names.AreUnmarked, Repeats.IsRepeated}
 use Rattle.pp_history.proofs.session.Session.repeat.Given as goal
 
 abbrev pub invariant-loop-count : goal.invariant-loop-count
