@@ -93,7 +93,7 @@ impl<H: Drop> Heads<H> {
         ensures same { IsSame self.old 256 self.new 0 }
     {
         let next = self.others.pop_front().unwrap();
-        self.others.push_back(replace(&mut self.block, next));
+        let _pushed = self.others.try_push_back(replace(&mut self.block, next));
     }
 
     /// The next block before comes into use.
@@ -105,7 +105,7 @@ impl<H: Drop> Heads<H> {
         ensures same { IsSame self.old 0 self.new 256 }
     {
         let next = self.others.pop_back().unwrap();
-        self.others.push_front(replace(&mut self.block, next));
+        let _pushed = self.others.try_push_front(replace(&mut self.block, next));
     }
 }
 
