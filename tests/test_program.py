@@ -21,7 +21,8 @@ from tests.support import EXAMPLES, PATIENCE, TOP, Case, add_tests, program, rea
 
 PLAIN = ("args", "stdin", "stdout", "stderr", "status", "how")
 # The loops over many turns, and the functions of a turn that stand in them, and so have no name of their own in the program.
-LOOPS = b"pp_history::log::repeat_span", b"pp_history::log::undo_span", b"pp_history::log::perform_span"
+LOOPS = (b"pp_history::session::Session::repeat", b"pp_history::session::Session::take_back",
+         b"pp_history::session::Session::forward")
 OF_A_TURN = (b"pp_rig::rig::RigReversible::perform", b"pp_rig::rig::Rig::perform_turn", b"pp_rig::rig::Rig::turn_short",
              b"pp_rig::rig::Rig::finish_turn", b"pp_rig::rig::Rig::undo_turn", b"pp_step::stepping::step_short", b"pp_step::effect::effect")
 

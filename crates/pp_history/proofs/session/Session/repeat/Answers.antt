@@ -10,6 +10,7 @@ loop-count-init g c =
       at_most = omega arith;
       some = (c.requires, omega arith);
       repeated = rw kept (repeat_none g.T.Reversible c.self.inside.machine log g.T.Repeatable.repeated c.self.invariant);
+      kept = refl;
       before = λ k less. absurd (omega (arith, less));
       all = λ more k less. absurd (omega (arith, less));
     }
@@ -35,6 +36,7 @@ loop-count-preserved g c =
       at_most = omega (arith, c.loop-count-test.true);
       some = before.some;
       repeated = more;
+      kept = before.kept;
       before = rw count (before.all c.loop-count-test.true);
       all = λ less. unmarked_more T g.T.Marked.marks_of c.args.marks.now before.repeated.machine_is more.machine_is acted
           (omega (arith, run.heads.some_room, run.span.joined.kept.room)) (c.may_be_marked.ensures c.if-may_be_marked.false) (before.all c.loop-count-test.true);
@@ -54,13 +56,14 @@ loop-count-preserved-then-may_be_marked g c =
           (with_item c.slot_before-at.new.self.block c.slot_before-at.result c.perform.new.head) refl acted
           (min (c.self.inside.log.kept + (c.loop-count.count + 1)) c.slot_before-at.new.self.capacity) (omega (arith, slot.same.capacity))
           (g.met.T.Repeatable.is_admitted c.loop-count.self-inside.machine));
+      kept = before.kept;
       before = rw count (before.all c.loop-count-test.true);
       all = λ less. absurd (omega (arith, less));
     }
 
 pub invariant_of-self : goal.invariant_of-self
 invariant_of-self g c =
-    rw c.min-self-inside.ensures (run_ends g.T.Reversible c.self.invariant c.loop-count.invariant.repeated.run)
+    rw (rw c.loop-count.invariant.kept at c.min-self-inside.ensures) (run_ends g.T.Reversible c.self.invariant c.loop-count.invariant.repeated.run)
 
 pub returns-clause-unmarked : goal.returns-clause-unmarked
 returns-clause-unmarked g c = rw (← c.self.view_is) c.loop-count.invariant.before

@@ -1,4 +1,5 @@
-use Rattle.pp_history.proofs.{Names.◌+◌, Names.◌-◌, Names.◌<◌, Names.◌≤◌, Names.min, Names.AreUnmarked, Repeats.IsRepeated}
+use Rattle.pp_history.proofs.Names.{◌≡◌, ◌+◌, ◌-◌, ◌<◌, ◌≤◌, min, AreUnmarked}
+use Rattle.pp_history.proofs.Repeats.{IsRepeated}
 use Rattle.pp_history.proofs.session.Session.repeat.Given as goal
 
 abbrev pub invariant-loop-count : goal.invariant-loop-count
@@ -7,6 +8,7 @@ invariant-loop-count g l = let T = g.T.Reversible in let action = g.T.Repeatable
   some : (1 ≤ l.most) × (l.most ≤ l.n);
   repeated : IsRepeated T l.initial.self-inside.machine l.initial.self-inside.log action l.count l.self-inside.machine
       (record log { at = l.at; kept = min (l.initial.self-inside.log.kept + l.count) log.heads.capacity });
+  kept : log.kept ≡ l.initial.self-inside.log.kept;
   before : AreUnmarked T g.T.Marked.marks_of l.marks action (l.count - 1) l.initial.self-inside.machine;
   all : l.count < l.most → AreUnmarked T g.T.Marked.marks_of l.marks action l.count l.initial.self-inside.machine;
 }
