@@ -1,10 +1,10 @@
 -- Blocks hold the heads of a log, and continue to hold them.
-use Rattle.pp_history.proofs.Names.{◌≡◌, ℕ, zero, suc, ◌+◌, ◌-◌, ◌*◌, ◌/◌, ◌%◌, ◌<◌, ◌≤◌, min, List, [], ◌∷◌, ◌++◌, length, take}
+use Rattle.pp_history.proofs.Names.{◌≡◌, ℕ, suc, ◌+◌, ◌-◌, ◌*◌, ◌/◌, ◌%◌, ◌<◌, ◌≤◌, min, List, [], ◌∷◌, ◌++◌, length, take}
 use Rattle.pp_history.proofs.Names.{drop, reverse, set, Option, Some, slice_get, Vec, Global, refl, sym, ◌∙◌, ap, arith}
 use Rattle.pp_history.proofs.Names.{length-take, length-drop, length-append, length-reverse, take_all, drop_all, append-nil, append_assoc}
 use Rattle.pp_history.proofs.Names.{take-append-le, take-set, drop-set, reverse-append, cases_lt, flat_map, flat_map-append}
 use Rattle.pp_history.proofs.Names.{slice_get_within, slice_get-append_left, slice_get-append_right, slice_get-drop, slice_get-take, AllByRecursion, div-add-mod}
-use Rattle.pp_history.proofs.Names.{common_steps, All-get_or, get_or_from_slice_get, add-one, get_or, slice_get_read, Heads, IsHeads, behind, before, halves, others_in}
+use Rattle.pp_history.proofs.Names.{common_steps, All-get_or, All-take, get_or-flat_map, get_or_from_slice_get, add-one, get_or, slice_get_read, Heads, IsHeads, behind, before, halves, others_in}
 use Rattle.pp_history.proofs.Joins.{drop-at, take-one}
 
 module _ {B X : Type 0} (items : B → List X) where
@@ -18,15 +18,6 @@ module _ {B X : Type 0} (items : B → List X) where
   pub block_whole : (blocks : List B) (k : ℕ) (block : B) → AreWhole blocks → slice_get blocks k ≡ Some block → length (items block) ≡ 256
   block_whole blocks k block whole found =
       grind (arith, All-get_or (λ block. length (items block) ≡ 256) blocks k block, get_or_from_slice_get blocks k block block, slice_get_within blocks k block found)
-
-  -- a slot of the k-th block, among all slots
-  slot_in : (blocks : List B) (k : ℕ) (block : B) (j n : ℕ) (x : X) → n ≡ 256 * k + j → AreWhole blocks →
-      slice_get blocks k ≡ Some block → slice_get (items block) j ≡ Some x → slice_get (flat_map items blocks) n ≡ Some x
-  slot_in [] k block j n x at whole found here = absurd (omega (arith, slice_get_within [] k block found))
-  slot_in (first ∷ blocks) zero block j n x at whole found here =
-      grind (arith, slice_get-append_left (items block) (flat_map items blocks) j, slice_get_within (items block) j x here)
-  slot_in (first ∷ blocks) (suc k) block j n x at whole found here =
-      grind (arith, slice_get-append_right (items first) (flat_map items blocks) n (256 * k + j), slot_in blocks k block j (256 * k + j) x)
 
   -- the slots behind and before a place between two blocks, with the one of them or the other in use
   module _ (here there : B) (rest : List B) (n : ℕ) (long : length (items there) ≡ 256) (whole : AreWhole rest) (few : n ≤ 256 * (length rest + 1)) where
@@ -125,8 +116,13 @@ module _ {H : Type 0} (heads : Heads H) (is : IsHeads heads) (n : ℕ) (within :
     pub slot_there : (block : Vec (Option H) Global) → 256 ≤ slot → slice_get heads.others.items (slot / 256 - 1) ≡ Some block →
         x ≡ get_or block.items (slot % 256) x → slice_get (take kept (behind heads n)) k ≡ Some x
     slot_there block past found here =
-        let whole = block_whole items heads.others.items (slot / 256 - 1) block is.others found in
-        slice_get-take kept (behind heads n) k less ∙ slice_get-append_right (drop n heads.block.items) (others_in heads) k (256 * (slot / 256 - 1) + slot % 256)
-        (omega (arith, at, past, length-drop n heads.block.items, is.block, within, div-add-mod slot 256))
-        ∙ slot_in items heads.others.items (slot / 256 - 1) block (slot % 256) _ x refl is.others found
-        (slice_get_read block.items 256 (slot % 256) x (sym whole) (omega arith) here)
+        let blocks = heads.others.items in
+        let q = slot / 256 - 1 in
+        let some = slice_get_within blocks q block found in
+        let many = length_slots items (take q blocks) (All-take (λ block. length block.items ≡ 256) q blocks is.others) in
+        let before : length (flat_map items (take q blocks)) + slot % 256 ≡ slot - 256 = omega (arith, past, many, some, length-take q blocks, div-add-mod slot 256) in
+        let read : x ≡ get_or (others_in heads) (slot - 256) x =
+        grind (arith, before, get_or-flat_map items blocks q (slot % 256) block x some, get_or_from_slice_get blocks q block block found, block_whole items blocks q block is.others found) in
+        slice_get-take kept (behind heads n) k less
+        ∙ slice_get-append_right (drop n heads.block.items) (others_in heads) k (slot - 256) (omega (arith, at, past, length-drop n heads.block.items, is.block, within))
+        ∙ slice_get_read (others_in heads) (256 * length blocks) (slot - 256) x (sym (length_slots items blocks is.others)) (omega (arith, past, some, div-add-mod slot 256)) read

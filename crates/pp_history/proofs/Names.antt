@@ -10,7 +10,7 @@ pub use Rattle.std.{proofs.lemmas.Option.slice_get_within, proofs.lemmas.Option.
 pub use Rattle.std.{specs.Option.option_copied, proofs.lemmas.Bool.cases_lt, proofs.lemmas.Grind.flat_map-append}
 pub use Rattle.std.{proofs.lemmas.Grind.common_steps, proofs.ByRecursion.All-get_or, proofs.ByRecursion.All-take}
 pub use Rattle.std.{proofs.ByRecursion.All-drop, proofs.ByRecursion.All-push, specs.List.AllByRecursion, specs.List.flat_map}
-pub use Rattle.std.{proofs.Math.Nat.div-add-mod}
+pub use Rattle.std.{proofs.Math.Nat.div-add-mod, proofs.lemmas.List.Concat.get_or-flat_map}
 pub use Rattle.circular_buffer.proofs.Places.{slice_get-append_left, slice_get-append_right, slice_get-drop, slice_get-take}
 pub use Rattle.circular_buffer.specs.Buffer.{Buffer, buffer}
 pub use Rattle.pp_history.specs.Joining.{IsNext, IsSide, first_of, left_by, joined, kept_in, IsActed, IsJoined, ahead_in}
