@@ -15,7 +15,7 @@ module _ {H : Type 0} where
   abbrev pub others_in : Heads H → List (Option H)
   others_in heads = flat_map (λ block. block.items) heads.others.items
 
-  -- the slots behind the n-th of the block in use, with that slot
+  -- the slots behind a place of the block in use, the nearest first
   abbrev pub behind : Heads H → ℕ → List (Option H)
   behind heads n = drop n heads.block.items ++ others_in heads
 
@@ -23,12 +23,12 @@ module _ {H : Type 0} where
   abbrev pub before : Heads H → ℕ → List (Option H)
   before heads n = reverse (others_in heads ++ take n heads.block.items)
 
-  -- so many heads of kept actions are behind the n-th slot, and so many of undone ones before it
+  -- the heads of so many kept actions are behind a place, and those of so many undone ones before it
   abbrev pub halves : Heads H → ℕ → ℕ → ℕ → Halves H
   halves heads n kept ahead =
       record { kept = take kept (behind heads n); ahead = take ahead (before heads n); capacity = heads.capacity }
 
-  -- the same heads are behind and before the one slot as behind and before the other
+  -- the same heads are behind and before the one place as behind and before the other
   pub record IsSame (old : Heads H) (n : ℕ) (new : Heads H) (m : ℕ) : Type 0 where
     pub capacity : new.capacity ≡ old.capacity
     pub halves : (kept ahead : ℕ) → kept ≤ old.capacity → ahead ≤ old.capacity → halves new m kept ahead ≡ halves old n kept ahead

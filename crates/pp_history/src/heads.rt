@@ -7,10 +7,11 @@ use circular_buffer::HeapCircularBuffer;
 use std::alloc::{AllocError, Global};
 use std::mem::replace;
 
-/// Slots for at least `capacity` heads behind each slot, and for as many before it. No block is made or dropped after `new`.
+/// Slots for heads. One block of them is in use; a place in it, 0 to 256 (decimal), is between two slots or at an end. Behind
+/// each place there are at least `capacity` slots, and before it as many. No block is made or dropped after `new`.
 #[derive(Drop)]
 pub(crate) struct Heads<H> {
-    /// The block in use. All have 256 (decimal) slots.
+    /// The block in use. All blocks have 256 (decimal) slots.
     pub(crate) block: Vec<Option<H>>,
     /// The other blocks in a ring, the next one behind the block in use first, and the next one before it last.
     pub(crate) others: HeapCircularBuffer<Vec<Option<H>>>,
@@ -35,7 +36,7 @@ impl<H: Drop> Heads<H> {
         })
     }
 
-    /// Returns the head in the k-th slot behind a slot of the block in use, counted from 0.
+    /// Returns the head in the k-th slot behind the place `at`, counted from 0.
     #[inline(always)]
     pub(crate) fn get(&self, at: usize, k: usize) -> &Option<H>
         requires is { IsHeads self.now }
@@ -50,7 +51,7 @@ impl<H: Drop> Heads<H> {
         }
     }
 
-    /// Returns the first slot from the place `at` on: that of its number, or else the first one of the next block, which
+    /// Returns the slot behind the place `at`. At the end of the block in use it is slot 0 of the next block behind, which
     /// comes into use.
     #[inline(always)]
     pub(crate) fn slot_behind(&mut self, at: usize) -> usize
@@ -67,8 +68,8 @@ impl<H: Drop> Heads<H> {
         at
     }
 
-    /// Returns the last slot before the place `at`: that of the number before, or else the last one of the block before,
-    /// which comes into use.
+    /// Returns the slot before the place `at`. At the beginning of the block in use it is slot 255 (decimal) of the next block
+    /// before, which comes into use.
     #[inline(always)]
     pub(crate) fn slot_before(&mut self, at: usize) -> usize
         requires is { IsHeads self.old }
@@ -93,7 +94,7 @@ impl<H: Drop> Heads<H> {
         ensures same { IsSame self.old 256 self.new 0 }
     {
         let next = self.others.pop_front().unwrap();
-        let _pushed = self.others.try_push_back(replace(&mut self.block, next));
+        self.others.push_back(replace(&mut self.block, next));
     }
 
     /// The next block before comes into use.
@@ -105,7 +106,7 @@ impl<H: Drop> Heads<H> {
         ensures same { IsSame self.old 0 self.new 256 }
     {
         let next = self.others.pop_back().unwrap();
-        let _pushed = self.others.try_push_front(replace(&mut self.block, next));
+        self.others.push_front(replace(&mut self.block, next));
     }
 }
 

@@ -12,10 +12,8 @@ returns g c =
     let some = slice_get_within others (length others - 1) next found in
     let many : length (old.block ∷ rest) ≡ length others = omega (arith, some, length-take (length others - 1) others) in
     let split : others ≡ rest ++ next ∷ [] = sym (take_all (suc (length others - 1)) others (omega (arith, some))) ∙ take-one (length others - 1) others next found in
-    let items = c.pop_back.ensures.items in
-    let pushed = rw (items, c.replace.ensures.value) at c.try_push_front-pushed.ensures in
-    let now : c.try_push_front-pushed.new.self ≡ buffer (old.block ∷ rest) old.others.capacity =
-    grind (arith, pushed.variant, pushed.ok, some, many, c.requires.is.all) in
+    let pushed = rw (c.pop_back.ensures.items, c.replace.ensures.value) at c.push_front.ensures.items in
+    let now : c.push_front.new.self ≡ buffer (old.block ∷ rest) old.others.capacity = grind (arith, pushed, many, c.requires.is.all, take_all) in
     let is = is_still c.requires.is (block_whole (λ block. block.items) others _ next c.requires.is.others found)
     (c.requires.is.block, All-take (λ block. length block.items ≡ 256) (length others - 1) others c.requires.is.others) many refl refl in
     let same = turned old _ rest split refl c.requires.is is refl in
