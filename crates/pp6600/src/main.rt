@@ -23,6 +23,8 @@ impl FileSystem for SystemFiles<'_> {
 
     ghost asked = { λ files. files.log.events };
 
+    // The kit's `File` has no ghost of its path or its bytes, so no clause ties the two bodies below to the system. Seen by
+    // reading: `open` opens the path that it logs, once, and `close` drops the file whose bytes it logs.
     fn open(&mut self, kind: FileKind, path: &str) -> Option<Counted<File>> {
         let file = File::open(self.rt, path).ok().map(Counted::new);
         self.log = FileLog::with_file(&self.log, kind, path, file.is_some());

@@ -38,21 +38,15 @@ with_entries-split : (front old_values codes back : List ℕ) (i : ℕ) → leng
     length old_values ≡ length codes → with_entries (front ++ (old_values ++ back)) i codes ≡ front ++ (codes ++ back)
 with_entries-split front [] [] back i e l = refl
 with_entries-split front (old ∷ old_values) (code ∷ codes) back i e l =
-    let rest = with_entries-split (front ++ old ∷ []) old_values codes back
-    (i + 1) (omega (arith, length_push front old)) (omega arith) in
-    rw (rw (append_assoc front (old ∷ []) (old_values ++ back), append_assoc front (old ∷ []) (codes ++ back)) at rest)
-    (set_at front old (codes ++ back) code i e)
+    grind (arith, append_assoc, length_push, set_at, with_entries-split (front ++ old ∷ []) old_values codes back (i + 1))
 with_entries-split front old_values codes back i e l = absurd (omega arith)
 
 entries_at-split : (front old_values codes back : List ℕ) (i : ℕ) → length front ≡ i →
     length old_values ≡ length codes → entries_at (front ++ (old_values ++ back)) i codes ≡ old_values
 entries_at-split front [] [] back i e l = refl
 entries_at-split front (old ∷ old_values) (code ∷ codes) back i e l =
-    let first : get_or (front ++ (old ∷ (old_values ++ back))) i 0 ≡ old =
-    rw (← e) (get_or-append_seam front old (old_values ++ back) 0) in
-    let rest = entries_at-split (front ++ old ∷ []) old_values codes back
-    (i + 1) (omega (arith, length_push front old)) (omega arith) in
-    rw (first, rw (append_assoc front (old ∷ []) (old_values ++ back)) at rest)
+    let rest = entries_at-split (front ++ old ∷ []) old_values codes back (i + 1) in
+    grind (arith, append_assoc, length_push, get_or-append_seam front old (old_values ++ back) 0, rest)
 entries_at-split front old_values codes back i e l = absurd (omega arith)
 
 moved_up-codes : (ws : List Watched) (k : ℕ) → moved_up (map watch_code ws ++ replicate k 0) ≡ map watch_code ws ++ 0 ∷ []
@@ -105,18 +99,15 @@ module _ (ws front rest : List Watched) (w : Watched) (i : ℕ)
 entries-restored : (front rest places : List Watched) (i : ℕ) → length front ≡ i → length places ≡ length rest + 1 →
     i + length places ≤ 8 → watch_entries (front ++ places) ≡ with_entries (watch_entries (front ++ rest)) i (map watch_code places)
 entries-restored front rest places i at_i more room =
-    let before = map watch_code front in
-    let after = map watch_code rest in
-    let codes = map watch_code places in
     let zeros = replicate {A = ℕ} (8 - length (front ++ places)) 0 in
     let count : 8 - length (front ++ rest) ≡ suc (8 - length (front ++ places)) =
     omega (arith, length-append front rest, length-append front places) in
-    let now : watch_entries (front ++ rest) ≡ before ++ ((after ++ 0 ∷ []) ++ zeros) =
+    let now : watch_entries (front ++ rest) ≡ map watch_code front ++ ((map watch_code rest ++ 0 ∷ []) ++ zeros) =
     rw (map-append, count, append_assoc, append_assoc) in
-    let then : watch_entries (front ++ places) ≡ before ++ (codes ++ zeros) = rw (map-append, append_assoc) in
-    let size : length (after ++ 0 ∷ []) ≡ length codes =
-    omega (arith, length_push after 0, length-map rest watch_code, length-map places watch_code) in
-    then ∙ sym (rw now (with_entries-split before (after ++ 0 ∷ []) codes zeros i (length-map front watch_code ∙ at_i) size))
+    let then : watch_entries (front ++ places) ≡ map watch_code front ++ (map watch_code places ++ zeros) =
+    rw (map-append, append_assoc) in
+    let split = with_entries-split (map watch_code front) (map watch_code rest ++ 0 ∷ []) (map watch_code places) zeros i in
+    grind (arith, now, then, split, length-map, length_push)
 
 -- ---- the same, for the place at i
 
@@ -168,8 +159,7 @@ pub ruleset removals = (common_steps, entries, removed-at, old-at, restored-at, 
 
 pub length-with_entries : (entries : List ℕ) (i : ℕ) (codes : List ℕ) → length (with_entries entries i codes) ≡ length entries
 length-with_entries entries i [] = refl
-length-with_entries entries i (code ∷ codes) =
-    length-set (with_entries entries (i + 1) codes) i code ∙ length-with_entries entries (i + 1) codes
+length-with_entries entries i (code ∷ codes) = grind (arith, length-set, length-with_entries entries (i + 1) codes)
 
 -- behind the last place there is nothing to move up
 pub moved_up-last : (entries : List ℕ) → moved_up (drop (first_zero entries) entries) ≡ 0 ∷ []

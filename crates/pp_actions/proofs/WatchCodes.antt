@@ -1,6 +1,6 @@
 -- Watched places and their codes.
 use Rattle.std.specs.List.{list_any, position_from, AllPairs}
-use Rattle.std.proofs.Common.{arith, zero, suc, sym, ap, append_assoc, ◌∙◌, ℕ, ◌+◌, ◌-◌, ◌<◌, ◌==◌, ◌≢◌, All, ◌≤◌, ◌≡◌, ◌||◌, Bool}
+use Rattle.std.proofs.Common.{arith, zero, suc, sym, ap, append_assoc, ◌∙◌, ℕ, ◌+◌, ◌-◌, ◌<◌, ◌==◌, ◌≢◌, All, ◌≤◌, ◌≡◌, Bool}
 use Rattle.std.proofs.Common.{false, eqb, cond, position, Some, get_or, set, List, [], ◌∷◌, ◌++◌, length, map, replicate, refl}
 use Rattle.std.proofs.lemmas.{Bool.Decides.nat_tests, Iterator.Adapters.position_from-zero, Bool.false≢true, Bool.eq-eqb}
 use Rattle.std.proofs.lemmas.List.{Elements.All-tail, Elements.All-push, Folds.list_any_at, Quantifiers.all_pairs_push}
@@ -51,8 +51,8 @@ length-watched_in (code ∷ codes) = grind (arith, nat_tests, length-watched_in 
 any-codes : (test : ℕ → Bool) (ws : List Watched) (k : ℕ) → test 0 ≡ false →
     list_any test (map watch_code ws ++ replicate k 0) ≡ list_any (λ w. test (watch_code w)) ws
 any-codes test [] zero e = refl
-any-codes test [] (suc k) e = rw e (any-codes test [] k e)
-any-codes test (w ∷ ws) k e = ap (λ b. test (watch_code w) || b) (any-codes test ws k e)
+any-codes test [] (suc k) e = grind (arith, any-codes test [] k e)
+any-codes test (w ∷ ws) k e = grind (arith, any-codes test ws k e)
 
 -- the entries past the watched places pass no test that rejects zero
 pub any-entries : (test : ℕ → Bool) (ws : List Watched) → test 0 ≡ false →

@@ -10,7 +10,7 @@ use Rattle.pp_actions.specs.WriteLists.{cell_writes}
 use Rattle.pp_actions.specs.declared.action.Action.{Action}
 use Rattle.pp_actions.specs.declared.action.Action.TheVariants as action
 
--- What an action sets, whatever the machine. A new P ends the processor's block transfer (this project's choice).
+-- What an action sets in any machine. A new P ends the processor's block transfer. [P27]
 abbrev pub set_list : Action → Writes Place
 set_list (action.SetCells n a values) = cell_writes n a values
 set_list (action.SetA n v) = (RegA n, v) ∷ []

@@ -9,7 +9,7 @@ use Rattle.pp_actions.specs.WatchCodes.{watch_code, watch_entries}
 use Rattle.pp_actions.specs.declared.watched.Watched.{Watched}
 use Rattle.pp_actions.specs.declared.watched.Watched.TheVariants.{Cell, RegA, RegP, RegQ, Central, Register}
 
--- The place of the machine that is watched; register 14 is the clock (this project's choice).
+-- The place of the machine that is watched. Channel 14 is the clock. [P28]
 abbrev pub watched_place : Watched → Place
 watched_place (Cell n a) = place.Cell n a
 watched_place (RegA n) = place.RegA n
@@ -18,7 +18,7 @@ watched_place (RegQ n) = place.RegQ n
 watched_place (Central a) = place.Central a
 watched_place (Register c) = if c == 0o14 then place.Clock else place.ChannelWord c
 
--- The watched place with a code: its kind is 1 to 5 in this order, or else it is a register (this project's choice).
+-- The watched place with a code: its kind is 1 to 5 in this order, or else it is a channel's register. [P28]
 unfoldable pub watched_at : ℕ → Watched
 watched_at code =
     let rest = code % 0o10000000 in
@@ -26,16 +26,16 @@ watched_at code =
     (Register rest ∷ Cell (rest / 0o10000) (rest % 0o10000) ∷ RegA rest ∷ RegP rest ∷ RegQ rest ∷ Central rest ∷ [])
     (code / 0o10000000) (Register rest)
 
--- The watched places in their order: those of the entries before the first zero (this project's choice).
+-- The watched places in their order: those of the entries before the first zero. [P28]
 abbrev pub watched_in : List ℕ → List Watched
 watched_in [] = []
 watched_in (code ∷ codes) = if code == 0 then [] else watched_at code ∷ watched_in codes
 
--- the watched places of a machine (this project's choice)
+-- The watched places of a machine. [P28]
 abbrev pub watches_of : Machine → List Watched
 watches_of s = watched_in s.watches
 
--- Whether the machine watches the place (this project's choice).
+-- Whether the machine watches the place. [P28]
 abbrev pub is_watched : Machine → Watched → Bool
 is_watched s watched = list_any (λ code. code == watch_code watched) s.watches
 
@@ -44,7 +44,7 @@ pub record HaveCodes (places : List Watched) : Type 0 where
   pub at_most : length places ≤ watch_count
   pub read_back : All (λ watched. watched_at (watch_code watched) ≡ watched) places
 
--- well formed watch entries: the codes of distinct places that a machine with this many central words has, then zeros
+-- Well-formed watch entries: the codes of distinct places that a machine with this many central words has, then zeros. [P28]
 pub record AreWatches (size : ℕ) (entries : List ℕ) : Type 0 where
   pub closed_up : watch_entries (watched_in entries) ≡ entries
   pub present : All (λ watched. Has size (watched_place watched)) (watched_in entries)

@@ -4,12 +4,12 @@ use Rattle.pp_machine.specs.Writes.{Writes}
 use Rattle.pp_machine.specs.declared.place.Place.{Place}
 use Rattle.pp_machine.specs.declared.place.Place.TheVariants.{Cell, RegA, RegP, RegQ, Phase}
 
--- Numbers at consecutive places, from place i on (this project's choice).
+-- Numbers at consecutive places, from place i on. [P29]
 abbrev pub writes_from : (ℕ → Place) → ℕ → List ℕ → Writes Place
 writes_from place i [] = []
 writes_from place i (v ∷ vs) = (place i, v) ∷ writes_from place (i + 1) vs
 
--- Values in the cells of processor n from a on; cell 0000 follows 7777 (this project's choice).
+-- Values in the cells of processor n from a on; cell 0000 follows 7777. [P3]
 abbrev pub cell_writes : ℕ → ℕ → List ℕ → Writes Place
 cell_writes n = writes_from (λ a. Cell n (a % 0o10000))
 

@@ -6,7 +6,7 @@ ghost use Rattle.pp_actions.specs.Padding.{padded};
 use arrayvec::ArrayVec;
 use std::marker::Model;
 
-/// Words for cells, at most eight (this project's choice). Contracts see them as a list.
+/// Words for cells, at most eight. Contracts see them as a list. [P27]
 #[derive(Clone, Copy, Drop)]
 pub struct Values {
     count: u8,

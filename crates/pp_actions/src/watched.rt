@@ -20,7 +20,7 @@ const KIND: u64 = 2_097_152;
 /// A place that a run watches.
 ///
 /// Processors are numbered 0 to 0o11 and cells 0 to 0o7777. Central addresses are below the size of the machine's
-/// central memory, and registers are 0 to 0o14 (this project's choice).
+/// central memory. The registers are those of channels 0 to 0o14, where 0o14 is the clock. [P28]
 #[derive(Clone, Copy, PartialEq, Eq, Debug, Drop)]
 pub enum Watched {
     /// A cell of a processor's memory.

@@ -11,7 +11,7 @@ fn are_digits(word: &str) -> bool
 }
 
 /// Returns the value of a decimal word, 0 to `most`, or `None` for any other word. Any number of leading
-/// zeros is allowed, and no sign (this project's choice).
+/// zeros is allowed, and no sign.
 pub fn read_decimal(word: &str, most: u32) -> Option<u32>
     ensures { result ≡ decimal_read word.now most }
 {

@@ -13,7 +13,7 @@ use pp_arith::read_octal;
 use pp_machine::CentralSize;
 use std::alloc::Global;
 
-/// What the words of the command line ask for (this project's choice).
+/// What the words of the command line ask for.
 #[derive(Drop)]
 pub struct Options {
     /// How many actions the undo history holds, 1 to 10,000 decimal: `--history`, by default 10,000.
@@ -33,7 +33,7 @@ pub struct Options {
     pub script: Option<String>,
 }
 
-/// Why the words of the command line are rejected (this project's choice).
+/// Why the words of the command line are rejected.
 #[derive(Clone, Copy, Debug, PartialEq, Eq, Drop)]
 pub enum ArgFault {
     /// Memory ran out.
@@ -134,8 +134,8 @@ fn options_of(alloc: Global, matches: &ArgMatches) -> Result<Options, ArgFault>
 
 /// Returns the options that the words ask for. The first word is the program's name:
 /// `pp6600 [--history N] [--central K] [--deck F] [--reader C] [--printer C] [--panel F] [SCRIPT]`
-/// (this project's choice). N and K are decimal, C is octal, and any number of leading zeros is allowed.
-/// N is 1 to 10,000, K is 32, 64 or 128, and C is 0 to 13 octal.
+/// N and K are decimal, C is octal, and any number of leading zeros is allowed. N is 1 to 10,000, K is
+/// 32, 64 or 128, and C is 0 to 13 octal.
 ///
 /// # Errors
 /// `NoMemory` if memory runs out. `Help` or `BadArguments` if the words are not those of this command line, as `clap`

@@ -2,9 +2,8 @@
 ghost use Rattle.std.specs.Prelude.{◌≡◌, ◌<◌, ◌≤◌};
 ghost use Rattle.pp_arith.specs.Arith as spec;
 
-/// Returns the sum of two 18-bit one's complement numbers. Both terms and the sum are 0 to 0o777777,
-/// and 0o777777 is minus zero. That numbers in A are one's complement is from the manual (peripheral
-/// processor instructions). That a sum is minus zero only if both terms are is this project's choice.
+/// Returns the sum of two 18-bit one's complement numbers [M4]. Both terms and the sum are 0 to
+/// 0o777777, and 0o777777 is minus zero. A sum is minus zero only if both terms are [P1].
 pub fn add18(a: u32, b: u32) -> u32
     requires a_in { a ≤ 0o777777 }
     requires b_in { b ≤ 0o777777 }
@@ -15,9 +14,8 @@ pub fn add18(a: u32, b: u32) -> u32
     if sum < 0o777777 { sum } else { sum - 0o777777 }
 }
 
-/// Returns the difference a - b of two 18-bit one's complement numbers. Both numbers and the
-/// difference are 0 to 0o777777. That numbers in A are one's complement is from the manual (peripheral
-/// processor instructions). That equal numbers differ by plus zero is this project's choice.
+/// Returns the difference a - b of two 18-bit one's complement numbers [M4]. Both numbers and the
+/// difference are 0 to 0o777777. Equal numbers differ by plus zero [P1].
 pub fn sub18(a: u32, b: u32) -> u32
     requires a_in { a ≤ 0o777777 }
     requires b_in { b ≤ 0o777777 }
@@ -41,8 +39,7 @@ fn rotate_left18(a: u32, n: u8) -> u32
 
 /// Returns the 18-bit number `a` shifted by the six-bit field `d`. `a` and the result are 0 to
 /// 0o777777. For `d` from 0 to 0o37 the shift is left by `d` bits, circular. For `d` from 0o40 to
-/// 0o77 it is right by 0o77 - `d` bits, end off and without sign extension (the manual, peripheral
-/// processor instructions).
+/// 0o77 it is right by 0o77 - `d` bits, end off and without sign extension [M9].
 #[tactic(auto, using(crate::proofs::Turning::turned_once))]
 pub fn shift18(a: u32, d: u8) -> u32
     requires a_in { a ≤ 0o777777 }

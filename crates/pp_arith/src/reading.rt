@@ -19,16 +19,14 @@ fn are_octal_digits(word: &[u8]) -> bool
     word.iter().all(|byte| *byte >= b'0' && *byte <= b'7')
 }
 
-/// Returns whether the word is one or more octal digits, `0` to `7`, and nothing else (this project's
-/// choice).
+/// Returns whether the word is one or more octal digits, `0` to `7`, and nothing else.
 pub fn is_octal(word: &[u8]) -> bool
     ensures { result ≡ is_octal word.now }
 {
     !word.is_empty() && are_octal_digits(word)
 }
 
-/// Returns the value of an octal word, 0 to `max`. Any number of leading zeros is allowed (this
-/// project's choice).
+/// Returns the value of an octal word, 0 to `max`. Any number of leading zeros is allowed.
 ///
 /// # Errors
 /// `NotOctal` if the word is empty or has a byte that is not `0` to `7`. Otherwise `TooLarge` if its

@@ -3,9 +3,9 @@ ghost use Rattle.std.specs.List.{All};
 ghost use Rattle.std.specs.Prelude.{◌≡◌, ◌<◌, ◌≤◌, ◌^◌};
 ghost use Rattle.pp_arith.specs.Words60 as spec;
 
-/// Returns the five 12-bit parts of a 60-bit word, leftmost first. This is the order in which the manual's
-/// peripheral processor instructions move central words to and from cells. `w` is below 2^60, and each
-/// part is 0 to 0o7777.
+/// Returns the five 12-bit parts of a 60-bit word, leftmost first. This is the order in which
+/// instructions move central words to and from cells [P8]. `w` is below 2^60, and each part is 0 to
+/// 0o7777.
 pub fn split60(w: u64) -> [u16; 5]
     requires w_in { w < 2 ^ 60 }
     ensures value { result ≡ spec.split60 w }

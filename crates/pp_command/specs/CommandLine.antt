@@ -60,8 +60,8 @@ set_channel (c ∷ s ∷ more) = state s >>= λ found. makes (λ (n, v). Act (Se
 set_channel _ = Err WordCount
 
 -- SET, by the kind of number: M for cells, A, P or Q for a register of a processor, C for a central word, H for a channel.
-unfoldable pub set : WordList → Result Request LineFault
-set = choose (
+unfoldable pub setting : WordList → Result Request LineFault
+setting = choose (
     codes "M" ⇒ set_cells
     ∷ codes "A" ⇒ makes (λ (n, v). Act (SetA n v)) (two 0o11 0o777777)
     ∷ codes "P" ⇒ makes (λ (n, v). Act (SetP n v)) (two 0o11 0o7777)
@@ -115,7 +115,7 @@ dump = choose (
 -- The eight commands, by the first word of the line. STEP has a count of turns, and BACK and FORWARD one of actions.
 unfoldable pub request_of : List ℕ → WordList → Result Request LineFault
 request_of = read_by (
-    codes "SET" ⇒ set
+    codes "SET" ⇒ setting
     ∷ codes "STEP" ⇒ makes Step count
     ∷ codes "BACK" ⇒ back
     ∷ codes "FORWARD" ⇒ makes Forward count

@@ -113,9 +113,9 @@ fn set_channel(text: &[u8]) -> Result<Request, LineFault>
 ///
 /// # Errors
 /// The first `LineFault` that applies.
-#[tactic(auto, unfolding(crate::specs::CommandLine::set))]
+#[tactic(auto, unfolding(crate::specs::CommandLine::setting))]
 pub fn set(text: &[u8]) -> Result<Request, LineFault>
-    ensures value { result ≡ spec.set (words text.now) }
+    ensures value { result ≡ spec.setting (words text.now) }
     ensures in_range { IfOk result IsInRange }
 {
     let (kind, rest) = first_word(text)?;

@@ -76,7 +76,7 @@ back_answer actions v =
     if nat_lt v.kept actions then rejected v (codes "ERR 07 TOO FEW KEPT\n")
     else moved (codes "BACK ") actions (after_back v actions)
 
--- FORWARD: performs the first actions of the redo list again, if it has as many. It does not stop at watches.
+-- FORWARD: redoes the first actions of the redo list, if it has as many. It does not stop at watches.
 unfoldable pub forward_answer : ℕ → Value → Answer
 forward_answer actions v =
     if nat_lt (length v.ahead) actions then rejected v (codes "ERR 16 TOO FEW AHEAD\n")

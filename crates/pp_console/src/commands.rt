@@ -158,9 +158,8 @@ fn answer_request<W: Sink>(
     }
 }
 
-/// Performs a command completely, and then writes its answer. The texts of answers are this project's
-/// choice. Returns `false` if the command was rejected: its answer is its ERR line, and it changed
-/// nothing.
+/// Performs a command completely, and then writes its answer. Returns `false` if the command was
+/// rejected: its answer is its ERR line, and it changed nothing.
 ///
 /// # Errors
 /// `WriteFailed` if a call of the sink fails. The command is performed all the same, and a proper

@@ -4,10 +4,10 @@ ghost use Rattle.pp_console.specs.declared.progress.TheConstants.{LINE_LIMIT, BY
 
 use pp_lines::LineCutter;
 
-/// The largest number of lines in a script (this project's choice).
+/// The largest number of lines in a script.
 pub const LINE_LIMIT: u32 = 1_000_000;
 
-/// The largest number of bytes in a script (this project's choice).
+/// The largest number of bytes in a script.
 pub const BYTE_LIMIT: u32 = 268_435_456;
 
 /// The number of bytes of a line that are kept. They are enough to show that it is too long: 255, a
@@ -55,8 +55,8 @@ pub struct Summary {
 }
 
 impl Summary {
-    /// Returns the exit status of a run that ended without a fault (this project's choice): 0 if no line
-    /// was rejected, otherwise 1.
+    /// Returns the exit status of a run that ended without a fault: 0 if no line was rejected, otherwise
+    /// 1.
     pub fn status(&self) -> u8
         ensures { result ≡ (if self.now.refused == 0 then 0 else 1) }
     {

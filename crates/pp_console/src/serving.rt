@@ -1,5 +1,5 @@
 //! Performs a whole script, from source to sink.
-ghost use Rattle.std.specs.Prelude.{◌≡◌, ◌+◌, ◌<◌, ◌∷◌, ◌++◌, [], Option, Some, ℕ, List, IfErr, OnOk, MatchResult, length};
+ghost use Rattle.std.specs.Prelude.{◌≡◌, ◌+◌, ◌<◌, ◌∷◌, ◌++◌, [], Option, Some, ℕ, List, IfErr, OnOk, MatchResult, length, true};
 ghost use Rattle.std.specs.Io.KnownBytes.{Consumes, IsAtEnd};
 ghost use Rattle.pp_lines.specs.Device.{Counts};
 ghost use Rattle.pp_history.specs.SessionValue.{IsAt};
@@ -158,7 +158,7 @@ fn finish<W: Sink>(
 /// Performs every line of the source in turn, and writes each answer before it reads more bytes. An
 /// unfinished line is performed at the end of input, but not after a fault.
 ///
-/// A script has at most 1,000,000 lines and 268,435,456 bytes (this project's choice).
+/// A script has at most 1,000,000 lines and 268,435,456 bytes.
 ///
 /// # Errors
 /// `ReadFailed` if a call of the source fails, and `WriteFailed` if a call of the sink fails.
@@ -177,6 +177,7 @@ pub fn serve<R: Source, W: Sink>(
         (λ summary. Serves summary session.new (W.text out.new) (origin_of start (W.text out.old)) taken)
         (λ fault. Stops fault session.new (W.text out.new) (origin_of start (W.text out.old)) taken (R.rest source.new))) }
     ensures all { OnOk result (IsAtEnd (R.rest source.new)) }
+    ensures ended { OnOk result (R.ended source.new ≡ true) }
 
     // The limits that the clauses name.
     ensures limits { (LINE_LIMIT ≡ 1000000) × (BYTE_LIMIT ≡ 268435456) }

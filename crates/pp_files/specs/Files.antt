@@ -56,7 +56,7 @@ deck_of_file bytes = rows_of_file card_rule file_limit bytes >>= λ rows. Ok (ma
 abbrev pub panel_rule : Rule
 panel_rule k rows row = if nat_le (length (concat rows ++ row)) 12 then Ok (rows ++ row ∷ []) else Err PanelCount
 
--- The words of a panel file, twelve (decimal) in all its lines together, or the file's first fault.
+-- The words of a panel file, twelve (decimal) in all its lines together, of twelve bits each, or the file's first fault. [M19]
 unfoldable pub panel_of_file : List ℕ → Result Row LoadFault
 panel_of_file bytes = rows_of_file panel_rule file_limit bytes >>= λ rows.
     if length (concat rows) == 12 then Ok (concat rows) else Err PanelCount

@@ -1,6 +1,6 @@
 //! Loads decks and panels.
 ghost use Rattle.std.specs.Io.KnownBytes.{Consumes, IsAtEnd};
-ghost use Rattle.std.specs.Prelude.{◌≡◌, ◌≢◌, ◌<◌, ◌++◌, ℕ, List, All, Ok, IfOk, IfErr, OnOk, MatchResult};
+ghost use Rattle.std.specs.Prelude.{◌≡◌, ◌≢◌, ◌<◌, ◌++◌, ℕ, List, All, Ok, IfOk, IfErr, OnOk, MatchResult, true};
 ghost use Rattle.pp_lines.specs.Device.{all_bytes};
 ghost use Rattle.pp_files.specs.Files.{card_rule, panel_rule, deck_of_file, panel_of_file};
 ghost use Rattle.pp_files.specs.Fault.{CountsLoadReads, IsLoadCause};
@@ -12,7 +12,7 @@ use arrayvec::ArrayVec;
 use pp_lines::Source;
 use std::alloc::Global;
 
-/// Reads the cards of a deck file to the end of input (the format is this project's choice).
+/// Reads the cards of a deck file to the end of input.
 ///
 /// Each line of words is a card. A line without words is skipped, and so is a line whose first byte
 /// that is not a blank or a tab is `*`. The words are octal, 0 to 7777, for the columns from the first
@@ -30,6 +30,7 @@ pub fn load_deck<R: Source>(alloc: Global, source: &mut R) -> Result<Vec<[u16; C
         (λ fault. IsLoadCause card_rule deck_of_file taken (all_bytes (R.rest source.old) taken) fault) }
     ensures within { IfOk result (λ deck. All (All (λ value. value < 0o10000)) deck.items) }
     ensures all { OnOk result (IsAtEnd (R.rest source.new)) }
+    ensures ended { OnOk result (R.ended source.new ≡ true) }
     ensures reads { CountsLoadReads (R.failure_count source.old) (R.failure_count source.new) result }
 {
     let mut deck = Deck {
@@ -39,8 +40,8 @@ pub fn load_deck<R: Source>(alloc: Global, source: &mut R) -> Result<Vec<[u16; C
     Ok(deck.cards)
 }
 
-/// Reads the twelve words of a panel file to the end of input (the format is this project's choice):
-/// the words of all lines together, each octal, 0 to 7777. Lines are skipped as in a deck.
+/// Reads the twelve words of a panel file to the end of input: the words of all lines together, each
+/// octal, 0 to 7777. Lines are skipped as in a deck.
 ///
 /// # Errors
 /// The file's first fault, in the order of `LoadFault`, and `PanelCount` if it ends with fewer than
@@ -56,6 +57,7 @@ pub fn load_panel<R: Source>(source: &mut R) -> Result<[u16; PANEL_WORDS], LoadF
     ensures within { IfOk result (λ panel. All (λ value. value < 0o10000) panel) }
     ensures no_memory { IfErr result (λ fault. fault ≢ LoadFault.NoMemory) }
     ensures all { OnOk result (IsAtEnd (R.rest source.new)) }
+    ensures ended { OnOk result (R.ended source.new ≡ true) }
     ensures reads { CountsLoadReads (R.failure_count source.old) (R.failure_count source.new) result }
 {
     let mut panel = Panel {

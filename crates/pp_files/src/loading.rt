@@ -1,6 +1,6 @@
 //! Reads a file into a sheet.
 ghost use Rattle.std.specs.Io.KnownBytes.{Consumes, IsAtEnd};
-ghost use Rattle.std.specs.Prelude.{◌≡◌, ◌+◌, ◌∷◌, ◌++◌, [], ℕ, List, IfErr, OnOk, MatchResult, length};
+ghost use Rattle.std.specs.Prelude.{◌≡◌, ◌+◌, ◌∷◌, ◌++◌, [], ℕ, List, IfErr, OnOk, MatchResult, length, true};
 ghost use Rattle.pp_lines.specs.Device.{all_bytes};
 ghost use Rattle.pp_files.specs.Rows.{Row};
 ghost use Rattle.pp_files.specs.Files.{file_limit, rows_of_file};
@@ -107,6 +107,7 @@ pub fn read_sheet<R: Source, S: Sheet>(source: &mut R, sheet: &mut S) -> Result<
         (λ _. Reads (S.holds sheet.new) (rows_of_file S.rule file_limit taken))
         (λ fault. IsLoadCause S.rule (rows_of_file S.rule file_limit) taken (all_bytes (R.rest source.old) taken) fault) }
     ensures all { OnOk result (IsAtEnd (R.rest source.new)) }
+    ensures ended { OnOk result (R.ended source.new ≡ true) }
     ensures reads { CountsLoadReads (R.failure_count source.old) (R.failure_count source.new) result }
     ensures faults { IfErr result (IsSheetFault S.needs_memory) }
 {

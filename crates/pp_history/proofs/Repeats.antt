@@ -43,16 +43,16 @@ module _ {M A R P H : Type 0} (rules : Ghosts M A R P H) where
   ]
 
   -- the session after the action was performed this many times
-  pub record IsRepeated (start : M) (old : Log M A R P H) (action : A) (count : ℕ) (machine : M) (log : Log M A R P H) : Type 0 where
+  pub record IsRepeated (start : M) (old : Log A R H) (action : A) (count : ℕ) (machine : M) (log : Log A R H) : Type 0 where
     pub machine_is : machine ≡ machine_after rules count action start
     pub run : IsRun rules start old (after_acts count action) machine log
 
-  pub repeat_none : (machine : M) (log : Log M A R P H) (action : A) → IsSession rules machine log → IsRepeated machine log action 0 machine log
+  pub repeat_none : (machine : M) (log : Log A R H) (action : A) → IsSession rules machine log → IsRepeated machine log action 0 machine log
   unfolding after_acts
   repeat_none machine log action is = record { machine_is = refl; run = run_none rules machine log (after_acts 0 action) (λ v. refl) is }
 
-  pub repeat_more : {start : M} {old : Log M A R P H} {action : A} {count : ℕ} {now : M} {log : Log M A R P H} → IsRepeated start old action count now log →
-      {machine : M} {log' : Log M A R P H} → machine ≡ rules.after_act now action →
+  pub repeat_more : {start : M} {old : Log A R H} {action : A} {count : ℕ} {now : M} {log : Log A R H} → IsRepeated start old action count now log →
+      {machine : M} {log' : Log A R H} → machine ≡ rules.after_act now action →
       IsRun rules start old (λ v. after_act (after_acts count action v) action) machine log' → IsRepeated start old action (count + 1) machine log'
   unfolding after_acts
   repeat_more {action = action} repeated next run =

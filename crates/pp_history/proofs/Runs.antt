@@ -13,7 +13,7 @@ module _ {M A R P H : Type 0} (rules : Ghosts M A R P H) where
   action_of head = (rules.unpacked head).0
 
   -- the numbers of actions are what is counted
-  module _ (machine : M) (log : Log M A R P H) (is : IsSession rules machine log) where
+  module _ (machine : M) (log : Log A R H) (is : IsSession rules machine log) where
     pub kept_is : log.kept ≡ length (contents_of rules.unpacked machine log).records
     kept_is = sym (is.joined.kept.all ∙ length_kept log.heads is.heads log.at is.within log.kept log.ahead is.full)
 
@@ -32,19 +32,19 @@ module _ {M A R P H : Type 0} (rules : Ghosts M A R P H) where
     pub moves : Moves rules start (contents_with rules.unpacked machine halves tails.ring undone) after
 
   -- the log with a head more, in a slot of the block in use
-  abbrev pub with_head : Log M A R P H → Vec (Option H) Global → ℕ → ℕ → ℕ → Tails A R → Buffer A → Log M A R P H
+  abbrev pub with_head : Log A R H → Vec (Option H) Global → ℕ → ℕ → ℕ → Tails A R → Buffer A → Log A R H
   with_head log block slot kept ahead tails undone =
       record { heads = record log.heads { block = block }; at = slot; kept = kept; ahead = ahead; tails = tails; undone = undone }
 
   -- a session after some steps
-  pub record IsRun (start : M) (old : Log M A R P H) (after : SessionValue M A → SessionValue M A) (machine : M) (log : Log M A R P H) : Type 0 where
+  pub record IsRun (start : M) (old : Log A R H) (after : SessionValue M A → SessionValue M A) (machine : M) (log : Log A R H) : Type 0 where
     pub heads : IsHeads log.heads
     pub within : log.at ≤ 256
     pub full : log.ahead + log.kept ≤ log.heads.capacity
     pub span : IsSpan (contents_of rules.unpacked start old) after (halves_in log) machine log.tails log.undone
 
   -- no step yet
-  pub run_none : (machine : M) (log : Log M A R P H) (after : SessionValue M A → SessionValue M A) →
+  pub run_none : (machine : M) (log : Log A R H) (after : SessionValue M A → SessionValue M A) →
       ((v : SessionValue M A) → after v ≡ v) → IsSession rules machine log → IsRun machine log after machine log
   run_none machine log after none is = record {
     heads = is.heads;
@@ -53,7 +53,7 @@ module _ {M A R P H : Type 0} (rules : Ghosts M A R P H) where
     span = record { joined = is.joined; moves = λ v at. rw (none v) at };
   }
 
-  module _ {start : M} {old : Log M A R P H} {after : SessionValue M A → SessionValue M A} {machine : M} {log : Log M A R P H} where
+  module _ {start : M} {old : Log A R H} {after : SessionValue M A → SessionValue M A} {machine : M} {log : Log A R H} where
     -- no more steps
     pub run_ends : IsSession rules start old → IsRun start old after machine log → IsSession rules machine log
     run_ends is run = record {
@@ -78,7 +78,7 @@ module _ {M A R P H : Type 0} (rules : Ghosts M A R P H) where
       span = rw (same.halves log.kept log.ahead (omega (arith, run.full)) (omega (arith, run.full))) run.span;
     }
 
-  module _ {start : M} {old : Log M A R P H} {now : M} {log : Log M A R P H} where
+  module _ {start : M} {old : Log A R H} {now : M} {log : Log A R H} where
     -- one more step back
     module _ (count : ℕ) (run : IsRun start old (λ v. after_back v count) now log) (head : Option H)
         (found : slice_get log.heads.block.items log.at ≡ Some head) (less : ℕ) (one : log.kept ≡ suc less) where
@@ -189,7 +189,7 @@ module _ {M A R P H : Type 0} (rules : Ghosts M A R P H) where
           (λ v was. sym (after_forward-more v count 1) ∙ forward_is rules _ _ _ _ log.heads.capacity (after_forward v count) (rw fewer.0 at (there.moves v was)))
 
   -- one more action
-  pub act_next : {start : M} {old : Log M A R P H} {after : SessionValue M A → SessionValue M A} {now : M} {log : Log M A R P H} →
+  pub act_next : {start : M} {old : Log A R H} {after : SessionValue M A → SessionValue M A} {now : M} {log : Log A R H} →
       IsRun start old after now log → (heads : Heads H) (slot : ℕ) → IsHeads heads → slot < 256 → IsSame log.heads log.at heads (slot + 1) →
       (head : Option H) (block : Vec (Option H) Global) → block.items ≡ set heads.block.items slot head → {machine : M} {action : A} {tails : Tails A R} →
       IsActed rules now machine action head log.tails tails → (kept : ℕ) → kept ≡ min (log.kept + 1) heads.capacity → rules.admitted now action →

@@ -3,6 +3,6 @@ use Rattle.pp_history.specs.declared.reversible.UndoRecord.{UndoRecord}
 use Rattle.pp_history.specs.declared.reversible.UndoRecord.TheVariants.{Head, Tail}
 
 -- the whole undo record
-abbrev pub whole_record : {M A R P H : Type 0} → (H → A × R) → UndoRecord M A R P H → R
+abbrev pub whole_record : {A R H : Type 0} → (H → A × R) → UndoRecord H R → R
 whole_record unpacked (Head head) = (unpacked head.now).1
 whole_record unpacked (Tail back) = back.now

@@ -38,6 +38,7 @@ impl<H: Drop> Heads<H> {
 
     /// Returns the head in the k-th slot behind the place `at`, counted from 0.
     #[inline(always)]
+    #[tactic(auto, using(crate::proofs::Blocks::slot_here, crate::proofs::Blocks::slot_there, crate::proofs::Blocks::block_whole))]
     pub(crate) fn get(&self, at: usize, k: usize) -> &Option<H>
         requires is { IsHeads self.now }
         requires within { (at ≤ 256) × (k < self.now.capacity) }

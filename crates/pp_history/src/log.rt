@@ -11,11 +11,11 @@ use circular_buffer::HeapCircularBuffer;
 use std::alloc::{AllocError, Global};
 
 /// The newest actions, at most as many as the capacity of the heads. Some were undone; the others have undo records.
-/// Memory is touched only for heads and tails that are made.
+/// Each slot is written when the log is made. Memory for tails is touched only as they are made.
 #[derive(Drop)]
-pub(crate) struct Log<T: Reversible> {
+pub(crate) struct Log<A, R, H> {
     /// An action that is performed overwrites a head in place.
-    pub(crate) heads: Heads<T::Head>,
+    pub(crate) heads: Heads<H>,
     /// The place between the slots: the heads of the kept actions are behind it, those of the undone ones before it.
     pub(crate) at: usize,
     /// How many actions are kept.
@@ -23,14 +23,17 @@ pub(crate) struct Log<T: Reversible> {
     /// How many actions were undone and can be performed again.
     pub(crate) ahead: usize,
     /// The kept actions without a head, the newest first, and then discarded ones.
-    pub(crate) tails: Tails<T::Action, T::Record>,
+    pub(crate) tails: Tails<A, R>,
     /// The undone actions without a head, the next to perform again first, and then discarded ones.
-    pub(crate) undone: HeapCircularBuffer<T::Action>,
+    pub(crate) undone: HeapCircularBuffer<A>,
 }
 
-impl<T: Reversible> Log<T> {
+impl<A: Drop, R: Drop, H: Drop> Log<A, R, H> {
     /// Returns an empty log. Fails if there is no memory left.
-    pub(crate) fn new(alloc: Global, capacity: u32) -> Result<Log<T>, AllocError>
+    pub(crate) fn new<T: Reversible<Action = A, Record = R, Head = H>>(
+        alloc: Global,
+        capacity: u32,
+    ) -> Result<Log<A, R, H>, AllocError>
         requires { (1 ≤ capacity) × (capacity ≤ 10000) }
         ensures { IfOk result (λ log. (machine : T) → (is : IsSession T.Reversible machine log) × (is.value ≡ fresh machine capacity)) }
     {

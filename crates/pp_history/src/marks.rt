@@ -22,7 +22,7 @@ pub trait Marked: Reversible {
     }
 
     /// Returns `false` only if the undo record has none of the places that the marks cover.
-    fn may_be_marked(_back: &UndoRecord<Self>, _marks: &Marks) -> bool
+    fn may_be_marked(_back: &UndoRecord<Self::Head, Self::Record>, _marks: &Marks) -> bool
         ensures { result ≡ false → IsUnmarked marks_of Self.old_value _marks.now (whole_record Self.unpacked _back.now) }
     {
         true

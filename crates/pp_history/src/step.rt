@@ -27,7 +27,7 @@ pub(crate) fn may_be_marked<T: Marked>(
     if !marks.has_places {
         return false;
     }
-    match undo_record::<T>(head, tails, 0) {
+    match undo_record(head, tails, 0) {
         Some(back) => T::may_be_marked(&back, marks),
         None => true,
     }
@@ -35,12 +35,13 @@ pub(crate) fn may_be_marked<T: Marked>(
 
 /// Returns the undo record of a head, or else that of the tail behind `tail` others.
 #[inline(always)]
-pub(crate) fn undo_record<'a, T: Reversible>(
-    head: &'a Option<T::Head>,
-    tails: &'a Tails<T::Action, T::Record>,
+pub(crate) fn undo_record<'a, A: Drop, R: Drop, H: Drop>(
+    head: &'a Option<H>,
+    tails: &'a Tails<A, R>,
     tail: usize,
-) -> Option<UndoRecord<'a, T>>
-    ensures { IfSome (first_of T.unpacked in_tail head.now (drop tail tails.now.ring.items)) (λ entry. option_map (whole_record T.unpacked) result ≡ Some entry.1) }
+) -> Option<UndoRecord<'a, H, R>>
+    ensures { (unpacked : H → A × R) → IfSome (first_of unpacked in_tail head.now (drop tail tails.now.ring.items)) (λ entry.
+        option_map (whole_record unpacked) result ≡ Some entry.1) }
 {
     match head {
         Some(head) => Some(UndoRecord::Head(head)),

@@ -5,11 +5,11 @@ use Rattle.pp_host.specs.Known.{Content, Found}
 use Rattle.pp_trouble.specs.declared.trouble.FileKind.{FileKind}
 
 -- A file of this kind was opened by this path, or it could not be opened. Or the file that was opened last was closed, after
--- these bytes were read from it.
+-- these bytes were read from it, to its end or not.
 pub data Event : Type 0 where
   Opened : FileKind → Text → Event
   Missing : FileKind → Text → Event
-  Closed : List ℕ → Event
+  Closed : List ℕ → Bool → Event
 
 -- a file was asked for, and it was opened or not
 abbrev pub file_event : Bool → FileKind → Text → Event
@@ -21,7 +21,8 @@ pub record NamedFile : Type 0 where
   pub kind : FileKind
   pub path : Text
 
--- What the log has of a file, given what was read of it. It could not be opened; or it was opened, and closed after these bytes.
-abbrev pub events_of : NamedFile → Found → List Event
-events_of file Found.Missing = Event.Missing file.kind file.path ∷ []
-events_of file (Content bytes) = Opened file.kind file.path ∷ Closed bytes ∷ []
+-- What the log has of a file, given what was read of it, and whether to its end. It could not be opened; or it was opened, and
+-- closed after these bytes.
+abbrev pub events_of : NamedFile → Found → Bool → List Event
+events_of file Found.Missing ended = Event.Missing file.kind file.path ∷ []
+events_of file (Content bytes) ended = Opened file.kind file.path ∷ Closed bytes ended ∷ []

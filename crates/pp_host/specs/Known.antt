@@ -20,12 +20,13 @@ pub data Words : Type 0 where
 abbrev pub Agrees : {A : Type 0} → Known A → A → Type 0
 Agrees known value = IfSome known (λ same. same ≡ value)
 
--- All bytes of a source are the known ones, and those that were read begin them. If none are known, all are those that were read.
+-- All bytes of a source are the known ones, and those that were read are a prefix of them. If none are known, all are those that
+-- were read.
 abbrev pub IsInput : Known (List ℕ) → List ℕ → List ℕ → Type 0
 IsInput None read bytes = bytes ≡ read
 IsInput (Some known) read bytes = (bytes ≡ known) × ((rest : List ℕ) × (bytes ≡ read ++ rest))
 
--- What a path names is the known file, and the bytes that were read begin it. If none is known, it is what was read.
+-- What a path names is the known file, and the bytes that were read are a prefix of it. If none is known, it is what was read.
 abbrev pub IsContent : Known Found → Found → Found → Type 0
 IsContent None read content = content ≡ read
 IsContent (Some Missing) Missing content = content ≡ Missing

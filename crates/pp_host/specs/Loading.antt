@@ -23,8 +23,8 @@ panel_at None content = Ok None
 panel_at (Some path) Missing = Err (CannotOpen Panel)
 panel_at (Some path) (Content bytes) = result_map_both Some (of_load Panel) (panel_of_file bytes)
 
--- The named file was lost, after some of its bytes were read. Memory ran out at one of its rows, before any fault of the file.
--- Or a read failed, and the lines that were read have no fault.
+-- Loading the named file failed part-way, after some of its bytes were read. Memory ran out at one of its rows, before any fault of
+-- the file. Or a read failed, and the lines that were read have no fault.
 abbrev pub IsLost : Rule → Option Text → Found → Found → Trouble → Type 0
 IsLost rule (Some path) (Content read) (Content bytes) trouble =
     ((trouble ≡ NoMemory) × RunsOut rule file_limit bytes) ⊎ ((trouble ≡ ReadFailed) × BreaksOff rule file_limit read)

@@ -18,7 +18,7 @@ pub enum FileEvent {
     Opened(FileKind, Log),
     /// The file could not be opened.
     Missing(FileKind, Log),
-    /// The file that was opened last was closed, after these bytes were read from it.
+    /// The file that was opened last was closed, after these bytes were read from it, to its end or not.
     Closed(Log),
 }
 
@@ -56,7 +56,7 @@ impl FileLog {
         ensures { result.events ≡ before.now.events ++ file_event is_opened kind path.now ∷ [] }
     {
         let mut path_log = Log::new();
-        path_log.note(path.as_bytes());
+        path_log.note(path.as_bytes(), path.len());
         let event = match is_opened {
             true => FileEvent::Opened(kind, path_log),
             false => FileEvent::Missing(kind, path_log),
@@ -66,7 +66,7 @@ impl FileLog {
 
     /// Returns the log with the end of the file that was opened last, of which these bytes were read.
     pub fn with_end(before: &FileLog, bytes: &Log) -> FileLog
-        ensures { result.events ≡ before.now.events ++ Closed bytes.now.bytes ∷ [] }
+        ensures { result.events ≡ before.now.events ++ Closed bytes.now.bytes bytes.now.ended ∷ [] }
     {
         FileLog::with(before, &FileEvent::Closed(bytes.copied()))
     }

@@ -3,7 +3,7 @@ ghost use Rattle.pp_arguments.specs.CommandLine.{Text};
 ghost use Rattle.pp_host.specs.Events.{Closed, Event, Missing, Opened};
 ghost use Rattle.pp_host.specs.Host.{IsOpened, counted};
 ghost use Rattle.pp_host.specs.Known.{Agrees, Found, Known, Texts, Words};
-ghost use Rattle.std.specs.Prelude.{◌≡◌, ◌∷◌, ◌++◌, [], IfSome, List, MatchOption, None, Option, Some, MatchResult, map, ℕ};
+ghost use Rattle.std.specs.Prelude.{◌≡◌, ◌∷◌, ◌++◌, [], IfSome, false, List, MatchOption, None, Option, Some, MatchResult, map, ℕ};
 ghost use Rattle.std.specs.String.{string_bytes};
 
 use pp_lines::Source;
@@ -60,11 +60,11 @@ pub trait Host {
         ensures content { MatchOption result
             (Agrees (known_files self.old path.now) Found.Missing)
             (λ file. IsOpened (known_files self.old path.now) (Self.File.rest file)) }
-        ensures unread { IfSome result (λ file. (Self.File.given file ≡ []) × (Self.File.failure_count file ≡ 0)) };
+        ensures unread { IfSome result (λ file. (Self.File.given file ≡ []) × (Self.File.ended file ≡ false) × (Self.File.failure_count file ≡ 0)) };
 
-    /// Closes a file, and logs the bytes that were read from it.
+    /// Closes a file, and logs the bytes that were read from it, and whether to its end.
     fn close(&mut self, file: Self::File)
         ensures files { known_files self.new ≡ known_files self.old }
-        ensures log { log self.new ≡ log self.old ++ Closed (Self.File.given file) ∷ [] }
+        ensures log { log self.new ≡ log self.old ++ Closed (Self.File.given file) (Self.File.ended file) ∷ [] }
         ensures failures { failure_count self.new ≡ counted (failure_count self.old) (Self.File.failure_count file) };
 }

@@ -1,13 +1,13 @@
 //! Loads the files that the options name.
 ghost use Rattle.pp_files.specs.Files.{card_rule, panel_rule};
-ghost use Rattle.pp_host.specs.Calls.{Loads};
+ghost use Rattle.pp_host.specs.Calls.{IsAllRead, Loads};
 ghost use Rattle.pp_host.specs.Events.{Missing, Opened};
 ghost use Rattle.pp_host.specs.Failures.{reads_by, writes_by};
 ghost use Rattle.pp_host.specs.Host.{IsOpened};
 ghost use Rattle.pp_host.specs.Known.{Agrees, Found};
 ghost use Rattle.pp_host.specs.Loading.{IsLost, deck_at, panel_at};
 ghost use Rattle.pp_trouble.specs.declared.trouble.Trouble.TheVariants.{CannotOpen, ReadFailed};
-ghost use Rattle.std.specs.Prelude.{◌≡◌, ◌⊎◌, ◌<◌, ◌≤◌, ◌++◌, ◌∷◌, [], All, Err, IfOk, IfSome, MatchResult, Ok, option_map, ℕ};
+ghost use Rattle.std.specs.Prelude.{◌≡◌, ◌⊎◌, ◌<◌, ◌≤◌, ◌++◌, ◌∷◌, [], All, Err, false, IfOk, IfSome, MatchResult, Ok, option_map, ℕ};
 ghost use Rattle.std.specs.String.{string_bytes};
 
 use crate::host::Host;
@@ -28,7 +28,7 @@ pub fn open<H: Host>(host: &mut H, kind: FileKind, path: &str) -> Result<H::File
     ensures content { MatchResult result
         (λ file. IsOpened (H.known_files host.old path.now) (H.File.rest file))
         (λ trouble. (trouble ≡ CannotOpen kind) × Agrees (H.known_files host.old path.now) Found.Missing) }
-    ensures unread { IfOk result (λ file. (H.File.given file ≡ []) × (H.File.failure_count file ≡ 0)) }
+    ensures unread { IfOk result (λ file. (H.File.given file ≡ []) × (H.File.ended file ≡ false) × (H.File.failure_count file ≡ 0)) }
 {
     host.open(kind, path).ok_or(Trouble::CannotOpen(kind))
 }
@@ -44,8 +44,9 @@ pub fn deck<H: Host>(
 ) -> Result<Vec<[u16; 80]>, Trouble>
     ensures files { H.known_files host.new ≡ H.known_files host.old }
     ensures deck { Loads (H.known_files host.old) (H.log host.old) (H.log host.new) FileKind.Deck (option_map string_bytes path.now)
-        (λ read content. MatchResult result
-        (λ deck. deck_at (option_map string_bytes path.now) content ≡ Ok deck.items)
+        (λ read ended content. MatchResult result
+        (λ deck. (deck_at (option_map string_bytes path.now) content ≡ Ok deck.items)
+        × IsAllRead (option_map string_bytes path.now) ended)
         (λ trouble. (deck_at (option_map string_bytes path.now) content ≡ Err trouble)
         ⊎ IsLost card_rule (option_map string_bytes path.now) read content trouble)) }
     ensures reads { H.failure_count host.new ≡ reads_by result (H.failure_count host.old) }
@@ -68,8 +69,9 @@ pub fn deck<H: Host>(
 pub fn panel<H: Host>(host: &mut H, path: &Option<String>) -> Result<Option<[u16; 12]>, Trouble>
     ensures files { H.known_files host.new ≡ H.known_files host.old }
     ensures panel { Loads (H.known_files host.old) (H.log host.old)
-        (H.log host.new) FileKind.Panel (option_map string_bytes path.now) (λ read content. MatchResult result
-        (λ panel. panel_at (option_map string_bytes path.now) content ≡ Ok panel)
+        (H.log host.new) FileKind.Panel (option_map string_bytes path.now) (λ read ended content. MatchResult result
+        (λ panel. (panel_at (option_map string_bytes path.now) content ≡ Ok panel)
+        × IsAllRead (option_map string_bytes path.now) ended)
         (λ trouble. (panel_at (option_map string_bytes path.now) content ≡ Err trouble)
         ⊎ ((trouble ≡ ReadFailed) × IsLost panel_rule (option_map string_bytes path.now) read content ReadFailed))) }
     ensures reads { H.failure_count host.new ≡ reads_by result (H.failure_count host.old) }

@@ -3,7 +3,7 @@ ghost use Rattle.pp_arguments.specs.CommandLine.{Text};
 ghost use Rattle.pp_host.specs.Events.{Closed, Event, Opened};
 ghost use Rattle.pp_host.specs.Host.{IsOpened, words_known};
 ghost use Rattle.pp_host.specs.Known.{Agrees, Found, Known, Missing};
-ghost use Rattle.std.specs.Prelude.{◌≡◌, ◌∷◌, ◌++◌, [], IfSome, MatchOption, ℕ, List};
+ghost use Rattle.std.specs.Prelude.{◌≡◌, ◌∷◌, ◌++◌, [], IfSome, false, MatchOption, ℕ, List};
 
 use crate::host::{Host, WordsFault};
 use pp_lines::Source;
@@ -31,12 +31,12 @@ pub trait FileSystem {
         ensures content { MatchOption result
             (Agrees (known_files self.old path.now) Missing)
             (λ file. IsOpened (known_files self.old path.now) (Self.File.rest file)) }
-        ensures unread { IfSome result (λ file. (Self.File.given file ≡ []) × (Self.File.failure_count file ≡ 0)) };
+        ensures unread { IfSome result (λ file. (Self.File.given file ≡ []) × (Self.File.ended file ≡ false) × (Self.File.failure_count file ≡ 0)) };
 
-    /// Closes a file, and logs the bytes that were read from it.
+    /// Closes a file, and logs the bytes that were read from it, and whether to its end.
     fn close(&mut self, file: Self::File)
         ensures files { known_files self.new ≡ known_files self.old }
-        ensures asked { asked self.new ≡ asked self.old ++ Closed (Self.File.given file) ∷ [] };
+        ensures asked { asked self.new ≡ asked self.old ++ Closed (Self.File.given file) (Self.File.ended file) ∷ [] };
 }
 
 /// A host over the files of a system. Its log is theirs: it asks them for each file that the program asks for, and for no other.

@@ -1,7 +1,7 @@
 //! A source or a sink over any reader or writer.
-ghost use Rattle.std.specs.Prelude.{◌≡◌, []};
+ghost use Rattle.std.specs.Prelude.{◌≡◌, [], false};
 ghost use Rattle.pp_lines.specs.Device.{one_more};
-ghost use Rattle.pp_lines.specs.Counted.{device_of, failures_of, moved_by};
+ghost use Rattle.pp_lines.specs.Counted.{device_of, ended_by, failures_of, moved_by};
 
 use crate::device::{Failed, Sink, Source};
 use crate::log::Log;
@@ -25,6 +25,7 @@ impl<D> Counted<D> {
         ensures device { device_of result ≡ device }
         ensures failures { failures_of result ≡ 0 }
         ensures moved { moved_by result ≡ [] }
+        ensures ended { ended_by result ≡ false }
     {
         Counted {
             device,
@@ -45,6 +46,7 @@ impl<D> Counted<D> {
         ensures device { device_of self.new ≡ device_of self.old }
         ensures failures { failures_of self.new ≡ one_more (failures_of self.old) }
         ensures moved { moved_by self.new ≡ moved_by self.old }
+        ensures ended { ended_by self.new ≡ ended_by self.old }
     {
         self.failures = self.failures.saturating_add(1);
         Failed
@@ -56,12 +58,14 @@ impl<D: Read> Source for Counted<D> {
 
     ghost given = { moved_by };
 
+    ghost ended = { ended_by };
+
     ghost failure_count = { failures_of };
 
     fn take(&mut self, into: &mut [u8]) -> Result<usize, Failed> {
         match self.device.read(into) {
             Ok(count) => {
-                self.log.note(&into[..count]);
+                self.log.note(into, count);
                 Ok(count)
             }
             Err(_) => Err(self.count_failure()),
@@ -86,7 +90,7 @@ impl<D: Write> Sink for Counted<D> {
     fn put(&mut self, from: &[u8]) -> Result<usize, Failed> {
         match self.device.write(from) {
             Ok(count) if count > 0 || from.is_empty() => {
-                self.log.note(&from[..count]);
+                self.log.note(from, count);
                 Ok(count)
             }
             _ => Err(self.count_failure()),

@@ -1,7 +1,7 @@
 //! Sources and sinks of bytes, which count their failed calls.
-ghost use Rattle.std.specs.Prelude.{◌≡◌, ℕ, List, Option};
+ghost use Rattle.std.specs.Prelude.{◌≡◌, ℕ, Bool, List, Option};
 ghost use Rattle.std.specs.Io.KnownBytes.{ReadConsumes, WriteAppends};
-ghost use Rattle.pp_lines.specs.Device.{Counts, AnswersWithin, Logs, TakesSome};
+ghost use Rattle.pp_lines.specs.Device.{Counts, AnswersWithin, Ends, Logs, TakesSome};
 ghost use Rattle.pp_lines.specs.Output.{Written};
 
 use crate::log::Log;
@@ -20,6 +20,9 @@ pub trait Source {
     // The bytes read so far. Every source has them, an opaque one too.
     ghost given: { Self → List ℕ };
 
+    // Whether it is at its end: the last call into a slice that is not empty returned 0.
+    ghost ended: { Self → Bool };
+
     // The number of failed calls, up to the largest `u64`.
     ghost failure_count: { Self → ℕ };
 
@@ -32,15 +35,17 @@ pub trait Source {
         ensures within { AnswersWithin result into.new }
         ensures bytes { ReadConsumes (rest self.old) (rest self.new) result into.new }
         ensures given { Logs (given self.old) (given self.new) result into.new }
+        ensures ended { Ends (ended self.old) (ended self.new) result into.new }
         ensures counts { Counts (failure_count self.old) (failure_count self.new) result };
 
     /// Returns the number of failed calls.
     fn failures(&self) -> u64
         ensures { result ≡ failure_count self.now };
 
-    /// Returns the log of the bytes read so far.
+    /// Returns the log of the bytes read so far, and of whether the source is at its end.
     fn log(&self) -> &Log
-        ensures { result.now.bytes ≡ given self.now };
+        ensures bytes { result.now.bytes ≡ given self.now }
+        ensures ended { result.now.ended ≡ ended self.now };
 }
 
 /// A sink of bytes. It chooses how many bytes each call takes.

@@ -1,16 +1,18 @@
-//! A list of bytes that only contracts see.
-ghost use Rattle.std.specs.Prelude.{◌≡◌, ◌++◌, List, [], ℕ};
+//! What a device has moved, as contracts see it.
+ghost use Rattle.pp_lines.specs.Device.{is_at_end};
+ghost use Rattle.std.specs.Prelude.{◌≡◌, ◌++◌, Bool, false, List, [], take, ℕ};
 ghost use Rattle.std.specs.Borrow.{ftrue};
 
 use std::marker::{Model, PhantomData};
 use std::mem::size_of;
 
-/// The bytes that a device has moved so far. Only contracts see them. At run time the log holds no
-/// bytes and has size zero.
+/// The bytes that a device has moved so far, and whether it is at its end. Only contracts see them. At run time the log
+/// holds nothing and has size zero.
 #[derive(Drop)]
 pub struct Log {
     marker: PhantomData<u8>,
     pub ghost bytes: { List ℕ },
+    pub ghost ended: { Bool },
 }
 
 const _: () = prove!(size_of::<Log>() == 0);
@@ -22,24 +24,26 @@ impl Model for Log {
 impl Log {
     /// Returns an empty log.
     pub fn new() -> Log
-        ensures { result.bytes ≡ [] }
+        ensures { (result.bytes ≡ []) × (result.ended ≡ false) }
     {
         Log {
             marker: PhantomData,
         }
     }
 
-    /// Returns a log of the same bytes.
+    /// Returns the same log.
     pub fn copied(&self) -> Log
-        ensures { result.bytes ≡ self.now.bytes }
+        ensures { (result.bytes ≡ self.now.bytes) × (result.ended ≡ self.now.ended) }
     {
         Log {
             marker: PhantomData,
         }
     }
 
-    /// Appends bytes that were moved.
-    pub fn note(&mut self, _bytes: &[u8])
-        ensures { self.new.bytes ≡ self.old.bytes ++ _bytes.now }
+    /// Logs a call that moved the first bytes of this slice, so many of them. A source that read nothing into a slice
+    /// that is not empty is at its end.
+    pub fn note(&mut self, _slice: &[u8], _count: usize)
+        ensures { (self.new.bytes ≡ self.old.bytes ++ take _count _slice.now)
+            × (self.new.ended ≡ is_at_end self.old.ended _count _slice.now) }
     {}
 }

@@ -1,7 +1,7 @@
 //! Devices for tests: sources and sinks in memory. One call of each can be made to fail.
 ghost use Rattle.std.specs.Io.KnownBytes.{ReadConsumes, WriteAppends};
 ghost use Rattle.std.specs.Prelude.{◌≡◌, ◌<◌, ◌↔◌, ◌⊎◌, [], IsErr, Some, None};
-ghost use Rattle.pp_lines.specs.Device.{AnswersWithin, Counts, Logs, TakesSome, one_more};
+ghost use Rattle.pp_lines.specs.Device.{AnswersWithin, Counts, Ends, Logs, TakesSome, one_more};
 ghost use Rattle.pp_lines.specs.Output.{held_alone};
 ghost use Rattle.pp_lines.specs.Testing.{IsFull};
 
@@ -117,12 +117,15 @@ impl Source for Feed<'_> {
 
     ghost given = { λ feed. feed.log.bytes };
 
+    ghost ended = { λ feed. feed.log.ended };
+
     ghost failure_count = { λ feed. feed.calls.failures };
 
     fn take(&mut self, into: &mut [u8]) -> Result<usize, Failed>
         ensures within { AnswersWithin result into.new }
         ensures bytes { ReadConsumes (Some self.old.bytes.now) (Some self.new.bytes.now) result into.new }
         ensures given { Logs self.old.log.bytes self.new.log.bytes result into.new }
+        ensures ended { Ends self.old.log.ended self.new.log.ended result into.new }
         ensures counts { Counts self.old.calls.failures self.new.calls.failures result }
         ensures made { self.new.calls.made ≡ one_more self.old.calls.made }
         ensures failing { self.new.calls.failing ≡ self.old.calls.failing }
@@ -132,7 +135,7 @@ impl Source for Feed<'_> {
         let bytes = self.bytes;
         let count = bytes.len().min(self.piece).min(into.len());
         into[..count].copy_from_slice(&bytes[..count]);
-        self.log.note(&bytes[..count]);
+        self.log.note(into, count);
         self.bytes = &bytes[count..];
         Ok(count)
     }
@@ -159,11 +162,13 @@ impl Source for Endless {
 
     ghost given = { λ endless. endless.log.bytes };
 
+    ghost ended = { λ endless. endless.log.ended };
+
     ghost failure_count = { λ _. 0 };
 
     fn take(&mut self, into: &mut [u8]) -> Result<usize, Failed> {
         into.fill(self.byte);
-        self.log.note(into);
+        self.log.note(into, into.len());
         Ok(into.len())
     }
 

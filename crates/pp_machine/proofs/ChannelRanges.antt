@@ -1,15 +1,11 @@
 -- The numbers of the channels are in range, because those of each channel are.
-use Rattle.std.proofs.Common.{ℕ, ◌≡◌, ◌≤◌, set, List, get_or, lit≤}
+use Rattle.std.proofs.Common.{ℕ, ◌≡◌, ◌≤◌, set, List, get_or, arith}
 use Rattle.std.proofs.lemmas.{Grind.common_steps, Grind.elements, List.map-set, List.set-get_or, List.Elements.All-map}
 use Rattle.pp_machine.specs.ChannelNumbers.{IsChannels, state_number, channel_numbers}
 use Rattle.pp_machine.specs.declared.channel.{Channel.Channel, ChannelState.ChannelState}
-use Rattle.pp_machine.specs.declared.channel.ChannelState.TheVariants.{Inactive, Empty, Full, Function}
 
 state_in_range : (s : ChannelState) → state_number s ≤ 3
-state_in_range Inactive = lit≤ tt
-state_in_range Empty = lit≤ tt
-state_in_range Full = lit≤ tt
-state_in_range Function = lit≤ tt
+state_in_range _ = grind arith
 
 pub channels_in_range : (channels : List Channel) (clock : ℕ) → clock ≤ 0o7777 → IsChannels (channel_numbers channels clock)
 channels_in_range channels clock clock_in = record {

@@ -1,12 +1,12 @@
 -- What holds of every device, from the laws of its own numbers.
 use Rattle.std.specs.{Cmp.Derive.both_true, List.AllPairs}
-use Rattle.std.proofs.Common.{eq-eqb, ℕ, ◌≡◌, ◌≢◌, ◌∙◌, Bool, true, false, if◌then◌else◌, ◌⊎◌, inl, inr, ap, refl, sym, List}
-use Rattle.std.proofs.Common.{get_or, set}
+use Rattle.std.proofs.Common.{eq-eqb, ℕ, ◌≡◌, ◌≢◌, ◌∙◌, Bool, true, false, if◌then◌else◌, ◌⊎◌, inl, inr, ap, refl, List}
+use Rattle.std.proofs.Common.{set}
 use Rattle.std.proofs.lemmas.List.{set-set, set-get_or}
 use Rattle.pp_machine.proofs.Prelude.{IsAttached, of_device, with_channels, Machine, over, old_values, number, put, Has, HasAll}
 use Rattle.pp_machine.proofs.Prelude.{same_place, ChannelNumbers, with_channel, DeviceModel, DevicePlace, DeviceView, AtOwn}
 use Rattle.pp_machine.proofs.Prelude.{AtState, AtWord, device_place, number_at, device_old_values, over_device, place_at, put_at}
-use Rattle.pp_machine.proofs.Prelude.{replace, view_of, with_view, AllPlaces-renamed, Commute, IsStore, old_values-renamed}
+use Rattle.pp_machine.proofs.Prelude.{view_of, with_view, AllPlaces-renamed, Commute, IsStore, old_values-renamed}
 use Rattle.pp_machine.proofs.Prelude.{over-renamed, places-old_values, undone-by-old-values, AllPlaces, Writes, places, renamed}
 use Rattle.pp_machine.proofs.{Prelude.Place, Prelude.ChannelMode, Prelude.ChannelWord, Prelude.Slot, Once.each-once, Once.once}
 
@@ -82,38 +82,34 @@ abbrev with_words : ChannelNumbers → List ℕ → ChannelNumbers
 with_words channels registers = record channels { registers = registers }
 
 module _ {Numbers Own Record : Type 0} (d : DeviceModel Numbers Own Record) (laws : IsAttached d) (m : Machine) (c : ℕ) where
-  -- a change of the channels, beside the device
-  beside : (before after : ChannelNumbers) (n : Numbers) (f : ChannelNumbers → ChannelNumbers) → f before ≡ after →
-      replace d (with_channels m after) n
-      ≡ with_channels (replace d (with_channels m before) n) (f (replace d (with_channels m before) n).channels)
-  beside before after n f e =
-      let beside_it = with_channels (replace d (with_channels m before) n) in
-      sym (ap (λ channels. beside_it (f channels)) (laws.channels (with_channels m before) (d.channel m.setup) n)
-      ∙ (ap beside_it e ∙ laws.apart (with_channels m before) (d.channel m.setup) n after))
-
   put-with_view : (s : DeviceView Numbers) (p : DevicePlace Own) (v : ℕ) →
       with_view d m c (put_at d.put s p v) ≡ put (with_view d m c s) (device_place d c p) v
   put-with_view s (AtOwn x) v = laws.put_named _ (d.channel m.setup) s.device x v
-  put-with_view s AtState v = let before = with_channel m.channels c s.state s.word in
-      beside before _ s.device (λ (x : ChannelNumbers). with_modes x (set x.states c v))
-      (ap (with_modes before) (set-set m.channels.states c s.state v))
-  put-with_view s AtWord v =
-      let before = with_channel m.channels c s.state s.word in
-      beside before _ s.device (λ (x : ChannelNumbers). with_words x (set x.registers c v))
-      (ap (with_words before) (set-set m.channels.registers c s.word v))
+  put-with_view s AtState v = let channels = with_channel m.channels c s.state s.word in
+      let before = with_channels m channels in
+      cc (
+        laws.channels before (d.channel m.setup) s.device,
+        laws.apart before (d.channel m.setup) s.device (with_modes channels (set channels.states c v)),
+        set-set m.channels.states c s.state v,
+      )
+  put-with_view s AtWord v = let channels = with_channel m.channels c s.state s.word in
+      let before = with_channels m channels in
+      cc (
+        laws.channels before (d.channel m.setup) s.device,
+        laws.apart before (d.channel m.setup) s.device (with_words channels (set channels.registers c v)),
+        set-set m.channels.registers c s.word v,
+      )
 
   with_view-same : with_view d m c (view_of d c m) ≡ m
-  with_view-same = ap (λ states. replace d (with_channels m (with_words (with_modes m.channels states)
-      (set m.channels.registers c (get_or m.channels.registers c 0)))) (d.get m)) (set-get_or m.channels.states c 0)
-      ∙ (ap (λ registers. replace d (with_channels m (with_words m.channels registers)) (d.get m))
-      (set-get_or m.channels.registers c 0) ∙ laws.same m)
+  with_view-same = rw (set-get_or m.channels.states c 0, set-get_or m.channels.registers c 0) (laws.same m)
 
   -- the device's writes are writes of the machine
   pub lifted : (s : DeviceView Numbers) (w : Writes (DevicePlace Own)) →
       s ≡ over_device d (view_of d c m) w → with_view d m c s ≡ over m (renamed (device_place d c) w)
-  lifted s w e =
-      ap (with_view d m c) e ∙ (over-renamed (put_at d.put) put (with_view d m c) (device_place d c) put-with_view (view_of d c m) w
-      ∙ ap (λ x. over x (renamed (device_place d c) w)) with_view-same)
+  lifted s w e = cc (
+    over-renamed (put_at d.put) put (with_view d m c) (device_place d c) put-with_view (view_of d c m) w,
+    with_view-same,
+  )
 
   named-at : (p : DevicePlace Own) → number_at d.number (view_of d c m) p ≡ number m (device_place d c p)
   named-at (AtOwn x) = laws.number_named m x
@@ -134,9 +130,8 @@ not_shared _ _ h k = cc
 module _ {Numbers Own Record : Type 0} (d : DeviceModel Numbers Own Record) (laws : IsAttached d) where
   -- the device writes no watch entry
   pub watches-kept : (c : ℕ) (m : Machine) (p : DevicePlace Own) (v : ℕ) → (put m (device_place d c p) v).watches ≡ m.watches
-  watches-kept c m (AtOwn x) v = ap (λ (s : Machine). (put s (d.name x) v).watches) (sym (laws.same m))
-      ∙ (ap (λ (s : Machine). s.watches) (sym (laws.put_named m (d.channel m.setup) (d.get m) x v))
-      ∙ laws.watches m (d.channel m.setup) (d.put (d.get m) x v))
+  watches-kept c m (AtOwn x) v = let channel = d.channel m.setup in
+      cc (laws.same m, laws.put_named m channel (d.get m) x v, laws.watches m channel (d.put (d.get m) x v))
   watches-kept c m AtState v = refl
   watches-kept c m AtWord v = refl
 

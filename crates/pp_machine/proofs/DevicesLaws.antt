@@ -1,11 +1,11 @@
 -- What holds of the devices of a machine, from the laws of each.
-use Rattle.std.proofs.Common.{ℕ, false, ◌+◌, ◌≡◌, ◌≤◌, ◌∙◌, [], ◌∷◌, ◌++◌, None, length, ap, arith, refl, sym}
+use Rattle.std.proofs.Common.{ℕ, false, ◌+◌, ◌≡◌, ◌≤◌, ◌∙◌, [], ◌∷◌, ◌++◌, None, length, ap, arith, refl}
 use Rattle.std.proofs.lemmas.List.{length-append}
 use Rattle.pp_machine.proofs.DeviceLaws.{lifted, lifted-old_values, not_at, watches-kept}
 use Rattle.pp_machine.proofs.{Parts.one-performed, Prelude.length-renamed, Prelude.lookup-append, Prelude.OnRecords, Prelude.Place}
 use Rattle.pp_machine.proofs.Prelude.{IsAttached, IsDevice, of_device, DeviceModel, DeviceView, device_old_values, device_pairs}
 use Rattle.pp_machine.proofs.Prelude.{device_place, device_step_writes, over_device, view_of, with_view, AreDevices, AreOnChannels}
-use Rattle.pp_machine.proofs.Prelude.{DevicesModel, FitsOn, no_devices, on, setup-over, ArePerformed, Machine, over, old_values}
+use Rattle.pp_machine.proofs.Prelude.{DevicesModel, FitsOn, no_devices, on, setup-over, ArePerformed, Machine, over}
 use Rattle.pp_machine.proofs.Prelude.{put, Writes, first_of_two, renamed, Has, HasAll, lookup, same_place, AllPlaces-append}
 
 -- a list of other places does not have a place
@@ -38,9 +38,7 @@ module _ {Numbers Own Record : Type 0} (d : DeviceModel Numbers Own Record) (law
   device-performed m c s r on_channel step named =
       let w = d.writes (view_of d c m) in
       one-performed (device_step_writes d) m _ _
-      (lifted d laws m c s w step ∙ ap (λ at. over m (renamed (device_place d at) (d.writes (view_of d at m)))) (sym on_channel))
-      (ap (renamed (device_place d c)) named ∙ (lifted-old_values d laws m c w
-      ∙ ap (λ at. old_values m (renamed (device_place d at) (d.writes (view_of d at m)))) (sym on_channel)))
+      (cc (lifted d laws m c s w step, on_channel)) (cc (named, lifted-old_values d laws m c w, on_channel))
 
 -- ---- no device, and one device more
 

@@ -37,13 +37,14 @@ module _ {Numbers Own Record Others Records : Type 0} (d : DeviceModel Numbers O
   -- the device and the channels replaced
   replaced : (n later : Numbers) (x : Others) (channels after : ChannelNumbers) →
       replace d (with_channels (whole n x channels) after) later ≡ whole later x after
-  replaced n later x channels after =
-      let changed : with_channels (whole n x channels) after ≡ whole n x after =
-      joined.others.apart (d.attach (with_channels m channels) c n) x after
-      ∙ ap (λ s. o.attach s x) (joined.device.attached.apart (with_channels m channels) c n after) in
-      ap (λ at. d.attach (with_channels (whole n x channels) after) at later) (on_channel n x channels)
-      ∙ (ap (λ s. d.attach s c later) (changed ∙ device_last n x after)
-      ∙ (joined.device.attached.again (o.attach (with_channels m after) x) c c n later ∙ sym (device_last later x after)))
+  replaced n later x channels after = cc (
+    joined.others.apart (d.attach (with_channels m channels) c n) x after,
+    joined.device.attached.apart (with_channels m channels) c n after,
+    on_channel n x channels,
+    device_last n x after,
+    device_last later x after,
+    joined.device.attached.again (o.attach (with_channels m after) x) c c n later,
+  )
 
   -- what the device sees, with its channel taken out of the others
   seen : (n : Numbers) (x : Others) (channels : ChannelNumbers) (taken : Channel) → state_number taken.state
@@ -67,18 +68,13 @@ module _ {Numbers Own Record Others Records : Type 0} (d : DeviceModel Numbers O
 
     first : handed ≡ with_channel channels c (state_number left.state) left.word → IsOwnStep (view_of d c (whole n x channels)) →
         ArePerformed (device_step_writes d ∷ []) (whole n x channels) (whole later x handed) (device_pairs d c r)
-    first put_back own =
-        subst (λ s. ArePerformed (device_step_writes d ∷ []) (whole n x channels) s (device_pairs d c r))
-        (returned n later x channels handed left put_back)
+    first put_back own = rw (← returned n later x channels handed left put_back)
         (device-performed d joined.device.attached (whole n x channels) c
         (device_view later left) r (on_channel n x channels) own.0 own.1)
 
     rest : ((s : Machine) → AreStepped o (attached o s x handed) (attached o s after last) rs) →
         AreStepped o (whole later x handed) (whole later after last) rs
-    rest others =
-        subst (λ s. AreStepped o s (whole later after last) rs) (others_last later x handed)
-        (subst (λ s. AreStepped o (attached o (d.attach m c later) x handed) s rs)
-        (others_last later after last) (others (d.attach m c later)))
+    rest others = rw (← others_last later x handed, ← others_last later after last) (others (d.attach m c later))
 
     pub stepped : state_number taken.state ≡ get_or channels.states c 0 →
         taken.word ≡ get_or channels.registers c 0 → c < length channels.states → c < length channels.registers →
@@ -107,9 +103,7 @@ module _ {Numbers Own Record Others Records : Type 0} (d : DeviceModel Numbers O
       (taken : Channel) (back : OnRecords Record Records) where
     others_undone : ((s : Machine) → attached o s before handed ≡ over (attached o s x channels) (o.pairs back.others)) →
         over (whole n x channels) (o.pairs back.others) ≡ whole n before handed
-    others_undone undone =
-        sym (sym (others_last n before handed)
-        ∙ (undone (d.attach m c n) ∙ ap (λ s. over s (o.pairs back.others)) (others_last n x channels)))
+    others_undone undone = cc (others_last n before handed, undone (d.attach m c n), others_last n x channels)
 
     pub channel_fits : FitsOn d o back (whole n x channels) → back.channel ≡ c
     channel_fits fits = fits.channel ∙ on_channel n x channels
@@ -119,9 +113,7 @@ module _ {Numbers Own Record Others Records : Type 0} (d : DeviceModel Numbers O
         ((s : Machine) → attached o s before handed ≡ over (attached o s x channels) (o.pairs back.others)) →
         d.Fits back.own (device_view n taken)
     device_fits state word fits undone =
-        let there = subst (λ s. d.Fits back.own (view_of d c s)) (others_undone undone) (subst
-        (λ at. d.Fits back.own (view_of d at (over (whole n x channels) (o.pairs back.others)))) (channel_fits fits) fits.own) in
-        subst (d.Fits back.own) (sym (seen n before handed taken state word)) there
+        rw (channel_fits fits, others_undone undone, ← seen n before handed taken state word) at fits.own
 
     pub undone : (old : Numbers) (first : ChannelNumbers) (left : Channel) →
         state_number taken.state ≡ get_or handed.states c 0 → taken.word ≡ get_or handed.registers c 0 →
@@ -129,10 +121,10 @@ module _ {Numbers Own Record Others Records : Type 0} (d : DeviceModel Numbers O
         device_view old left ≡ over_device d (device_view n taken) (d.pairs back.own) → back.channel ≡ c →
         ((s : Machine) → attached o s before handed ≡ over (attached o s x channels) (o.pairs back.others)) →
         whole old before first ≡ over (whole n x channels) (device_pairs d back.channel back.own ++ o.pairs back.others)
-    undone old first left state word put_back own at others =
-        sym (over-append put (whole n x channels) (device_pairs d back.channel back.own) (o.pairs back.others)
-        ∙ (ap (λ s. over s (device_pairs d back.channel back.own)) (others_undone others)
-        ∙ (ap (λ k. over (whole n before handed) (device_pairs d k back.own)) at
-        ∙ (sym (lifted d joined.device.attached (whole n before handed) c (device_view old left) (d.pairs back.own)
-        (own ∙ ap (λ s. over_device d s (d.pairs back.own)) (seen n before handed taken state word)))
-        ∙ returned n old before handed first left put_back))))
+    undone old first left state word put_back own at others = cc (
+      over-append put (whole n x channels) (device_pairs d back.channel back.own) (o.pairs back.others),
+      others_undone others,
+      lifted d joined.device.attached (whole n before handed) c (device_view old left) (d.pairs back.own)
+          (rw (← seen n before handed taken state word) own),
+      returned n old before handed first left put_back,
+    )

@@ -18,9 +18,8 @@ module _ (f g : ProcessorNumbers → ProcessorNumbers) where
       changed (changed ps n f) k g ≡ changed (changed ps k g) n f
   changed-swap [] n k e = refl
   changed-swap (x ∷ ps) zero zero e = ap (λ y. y ∷ ps) (e refl x)
-  changed-swap (x ∷ ps) zero (suc k) e = refl
-  changed-swap (x ∷ ps) (suc n) zero e = refl
-  changed-swap (x ∷ ps) (suc n) (suc k) e = ap (λ t. x ∷ t) (changed-swap ps n k (λ same. e (ap suc same)))
+  changed-swap (x ∷ ps) (suc n) (suc k) e = grind (arith, changed-swap ps n k (λ same. e (ap suc same)))
+  changed-swap _ _ _ e = refl
 
   -- changes of two processors, in either order
   changed-apart : (ps : List ProcessorNumbers) (n k : ℕ) → (n == k) ≡ false →

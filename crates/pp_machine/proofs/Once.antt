@@ -1,5 +1,5 @@
 -- Write lists in which no place occurs twice.
-use Rattle.std.proofs.Common.{◌≡◌, ◌≢◌, ◌∙◌, ℕ, ◌&&◌, Bool, true, false, if◌then◌else◌, [], ◌∷◌, Some, None, sym, subst, refl}
+use Rattle.std.proofs.Common.{◌≡◌, ◌≢◌, ◌∙◌, ℕ, ◌&&◌, Bool, true, false, if◌then◌else◌, [], ◌∷◌, Some, None, sym, subst}
 use Rattle.std.proofs.Common.{arith, Option}
 use Rattle.std.specs.List.{All, AllPairs}
 use Rattle.std.proofs.lemmas.{Bool.and_parts, Bool.false≢true, List.Elements.All-cons, List.Elements.All-nil}
@@ -11,8 +11,7 @@ is_none None = true
 is_none (Some v) = false
 
 not_found : (b : Bool) (v : ℕ) (o : Option ℕ) → is_none (if b then Some v else o) ≡ true → (b ≡ false) × (is_none o ≡ true)
-not_found true v o h = absurd (false≢true h)
-not_found false v o h = (refl, h)
+not_found b v o h = grind arith
 
 module _ {P : Type 0} (same : P → P → Bool) where
   -- whether no place occurs twice

@@ -1,5 +1,5 @@
 -- What holds of the parts of any action.
-use Rattle.std.proofs.Common.{ℕ, ◌≡◌, ◌∙◌, List, [], ◌∷◌, ◌++◌, IsPermutation, ap, refl, sym, append_assoc, append-nil}
+use Rattle.std.proofs.Common.{arith, ℕ, ◌≡◌, ◌∙◌, List, [], ◌∷◌, ◌++◌, IsPermutation, ap, refl, sym, append_assoc, append-nil}
 use Rattle.std.proofs.lemmas.List.Sorted.{IsPermutation-append_comm, IsPermutation-append_right, IsPermutation-refl}
 use Rattle.std.proofs.lemmas.List.Sorted.{IsPermutation-trans}
 use Rattle.pp_machine.proofs.Prelude.{Machine, over, old_values, number, put, Writes, places, Has, HasAll, over-append}
@@ -16,8 +16,7 @@ over-parts (part ∷ parts) s = over-append put s (parts_writes parts (over s (p
 pub back-after : (parts : List Part) (s : Machine) → over (after_parts parts s) (parts_old_values parts s) ≡ s
 back-after [] s = refl
 back-after (part ∷ parts) s = let s1 = over s (part s) in
-    over-append put (after_parts parts s1) (old_values s (part s)) (parts_old_values parts s1)
-    ∙ (ap (λ m. over m (old_values s (part s))) (back-after parts s1) ∙ taken_back s (part s))
+    cc (over-append put (after_parts parts s1) (old_values s (part s)) (parts_old_values parts s1), back-after parts s1, taken_back s (part s))
 
 -- their old values are at the places that they write
 pub same_places : (parts : List Part) (s : Machine) →
@@ -72,14 +71,13 @@ old_values-append (part ∷ a) b s =
 pub both-performed : (a b : List Part) (s s1 s2 : Machine) (v w : Writes Place) →
     ArePerformed a s s1 v → ArePerformed b s1 s2 w → ArePerformed (a ++ b) s s2 (v ++ w)
 both-performed a b s s1 s2 v w first second = record {
-  step = second.step ∙ (ap (after_parts b) first.step ∙ sym (after-append a b s));
-  old_values = rw (first.old_values, second.old_values, first.step) (sym (old_values-append a b s));
+  step = cc (after-append a b s);
+  old_values = cc (old_values-append a b s);
 }
 
 pub none-performed : (parts : List Part) (s : Machine) → AreIdle parts s → ArePerformed parts s s []
 none-performed [] s idle = record { step = refl; old_values = refl }
-none-performed (part ∷ parts) s idle = let rest = none-performed parts s idle.1 in
-    record { step = rw idle.0 rest.step; old_values = rw idle.0 rest.old_values }
+none-performed (part ∷ parts) s idle = grind (arith, none-performed parts s idle.1)
 
 pub led_back : (parts : List Part) (old new : Machine) (back : Writes Place) → ArePerformed parts old new back → over new back ≡ old
 led_back parts old new back performed = rw (performed.step, performed.old_values) (back-after parts old)

@@ -1,11 +1,10 @@
 -- The laws of the card reader.
-use Rattle.std.proofs.Common.{ℕ, [], ◌≡◌, ◌≢◌, ◌≤◌, ◌<◌, length, lit≤, refl, arith, unwrap_or}
+use Rattle.std.proofs.Common.{ℕ, [], ◌≡◌, ◌≢◌, ◌≤◌, ◌<◌, length, refl, arith, unwrap_or}
 use Rattle.std.specs.List.{AllPairs}
 use Rattle.pp_machine.proofs.Prelude.{IsAttached, IsDevice, device_old_values, number-over, Machine, Writes, over, number, lookup}
 use Rattle.pp_machine.proofs.Prelude.{renamed, places, Has, HasAll, IsShaped, Place}
 use Rattle.pp_machine.specs.Inner.Reader.{ReaderPlace, ReaderView, Card, Column, Mode, name_own, reader_model, reader_pairs}
 use Rattle.pp_machine.specs.{Inner.Reader.reader_place, Inner.Reader.reader_writes, declared.reader.ReaderRecord.ReaderRecord}
-use Rattle.pp_machine.specs.declared.reader.ReaderRecord.TheVariants as back
 use Rattle.pp_machine.proofs.DeviceLaws.{IsSound, old_places, sound, sound-has, sound-if, sound-once}
 
 reader-attached : IsAttached reader_model
@@ -29,13 +28,11 @@ pub reader_names : (r : ReaderRecord) (s : ReaderView) (w : Writes ReaderPlace) 
 reader_names r s w named = old_places reader_model s w (reader_pairs r) named
 
 pub reader_few : (r : ReaderRecord) → length (reader_pairs r) ≤ 4
-reader_few (back.Skipped card column mode) = lit≤ tt
-reader_few _ = lit≤ tt
+reader_few _ = grind arith
 
 -- the places of a record are places of the machine
 pub HasAll-reader : (size c : ℕ) (r : ReaderRecord) → c < 12 → HasAll size (renamed (reader_place c) (reader_pairs r))
-HasAll-reader size c back.Nothing h = tt
-HasAll-reader size c _ h = assumption h
+HasAll-reader size c _ h = grind arith
 
 pub reader_restores : (m : Machine) (c : ℕ) (r : ReaderRecord) (place : Place) → IsShaped m.setup.central_words m → c < 12 →
     number (over m (renamed (reader_place c) (reader_pairs r))) place

@@ -7,46 +7,45 @@ use Rattle.pp_machine.specs.declared.place.Place.TheVariants.{Slot}
 
 -- ---- how many there are
 
--- The ten peripheral processors, numbered 00 to 11 (the manual, peripheral processor instructions).
+-- The ten peripheral processors, numbered 00 to 11. [M1]
 abbrev pub processor_count : ℕ
 processor_count = 0o12
 
--- The cells of one processor's memory, 0000 to 7777: 4096, decimal (the manual, peripheral processor instructions).
+-- The cells of one processor's memory, 0000 to 7777: 4096, decimal. [M2]
 abbrev pub cell_count : ℕ
 cell_count = 0o10000
 
--- The twelve data channels, numbered 00 to 13 (the manual, channels).
+-- The twelve data channels, numbered 00 to 13. [M14]
 abbrev pub channel_count : ℕ
 channel_count = 0o14
 
--- The words of the register frame, 00 to 17: those of an exchange package (the manual, peripheral processor instructions).
+-- The words of the register frame, 00 to 17: those of an exchange package. [M18]
 abbrev pub frame_count : ℕ
 frame_count = 0o20
 
--- Room on the printer's paper: 65,536 symbols, decimal (this project's choice).
+-- Room on the printer's paper: 65,536 symbols, decimal. [P25]
 abbrev pub paper_size : ℕ
 paper_size = 65536
 
--- A machine watches at most eight places (this project's choice).
+-- A machine watches at most eight places. [P28]
 abbrev pub watch_count : ℕ
 watch_count = 8
 
 -- ---- how great they are
 
--- The greatest number of twelve bits, the width of a cell, of P, of Q and of a channel's register (the manual, peripheral
--- processor instructions).
+-- The greatest number of twelve bits, the width of a cell, of P, of Q and of a channel's register. [M2, M14]
 abbrev pub twelve_bits : ℕ
 twelve_bits = 0o7777
 
--- The greatest number of eighteen bits, the width of A (the manual, peripheral processor instructions).
+-- The greatest number of eighteen bits, the width of A. [M2]
 abbrev pub eighteen_bits : ℕ
 eighteen_bits = 0o777777
 
--- One past the greatest number of sixty bits, the width of a central memory word (the manual, peripheral processor instructions).
+-- One past the greatest number of sixty bits, the width of a central memory word. [M3]
 abbrev pub past_sixty_bits : ℕ
 past_sixty_bits = 2 ^ 60
 
--- a number that fits its place; no action sets any other place
+-- A number that fits its place. No action sets any other place. [P27, P29]
 abbrev pub IsInRange : Place → ℕ → Type 0
 IsInRange (Cell n a) v = v ≤ twelve_bits
 IsInRange (RegA n) v = v ≤ eighteen_bits

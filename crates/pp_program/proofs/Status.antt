@@ -6,6 +6,8 @@ use Rattle.pp_files.specs.Files.{Rule}
 use Rattle.pp_host.specs.{Known.Content, Known.Found, Known.Known, Known.Missing, Loading.IsLost, Options.Asked}
 use Rattle.pp_program.specs.{Course.Course, Cuts.IsCut, Cuts.IsCutServing, Outside.Outside, Program.Given, Program.exit_of}
 use Rattle.pp_program.specs.Run.{IsCutShort, IsRun, IsWhole}
+use Rattle.pp_program.specs.Traces.{AreEnded, Ended}
+use Rattle.pp_program.proofs.ReadWhole.{all-ended}
 use Rattle.pp_trouble.specs.{Trouble.status_of, declared.trouble.FileKind.FileKind, declared.trouble.FileKind.TheVariants.Deck}
 use Rattle.pp_trouble.specs.declared.trouble.Trouble.{Trouble}
 
@@ -19,7 +21,7 @@ lost rule None read content trouble p = absurd p
 
 serving : (start : Value) (bytes read : List ℕ) (course : Course) → IsCutServing start bytes read course → exit_of course.ended ≡ 3
 serving start bytes read course (IsCutServing.ByRead e) = rw e
-serving start bytes read course (IsCutServing.ByWrite front proper e) = rw e
+serving start bytes read course (IsCutServing.ByWrite done later line front among part proper e) = rw e
 
 cut : (asked : Asked) (given : Given) (readings : FileKind → Found) (typed : List ℕ) (course : Course) →
     IsCut asked given readings typed course →
@@ -40,19 +42,23 @@ cut_short files given readings typed course (IsCutShort.AfterWords asked means n
 above : (status : ℕ) → (status ≡ 2) ⊎ (status ≡ 3) → status ≤ 1 → ⊥
 above status either small = grind arith
 
-whole : (files : Text → Known Found) (given : Given) (readings : FileKind → Found) (typed : List ℕ) (course : Course) →
-    IsWhole files given course ⊎ IsCutShort files given readings typed course →
-    exit_of course.ended ≤ 1 → IsWhole files given course
-whole files given readings typed course (inl is_whole) small = is_whole
-whole files given readings typed course (inr at) small =
+whole : (files : Text → Known Found) (given : Given) (readings : FileKind → Found) (typed : List ℕ) (ended : Ended) (course : Course) →
+    IsWhole files given ended course ⊎ IsCutShort files given readings typed course →
+    exit_of course.ended ≤ 1 → IsWhole files given ended course
+whole files given readings typed ended course (inl is_whole) small = is_whole
+whole files given readings typed ended course (inr at) small =
     absurd (above (exit_of course.ended) (cut_short files given readings typed course at) small)
 
 -- ---- runs
 
 pub whole_run : (before after : Outside) (status : ℕ) (run : IsRun before after status) → status ≤ 1 →
-    IsWhole before.files.known run.given run.course
+    IsWhole before.files.known run.given run.ended run.course
 whole_run before after status run small =
-    whole before.files.known run.given run.readings run.typed run.course run.follows (rw run.exit at small)
+    whole before.files.known run.given run.readings run.typed run.ended run.course run.follows (rw run.exit at small)
+
+pub ended_run : (before after : Outside) (status : ℕ) (run : IsRun before after status) → status ≤ 1 → AreEnded run.course run.ended
+ended_run before after status run small =
+    all-ended run.course run.ended (whole_run before after status run small).read (rw run.exit at small)
 
 pub cut_run : (before after : Outside) (status : ℕ) (run : IsRun before after status) →
     IsCutShort before.files.known run.given run.readings run.typed run.course → (status ≡ 2) ⊎ (status ≡ 3)

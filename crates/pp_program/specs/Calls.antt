@@ -1,10 +1,10 @@
 -- What the calls below `run` do. Only inner contracts and proofs use this file.
-use Rattle.std.specs.Prelude.{◌≡◌, ℕ, List, [], ◌++◌, ◌⊎◌, All, Option, Result, Ok, Err}
+use Rattle.std.specs.Prelude.{◌≡◌, ℕ, Bool, true, OnOk, is_none, List, [], ◌++◌, ◌⊎◌, All, Option, Result, Ok, Err}
 use Rattle.std.specs.Io.KnownBytes.{Consumes}
 use Rattle.pp_arguments.specs.CommandLine.{Text}
 use Rattle.pp_console.specs.Commands.{Value}
 use Rattle.pp_files.specs.Rows.{Row}
-use Rattle.pp_host.specs.Calls.{IsNamed}
+use Rattle.pp_host.specs.Calls.{IsAllRead, IsNamed}
 use Rattle.pp_host.specs.Failures.{writes_by}
 use Rattle.pp_host.specs.Known.{Agrees, Found, IsContent, IsInput, Known, Words}
 use Rattle.pp_host.specs.Options.{Asked}
@@ -17,7 +17,7 @@ use Rattle.pp_program.specs.Cuts.{IsCutServing}
 use Rattle.pp_program.specs.Outside.{Input, Output, Files}
 use Rattle.pp_program.specs.Program.{Given, script_at, served, session_with}
 use Rattle.pp_program.specs.Run.{IsCutShort, IsWhole}
-use Rattle.pp_program.specs.Traces.{AreRead, IsTyped, Prints, Writes}
+use Rattle.pp_program.specs.Traces.{AreRead, Ended, IsTyped, Prints, Writes}
 use Rattle.pp_trouble.specs.Message.{line_of}
 use Rattle.pp_trouble.specs.declared.trouble.FileKind.{FileKind}
 use Rattle.pp_trouble.specs.declared.trouble.FileKind.TheVariants.{Deck, Panel, Script}
@@ -30,7 +30,7 @@ files_of H host = record { known = H.known_files host; log = H.log host; failure
 
 -- standard input, as its source shows it
 abbrev pub input_of : {R : Type 0} → SourceGhosts R → R → Input
-input_of R source = record { left = R.rest source; read = R.given source; failures = R.failure_count source }
+input_of R source = record { left = R.rest source; read = R.given source; ended = R.ended source; failures = R.failure_count source }
 
 -- an output, as its sink shows it
 abbrev pub output_of : {W : Type 0} → SinkGhosts W → W → Output
@@ -47,7 +47,7 @@ devices_of H R W host input output =
     record { files = files_of H host; input = input_of R input; output = output_of W output }
 
 -- the deck, the panel and the script
-abbrev pub by_kind : Found → Found → Found → FileKind → Found
+abbrev pub by_kind : {A : Type 0} → A → A → A → FileKind → A
 by_kind deck panel script Deck = deck
 by_kind deck panel script Panel = panel
 by_kind deck panel script Script = script
@@ -58,23 +58,24 @@ given_with words deck panel script input = record { words = words; files = by_ki
 
 -- what a course read and wrote, given what it read of each kind of file and of standard input
 pub record IsTraced (before after : Devices) (given : Given) (readings : FileKind → Found) (typed : List ℕ)
-    (course : Course) : Type 0 where
+    (ended : Ended) (course : Course) : Type 0 where
   pub contents : All (λ file. IsContent (before.files.known file.path) (readings file.kind) (given.files file.kind)) course.opened
   pub bytes : IsInput before.input.left typed given.input
-  pub files : AreRead before.files after.files course readings
-  pub input : IsTyped before.input after.input course typed
+  pub files : AreRead before.files after.files course readings ended.files
+  pub input : IsTyped before.input after.input course typed ended.input
   pub output : Writes before.output after.output course.answers (writes_by course.ended before.output.failures)
 
 -- a run that ended so, before its end is printed
-pub record IsCourse (words : Known Words) (before after : Devices) (ended : Result ℕ Trouble) : Type 0 where
+pub record IsCourse (words : Known Words) (before after : Devices) (result : Result ℕ Trouble) : Type 0 where
   pub given : Given
   pub readings : FileKind → Found
   pub typed : List ℕ
+  pub ended : Ended
   pub course : Course
   pub known : Agrees words given.words
-  pub follows : IsWhole before.files.known given course ⊎ IsCutShort before.files.known given readings typed course
-  pub traced : IsTraced before after given readings typed course
-  pub is_end : course.ended ≡ ended
+  pub follows : IsWhole before.files.known given ended course ⊎ IsCutShort before.files.known given readings typed course
+  pub traced : IsTraced before after given readings typed ended course
+  pub is_end : course.ended ≡ result
 
 -- ---- a session and its script
 
@@ -102,6 +103,7 @@ pub record AnswersScript (IsAt : Value → Type 0) (before after : Input) (outpu
   pub read : after.read ≡ before.read ++ taken
   pub left : Consumes before.left after.left taken
   pub all : IsInput before.left taken bytes
+  pub ended : OnOk result (after.ended ≡ true)
   pub course : (start : Value) → IsAt start →
       (answers : List ℕ) × Appends output.text output'.text answers × IsServed start bytes taken (ends answers result)
 
@@ -112,17 +114,25 @@ IsPerformed path script input read typed start course =
     ⊎ ((bytes taken : List ℕ) × (script_at path script input ≡ Ok bytes) × (script_at path read typed ≡ Ok taken)
     × IsCutServing start bytes taken course)
 
+-- the script of this path, or standard input, was read to its end
+abbrev pub IsScriptRead : Option Text → Bool → Bool → Type 0
+IsScriptRead path read_ended input_ended = IsAllRead path read_ended × (is_none path ≡ true → input_ended ≡ true)
+
 -- The script of this path, or standard input, was performed after these files, from each value that the session had: the
 -- content of the file and what was read of it, the bytes of standard input and what was read of it.
 pub record PerformsScript (IsAt : Value → Type 0) (path : Option Text) (before after : Devices) (result : Result ℕ Trouble)
-    (words : Words) (deck panel deck_read panel_read : Found) : Type 0 where
+    (words : Words) (deck panel deck_read panel_read : Found) (deck_ended panel_ended : Bool) : Type 0 where
   pub script : Found
   pub read : Found
   pub input : List ℕ
   pub typed : List ℕ
+  pub read_ended : Bool
+  pub input_ended : Bool
+  pub all : OnOk result (IsScriptRead path read_ended input_ended)
   pub known : IsNamed before.files.known path read script
   pub course : (start : Value) → IsAt start → (answers : List ℕ)
       × IsTraced before after (given_with words deck panel script input) (by_kind deck_read panel_read read) typed
+      (record { files = by_kind deck_ended panel_ended read_ended; input = input_ended })
       (performing path (ends answers result))
       × IsPerformed path script input read typed start (ends answers result)
 

@@ -1,5 +1,5 @@
 -- Where a run can be cut short: by memory that runs out, by a failed read or by a failed write.
-use Rattle.std.specs.Prelude.{◌≡◌, ℕ, List, [], Option, Ok, Err}
+use Rattle.std.specs.Prelude.{◌≡◌, ℕ, List, [], ◌∷◌, ◌++◌, Option, Ok, Err}
 use Rattle.pp_console.specs.Commands.{Value}
 use Rattle.pp_console.specs.Script.{outcome}
 use Rattle.pp_console.specs.declared.progress.TheConstants.{LINE_LIMIT, BYTE_LIMIT}
@@ -15,7 +15,7 @@ use Rattle.pp_host.specs.Known.{Found}
 use Rattle.pp_host.specs.Loading.{IsLost, deck_at, panel_at}
 use Rattle.pp_host.specs.Options.{Asked}
 use Rattle.pp_program.specs.Course.{Course, ends, opening, performing}
-use Rattle.pp_program.specs.Program.{Given, script_at, served, session_with}
+use Rattle.pp_program.specs.Program.{Given, performed_lines, script_at, served, session_with}
 
 -- A course that opens the deck, then the panel, and then goes on so.
 abbrev pub loading : Asked → Course → Course
@@ -34,13 +34,16 @@ pub data IsCutServing (start : Value) (bytes read : List ℕ) (course : Course) 
   -- A read failed. Every line that was finished by then was answered, within the limits of a script.
   ByRead : course ≡ ends (outcome start (finished_within LINE_LIMIT BYTE_LIMIT read)).text (Err ReadFailed) →
       IsCutServing start bytes read course
-  -- A write failed. A proper prefix of the answers was written.
-  ByWrite : (front : List ℕ) → IsProperPrefix front (served start bytes).answers → course ≡ ends front (Err WriteFailed) →
-      IsCutServing start bytes read course
+  -- A write failed. Of the lines that were read, these were answered, and of the answer to the next one a proper prefix was
+  -- written. So a proper prefix of all answers was written.
+  ByWrite : (done later : List (List ℕ)) (line front : List ℕ) → performed_lines read ≡ done ++ line ∷ later →
+      IsProperPrefix ((outcome start done).text ++ front) (outcome start (done ++ line ∷ [])).text →
+      IsProperPrefix ((outcome start done).text ++ front) (served start bytes).answers →
+      course ≡ ends ((outcome start done).text ++ front) (Err WriteFailed) → IsCutServing start bytes read course
 
 -- A run with these options was cut short. Memory is asked for by the deck and by the machine, and by nothing after.
 pub data IsCut (asked : Asked) (given : Given) (readings : FileKind → Found) (typed : List ℕ) (course : Course) : Type 0 where
-  -- The deck was lost: memory ran out, or a read failed.
+  -- Loading the deck failed part-way: memory ran out, or a read failed.
   InDeck : (trouble : Trouble) → IsLost card_rule asked.deck (readings Deck) (given.files Deck) trouble →
       course ≡ opening Deck asked.deck (ends [] (Err trouble)) → IsCut asked given readings typed course
   -- The deck was loaded, and a read of the panel failed.

@@ -1,5 +1,5 @@
 -- What is outside of the program, as its devices show it.
-use Rattle.std.specs.Prelude.{ℕ, List}
+use Rattle.std.specs.Prelude.{ℕ, Bool, List}
 use Rattle.pp_arguments.specs.CommandLine.{Text}
 use Rattle.pp_host.specs.Events.{Event}
 use Rattle.pp_host.specs.Known.{Found, Known, Words}
@@ -23,6 +23,8 @@ pub record Input : Type 0 where
   pub left : Known (List ℕ)
   -- the bytes that were read so far
   pub read : List ℕ
+  -- whether it is at its end: the last call that could return a byte returned none (standard input starts as not at its end)
+  pub ended : Bool
   -- the number of failed reads
   pub failures : ℕ
 
@@ -33,7 +35,7 @@ pub record Output : Type 0 where
   -- the number of failed writes
   pub failures : ℕ
 
--- All that is outside of the program, before a run or after it.
+-- What surrounds the program, before a run or after it.
 pub record Outside : Type 0 where
   -- the words of the command line, if they are known
   pub words : Known Words
@@ -45,13 +47,13 @@ pub record Outside : Type 0 where
 
 -- ---- how the devices of a call show it
 
--- All that is outside of the program, as the host and the streams show it.
+-- What surrounds the program, as the host and the streams show it.
 abbrev pub outside_of : {H F R W E : Type 0} → HostGhosts H F → SourceGhosts R → SinkGhosts W → SinkGhosts E →
     H → R → W → E → Outside
 outside_of H R W E host input output errors = record {
   words = H.known_words host;
   files = record { known = H.known_files host; log = H.log host; failures = H.failure_count host };
-  input = record { left = R.rest input; read = R.given input; failures = R.failure_count input };
+  input = record { left = R.rest input; read = R.given input; ended = R.ended input; failures = R.failure_count input };
   output = record { text = W.text output; failures = W.failure_count output };
   errors = record { text = E.text errors; failures = E.failure_count errors };
 }

@@ -7,7 +7,7 @@ use Rattle.pp_program.specs.Course.{Course, ends}
 use Rattle.pp_program.specs.Cuts.{IsCut}
 use Rattle.pp_program.specs.Outside.{Outside}
 use Rattle.pp_program.specs.Program.{Given, exit_of, program}
-use Rattle.pp_program.specs.Traces.{AreRead, IsOutput, IsReported, IsTyped}
+use Rattle.pp_program.specs.Traces.{AreRead, AreReadEnough, Ended, IsOutput, IsReported, IsTyped}
 use Rattle.pp_trouble.specs.declared.trouble.FileKind.{FileKind}
 use Rattle.pp_trouble.specs.declared.trouble.Trouble.{Trouble}
 use Rattle.pp_trouble.specs.declared.trouble.Trouble.TheVariants.{NoMemory}
@@ -19,12 +19,14 @@ abbrev pub AreKnown : (Text → Known Found) → Given → Result Asked Trouble 
 AreKnown files given meaning =
     IfOk meaning (λ asked. (kind : FileKind) → IfSome (path_of asked kind) (λ path. Agrees (files path) (given.files kind)))
 
--- The course is the whole one that the program has for what the words mean.
-pub record IsWhole (files : Text → Known Found) (given : Given) (course : Course) : Type 0 where
+-- The course is the whole one that `program` prescribes for what the words mean.
+pub record IsWhole (files : Text → Known Found) (given : Given) (ended : Ended) (course : Course) : Type 0 where
   pub meaning : Result Asked Trouble
   pub means : Means given.words meaning
   pub named : AreKnown files given meaning
   pub whole : course ≡ program given meaning
+  -- What it opened, and standard input if it performs it, was read to its end, unless a fault or a limit came first.
+  pub read : AreReadEnough course ended
 
 -- The run was cut short, while its words were read or after that.
 pub data IsCutShort (files : Text → Known Found) (given : Given) (readings : FileKind → Found) (typed : List ℕ)
@@ -55,16 +57,18 @@ pub record IsRun (before after : Outside) (status : ℕ) : Type 0 where
   pub readings : FileKind → Found
   -- the bytes that it read of standard input,
   pub typed : List ℕ
+  -- whether it read each, and standard input, to its end,
+  pub ended : Ended
   -- and the course that it took.
   pub course : Course
-  -- It was given what is known beforehand, or else what it read.
+  -- What it was given is what is known beforehand, or, on the real system, whatever it read.
   pub matches : IsGiven before given readings typed course
   -- The course is the one that the program has for what the words mean, unless the run was cut short.
-  pub follows : IsWhole before.files.known given course ⊎ IsCutShort before.files.known given readings typed course
+  pub follows : IsWhole before.files.known given ended course ⊎ IsCutShort before.files.known given readings typed course
   -- It asked for the files of the course, in this order, and read these bytes of each.
-  pub files : AreRead before.files after.files course readings
+  pub files : AreRead before.files after.files course readings ended.files
   -- It read these bytes of standard input, and none if the course does not perform it.
-  pub input : IsTyped before.input after.input course typed
+  pub input : IsTyped before.input after.input course typed ended.input
   -- Standard output has the answers of the course, or the usage,
   pub output : IsOutput course.ended course.answers before.output after.output
   -- and standard error the line of what ended it early.

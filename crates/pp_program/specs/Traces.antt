@@ -1,7 +1,8 @@
 -- What a run reads and writes.
-use Rattle.std.specs.Prelude.{◌≡◌, ℕ, false, if◌then◌else◌, List, [], ◌++◌, ◌⊎◌, Result, Ok, Err}
+use Rattle.std.specs.Prelude.{◌≡◌, ℕ, Bool, true, false, All, if◌then◌else◌, List, [], ◌++◌, ◌⊎◌, Result, Ok, Err}
 use Rattle.std.specs.Io.KnownBytes.{Consumes}
 use Rattle.std.specs.List.{flat_map}
+use Rattle.pp_files.specs.declared.fault.LoadFault.{LoadFault}
 use Rattle.pp_host.specs.Events.{events_of}
 use Rattle.pp_host.specs.Failures.{reads_by, writes_by}
 use Rattle.pp_host.specs.Known.{Found}
@@ -11,28 +12,54 @@ use Rattle.pp_lines.specs.Prefixes.{IsProperPrefix}
 use Rattle.pp_program.specs.Course.{Course}
 use Rattle.pp_program.specs.Outside.{Files, Input, Output}
 use Rattle.pp_trouble.specs.Message.{line_of}
+use Rattle.pp_trouble.specs.Trouble.{of_load}
+use Rattle.pp_trouble.specs.declared.trouble.FileKind.TheVariants.{Script}
 use Rattle.pp_trouble.specs.declared.trouble.FileKind.{FileKind}
 use Rattle.pp_trouble.specs.declared.trouble.Trouble.{Trouble}
-use Rattle.pp_trouble.specs.declared.trouble.Trouble.TheVariants.{Help}
+use Rattle.pp_trouble.specs.declared.trouble.Trouble.TheVariants.{CannotOpen, Help, LineLimit}
 
 -- ---- what is read
 
--- The files of the course were asked for, and these bytes of each were read.
-pub record AreRead (before after : Files) (course : Course) (readings : FileKind → Found) : Type 0 where
+-- Whether each kind of file, and standard input, was read to its end.
+pub record Ended : Type 0 where
+  pub files : FileKind → Bool
+  pub input : Bool
+
+-- The files of the course were asked for, and these bytes of each were read, to its end or not.
+pub record AreRead (before after : Files) (course : Course) (readings : FileKind → Found) (ended : FileKind → Bool) : Type 0 where
   -- The host logged them, in the order of the course, with the bytes that were read.
-  pub logged : after.log ≡ before.log ++ flat_map (λ file. events_of file (readings file.kind)) course.opened
+  pub logged : after.log ≡ before.log ++ flat_map (λ file. events_of file (readings file.kind) (ended file.kind)) course.opened
   -- No read of a file failed, unless a failed read of a file ended the course.
   pub failures : after.failures ≡ (if course.reads_input then before.failures else reads_by course.ended before.failures)
 
--- These bytes of standard input were read.
-pub record IsTyped (before after : Input) (course : Course) (typed : List ℕ) : Type 0 where
+-- These bytes of standard input were read, to its end or not.
+pub record IsTyped (before after : Input) (course : Course) (typed : List ℕ) (ended : Bool) : Type 0 where
   pub read : after.read ≡ before.read ++ typed
+  pub end : after.ended ≡ ended
   -- If the bytes of the source are known, these are no longer left.
   pub left : Consumes before.left after.left typed
   -- Nothing is read unless the course performs standard input.
   pub unread : course.reads_input ≡ false → typed ≡ []
   -- No read failed, unless a failed read of standard input ended the course.
   pub failures : after.failures ≡ (if course.reads_input then reads_by course.ended before.failures else before.failures)
+
+-- Each file that the course opened was read to its end, and so was standard input if the course performs it.
+pub record AreEnded (course : Course) (ended : Ended) : Type 0 where
+  pub files : All (λ file. ended.files file.kind ≡ true) course.opened
+  pub input : course.reads_input ≡ true → ended.input ≡ true
+
+-- A trouble of a file of this kind: it can't be opened, it has a fault, or it is a script that passes a limit.
+abbrev pub IsTroubleOf : FileKind → Trouble → Type 0
+IsTroubleOf kind trouble =
+    (trouble ≡ CannotOpen kind) ⊎ ((fault : LoadFault) × (trouble ≡ of_load kind fault))
+    ⊎ ((kind ≡ Script) × (trouble ≡ LineLimit))
+
+-- Each file that the course opened was read to its end, unless a trouble of this file came first and ended the course. Standard
+-- input was read to its end if the course performs it, unless a limit came first.
+pub record AreReadEnough (course : Course) (ended : Ended) : Type 0 where
+  pub files : All (λ file. (ended.files file.kind ≡ true)
+      ⊎ ((trouble : Trouble) × (course.ended ≡ Err trouble) × IsTroubleOf file.kind trouble)) course.opened
+  pub input : course.reads_input ≡ true → (ended.input ≡ true) ⊎ (course.ended ≡ Err LineLimit)
 
 -- ---- what is written
 

@@ -2,7 +2,7 @@
 use Rattle.std.specs.List.{flat_map, list_all, range_with_len}
 use Rattle.std.proofs.Common.{arith, zero, suc, lit<, ap, sym, ◌∙◌, ℕ, ◌≡◌, ◌+◌, ◌<◌, ◌≤◌, ◌^◌, Bool, true, false, All, List, []}
 use Rattle.std.proofs.Common.{◌∷◌, ◌++◌, length, replicate, refl, not, None}
-use Rattle.std.proofs.lemmas.{Bool.and_parts, Grind.common_steps, List.length-append}
+use Rattle.std.proofs.lemmas.{Grind.common_steps, List.length-append}
 use Rattle.pp_machine.specs.Prelude.{Machine, old_values, number, Writes, places, write_list, lookup, same_place, places-append}
 use Rattle.pp_machine.specs.{Prelude.places-old_values, declared.place.Write.Write, declared.place.Place.Place}
 use Rattle.pp_machine.specs.declared.place.Place.TheVariants.{Central, ChannelMode, Slot}
@@ -18,22 +18,14 @@ pub AreSettings-deadstart : (size : ℕ) (panel : List ℕ) →
 unfolding deadstart_write_list
 AreSettings-deadstart size panel small =
     let words = AreSettings-cell_writes size 0 1 panel (lit< tt) small in
-    let front = cell_writes 0 0 (0 ∷ []) ++ cell_writes 0 1 panel in
-    let back = cell_writes 0 0o15 (0 ∷ []) in
-    let cells = AreSettings-append size front back (grind arith, words) (grind arith) in
-    let first = AreSettings-append size (front ++ back) (register_writes 0 0 1 0 0) cells (grind arith) in
-    let others = flat_map waiting (range_with_len 1 9) in
-    let modes = writes_from ChannelMode 0 states in
-    let processors = AreSettings-append size (loading panel) others first (grind arith) in
-    let channels = AreSettings-append size (loading panel ++ others) modes processors (grind arith) in
-    AreSettings-append size (loading panel ++ others ++ modes) ((Slot, 0) ∷ []) channels (grind arith)
+    grind (arith, AreSettings-append size, words)
 
 -- ---- its places
 
 places-before : (a b c : Writes Place) → places a ≡ places b → places (a ++ c) ≡ places (b ++ c)
 places-before a b c same = places-append a c ∙ ap (λ ps. ps ++ places c) same ∙ sym (places-append b c)
 
-places-deadstart : (p q : List ℕ) → length p ≡ length q → places (deadstart_write_list p) ≡ places (deadstart_write_list q)
+pub places-deadstart : (p q : List ℕ) → length p ≡ length q → places (deadstart_write_list p) ≡ places (deadstart_write_list q)
 unfolding deadstart_write_list
 places-deadstart p q e =
     let front = λ (words : List ℕ). cell_writes 0 0 (0 ∷ []) ++ cell_writes 0 1 words in
@@ -84,10 +76,8 @@ short-places = refl
 short-at : (size : ℕ) (ks : List Write) → list_all is_short (places (write_list ks)) ≡ true →
     AreSettings size (write_list ks) → All (λ k. k.number < 2 ^ 32) ks
 short-at size [] a s i d l = absurd (omega arith)
-short-at size (k ∷ ks) a s zero d l = short-number k.place k.number
-    (and_parts (is_short k.place) (list_all is_short (places (write_list ks))) a).0 s.0.settable s.0.in_range
-short-at size (k ∷ ks) a s (suc i) d l =
-    short-at size ks (and_parts (is_short k.place) (list_all is_short (places (write_list ks))) a).1 s.1 i d (omega arith)
+short-at size (k ∷ ks) a s zero d l = grind (arith, short-number k.place k.number)
+short-at size (k ∷ ks) a s (suc i) d l = grind (arith, short-at size ks)
 
 -- the first part of the conclusion is there for `grind`, which looks for it
 pub short-old : (size : ℕ) (ks : List Write) → AreSettings size (write_list ks) → places (write_list ks) ≡ places deadstart_places →

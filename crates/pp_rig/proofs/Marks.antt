@@ -1,18 +1,14 @@
 -- What the marks of places say of a turn's undo record.
-use Rattle.std.proofs.Common.{ℕ, true, false, ◌≡◌, ◌==◌, ◌≤◌, ◌||◌, ◌+◌, [], ◌∷◌, List, None, if◌then◌else◌, nat_lt, length, refl}
-use Rattle.std.proofs.Common.{arith}
+use Rattle.std.proofs.Common.{ℕ, true, false, ◌≡◌, ◌≤◌, ◌||◌, ◌+◌, [], ◌∷◌, List, None, length, refl, arith}
 use Rattle.std.proofs.lemmas.Bool.Decides.{nat_tests}
 use Rattle.pp_history.specs.{Marks.covers, Marks.is_marked, Marks.is_set, declared.marks.Marks.Marks}
-use Rattle.pp_machine.specs.{Inner.AllDevices.all_model, Writes.AllPlaces, declared.place.Place.Place}
-use Rattle.pp_machine.specs.Prelude.{Writes, renamed, lookup, same_place, words_of}
-use Rattle.pp_machine.specs.WriteLaws.{AllPlaces-append, AllPlaces-if, AllPlaces-renamed}
-use Rattle.pp_machine.specs.declared.place.Place.TheVariants.{Clock, Slot}
+use Rattle.pp_machine.specs.{Writes.AllPlaces, declared.place.Place.Place, Prelude.Writes, Prelude.lookup, Prelude.same_place}
+use Rattle.pp_machine.specs.{Prelude.words_of, WriteLaws.AllPlaces-append, WriteLaws.AllPlaces-renamed}
 use Rattle.pp_rig.specs.Inner.Marks.{cell_mark, central_mark, marks_of, AreUnmarked}
-use Rattle.pp_rig.specs.Inner.TurnRecords.{clock_old_values, rest_pairs, turn_pairs}
-use Rattle.pp_rig.specs.declared.rig.TurnRecord.{TurnRecord}
+use Rattle.pp_rig.specs.{Inner.TurnRecords.rest_pairs, Inner.TurnRecords.turn_pairs, declared.rig.TurnRecord.TurnRecord}
 use Rattle.pp_step.specs.{Exchange.frame_pairs, Exchange.word_pairs, Pairs.pairs_as, Pairs.target_pairs, Step.pp_pairs}
-use Rattle.pp_step.specs.{View.Cell, View.pp_place, Words.cell_after, Words.central_after, declared.record.StepRecord.StepRecord}
-use Rattle.pp_step.specs.declared.record.{ExchangeRecord.ExchangeRecord, PpRecord.TheVariants.Step, PpRecord.TheVariants.Exchange}
+use Rattle.pp_step.specs.{View.pp_place, declared.record.StepRecord.StepRecord, declared.record.ExchangeRecord.ExchangeRecord}
+use Rattle.pp_step.specs.{declared.record.PpRecord.TheVariants.Step, declared.record.PpRecord.TheVariants.Exchange}
 use Rattle.pp_step.specs.declared.record.Target.TheVariants as target
 
 -- an unmarked place is no marked place
@@ -29,21 +25,14 @@ lookup_unmarked m (w ∷ ws) p unmarked marked =
 -- ---- cells and central words, by blocks
 
 module _ (m : Marks) (n : ℕ) where
-  -- a cell at most four behind another has that one's mark among its two
-  cell_unmarked : (a i : ℕ) → i ≤ 4 → is_set m (cell_mark n a) ≡ false →
-      is_marked m (marks_of (pp_place n (Cell (cell_after a i)))) ≡ false
-  cell_unmarked a i at_most first = grind (arith, nat_tests)
-
   pub cells_unmarked : (r : StepRecord) → is_set m (cell_mark n r.address) ≡ false → AreUnmarked m n (pairs_as target.Cells r)
-  cells_unmarked r first = let cell = λ (i : ℕ) (at_most : i ≤ 4). cell_unmarked r.address i at_most first in
-      (cell 0 (omega arith), (cell 1 (omega arith), (cell 2 (omega arith), (cell 3 (omega arith), (cell 4 (omega arith), tt)))))
+  cells_unmarked r first = grind (arith, nat_tests)
 
   -- a central word at most fifteen behind another has that one's mark among its two
   pub words_unmarked : (size a i : ℕ) (ws : List ℕ) → i + length ws ≤ 16 → is_set m (central_mark a) ≡ false →
       AreUnmarked m n (word_pairs size a i ws)
   words_unmarked size a i [] at_most first = tt
-  words_unmarked size a i (w ∷ ws) at_most first = let rest = words_unmarked size a (i + 1) ws (omega arith) first in
-      AllPlaces-if _ (nat_lt (central_after a i) size) _ _ (λ within. (grind (arith, nat_tests), rest)) (λ past. rest)
+  words_unmarked size a i (w ∷ ws) at_most first = grind (arith, nat_tests, words_unmarked size a (i + 1) ws)
 
   -- ---- a step: registers of processors and frame words have no marks
 
@@ -58,11 +47,8 @@ module _ (m : Marks) (n : ℕ) where
   pub exchange_unmarked : (x : ExchangeRecord) → AreUnmarked m n (word_pairs (words_of x.size) x.central 0 x.words) →
       AreUnmarked m n (pp_pairs (Exchange x))
   unfolding pp_pairs
-  exchange_unmarked x words = (
-    refl,
-    AllPlaces-append (λ y. is_marked m (marks_of (pp_place n y)) ≡ false) (frame_pairs 0 x.registers) _
-        (frame_unmarked 0 x.registers) words,
-  )
+  exchange_unmarked x words =
+      grind (arith, AllPlaces-append (λ y. is_marked m (marks_of (pp_place n y)) ≡ false), frame_unmarked 0 x.registers)
 
 -- ---- a turn
 
@@ -70,11 +56,7 @@ turn_unmarked : (m : Marks) (r : TurnRecord) → r.rest.are_devices_called ≡ f
     AllPlaces (λ p. is_marked m (marks_of p) ≡ false) (turn_pairs r)
 unfolding turn_pairs rest_pairs
 turn_unmarked m r idle step = let U = λ (p : Place). is_marked m (marks_of p) ≡ false in
-    AllPlaces-append U (renamed (pp_place r.rest.slot) (pp_pairs r.pp)) _
-    (AllPlaces-renamed (pp_place r.rest.slot) U (pp_pairs r.pp) step)
-    (AllPlaces-append U (if r.rest.are_devices_called then all_model.pairs r.rest.devices else []) _ (rw idle tt)
-    (AllPlaces-append U (clock_old_values r.rest.slot r.rest.clock) ((Slot, r.rest.slot) ∷ [])
-    (AllPlaces-if U (r.rest.slot == 9) ((Clock, r.rest.clock) ∷ []) [] (λ e. (refl, tt)) (λ e. tt)) (refl, tt)))
+    grind (arith, nat_tests, AllPlaces-append U, AllPlaces-renamed (pp_place r.rest.slot) U (pp_pairs r.pp) step)
 
 -- a record without a marked place has none that the marks cover
 pub not_in_turn : (m : Marks) (r : TurnRecord) → (r.rest.are_devices_called || m.has_unmarked) ≡ false →

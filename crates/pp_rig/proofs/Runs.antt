@@ -1,15 +1,15 @@
 -- Runs, one turn after another.
 use Rattle.std.proofs.lemmas.{Bool.Decides.nat_tests, List.Elements.recursion_from_All, List.at_drop_more}
-use Rattle.std.proofs.Common.{add-one, drop, get_or, length, map, ◌≡◌, ◌∙◌, ap, true, false, ◌∷◌, ℕ, zero, suc, ◌+◌, ◌-◌, ◌<◌, ◌≤◌}
+use Rattle.std.proofs.Common.{add-one, drop, get_or, length, map, ◌≡◌, ◌∙◌, ap, true, ◌∷◌, ℕ, zero, suc, ◌+◌, ◌-◌, ◌<◌, ◌≤◌}
 use Rattle.std.proofs.Common.{refl, sym, arith, List, Option, Some, None, [], unwrap_or}
-use Rattle.std.specs.{List.AllByRecursion, Option.is_some}
+use Rattle.std.specs.{List.AllByRecursion}
 use Rattle.pp_machine.specs.{NumberLaws.number-over, Prelude.Machine, Prelude.number, Prelude.lookup, declared.place.Place.Place}
 use Rattle.pp_rig.specs.Inner.{ActionRecords.FitsRecord, ActionRecords.before, ActionRecords.record_pairs, Marks.marks_of}
 use Rattle.pp_rig.specs.{declared.rig.RigRecord.RigRecord, Rules.rules, Turn.turn, declared.stopping.Hit.Hit}
 use Rattle.pp_history.specs.{Marks.AreCovered, Marks.covers, declared.marks.Marks.Marks, SessionLaws.machine_at}
 use Rattle.pp_history.specs.Repeating.{AreUnmarked, after_acts}
 use Rattle.pp_history.specs.SessionValue.{SessionValue, after_act, replay}
-use Rattle.pp_rig.specs.Stopping.{after_turns, first_change, hit_of, hit_or, stopped, turned}
+use Rattle.pp_rig.specs.Stopping.{after_turns, first_change, hit_of, stopped, turned}
 use Rattle.pp_actions.specs.{Watches.watches_of, Watches.watched_place, declared.action.Action.Action}
 use Rattle.pp_history.proofs.Repeats.{acts_replayed, machine_after_more}
 use Rattle.pp_rig.proofs.{Shortest.turned-first, Turns.turn-watches}
@@ -43,49 +43,24 @@ pub before_end : (n turns : ℕ) (machine : Machine) → n ≤ turns → turns �
 unfolding stopped turns_before
 before_end n turns machine none within = let left : n - turns ≡ 0 = omega arith in rw left (grind arith)
 
-one_more : (part rest : Stopped) → hit_or None (continued part.turns part.hit rest) ≡ continued (suc part.turns) part.hit rest
-unfolding turns_before
-one_more part rest = grind arith
-
-first_turn : (machine : Machine) (n n' : ℕ) (hit : Option Hit) →
-    (rest : Stopped) (part : Stopped) (last : Stopped) → rest ≡ continued part.turns part.hit last →
-    hit_or hit rest ≡ continued (hit_or hit part).turns (hit_or hit part).hit last
-unfolding turns_before
-first_turn machine n n' None rest part last is = ap (hit_or None) is ∙ one_more part last
-first_turn machine n n' (Some hit) rest part last is = refl
-
 -- a run of fewer turns, and the turns after it
 pub run_in_parts : (first n : ℕ) (machine : Machine) → first ≤ n →
     stopped n machine ≡ continued (stopped first machine).turns
     (stopped first machine).hit (stopped (n - first) (turned first machine))
-unfolding stopped
+unfolding stopped turns_before
 run_in_parts zero n machine within = before_start n machine
 run_in_parts (suc first) zero machine within = absurd (omega arith)
-run_in_parts (suc first) (suc n) machine within = let left : suc n - suc first ≡ n - first = omega arith in
-    rw (left, ← turned-first first machine)
-    (first_turn machine n first (hit_of machine) (stopped n (turn machine))
-    (stopped first (turn machine)) _ (run_in_parts first n (turn machine) (omega arith)))
-
-pub continued_some : (turns : ℕ) (hit : Option Hit) (rest : Stopped) →
-    is_some hit ≡ true → continued turns hit rest ≡ record { turns = turns; hit = hit }
-continued_some turns hit rest some = grind arith
-
-pub continued_none : (turns : ℕ) (hit : Option Hit) (rest : Stopped) →
-    is_some hit ≡ false → continued turns hit rest ≡ turns_before turns rest
-continued_none turns hit rest none = grind arith
-
-both_before : (turns more : ℕ) (hit : Option Hit) (rest : Stopped) →
-    turns_before turns (continued more hit rest) ≡ continued (turns + more) hit rest
-unfolding turns_before
-both_before turns more hit rest = grind arith
+run_in_parts (suc first) (suc n) machine within =
+    grind (arith, turned-first first machine, run_in_parts first n (turn machine))
 
 -- a run of fewer turns after other turns
 pub part_before : (n turns : ℕ) (machine : Machine) (part : Stopped) → part ≡ stopped part.turns machine → part.turns ≤ n - turns →
     turns_before turns (stopped (n - turns) machine)
     ≡ continued (turns + part.turns) part.hit (stopped (n - (turns + part.turns)) (turned part.turns machine))
-part_before n turns machine part is within = let left : n - turns - part.turns ≡ n - (turns + part.turns) = omega arith in
-    ap (turns_before turns) (rw (← is, left) at (run_in_parts part.turns (n - turns) machine within))
-    ∙ both_before turns part.turns part.hit _
+unfolding turns_before
+part_before n turns machine part is within =
+    let left : n - turns - part.turns ≡ n - (turns + part.turns) = omega arith in
+    let parts = rw (← is, left) at (run_in_parts part.turns (n - turns) machine within) in rw parts (grind arith)
 
 -- turns leave the watches
 pub watches_kept : (turns : ℕ) (machine : Machine) → (turned turns machine).watches ≡ machine.watches
@@ -101,7 +76,7 @@ turns_are_acts (suc turns) v = ap (λ v. after_act v Turn) (turns_are_acts turns
 pub after_turns_add : (first turns : ℕ) (v : SessionValue Machine Action) →
     after_turns turns (after_turns first v) ≡ after_turns (first + turns) v
 unfolding after_turns
-after_turns_add first zero v = let all : first + 0 ≡ first = omega arith in rw all refl
+after_turns_add first zero v = grind arith
 after_turns_add first (suc turns) v = let more : first + suc turns ≡ suc (first + turns) = omega arith in
     rw more (ap (λ v. after_act v Turn) (after_turns_add first turns v))
 
@@ -148,19 +123,20 @@ unmarked_turns marks n (suc turns) machine within none covered =
     let before = unmarked_turns marks n turns machine (omega arith) (λ k less. none k (omega arith)) covered in
     let s = turned turns machine in
     let (back, fits, led_back, unmarked) = rw add-one at (none turns (omega arith)) in
-    let same : watches_of s ≡ watches_of machine =
-    ap (λ watches. watches_of (record machine { watches = watches })) (watches_kept turns machine) in
+    let same : watches_of s ≡ watches_of machine = grind (arith, watches_kept turns machine) in
     let hit = unmarked-hit s (turn s) marks back refl fits led_back unmarked (rw same covered) in
-    before ∙ (before_next n turns s (omega arith) ∙ rw (← hit, add-one) refl)
+    grind (arith, before, before_next n turns s, hit)
 
 -- the last of some turns changed a watched number, or no turn did
 pub last_turn : (marks : Marks) (turns : ℕ) (machine : Machine) → AreUnmarked rules marks_of marks Turn turns machine →
     AreCovered marks_of marks (map watched_place (watches_of machine)) →
     stopped (turns + 1) machine ≡ record { turns = turns + 1; hit = hit_of (turned turns machine) }
 unfolding turns_before stopped
-last_turn marks turns machine none covered = unmarked_turns marks (turns + 1) turns machine (omega arith) none covered
-    ∙ before_next (turns + 1) turns (turned turns machine) (omega arith) ∙
-    (let left : turns + 1 - (turns + 1) ≡ 0 = omega arith in rw left (grind arith))
+last_turn marks turns machine none covered = grind (
+  arith,
+  unmarked_turns marks (turns + 1) turns machine (omega arith) none covered,
+  before_next (turns + 1) turns (turned turns machine),
+)
 
 -- the change that the last of some turns made
 pub last_hit : (turns : ℕ) (old new : Machine) (v : SessionValue Machine Action) (hit : Option Hit) →
@@ -168,10 +144,7 @@ pub last_hit : (turns : ℕ) (old new : Machine) (v : SessionValue Machine Actio
     hit ≡ first_change (replay rules (after_acts turns Turn v).start (after_acts turns Turn v).standing) new (watches_of new) →
     hit ≡ hit_of (turned turns old)
 last_hit turns old new v hit replayed last found =
-    let s = turned turns old in
-    let now : new ≡ turn s = last ∙ machine_after_more rules turns Turn old in
-    let same : watches_of (turn s) ≡ watches_of s = ap (λ watches. watches_of (record s { watches = watches })) (turn-watches s) in
-    rw (now, acts_replayed rules turns Turn v, ← replayed, same) at found
+    grind (arith, machine_after_more rules turns Turn old, acts_replayed rules turns Turn v, turn-watches (turned turns old))
 
 -- what a search for a change needs
 pub ruleset changes = (first_step, record_was)

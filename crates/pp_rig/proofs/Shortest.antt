@@ -15,7 +15,7 @@ turned-first (suc turns) machine = ap turn (turned-first turns machine)
 none-first : (machine : Machine) (turns : ℕ) → hit_of machine ≡ None →
     ((rest : ℕ) → turns ≡ suc rest → hit_of (turned rest (turn machine)) ≡ None) → hit_of (turned turns machine) ≡ None
 none-first machine zero e f = e
-none-first machine (suc turns) e f = sym (ap hit_of (turned-first turns machine)) ∙ f turns refl
+none-first machine (suc turns) e f = rw (← turned-first turns machine) (f turns refl)
 
 shortest-by : (most : ℕ) (machine : Machine) (rest : Stopped) (found : Option Hit) → hit_of machine ≡ found →
     IsShortest most (turn machine) rest → IsShortest (suc most) machine (hit_or found rest)

@@ -1,15 +1,15 @@
 -- The parts of a turn: what each does to the machine, and what its undo record then has.
-use Rattle.std.proofs.Common.{ℕ, Bool, true, false, [], ◌∷◌, ◌<◌, ◌≡◌, ◌==◌, ◌∙◌, refl, ap, get_or, subst, sym}
+use Rattle.std.proofs.Common.{arith, ℕ, Bool, true, false, [], ◌∷◌, ◌<◌, ◌≡◌, ◌∙◌, refl, get_or, subst, sym}
 use Rattle.std.proofs.lemmas.List.{get_or_read}
 use Rattle.pp_machine.proofs.{AllDevices.all-laws, Parts.both-performed, Parts.led_back, Parts.none-performed, Parts.one-performed}
 use Rattle.pp_machine.specs.{Inner.AllDevices.all_model, NumberLaws.setup-over, Parts.after_parts}
 use Rattle.pp_machine.specs.Inner.PartWrites.{AreIdle, ArePerformed, parts_old_values}
 use Rattle.pp_machine.specs.Prelude.{Machine, ProcessorNumbers, over, put, no_processor, Writes, renamed, Has, HasAll}
-use Rattle.pp_step.specs.{Step.pp_pairs, Step.pp_writes, Step.FitsPp, Step.IsStep, declared.record.PpRecord.PpRecord}
+use Rattle.pp_step.specs.{Step.pp_pairs, Step.pp_writes, Step.IsStep, declared.record.PpRecord.PpRecord}
 use Rattle.pp_step.specs.View.{PpPlace, PpView, over as over_pp, pp_place, view_of as step_view}
 use Rattle.pp_rig.specs.{Inner.IsMachine.IsMachine, Turn.pp_of, Turn.processor_step, Turn.turn, Inner.Lift.with_pp, IsSetup.IsSetup}
 use Rattle.pp_rig.specs.Inner.{LiftLaws.step-pp, LiftLaws.record-pp, MachineLaws.has_processor, MachineLaws.IsMachine-with_pp}
-use Rattle.pp_machine.specs.WriteLaws.{AllPlaces-append, AllPlaces-if, over-append}
+use Rattle.pp_machine.specs.WriteLaws.{AllPlaces-append, over-append}
 use Rattle.pp_step.specs.PpPlaces.{HasAll-pp}
 use Rattle.pp_rig.specs.{Inner.Short.IsTurned, declared.rig.TurnRecord.TurnRecord, declared.rig.TurnRest.TurnRest}
 use Rattle.pp_rig.specs.Inner.TurnRecords.{FitsRest, FitsTurn, IsSlotStep, device_parts, devices_old_values, end_old_values}
@@ -20,15 +20,14 @@ use Rattle.pp_rig.proofs.{Devices.by_models, Overwritten.at_most-turn}
 module _ (m : Machine) (n : ℕ) (x : ProcessorNumbers) (ok : IsMachine m)
     (in_slot : n < 10) (read : x ≡ get_or m.processors n x) where
   seen : step_view x m.channels m.central m.frame ≡ pp_of n m
-  seen = ap (λ y. step_view y m.channels m.central m.frame)
-      (get_or_read m.processors n x (has_processor m n ok in_slot) read no_processor)
+  seen = grind (arith, get_or_read m.processors n x (has_processor m n ok in_slot) read no_processor)
 
   module _ (part : PpView) (w : Writes PpPlace) (e : part ≡ over_pp (step_view x m.channels m.central m.frame) w) where
     pub IsMachine-over : IsMachine (with_pp m n part)
-    IsMachine-over = IsMachine-with_pp m n part w ok in_slot (e ∙ ap (λ s. over_pp s w) seen)
+    IsMachine-over = grind (arith, seen, IsMachine-with_pp m n part w ok in_slot)
 
     pub slot-over : with_pp m n part ≡ over m (renamed (pp_place n) w)
-    slot-over = step-pp m n (has_processor m n ok in_slot) part w (e ∙ ap (λ s. over_pp s w) seen)
+    slot-over = grind (arith, seen, step-pp m n (has_processor m n ok in_slot) part w)
 
 -- its step
 module _ (m : Machine) (x : ProcessorNumbers) (new : PpView) (back : PpRecord)
@@ -40,14 +39,16 @@ module _ (m : Machine) (x : ProcessorNumbers) (new : PpView) (back : PpRecord)
   IsMachine-stepped e = IsMachine-over m m.slot x ok ok.slot read new (pp_writes (step_view x m.channels m.central m.frame)) e.step
 
   pub slot-stepped : stepped → IsSlotStep m (with_pp m m.slot new) back
-  slot-stepped e = let here = subst (λ s. IsStep s new back) (seen m m.slot x ok ok.slot read) e in
-      record {
-        step = step-pp m m.slot (has_processor m m.slot ok ok.slot) new (pp_writes (pp_of m.slot m)) here.step;
-        old_values = ap (renamed (pp_place m.slot)) here.old_values ∙ record-pp m m.slot (pp_writes (pp_of m.slot m));
-        fits = subst (λ n. FitsPp n back) (IsMachine-stepped e).shaped.central e.fits;
-        at_most = e.at_most;
-        kept = record { slot = refl; setup = refl };
-      }
+  slot-stepped e =
+      let here = rw (seen m m.slot x ok ok.slot read) at e in
+      let ok1 = IsMachine-stepped e in
+      grind (
+        arith,
+        step-pp m m.slot (has_processor m m.slot ok ok.slot) new (pp_writes (pp_of m.slot m)),
+        record-pp m m.slot (pp_writes (pp_of m.slot m)),
+        here,
+        ok1,
+      )
 
   -- a step that is performed, or that changes nothing
   pub slot-same : new ≡ step_view x m.channels m.central m.frame → with_pp m m.slot new ≡ m
@@ -74,19 +75,21 @@ pub rest_fits : (m new : Machine) (back : TurnRest) → ArePerformed end_parts m
     (back.slot ≡ 9 → back.clock < 4096) → (back.are_devices_called ≡ true → all_model.Fits back.devices m) →
     ArePerformed end_parts m new (end_old_values back) × FitsRest back new
 rest_fits m new back ended in_slot in_clock devices =
-    (ended, record { slot = in_slot; clock = in_clock; devices = rw (led_back end_parts m new _ ended) devices })
+    grind (arith, led_back end_parts m new (end_old_values back) ended)
 
 -- ---- a turn
 
 -- the places of a turn's record are places of the machine
 HasAll-turn : (r : TurnRecord) (s : Machine) → IsSetup s.setup → FitsTurn r s → HasAll s.setup.central_words (turn_pairs r)
 unfolding turn_pairs rest_pairs
-HasAll-turn r s ok f = let size = s.setup.central_words in
-    AllPlaces-append (Has size) _ _ (HasAll-pp size r.rest.slot f.rest.slot r.pp f.pp)
-    (AllPlaces-append (Has size) _ _
-    (AllPlaces-if (Has size) r.rest.are_devices_called _ _ (λ called. all-laws.pairs_has size r.rest.devices
-    (over s (end_old_values r.rest)) (rw (setup-over s (end_old_values r.rest)) ok.channels) (f.rest.devices called)) (λ idle. tt))
-    (AllPlaces-append (Has size) _ _ (AllPlaces-if (Has size) (r.rest.slot == 9) _ _ (λ last. (tt, tt)) (λ other. tt)) (tt, tt)))
+HasAll-turn r s ok f = let size = s.setup.central_words in grind (
+  arith,
+  AllPlaces-append (Has size),
+  HasAll-pp size r.rest.slot f.rest.slot r.pp f.pp,
+  all-laws.pairs_has size r.rest.devices (over s (end_old_values r.rest)),
+  setup-over s (end_old_values r.rest),
+  ok.channels,
+)
 
 pub turned : (m m1 new : Machine) (r : TurnRecord) → IsSlotStep m m1 r.pp → ArePerformed rest_of_turn m1 new (rest_pairs r.rest) →
     FitsRest r.rest new → r.rest.slot ≡ m1.slot → new.setup ≡ m1.setup → IsMachine new → IsTurned m new r

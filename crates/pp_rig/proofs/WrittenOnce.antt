@@ -1,12 +1,12 @@
 -- No action other than a turn writes a place twice.
-use Rattle.std.proofs.Common.{◌≡◌, ◌≢◌, ℕ, ◌+◌, ◌%◌, ◌<◌, ◌≤◌, ◌==◌, List, [], ◌∷◌, drop, length, true, zero, suc, refl, ap, arith}
-use Rattle.std.proofs.Common.{Option, Some, None, position}
+use Rattle.std.proofs.Common.{◌≡◌, ◌≢◌, ℕ, ◌+◌, ◌%◌, ◌<◌, ◌≤◌, ◌==◌, List, [], ◌∷◌, drop, length, true, zero, suc, refl, arith}
+use Rattle.std.proofs.Common.{Option, Some, None, position, replicate, sym, ◌∙◌, zero-add}
 use Rattle.std.specs.List.{All, AllPairs}
-use Rattle.std.proofs.lemmas.List.Kept.{AllPairs-cons}
+use Rattle.std.proofs.lemmas.List.{Kept.AllPairs-cons, FromFn.get_or-map-range_with_len, get_or-replicate, length-replicate}
 use Rattle.pp_machine.specs.{Prelude.Machine, Prelude.Writes, Prelude.places, Prelude.same_place, declared.place.Place.Place}
 use Rattle.pp_machine.specs.declared.place.Place.TheVariants.{Cell, WatchEntry}
 use Rattle.pp_machine.proofs.{DeviceLaws.same-self, Once.once, Once.each-once}
-use Rattle.pp_rig.proofs.Deadstart.{length-cell_writes, length-deadstart_write_list}
+use Rattle.pp_rig.proofs.Deadstart.{places-deadstart, length-cell_writes, length-deadstart_write_list}
 use Rattle.pp_rig.specs.Inner.ActionRecords.{most_places, writes}
 use Rattle.pp_actions.specs.{Unwatching.without_entry, Unwatching.moved_up, WatchCodes.watch_code, declared.action.Action.Action}
 use Rattle.pp_actions.specs.Deadstart.{deadstart_place_count, deadstart_writes, deadstart_write_list}
@@ -52,28 +52,17 @@ each : (w : Writes Place) → once same_place w ≡ true → EachOnce w
 each = each-once same_place same-self
 
 -- the panel does not reach the cell behind it
-panel-once : (panel : List ℕ) → length panel ≤ 12 → once same_place (deadstart_write_list panel) ≡ true
+panel-once : (n : ℕ) → n < 13 → once same_place (deadstart_write_list (replicate n 0)) ≡ true
 unfolding deadstart_write_list
-panel-once [] at_most = refl
-panel-once (_ ∷ []) at_most = refl
-panel-once (_ ∷ _ ∷ []) at_most = refl
-panel-once (_ ∷ _ ∷ _ ∷ []) at_most = refl
-panel-once (_ ∷ _ ∷ _ ∷ _ ∷ []) at_most = refl
-panel-once (_ ∷ _ ∷ _ ∷ _ ∷ _ ∷ []) at_most = refl
-panel-once (_ ∷ _ ∷ _ ∷ _ ∷ _ ∷ _ ∷ []) at_most = refl
-panel-once (_ ∷ _ ∷ _ ∷ _ ∷ _ ∷ _ ∷ _ ∷ []) at_most = refl
-panel-once (_ ∷ _ ∷ _ ∷ _ ∷ _ ∷ _ ∷ _ ∷ _ ∷ []) at_most = refl
-panel-once (_ ∷ _ ∷ _ ∷ _ ∷ _ ∷ _ ∷ _ ∷ _ ∷ _ ∷ []) at_most = refl
-panel-once (_ ∷ _ ∷ _ ∷ _ ∷ _ ∷ _ ∷ _ ∷ _ ∷ _ ∷ _ ∷ []) at_most = refl
-panel-once (_ ∷ _ ∷ _ ∷ _ ∷ _ ∷ _ ∷ _ ∷ _ ∷ _ ∷ _ ∷ _ ∷ []) at_most = refl
-panel-once (_ ∷ _ ∷ _ ∷ _ ∷ _ ∷ _ ∷ _ ∷ _ ∷ _ ∷ _ ∷ _ ∷ _ ∷ []) at_most = refl
-panel-once (_ ∷ _ ∷ _ ∷ _ ∷ _ ∷ _ ∷ _ ∷ _ ∷ _ ∷ _ ∷ _ ∷ _ ∷ _ ∷ rest) at_most = absurd (omega arith)
+panel-once n few = let test = λ (k : ℕ). once same_place (deadstart_write_list (replicate k 0)) in
+    sym (get_or-map-range_with_len test 0 13 n n true few (zero-add n)) ∙ get_or-replicate 13 n true true few
 
 deadstart-once : (panel : Option (List ℕ)) →
     length (deadstart_writes panel) ≤ deadstart_place_count → EachOnce (deadstart_writes panel)
 deadstart-once None at_most = λ i j d less within. absurd (omega (arith, within))
-deadstart-once (Some panel) at_most =
-    each (deadstart_write_list panel) (panel-once panel (omega (arith, at_most, length-deadstart_write_list panel)))
+deadstart-once (Some panel) at_most = let n = length panel in
+    rw (places-deadstart panel (replicate n 0) (sym (length-replicate n 0)))
+    (each (deadstart_write_list (replicate n 0)) (panel-once n (omega (arith, at_most, length-deadstart_write_list panel))))
 
 -- ---- every action
 

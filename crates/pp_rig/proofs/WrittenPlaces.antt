@@ -2,8 +2,8 @@
 use Rattle.std.proofs.Common.{◌≡◌, ℕ, ◌+◌, ◌<◌, ◌≤◌, ◌==◌, Bool, List, [], ◌∷◌, drop, length, position, refl, subst, arith}
 use Rattle.std.proofs.Common.{length-drop, Option, Some, None, IfSome}
 use Rattle.std.proofs.lemmas.List.Quantifiers.{position-Some}
-use Rattle.pp_machine.specs.Prelude.{Machine, over, processor, no_processor, Has, HasAll}
-use Rattle.pp_machine.specs.{WriteLaws.AllPlaces-if, NumberLaws.setup-over, Inner.PartWrites.EachPart, Parts.after_parts}
+use Rattle.pp_machine.specs.Prelude.{Machine, over, processor, no_processor, HasAll}
+use Rattle.pp_machine.specs.{NumberLaws.setup-over, Inner.PartWrites.EachPart}
 use Rattle.pp_step.proofs.StepPlaces.{HasAll-step}
 use Rattle.pp_rig.proofs.{Admitting.settings_fit, Admitting.is_watch, Deadstart.AreSettings-deadstart, Devices.by_models}
 use Rattle.pp_machine.proofs.{AllDevices.all-laws, Parts.HasAll-parts, Parts.each-append}
@@ -23,15 +23,14 @@ unfolding turn_writes
 HasAll-turn_writes s ok =
     let size = s.setup.central_words in
     let s1 = over s (processor_step s) in
-    let s3 = after_parts device_parts s1 in
-    let here : s.slot < length s.processors = omega (arith, ok.slot, ok.sizes.processors) in
-    let stepped : IsProcessor (processor s s.slot) = ok.processors s.slot no_processor here in
-    let low : (processor s s.slot).p < 4096 = omega (arith, stepped.p) in
+    let x = processor s s.slot in
+    let stepped : IsProcessor x = ok.processors s.slot no_processor (omega (arith, ok.slot, ok.sizes.processors)) in
+    let low : x.p < 4096 = omega (arith, stepped.p) in
     HasAll-parts size turn_parts s (subst (λ parts. EachPart (λ part m. HasAll size (part m)) parts s) by_models (
       HasAll-step size s.slot ok.slot (pp_of s.slot s) low stepped.cells ok.sizes.central,
       each-append (λ part m. HasAll size (part m)) device_parts end_parts s1
           (all-laws.writes_has size s1 (rw (setup-over s (processor_step s)) ok.setup.channels))
-          (AllPlaces-if (Has size) (s3.slot == 0o11) _ _ (λ last. (tt, tt)) (λ other. tt), ((tt, tt), tt)),
+          (grind arith),
     ))
 
 -- ---- watches

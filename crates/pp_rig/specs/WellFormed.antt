@@ -9,7 +9,7 @@ use Rattle.pp_rig.specs.IsSetup.{IsSetup}
 use Rattle.pp_machine.specs.Ranges.{processor_count, twelve_bits, eighteen_bits, past_sixty_bits}
 use Rattle.pp_actions.specs.Watches.{AreWatches}
 
--- registers, phase and cells of a processor
+-- Each number of a processor is in its range: A has 18 bits, and P, Q and each cell have 12. [M2, P16]
 pub record IsProcessor (x : ProcessorNumbers) : Type 0 where
   pub a : x.a ≤ eighteen_bits
   pub p : x.p ≤ twelve_bits
@@ -17,9 +17,9 @@ pub record IsProcessor (x : ProcessorNumbers) : Type 0 where
   pub phase : IsTrue (is_phase x.phase)
   pub cells : All (λ cell. cell ≤ twelve_bits) x.cells
 
--- the lists have their sizes, each number is in its range, the paper is zero past its length, a card is left if one is
--- being read, the watch entries are those of distinct places of the machine, followed by zeros, the panel has twelve
--- words, and the devices have data channels of their own
+-- A well-formed machine: the lists have their sizes, and each number is in its range. The paper is zero past its length. A
+-- card is left if one is being read. The watch entries are those of distinct places of the machine, followed by zeros. Every
+-- machine that the program reaches is well formed, so no default past the end of a list is a number of it. [P29]
 pub record IsWellFormed (s : Machine) : Type 0 where
   pub sizes : IsShaped s.setup.central_words s
   pub processors : All IsProcessor s.processors

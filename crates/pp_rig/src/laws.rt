@@ -44,8 +44,7 @@ pub fn actions_write_places_of_the_machine()
 {}
 
 /// A turn performs its parts one after another, each on the machine that the parts before it left: the step of the
-/// processor in the slot, the steps of the reader and of the printer, the clock and the slot (the manual, peripheral
-/// processors; the devices are this project's own).
+/// processor in the slot, the steps of the reader and of the printer, the clock and the slot [P4].
 ///
 /// So every action, a turn too, leads to the machine after its write list.
 #[tactic(auto, unfolding(crate::specs::Turn::turn), using(crate::proofs::Overwritten::next_by_writes))]

@@ -12,7 +12,7 @@ ghost use Rattle.pp_rig.specs.Inner.Short.{unpacked};
 ghost use Rattle.pp_rig.specs.Stopping.{after_turns, first_change, stopped, turned};
 ghost use Rattle.pp_actions.specs.Watches.{watched_place, watches_of};
 
-use crate::rig::Rig;
+use crate::rig::{Rig, RigRecord, ShortTurn};
 use pp_actions::{Action, Watched};
 use pp_history::{Marks, Reversible, Session, UndoRecord};
 use pp_machine::Place;
@@ -39,7 +39,7 @@ pub struct Stopped {
 
 /// Returns the old number of a place, or `None` if the undo record does not have that place.
 #[inline(always)]
-fn old_value(back: &UndoRecord<Rig>, place: &Place) -> Option<u64>
+fn old_value(back: &UndoRecord<ShortTurn, RigRecord>, place: &Place) -> Option<u64>
     ensures { result ≡ lookup (record_pairs (whole_record unpacked back.now)) place.now }
 {
     match back {
@@ -51,7 +51,7 @@ fn old_value(back: &UndoRecord<Rig>, place: &Place) -> Option<u64>
 /// Returns the first watched place, in watch order, whose number an action with this undo record changed.
 #[inline(always)]
 #[tactic(auto, using(crate::proofs::Runs::changes))]
-fn first_changed(machine: &Rig, back: &UndoRecord<Rig>) -> Option<Hit>
+fn first_changed(machine: &Rig, back: &UndoRecord<ShortTurn, RigRecord>) -> Option<Hit>
     requires { FitsRecord (whole_record unpacked back.now) machine.now }
     ensures { result ≡ first_change (before (whole_record unpacked back.now) machine.now) machine.now (watches_of machine.now) }
 {
@@ -104,7 +104,7 @@ fn run_part(session: &mut Session<Rig>, n: u32, marks: &Marks) -> Stopped
 /// Performs turns until n were performed, or until one changed the number of a watched place.
 ///
 /// If a turn changed several watched numbers, the hit is the first in watch order. A turn in which a processor waits is
-/// a turn like any other. If n is 0, no turn is performed (this project's choice).
+/// a turn like any other. If n is 0, no turn is performed.
 #[tactic(auto, using(crate::proofs::Runs::runs))]
 pub fn run(session: &mut Session<Rig>, n: u32) -> Stopped
     ensures stops { result ≡ stopped n session.old.machine }

@@ -1,28 +1,22 @@
 -- No step writes a place twice.
-use Rattle.std.proofs.Common.{◌≡◌, ◌≢◌, ℕ, ◌+◌, ◌<◌, ◌≤◌, ◌/◌, ◌%◌, ◌||◌, ◌==◌, not, slice_index, Bool, true, false, nat_lt}
-use Rattle.std.proofs.Common.{if◌then◌else◌, List, [], ◌∷◌, ◌++◌, None, length, refl, arith, ◌∙◌}
+use Rattle.std.proofs.Common.{◌≡◌, ◌≢◌, ℕ, ◌+◌, ◌<◌, ◌≤◌, ◌==◌, slice_index, Bool, true, false, nat_lt, List, [], ◌∷◌, ◌++◌, None}
+use Rattle.std.proofs.Common.{length, refl, arith, ◌∙◌}
+use Rattle.std.proofs.{lemmas.Bool.eq-eqb, lemmas.Bool.ne_eqb, lemmas.Bool.Decides.nat_tests, lemmas.List.append-nil}
 use Rattle.std.specs.List.{AllPairs}
-use Rattle.std.proofs.lemmas.{Bool.eq-eqb, Bool.ne_eqb, List.append-nil}
 use Rattle.pp_machine.specs.Writes.{Writes, places}
 use Rattle.pp_machine.proofs.Once.{once, IsOnce, either, each-once}
 use Rattle.pp_arith.specs.Words60.{split60}
-use Rattle.pp_machine.specs.declared.channel.ChannelState.TheVariants.{Inactive, Empty, Full}
-use Rattle.pp_step.specs.{Blocks.block_writes, Channels.is_clock, Channels.is_in, Channels.is_active, Codes.number_of}
-use Rattle.pp_step.specs.{Exchange.exchange, Exchange.pairs_from, Exchange.word_pairs, Exchange.loaded, Rows.five_cells}
-use Rattle.pp_step.specs.{Instruction.InstructionNumbers, Seen.same_place, Seen.lookup, Step.pp_writes, declared.code.Code.Code}
+use Rattle.pp_step.specs.Exchange.{exchange, pairs_from, word_pairs, loaded}
 use Rattle.pp_step.specs.InstructionTable.{Row, row_of, instruction_at}
-use Rattle.pp_step.specs.View.{PpView, PpPlace, A, P, Q, Cell, Central, FrameWord}
-use Rattle.pp_step.specs.Words.{cell_after, central_after}
-use Rattle.pp_step.specs.declared.code.Code.TheVariants as code
+use Rattle.pp_step.specs.View.{PpView, PpPlace, A, P, Central, FrameWord}
+use Rattle.pp_step.specs.{Blocks.block_writes, Codes.number_of, Rows.five_cells, Instruction.InstructionNumbers, Seen.same_place}
+use Rattle.pp_step.specs.{Seen.lookup, Step.pp_writes, declared.code.Code.Code, Words.central_after}
 use Rattle.pp_step.proofs.{ExchangeLookup.absent, ExchangeLookup.none, ExchangeLookup.in_neither, Numbers.each_row}
+use Rattle.pp_step.specs.declared.code.Code.TheVariants as code
 
 self : (x : PpPlace) → same_place x x ≡ true
 self A = refl
 self _ = search eq-eqb
-
-keep_front : (b : Bool) (x : PpPlace) (w : ℕ) (ws rest : Writes PpPlace) → lookup (ws ++ rest) x ≡ None →
-    once same_place (ws ++ rest) ≡ true → once same_place ((if b then (x, w) ∷ ws else ws) ++ rest) ≡ true
-keep_front b x w ws rest e h = grind arith
 
 -- places of different numbers, in front of other places
 once-from : (place : ℕ → PpPlace) (is_there : ℕ → Bool) (i : ℕ) (ws : List ℕ) (rest : Writes PpPlace) →
@@ -34,14 +28,11 @@ once-from place is_there i (w ∷ ws) rest apart behind h =
     (λ k low high. apart i k (omega arith) (omega (arith, low)) (omega (arith, high))) ∙ behind i in
     let others = once-from place is_there (i + 1) ws rest
     (λ j k low less high. apart j k (omega (arith, low)) less (omega (arith, high))) behind h in
-    keep_front (is_there i) (place i) w (pairs_from place is_there (i + 1) ws) rest later others
+    grind (arith, later, others)
 
 -- five cells in a row
 five-once : (address : ℕ) (parts : List ℕ) → once same_place (five_cells address parts) ≡ true
-five-once address parts =
-    let five = slice_index parts 0 ∷ slice_index parts 1 ∷ slice_index parts 2 ∷ slice_index parts 3 ∷ slice_index parts 4 ∷ [] in
-    once-from (λ i. Cell (cell_after address i)) (λ i. true) 0 five [] (λ j k low less high.
-    ne_eqb (cell_after address k) (cell_after address j) (λ same. omega (arith, same, less, high))) (λ k. refl) refl
+five-once address parts = grind (arith, nat_tests)
 
 -- sixteen central words in a row
 words-once : (size a : ℕ) (ws : List ℕ) → length ws ≤ 16 → once same_place (word_pairs size a 0 ws) ≡ true
@@ -64,37 +55,10 @@ effect-once : (c : Code) (i : InstructionNumbers) (s : PpView) →
     length s.frame ≡ 16 → IsOnce same_place ((row_of (number_of c)).effect i s)
 effect-once code.Exn i s size = one (exchange-once i.next s.a s.central s.frame size)
 effect-once code.Crd i s size = one (five-once i.d (split60 (slice_index s.central s.a)))
-effect-once code.Cwd i s size = either same_place (nat_lt s.a (length s.central)) _ _ (one refl) (one refl)
-effect-once code.Ian i s size =
-    either same_place (is_clock i.d) _ _ (one refl) (either same_place (is_in Full i.d s.states) _ _ (one refl) (one refl))
-effect-once code.Oan i s size = either same_place (is_in Empty i.d s.states) _ _ (one refl) (one refl)
-effect-once code.Acn i s size = either same_place (is_in Inactive i.d s.states) _ _ (one refl) (one refl)
-effect-once code.Dcn i s size =
-    either same_place (is_clock i.d) _ _ (one refl) (either same_place (is_active i.d s.states) _ _ (one refl) (one refl))
-effect-once code.Fan i s size = either same_place (is_in Inactive i.d s.states) _ _ (one refl) (one refl)
-effect-once code.Fnc i s size = either same_place (is_in Inactive i.d s.states) _ _ (one refl) (one refl)
-effect-once _ i s size = one refl
-
--- the writes of 63, with the central word or without it
-word-once : (is_there : Bool) (p a q at word : ℕ) →
-    IsOnce same_place ((P, p) ∷ (A, a) ∷ (Q, q) ∷ (if is_there then (Central at, word) ∷ [] else []))
-word-once true p a q at word = one refl
-word-once false p a q at word = one refl
+effect-once _ i s size = search (either same_place)
 
 block-once : (s : PpView) → IsOnce same_place (block_writes s)
-block-once s =
-    let code = s.phase / 0o100 in
-    let d = s.phase % 0o100 in
-    either same_place (code == 0o61) _ _
-    (either same_place (s.q == 0) _ _ (one refl) (one (five-once s.p (split60 (slice_index s.central s.a)))))
-    (either same_place (code == 0o63) _ _
-    (either same_place (s.q == 0) _ _ (one refl) (word-once (nat_lt s.a (length s.central)) _ _ _ _ _))
-    (either same_place (code == 0o71) _ _
-    (either same_place (s.a == 0) _ _ (one refl) (either same_place (is_clock d) _ _ (one refl) (either same_place
-    (not (is_active d s.states)) _ _ (one refl) (either same_place (is_in Full d s.states) _ _ (one refl) (one refl)))))
-    (either same_place (code == 0o73) _ _
-    (either same_place (s.a == 0 || not (is_active d s.states)) _ _ (one refl)
-    (either same_place (is_in Empty d s.states) _ _ (one refl) (one refl))) (one refl))))
+block-once s = one (grind (arith, five-once s.p (split60 (slice_index s.central s.a))))
 
 step-once : (s : PpView) → length s.frame ≡ 16 → IsOnce same_place (pp_writes s)
 unfolding pp_writes

@@ -11,7 +11,7 @@ number_of-code_of n below = sym (get_or-map number_of codes n Fnc 0o77 below) �
 
 -- what is true of the row of each code, and of a wait, is true of the row of each number
 pub each_row : (T : Row → Type 0) → ((code : Code) → T (row_of (number_of code))) →
-    T (row NoAddress (λ i s. [])) → (n : ℕ) → T (row_of n)
+    T (row Fnc NoAddress (λ i s. [])) → (n : ℕ) → T (row_of n)
 each_row T each wait n = ⊎_elim (λ below. subst (λ k. T (row_of k)) (number_of-code_of n below) (each (code_of n)))
-    (λ past. subst T (sym (get_or_past rows n (row NoAddress (λ i s. [])) past)) wait)
+    (λ past. subst T (sym (get_or_past rows n (row Fnc NoAddress (λ i s. [])) past)) wait)
     (cases_lt n 64)

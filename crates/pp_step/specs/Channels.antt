@@ -3,22 +3,20 @@ use Rattle.std.specs.Prelude.{ℕ, List, Bool, ◌==◌, ◌&&◌, ◌||◌, nat
 use Rattle.pp_machine.specs.ChannelNumbers.{state_number}
 use Rattle.pp_machine.specs.declared.channel.ChannelState.{ChannelState}
 
--- Channel 14 is the real-time clock (the manual, channels).
+-- Channel 14 is the real-time clock. [M16]
 abbrev pub is_clock : ℕ → Bool
 is_clock c = c == 0o14
 
--- Channel c is a data channel, 00 to 13, in this state. So 15 to 77, which name no channel, are in no state (this
--- project's choice).
+-- Channel c is a data channel, 00 to 13, in this state. So 15 to 77, which name no channel, are in no state. [P9, P13]
 abbrev pub is_in : ChannelState → ℕ → List ℕ → Bool
 is_in state c states = nat_lt c 0o14 && slice_index states c == state_number state
 
--- Channel c tests as active. The clock always does (the manual, channels). A data channel does in the states 1, 2 and 3,
--- and 15 to 77 never do (this project's choice).
+-- Channel c tests as active. The clock always does. A data channel does in the states 1, 2 and 3, and 15 to 77 never do.
+-- [M14, M16, P9, P13]
 abbrev pub is_active : ℕ → List ℕ → Bool
 is_active c states = is_clock c || (nat_lt c 0o14 && nat_lt 0 (slice_index states c))
 
--- Channel c tests as full, which is more than the state `Full`. The clock always does (the manual, channels). A data
--- channel does in state 2, full with data, and in state 3, full with a function code; 15 to 77 never do (this project's
--- choice).
+-- Channel c tests as full. The clock always does. A data channel does in the states 2 and 3 both, full with data and full
+-- with a function code, and 15 to 77 never do. [M14, M16, P9, P13]
 abbrev pub is_full : ℕ → List ℕ → Bool
 is_full c states = is_clock c || (nat_lt c 0o14 && nat_lt 1 (slice_index states c))

@@ -1,15 +1,9 @@
 -- For the contracts of inner functions only: no definition of a step, and no contract of a public call, needs these.
 use Rattle.std.specs.Prelude.{ℕ, ◌/◌, ◌%◌, ◌≤◌, List, [], ◌∷◌, ◌+◌, ◌≡◌, length, map, slice_index, slice_set}
 use Rattle.std.specs.List.{range_with_len}
-use Rattle.pp_machine.specs.Frame.{frame_word}
-use Rattle.pp_machine.specs.Writes.{Writes}
-use Rattle.pp_machine.specs.declared.pp.Pp.{Pp}
-use Rattle.pp_step.specs.Codes.{number_of}
-use Rattle.pp_step.specs.Pairs.{pairs, Fits}
-use Rattle.pp_step.specs.View.{PpView, PpPlace, over, old_values}
-use Rattle.pp_step.specs.Words.{cell_after, central_after}
-use Rattle.pp_step.specs.declared.code.Op.{Op}
-use Rattle.pp_step.specs.declared.record.StepRecord.{StepRecord}
+use Rattle.pp_machine.specs.{Frame.frame_word, Writes.Writes, declared.pp.Pp.Pp}
+use Rattle.pp_step.specs.{Codes.number_of, Pairs.pairs, Pairs.Fits, View.PpView, View.PpPlace, View.over, View.old_values}
+use Rattle.pp_step.specs.{Words.cell_after, Words.central_after, declared.code.Op.Op, declared.record.StepRecord.StepRecord}
 
 -- a processor has these numbers
 abbrev pub HasRegisters : Pp → ℕ → ℕ → ℕ → ℕ → Type 0

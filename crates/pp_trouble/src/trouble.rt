@@ -22,8 +22,7 @@ pub enum FileKind {
     Script,
 }
 
-/// What ends the program early (this project's choice). Its text is the line that the program prints,
-/// without the line feed.
+/// What ends the program early. Its text is the line that the program prints, without the line feed.
 #[derive(Clone, Copy, Debug, PartialEq, Eq, Drop, Error)]
 pub enum Trouble {
     /// The words of the command line ask for help.

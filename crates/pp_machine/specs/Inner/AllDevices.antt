@@ -2,14 +2,10 @@
 use Rattle.std.specs.Prelude.{ℕ, List, Option}
 use Rattle.pp_machine.specs.Prelude.{ChannelNumbers, Machine, ProcessorNumbers}
 use Rattle.pp_machine.specs.Inner.Devices.{DevicesModel, OnNumbers, no_devices, on}
-use Rattle.pp_machine.specs.Inner.Printer.{printer_model}
 use Rattle.pp_machine.specs.PrinterNumbers.{PrinterNumbers, IsPrinter}
-use Rattle.pp_machine.specs.Inner.Reader.{reader_model}
-use Rattle.pp_machine.specs.ReaderNumbers.{ReaderNumbers, IsReader}
-use Rattle.pp_machine.specs.declared.devices.NoDevices.{NoDevices}
-use Rattle.pp_machine.specs.declared.devices.OnRecords.{OnRecords}
-use Rattle.pp_machine.specs.declared.printer.PrinterRecord.{PrinterRecord}
-use Rattle.pp_machine.specs.declared.reader.ReaderRecord.{ReaderRecord}
+use Rattle.pp_machine.specs.{Inner.Printer.printer_model, Inner.Reader.reader_model, ReaderNumbers.ReaderNumbers}
+use Rattle.pp_machine.specs.{ReaderNumbers.IsReader, declared.devices.NoDevices.NoDevices, declared.devices.OnRecords.OnRecords}
+use Rattle.pp_machine.specs.{declared.printer.PrinterRecord.PrinterRecord, declared.reader.ReaderRecord.ReaderRecord}
 
 abbrev pub AllNumbers : Type 0
 AllNumbers = OnNumbers ReaderNumbers (OnNumbers PrinterNumbers NoDevices)
@@ -44,6 +40,6 @@ machine_with devices processors channels central frame slot watches words panel 
       record { central_words = words; panel = panel; reader_channel = devices.channel; printer_channel = devices.others.channel };
 }
 
--- the numbers of each device are in range
+-- The numbers of each device are in their ranges. [P24, P25]
 abbrev pub AreInRange : Machine → Type 0
 AreInRange s = IsReader s.reader × IsPrinter s.printer

@@ -5,9 +5,7 @@ use Rattle.pp_machine.specs.Inner.Attached.{IsDevice, of_device, with_channels}
 use Rattle.pp_machine.specs.Prelude.{ChannelNumbers, Machine, Setup, over, lookup, HasAll, Writes, Place}
 use Rattle.pp_machine.specs.Inner.Device.{DeviceModel, device_pairs, device_step_writes, view_of}
 use Rattle.pp_machine.specs.Inner.PartWrites.{ArePerformed, EachPart}
-use Rattle.pp_machine.specs.Parts.{Part}
-use Rattle.pp_machine.specs.declared.devices.OnRecords.{OnRecords}
-use Rattle.pp_machine.specs.declared.devices.NoDevices.{NoDevices}
+use Rattle.pp_machine.specs.{Parts.Part, declared.devices.OnRecords.OnRecords, declared.devices.NoDevices.NoDevices}
 
 -- a device on its channel, and the devices after it
 pub record OnNumbers (Device Others : Type 0) : Type 0 where
@@ -27,11 +25,11 @@ pub record DevicesModel (Numbers Records : Type 0) : Type 1 where
   pub most : ℕ
   pub Fits : Records → Machine → Type 0
 
--- data channels
+-- Each number is that of a data channel. [P30]
 abbrev pub AreOnChannels : List ℕ → Type 0
 AreOnChannels = AllByRecursion (λ c. c < 12)
 
--- no two of them are the same
+-- No two numbers are the same. [P30]
 abbrev pub AreDistinct : List ℕ → Type 0
 AreDistinct [] = Unit {0}
 AreDistinct (c ∷ cs) = AllByRecursion (λ k. c ≢ k) cs × AreDistinct cs

@@ -2,13 +2,12 @@
 use Rattle.std.specs.Prelude.{ℕ, ◌+◌, ◌/◌, ◌%◌, ◌<◌, ◌≤◌, ◌≡◌, [], ◌∷◌, slice_index, set, if◌then◌else◌, ◌==◌, ◌&&◌, nat_le}
 use Rattle.pp_machine.specs.Prelude.{state_number, Writes, Place}
 use Rattle.pp_machine.specs.Inner.Device.{DeviceModel, DevicePlace, DeviceView, AtOwn, AtState, AtWord, device_place}
-use Rattle.pp_machine.specs.declared.printer.PrinterRecord.{PrinterRecord}
 use Rattle.pp_machine.specs.declared.printer.PrinterRecord.TheVariants.{Nothing, Called, LineEnded, WordDropped, UpperPrinted}
 use Rattle.pp_machine.specs.declared.printer.PrinterRecord.TheVariants.{WordPrinted, StatusSent, StatusEnded}
 use Rattle.pp_machine.specs.declared.printer.PrinterMode.TheVariants.{Idle, Printing, Status, Sent}
-use Rattle.pp_machine.specs.Printer.{fit, printer_status}
 use Rattle.pp_machine.specs.PrinterNumbers.{PrinterNumbers, printer_mode_number as number_of}
 use Rattle.pp_machine.specs.declared.channel.ChannelState.TheVariants.{Inactive, Empty, Full, Function}
+use Rattle.pp_machine.specs.{declared.printer.PrinterRecord.PrinterRecord, Printer.fit, Printer.printer_status}
 use Rattle.pp_machine.specs.declared.place.Place.TheVariants as place
 
 -- the printer, and the state and register of its channel

@@ -2,13 +2,12 @@
 use Rattle.std.specs.Prelude.{ℕ, ◌+◌, ◌<◌, [], ◌∷◌, slice_index, slice_index_or, if◌then◌else◌, ◌==◌, nat_lt}
 use Rattle.pp_machine.specs.Prelude.{state_number, Writes, over_by, Place}
 use Rattle.pp_machine.specs.Inner.Device.{DeviceModel, DevicePlace, DeviceView, AtOwn, AtState, AtWord, device_place, put_at}
-use Rattle.pp_machine.specs.Reader.{mode_at, reader_status}
 use Rattle.pp_machine.specs.ReaderNumbers.{ReaderNumbers, IsReader, reader_mode_number as number_of}
-use Rattle.pp_machine.specs.declared.reader.ReaderRecord.{ReaderRecord}
 use Rattle.pp_machine.specs.declared.reader.ReaderRecord.TheVariants.{Nothing, Started, Skipped, StatusCalled, ColumnSent}
 use Rattle.pp_machine.specs.declared.reader.ReaderRecord.TheVariants.{CardEnded, StatusSent, StatusEnded}
 use Rattle.pp_machine.specs.declared.reader.ReaderMode.TheVariants.{Idle, Reading, Status, Sent}
 use Rattle.pp_machine.specs.declared.channel.ChannelState.TheVariants.{Inactive, Empty, Full, Function}
+use Rattle.pp_machine.specs.{Reader.mode_at, Reader.reader_status, declared.reader.ReaderRecord.ReaderRecord}
 use Rattle.pp_machine.specs.declared.place.Place.TheVariants as place
 
 -- the reader, and the state and register of its channel

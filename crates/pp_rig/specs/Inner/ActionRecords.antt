@@ -1,23 +1,16 @@
 -- What an action writes and overwrites, and what its undo record leads back to.
-use Rattle.std.specs.Prelude.{◌≡◌, unwrap_or, MatchOption, Option, Some, None, ℕ, ◌+◌, ◌≤◌, List, [], ◌∷◌, All, length, map, refl}
+use Rattle.std.specs.Prelude.{◌≡◌, MatchOption, None, ℕ, ◌+◌, ◌≤◌, List, [], ◌∷◌, All, length, map, refl}
+use Rattle.std.proofs.Common.{arith}
 use Rattle.pp_machine.specs.Prelude.{Machine, over, old_values, number, Writes, write_list, Has, HasAll, IsShaped, lookup}
 use Rattle.pp_machine.specs.NumberLaws.{number-over, setup-over}
-use Rattle.pp_machine.specs.Ranges.{watch_count}
-use Rattle.pp_machine.specs.declared.place.Place.{Place}
-use Rattle.pp_machine.specs.declared.place.Place.TheVariants.{WatchEntry}
+use Rattle.pp_machine.specs.{Ranges.watch_count, declared.place.Place.Place, declared.place.Place.TheVariants.WatchEntry}
 use Rattle.pp_actions.specs.Deadstart.{deadstart_places, deadstart_place_count}
-use Rattle.pp_actions.specs.Admitting.{first_fault}
-use Rattle.pp_actions.specs.Settings.{AreSettings}
-use Rattle.pp_actions.specs.Watches.{AreWatches, watched_at}
-use Rattle.pp_actions.specs.WatchCodes.{first_zero, watch_code}
-use Rattle.pp_actions.specs.RecordLists.{with_entries, with_new_numbers}
-use Rattle.pp_actions.specs.WriteLists.{writes_from}
-use Rattle.pp_actions.specs.declared.action.Action.{Action}
-use Rattle.pp_actions.specs.declared.action.Action.TheVariants as action
-use Rattle.pp_actions.specs.declared.watched.Watched.{Watched}
-use Rattle.pp_rig.specs.Action.{operator_writes}
+use Rattle.pp_actions.specs.{Admitting.first_fault, Settings.AreSettings, Watches.AreWatches, Watches.watched_at}
+use Rattle.pp_actions.specs.{WatchCodes.first_zero, WatchCodes.watch_code, RecordLists.with_entries, RecordLists.with_new_numbers}
+use Rattle.pp_actions.specs.{WriteLists.writes_from, declared.action.Action.Action, declared.watched.Watched.Watched}
 use Rattle.pp_rig.specs.Inner.TurnRecords.{turn_writes, turn_old_values, turn_pairs, most_turn_places, FitsTurn}
-use Rattle.pp_rig.specs.declared.rig.RigRecord.{RigRecord}
+use Rattle.pp_rig.specs.{Action.operator_writes, declared.rig.RigRecord.RigRecord}
+use Rattle.pp_actions.specs.declared.action.Action.TheVariants as action
 use Rattle.pp_rig.specs.declared.rig.RigRecord.TheVariants as kept
 
 -- the write list of an action
@@ -68,15 +61,10 @@ pub record FitsRecord (r : RigRecord) (s : Machine) : Type 0 where
   pub shaped : IsShaped s.setup.central_words s
   pub places : HasAll s.setup.central_words (record_pairs r)
 
-old_or_now : (o : Option ℕ) (old now : ℕ) → old ≡ unwrap_or o now → MatchOption o (old ≡ now) (λ was. old ≡ was)
-old_or_now None old now e = e
-old_or_now (Some v) old now e = e
-
 -- with a record put back, a place has its old number if the record has that place, and else its present number
 pub record_restores : (r : RigRecord) (s : Machine) (p : Place) → FitsRecord r s →
     MatchOption (lookup (record_pairs r) p) (number (before r s) p ≡ number s p) (λ was. number (before r s) p ≡ was)
-record_restores r s p f = old_or_now (lookup (record_pairs r) p) (number (before r s) p)
-    (number s p) (number-over s.setup.central_words s (record_pairs r) p f.shaped f.places)
+record_restores r s p f = grind (arith, number-over s.setup.central_words s (record_pairs r) p f.shaped f.places)
 
 -- a machine has the same places with a record put back
 pub keeps_place : (r : RigRecord) (s : Machine) (p : Place) → Has s.setup.central_words p → Has (before r s).setup.central_words p

@@ -1,10 +1,8 @@
 -- The marks of places, and the places of undo records without a mark.
 use Rattle.std.specs.Prelude.{ℕ, false, ◌≡◌, ◌+◌, ◌-◌, ◌*◌, ◌/◌, ◌%◌, Option, Some, None}
-use Rattle.pp_history.specs.Marks.{is_marked}
-use Rattle.pp_history.specs.declared.marks.Marks.{Marks}
-use Rattle.pp_machine.specs.Writes.{AllPlaces, Writes}
-use Rattle.pp_machine.specs.declared.place.Place.{Place}
+use Rattle.pp_history.specs.{Marks.is_marked, declared.marks.Marks.Marks}
 use Rattle.pp_machine.specs.declared.place.Place.TheVariants.{Cell, ChannelWord, Central}
+use Rattle.pp_machine.specs.{Writes.AllPlaces, Writes.Writes, declared.place.Place.Place}
 use Rattle.pp_step.specs.View.{PpPlace, pp_place}
 
 -- by processor and block of eight cells

@@ -1,15 +1,11 @@
 -- The undo records of turns, short and long.
 use Rattle.std.specs.Prelude.{◌≡◌, ◌≤◌, length}
 use Rattle.pp_machine.specs.Machine.{Machine}
-use Rattle.pp_rig.specs.Inner.ActionRecords.{FitsRecord}
 use Rattle.pp_rig.specs.Inner.TurnRecords.{most_turn_places, turn_old_values, turn_pairs}
-use Rattle.pp_rig.specs.Turn.{turn}
+use Rattle.pp_rig.specs.{Inner.ActionRecords.FitsRecord, Turn.turn, declared.rig.TurnRecord.TurnRecord}
+use Rattle.pp_rig.specs.{declared.rig.ShortTurn.ShortTurn, declared.rig.RigRecord.RigRecord}
 use Rattle.pp_step.specs.declared.record.PpRecord.TheVariants.{Step}
-use Rattle.pp_actions.specs.declared.action.Action.{Action}
-use Rattle.pp_actions.specs.declared.action.Action.TheVariants.{Turn}
-use Rattle.pp_rig.specs.declared.rig.TurnRecord.{TurnRecord}
-use Rattle.pp_rig.specs.declared.rig.ShortTurn.{ShortTurn}
-use Rattle.pp_rig.specs.declared.rig.RigRecord.{RigRecord}
+use Rattle.pp_actions.specs.{declared.action.Action.Action, declared.action.Action.TheVariants.Turn}
 use Rattle.pp_rig.specs.declared.rig.RigRecord.TheVariants as kept
 
 -- the whole undo record that a short one represents

@@ -1,18 +1,12 @@
 -- The write list and the undo record of a turn.
 use Rattle.std.specs.Prelude.{ℕ, true, ◌+◌, ◌<◌, ◌≤◌, ◌≡◌, List, [], ◌∷◌, ◌++◌, length, if◌then◌else◌, ◌==◌}
-use Rattle.pp_machine.specs.Inner.AllDevices.{all_model}
 use Rattle.pp_machine.specs.Inner.PartWrites.{ArePerformed, parts_old_values, parts_writes}
-use Rattle.pp_machine.specs.Parts.{Part}
 use Rattle.pp_machine.specs.Prelude.{Machine, over, old_values, renamed, Writes}
-use Rattle.pp_machine.specs.Ranges.{processor_count}
-use Rattle.pp_machine.specs.declared.place.Place.{Place}
-use Rattle.pp_machine.specs.declared.place.Place.TheVariants.{Clock, Slot}
-use Rattle.pp_step.specs.Step.{pp_pairs, most_step_places, FitsPp}
-use Rattle.pp_step.specs.View.{pp_place}
-use Rattle.pp_step.specs.declared.record.PpRecord.{PpRecord}
+use Rattle.pp_machine.specs.{Inner.AllDevices.all_model, Parts.Part, Ranges.processor_count, declared.place.Place.Place}
+use Rattle.pp_machine.specs.{declared.place.Place.TheVariants.Clock, declared.place.Place.TheVariants.Slot}
+use Rattle.pp_step.specs.{Step.pp_pairs, Step.most_step_places, Step.FitsPp, View.pp_place, declared.record.PpRecord.PpRecord}
 use Rattle.pp_rig.specs.Turn.{clock_step, processor_step, slot_step, turn_parts}
-use Rattle.pp_rig.specs.declared.rig.TurnRecord.{TurnRecord}
-use Rattle.pp_rig.specs.declared.rig.TurnRest.{TurnRest}
+use Rattle.pp_rig.specs.{declared.rig.TurnRecord.TurnRecord, declared.rig.TurnRest.TurnRest}
 
 -- the steps of the devices, by their models
 abbrev pub device_parts : List Part

@@ -70,7 +70,7 @@ impl Rig {
         Err(fault)
     }
 
-    /// Checks whether the machine admits the action. The ranges and their order are this project's choice.
+    /// Checks whether the machine admits the action [P27].
     ///
     /// # Errors
     /// The first cause that applies:

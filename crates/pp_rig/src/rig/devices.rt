@@ -14,7 +14,7 @@ use std::alloc::Global;
 
 impl Rig {
     /// Makes the machine at its start: every number is 0, both devices are idle, and nothing is printed or watched
-    /// (this project's choice).
+    /// [P30].
     ///
     /// # Errors
     /// The first fault that applies: `SameChannel` if reader and printer are to be on one channel, `DeckTooLong` if

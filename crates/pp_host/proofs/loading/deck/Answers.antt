@@ -10,6 +10,7 @@ returns-clause-deck g c =
     let all = all_bytes (g.H.File.Source.rest c.in_ok-file.file) file.0 in
     record {
       read = Content file.0;
+      ended = g.H.File.Source.ended c.load_deck-read.new.source;
       content = Content all;
       logged = grind (arith, common_steps);
       known = grind (arith, common_steps);

@@ -1,5 +1,4 @@
-use Rattle.std.proofs.Common.{arith}
-use Rattle.std.proofs.lemmas.List.{get_or_default}
+use Rattle.std.proofs.{Common.arith, lemmas.List.get_or_default}
 use Rattle.pp_step.proofs.package.read_each.Goals as goal
 
 pub returns-clause-value : goal.returns-clause-value

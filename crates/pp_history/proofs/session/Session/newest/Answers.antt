@@ -15,7 +15,7 @@ returns g c =
     let log = c.self.inside.log in
     let found = c.get.ensures log.kept (omega (arith, c.if-self-eq0.false)) in
     let at = item-at T.unpacked in_tail 0 (halves_in log).kept log.tails.ring.items c.get.result.now (omega (arith, c.self.invariant.joined.kept.all)) found in
-    let handed = out (whole_record T.unpacked) c.undo_record.result at.item (rw at.is at c.undo_record.ensures) in
+    let handed = out (whole_record T.unpacked) c.undo_record.result at.item (rw at.is at (c.undo_record.ensures T.unpacked)) in
     let first = ap (λ (entries : List (_ × _)). slice_get entries 0) at.split in
     rw (← c.self.view_is) (record {
       fits = IfSome_then c.undo_record.result handed.0 (λ back is.

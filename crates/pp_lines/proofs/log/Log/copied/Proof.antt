@@ -15,7 +15,7 @@ abbrev stayed : Stays (f.ended).signature.params (f.ended).kept
 stayed = (stay_none_ref (0 ∷ []) tt (plain (λ _. trail.the_row)) yes, tt)
 
 abbrev same : Log → Log
-same log = record { marker = record {}; bytes = log.bytes }
+same log = record { marker = record {}; bytes = log.bytes; ended = log.ended }
 
 abbrev made : Val
 made = vstruct (vcons (vstruct vnil) vnil)
@@ -35,7 +35,7 @@ meets {𝓤 = 𝓤} 𝓛 mem run 𝓣 =
     returns ! (look_at ! 0 refl) $ free_all ! refl $
     suffices ! _ (ends_at 𝓛 f.ended stayed (f.clauses 𝓛 mem run)
     ((κs, qs, tt, a, (vptr a.0.ref_ptr.0 a.0.ref_ptr.1 ∷ [], tt)), tt) made (same a.0.now) (tt, tt) (tt, tt)) $
-    says ! refl $ pure_i ! (trail.the_row.own_val (same a.0.now) (made ∷ []))
+    says ! (refl, refl) $ pure_i ! (trail.the_row.own_val (same a.0.now) (made ∷ []))
     ((λ vss. (tt, ((λ uss. (tt, tt)), tt))), tt) (((vstruct vnil ∷ [], tt), (refl, ((tt, (refl, tt)), tt))), tt) $
     move ! (1 ∷ 2 ∷ 0 ∷ []) $ done !))))
 
