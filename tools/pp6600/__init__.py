@@ -2,13 +2,13 @@
 
     from pp6600 import Console
 
-    console = Console(["./pp6600", "--deck", "deck"])
+    console = Console(options=["--deck", "deck"])
     console.ask("STEP 100")    # the lines of the answer: ["TURNS 100 SLOT 04"]
     console.registers(0)       # {"P": "0100", "A": "000000", "Q": "0000", "PHASE": "0000", "SLOT": "04"}
     console.cells(0, 0o100, 0o103)
     console.end()              # the exit status
 
-What can't be done raises Failure, with a message in plain words.
+What can't be done raises Failure, with a message in plain words. docs/PYTHON.md has all calls.
 """
 
 import os
@@ -20,5 +20,9 @@ if sys.version_info < (3, 9):
         os.path.basename(sys.argv[0]), sys.version_info[0], sys.version_info[1]))
     sys.exit(2)
 
-from .console import Console
+from .attached import Attached
+from .core.simulator import Console
+from .device import EMPTY, INACTIVE, NOTHING, Device, full
 from .failure import Failure
+
+__all__ = ["Attached", "Console", "Device", "EMPTY", "Failure", "INACTIVE", "NOTHING", "full"]

@@ -2,7 +2,7 @@
 
 import re
 
-from .answers import CELLS, ROW
+from .core.forms import CELLS, ROW
 from .failure import Failure
 
 

@@ -2,8 +2,8 @@
 
 from typing import NamedTuple
 
-from .answers import CELLS
-from .instructions import NAMES, RELATIVE_JUMPS, TWO_WORDS, target_of
+from .core.forms import CELLS
+from .core.turn import NAMES, RELATIVE_JUMPS, TWO_WORDS, target_of
 
 FROM_BEFORE = 8  # more cells before a window, so that its rows begin where the instructions do
 

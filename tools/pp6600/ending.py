@@ -4,17 +4,18 @@ import os
 import signal
 import sys
 
-from .failure import Failure
+from .failure import Failure, Faults
 from .pipe import kill_live
 
 FAILED = 2
 
 
 def complain(message):
-    """Writes one line to standard error, after the tool's name."""
+    """Writes one line to standard error, after the tool's name; the lines about a source as they are."""
     line = " ".join(shown_text(str(message)).split())
+    lines = message.lines if isinstance(message, Faults) else [f"{os.path.basename(sys.argv[0])}: {line}"]
     try:
-        print(f"{os.path.basename(sys.argv[0])}: {line}", file=sys.stderr, flush=True)
+        print(*lines, sep="\n", file=sys.stderr, flush=True)
     except OSError:
         discard(sys.stderr)
 
@@ -99,7 +100,8 @@ def status_of(main):
 
 
 def end_by_interrupt(*_):
-    """Ends the tool without a word, and the simulator with it."""
+    """Ends the tool without a word, and the simulator with it. A second interrupt must not come while it waits for that."""
+    signal.signal(signal.SIGINT, signal.SIG_IGN)
     kill_live()
     signal.signal(signal.SIGINT, signal.SIG_DFL)
     os.kill(os.getpid(), signal.SIGINT)

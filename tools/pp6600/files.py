@@ -21,15 +21,15 @@ def tool_files():
     return sorted(found)
 
 
-def checked_program(path):
-    """Returns the whole path of a program that answers as the simulator does, and fails if it does not."""
+def checked_program(path, *words):
+    """Returns the words that run a program that answers as the simulator does, with its whole path; fails if it does not."""
     try:
-        done = subprocess.run(["pp6600"], executable=path, input=b"STEP 12\n", capture_output=True, timeout=60, check=False)
+        done = subprocess.run(["pp6600", *words], executable=path, input=b"STEP 12\n", capture_output=True, timeout=60, check=False)
     except (OSError, ValueError, subprocess.TimeoutExpired):
         done = None
     if not done or done.stdout != b"TURNS 12 SLOT 00\n":
         raise Failure(f"{path} is not the simulator")
-    return os.path.abspath(path)
+    return [os.path.abspath(path), *words]
 
 
 def in_plain_words(main):

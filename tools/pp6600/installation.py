@@ -3,6 +3,7 @@
 import os
 import subprocess
 
+from .choice import or_in_python
 from .failure import Failure
 
 TOP = os.path.dirname(os.path.dirname(os.path.dirname(os.path.realpath(__file__))))  # the checkout, or OWN below a prefix
@@ -14,17 +15,18 @@ INSTALL = os.path.join(TOP, "share" if IS_CHECKOUT else "", "install")
 OWN = "libexec/pp6600"
 PAGES = "share/doc/pp6600"
 # Names of the checkout, which a release and the folder of a class have too, and what they are links to.
-NAMES = {"pp6600": "bin/pp6600", "tools": f"{OWN}/tools", "docs": f"{PAGES}/docs", "examples": f"{PAGES}/examples"}
+NAMES = {"pp6600": "bin/pp6600", "pp6600-python": f"{OWN}/pp6600-python", "tools": f"{OWN}/tools", "docs": f"{PAGES}/docs", "examples": f"{PAGES}/examples"}
 
 
 def which_build(*words):
-    """Returns the first line that share/which-build prints; what it can't do is a failure."""
+    """Returns the path that share/which-build prints; what it can't do is a failure."""
     done = subprocess.run([CHOICE, *words], capture_output=True, check=False)
     if done.returncode:
         raise Failure(os.fsdecode(done.stderr).removeprefix("pp6600: ").strip())
-    return os.fsdecode(done.stdout.splitlines()[0])
+    return os.fsdecode(done.stdout).rstrip("\n").rpartition("\n")[0]
 
 
 def chosen_program():
-    """Returns the proved program: of a checkout the build that ./pp6600 runs, or else that of the installation."""
-    return which_build() if IS_CHECKOUT else os.path.join(TOP, "pp6600")
+    """Returns the words that run the simulator: of a checkout the build that ./pp6600 runs, or else the program of the installation; or
+    the one in Python, where that one does not start."""
+    return or_in_python(lambda: which_build() if IS_CHECKOUT else os.path.join(TOP, "pp6600"))

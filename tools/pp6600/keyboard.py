@@ -8,9 +8,9 @@ import sys
 
 from .ending import flush, write
 from .failure import Failure
-from .options import ABOVE
-from .run import Refusals
-from .show import answer, show_answer
+from .choice import ABOVE
+from .script import Refusals
+from .shown import answer, show_answer
 from .text_files import input_lines, shown
 
 PROMPT = "> "  # after the number of turns
@@ -90,7 +90,7 @@ def perform_typed(run, line, transcript):
     """Performs a line that was typed, and shows what came of it. Returns whether it was refused."""
     ahead, replays, sent = run.history.to_redo, run.replays, len(run.sent)
     asked = UNDO.fullmatch(line)
-    lines = run.move(f"{'BACK' if asked[1].lower() == 'undo' else 'FORWARD'} {asked[2] or 1}") if asked else run.act(line)
+    lines = run.act_by_move(f"{'BACK' if asked[1].lower() == 'undo' else 'FORWARD'} {asked[2] or 1}") if asked else run.act(line)
     show_answer(run, line, lines)
     kind = lines[0].split()[0] if lines else ""
     if run.replays > replays:
@@ -109,7 +109,7 @@ def note_on(run, answer, ahead):
     if ahead and not history.to_redo and answer[:2] in ("OK", "TU"):
         return f"the {ahead:o} actions ahead are discarded"
     if answer == "ERR 07":
-        return f"undo goes back over the {history.to_undo:o} actions in effect" if history.older.count else ""
+        return f"undo goes back over the {history.position:o} actions in effect" if history.oldest else ""
     return f"redo goes over the {history.to_redo:o} actions ahead" if answer == "ERR 16" and history.to_redo else ""
 
 

@@ -5,12 +5,12 @@ import os
 import re
 import sys
 
-from .answers import CELLS, CLOCK, PROCESSORS
+from .choice import HOME, default_program
+from .core.forms import CELLS, CLOCK, PROCESSORS
 from .ending import write
 from .failure import Failure
 
 TOOLS = os.path.dirname(os.path.dirname(os.path.abspath(__file__)))
-ABOVE = os.path.dirname(TOOLS)  # the checkout, or where the tools are installed
 OPTIONS = {"history": "N", "central": "K", "deck": "F", "reader": "C", "printer": "C", "panel": "F"}
 PLAIN = "\0"  # before a word that is no option, though it begins like one; no word of a command line has this byte
 
@@ -36,10 +36,10 @@ class Version(argparse.Action):
 
     def __call__(self, parser, namespace, values, option_string=None):
         try:
-            with open(os.path.join(ABOVE, "VERSION"), encoding="ascii") as file:
+            with open(os.path.join(HOME, "VERSION"), encoding="ascii") as file:
                 version = file.readline().strip()
         except (OSError, ValueError) as error:
-            raise Failure(f"can't read the file VERSION in {ABOVE}") from error
+            raise Failure(f"can't read the file VERSION in {HOME}") from error
         write(f"{parser.prog} {version}")
         parser.exit()
 
@@ -130,11 +130,6 @@ def simulator(asked):
         value = getattr(asked, name)
         words += [] if value is None else [f"--{name}", value]
     return words
-
-
-def default_program():
-    """Returns the simulator that is run if none is named."""
-    return os.environ.get("PP6600") or os.path.join(ABOVE, "pp6600")
 
 
 def arguments(description, usage=None):

@@ -1,25 +1,28 @@
 """A program at the other end of pipes. None of them is left to fill up, and no silence lasts forever."""
 
+from __future__ import annotations
+
 import atexit
 import collections
 import contextlib
-import functools
 import os
 import select
 import signal
 import subprocess
 import sys
+from typing import Deque, List, Sequence, Set
 
+from .choice import words_to_run
 from .failure import Failure
 
 PATIENCE = 30  # seconds without a byte
-LIVE = set()  # the pipes whose programs have not ended
+LIVE: Set[Pipe] = set()  # the pipes whose programs have not ended
 LONGEST_LINE = 4096
 KEPT_OF_ERRORS = 4096
 
 
 @atexit.register
-def kill_live():
+def kill_live() -> None:
     """Ends the programs that the tool leaves: one that waits to open a FIFO does not see the end of its input."""
     for pipe in list(LIVE):
         pipe.kill()
@@ -28,12 +31,12 @@ def kill_live():
 class Ended(Failure):
     """The simulator ended before it answered. What it wrote to standard error says why."""
 
-    def __init__(self, words, status, said):
+    def __init__(self, words: Sequence[str], status: int, said: str) -> None:
         how = f"with status {status}" if status >= 0 else f"by signal {-status}"
         super().__init__(f"the simulator ended early, {how}{': ' + said + file_of(words, said) if said else f'; is {words[0]} the simulator?'}")
 
 
-def file_of(words, said):
+def file_of(words: Sequence[str], said: str) -> str:
     """Returns the name of the file that a message of the simulator is about, as a deck or a panel; or nothing."""
     for option in ("--deck", "--panel"):
         if option in words[:-1] and option[2:].upper() in said.split():
@@ -41,32 +44,20 @@ def file_of(words, said):
     return ""
 
 
-def patience():
+def patience() -> int:
     """Returns how many seconds of silence are too many; the variable PP6600_PATIENCE has another number for slow machines."""
     text = os.environ.get("PP6600_PATIENCE", "")
     return int(text) if text.isascii() and text.isdigit() else PATIENCE
 
 
-@functools.lru_cache(maxsize=None)
-def built(program):
-    """Returns the program to run: of the launcher of a checkout the build that it would choose."""
-    top, name = os.path.split(os.path.realpath(program))
-    if os.sep not in program or name != "pp6600" or not os.path.exists(os.path.join(top, "crates.txt")):
-        return program
-    done = subprocess.run(os.path.join(top, "share", "which-build"), stdin=subprocess.DEVNULL, stdout=subprocess.PIPE, check=False)
-    if done.returncode:
-        raise Failure(f"{program} has no simulator to run; the line above says why")
-    return os.fsdecode(done.stdout.splitlines()[0])
-
-
 class Pipe:
     """A program whose standard input, output and error are pipes."""
 
-    def __init__(self, words):
+    def __init__(self, words: Sequence[str]) -> None:
         self.program, self.words = words[0], words
         try:
             # A group of its own: an interrupt ends the tool, and then the end of its input ends the program.
-            self.process = subprocess.Popen([built(words[0]), *words[1:]], bufsize=0, stdin=subprocess.PIPE, stdout=subprocess.PIPE,
+            self.process = subprocess.Popen([*words_to_run(words[0]), *words[1:]], bufsize=0, stdin=subprocess.PIPE, stdout=subprocess.PIPE,
                                             stderr=subprocess.PIPE, start_new_session=True)
         except OSError as error:
             raise Failure(f"can't run {words[0]}: {error.strerror}") from error
@@ -80,16 +71,17 @@ class Pipe:
         os.set_blocking(self.input, False)
         self.reading = {self.output, self.errors}
         self.unsent, self.said = b"", b""
-        self.lines, self.rest = collections.deque(), ""
+        self.lines: Deque[str] = collections.deque()
+        self.rest = ""
 
-    def send(self, text):
+    def send(self, text: str) -> None:
         """Writes a text, as much of it as the pipe takes now, and the rest while answers are read."""
         if not self.unsent:
             self.poll.register(self.input, select.POLLOUT)
         self.unsent += text.encode("latin-1")
         self.write_more()
 
-    def write_more(self):
+    def write_more(self) -> None:
         try:
             self.unsent = self.unsent[os.write(self.input, self.unsent):]
         except BlockingIOError:
@@ -99,7 +91,7 @@ class Pipe:
         if not self.unsent:
             self.poll.unregister(self.input)
 
-    def line(self):
+    def line(self) -> str:
         """Returns the next line that the program writes."""
         while not self.lines:
             if self.output not in self.reading:
@@ -108,13 +100,13 @@ class Pipe:
             self.move()
         return self.lines.popleft()
 
-    def more_lines(self):
+    def more_lines(self) -> List[str]:
         """Returns the next lines that the program writes, as many as there are: at least one."""
         lines = [self.line(), *self.lines]
         self.lines.clear()
         return lines
 
-    def move(self):
+    def move(self) -> None:
         """Waits until a pipe can be read or written, and does so."""
         ready = self.poll.poll(patience() * 1000)
         if not ready:
@@ -125,7 +117,7 @@ class Pipe:
             else:
                 self.read_more(number)
 
-    def read_more(self, number):
+    def read_more(self, number: int) -> None:
         data = os.read(number, 65536)
         if not data:
             self.poll.unregister(number)
@@ -138,12 +130,12 @@ class Pipe:
             if len(self.rest) > LONGEST_LINE:
                 raise self.stopped(f"{self.program} is not the simulator: it writes a line without an end")
 
-    def stopped(self, message):
+    def stopped(self, message: str) -> Failure:
         """Ends the program by force, and returns the failure with this message."""
         self.kill()
         return Failure(message)
 
-    def kill(self):
+    def kill(self) -> None:
         try:
             os.killpg(self.process.pid, signal.SIGKILL)
         except OSError:  # it has ended
@@ -151,10 +143,10 @@ class Pipe:
         self.process.wait()
         LIVE.discard(self)
 
-    def errors_text(self):
+    def errors_text(self) -> str:
         return self.said.decode("utf-8", "backslashreplace")
 
-    def close(self):
+    def close(self) -> int:
         """Ends the input and returns the exit status. Every answer was read before, so no more output may come."""
         while self.unsent and self.output in self.reading:
             self.move()
@@ -175,7 +167,7 @@ class Pipe:
             self.process.stdout.close()
             self.process.stderr.close()
 
-    def end(self):
+    def end(self) -> int:
         """As `close`, and passes on what the program wrote to standard error."""
         status = self.close()
         if self.said and sys.stderr is not None:

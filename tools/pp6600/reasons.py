@@ -4,8 +4,8 @@ the forms."""
 import difflib
 import re
 
-from .answers import CENTRAL_ADDRESSES, CLOCK, KINDS
-from .console import LONGEST_LINE, MOST_TURNS
+from .core.forms import CENTRAL_ADDRESSES, CLOCK, KINDS
+from .core.simulator import LONGEST_LINE, MOST_TURNS
 
 FORMS = ("SET M n a v ..", "SET A n v", "SET P n v", "SET Q n v", "SET C a v", "SET H c s [v]", "STEP [count]",
          "BACK [count]", "BACK W", "FORWARD [count]", "WATCH place", "UNWATCH place", "DEADSTART", "DUMP M n a b", "DUMP PP n", "DUMP H", "DUMP C a b",

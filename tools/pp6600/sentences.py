@@ -1,10 +1,9 @@
-"""What a processor is about to do, as a sentence with this machine's numbers, in the words of docs/MACHINE.md. The page of a film
-has the same tables."""
+"""What a processor is about to do, as a sentence with this machine's numbers, in the words of docs/MACHINE.md."""
 
 import re
 
-from .answers import CELLS, CLOCK, STATES
-from .instructions import NOT_THERE_IN_BLOCK, WAITS_FOR, target_of
+from .core.forms import CELLS, CLOCK, STATES
+from .core.turn import NOT_THERE_IN_BLOCK, WAITS_FOR, target_of
 
 # Of each code the sentences, each after the condition on which it is the one; a block's later turns have a b before the code.
 #   A=0 A/0 A+ A- Q=0  the number in A or Q     d<40  the shift is to the left     =P  the jump leads to P
@@ -115,62 +114,70 @@ def counted(digits):
     return f"{count} {'word is' if count == '1' else 'words are'}"
 
 
+def four(number):
+    """Returns the digits of an address, or of the number in a cell; after cell 7777 comes cell 0000."""
+    return f"{number % CELLS:04o}"
+
+
+def five_cells(first):
+    return f"{four(first)} to {four(first + 4)}"
+
+
+# Of each condition but `state` whether it holds, and what each name in braces means.
+CONDITIONS = {
+    "": lambda one: True, "A=0": lambda one: one.a == 0, "A/0": lambda one: one.a != 0, "A+": lambda one: one.a < 0o400000,
+    "A-": lambda one: one.a >= 0o400000, "Q=0": lambda one: one.registers["Q"] == "0000", "d<40": lambda one: one.d < 0o40,
+    "=P": lambda one: target_of(one.p, one.d) == one.p, "clock": lambda one: one.d == CLOCK,
+    "lost": lambda one: one.state == "I" and one.p == 0,
+}
+NUMBERS = {
+    **{name: lambda one, name=name: one.registers[name] for name in "APQ"},
+    "a": lambda one: one.registers["A"][2:], "A#": lambda one: count_of(one.registers["A"]),
+    "A,": lambda one: counted(one.registers["A"]), "Q,": lambda one: counted(one.registers["Q"]),
+    "d": lambda one: f"{one.d:02o}", "m": lambda one: one.processor.words[1],
+    "dm": lambda one: f"{one.d:02o}{one.processor.words[1]}",
+    "n": lambda one: f"{one.d if one.d < 0o40 else 0o77 - one.d:o}", "x": lambda one: four(one.operand),
+    "x+1": lambda one: four(one.operand + 1), "X": lambda one: four(one.cell(one.operand)), "D": lambda one: four(one.cell(one.d)),
+    "D..": lambda one: five_cells(one.d), "P..": lambda one: five_cells(one.p), "near": lambda one: four(target_of(one.p, one.d)),
+    "on": lambda one: four(one.p + one.processor.row.words), "back": lambda one: four(one.cell(0) + 1),
+    "H": lambda one: one.words[one.d], "state": lambda one: STATE_NAMES[one.state],
+    "wanted": lambda one: WAITS_FOR[one.processor.code],
+}
+
+
+NAME = re.compile("{(.*?)}")
+
+
 class Reading:
     """A processor before its turn, with all that its sentence needs."""
 
-    def __init__(self, processor, cell, channels):
-        """The function `cell` returns the number in a cell of the processor; the channels, and the clock, have a state and a
-        register each."""
-        self.processor, self.cell, self.channels = processor, cell, channels
-        self.a, self.p = (int(processor.registers[name], 8) for name in "AP")
+    def __init__(self, processor, cell, states, words=()):
+        """The function `cell` returns the number in a cell of the processor; the channels, and the clock, have states and words."""
+        self.processor, self.registers, self.cell, self.states, self.words = processor, processor.registers, cell, states, words
+        self.a, self.p, self.d = int(self.registers["A"], 8), int(self.registers["P"], 8), processor.channel
+        self.state = states[self.d] if self.d < len(states) else NOT_THERE_IN_BLOCK
 
-    def sentence(self):
-        """Returns what the next turn does."""
-        processor = self.processor
-        if processor.would_wait([channel.state for channel in self.channels]):
-            text = WAITS if processor.channel < CLOCK else WAITS_EVER
-        else:
-            choices = ROWS[f"{'b' if processor.phase else ''}{processor.code:02o}"]
-            text = next(text for condition, text in choices if self.holds(condition))
-        return re.sub("{(.*?)}", lambda name: self.number(name[1]), text)
-
-    def state(self):
-        at = self.processor.channel
-        return self.channels[at].state if at < len(self.channels) else NOT_THERE_IN_BLOCK
+    @property
+    def operand(self):
+        return self.processor.operand(self.cell)
 
     def holds(self, condition):
         kind, _, states = condition.partition(" ")
-        d = self.processor.channel
-        return {"": lambda: True, "A=0": lambda: self.a == 0, "A/0": lambda: self.a != 0, "A+": lambda: self.a < 0o400000,
-                "A-": lambda: self.a >= 0o400000, "Q=0": lambda: self.processor.registers["Q"] == "0000", "d<40": lambda: d < 0o40,
-                "=P": lambda: target_of(self.p, d) == self.p, "clock": lambda: d == CLOCK, "state": lambda: self.state() in states,
-                "lost": lambda: self.state() == "I" and self.p == 0}[kind]()
+        return self.state in states if kind == "state" else CONDITIONS[kind](self)
 
-    def number(self, name):
-        """Returns what a name in braces means: digits, and words of a count or a state."""
-        processor, d, registers = self.processor, self.processor.channel, self.processor.registers
-        texts = {**registers, "d": f"{d:02o}", "n": f"{d if d < 0o40 else 0o77 - d:o}", "m": processor.words[1],
-                 "dm": f"{d:02o}{processor.words[1]}", "a": registers["A"][2:], "A#": count_of(registers["A"]),
-                 "A,": counted(registers["A"]), "Q,": counted(registers["Q"]),
-                 "state": STATE_NAMES[self.state()], "wanted": WAITS_FOR.get(processor.code)}
-        if name in texts:
-            return texts[name]
-        if name == "H":
-            return self.channels[d].register
-        if name in ("D..", "P.."):
-            first = d if name == "D.." else self.p
-            return f"{first:04o} to {(first + 4) % CELLS:04o}"
-        return f"{self.address(name) % CELLS:04o}"
-
-    def address(self, name):
-        """Returns the address, or the number in a cell, that a name means."""
+    def sentence(self, numbers):
+        """Returns the instruction, in a block transfer that which began it, and what the next turn does. The table `numbers` says
+        what is in the place of each name in braces."""
         processor = self.processor
-        return {"on": lambda: self.p + processor.row.words, "near": lambda: target_of(self.p, processor.channel),
-                "x": lambda: processor.operand(self.cell), "x+1": lambda: processor.operand(self.cell) + 1,
-                "X": lambda: self.cell(processor.operand(self.cell)), "D": lambda: self.cell(processor.channel),
-                "back": lambda: self.cell(0) + 1}[name]()
+        if processor.would_wait(self.states):
+            text = WAITS if self.d < CLOCK else WAITS_EVER
+        else:
+            choices = ROWS[f"{'b' if processor.phase else ''}{processor.code:02o}"]
+            text = next(text for condition, text in choices if self.holds(condition))
+        return f"{processor.whole_text(self.cell)}: {NAME.sub(lambda name: numbers[name[1]](self), text)}"
 
 
 def sentence(processor, cell, channels):
-    """Returns the instruction of a processor, in a block transfer that which began it, and what its next turn does."""
-    return f"{processor.whole_text(cell)}: {Reading(processor, cell, channels).sentence()}"
+    """Returns the instruction of a processor and what its next turn does."""
+    states, words = [channel.state for channel in channels], [channel.register for channel in channels]
+    return Reading(processor, cell, states, words).sentence(NUMBERS)

@@ -1,13 +1,13 @@
 """The requests of an editor: those that begin, run and end a session, and those that set breakpoints."""
 
-from ..answers import CELLS, PROCESSORS
+from ..core.forms import CELLS, PROCESSORS
 from ..failure import Failure
 from ..listing import Symbols
 from ..options import OPTIONS, default_program, processor
 from ..text_files import script_lines, shown
 from .breakpoints import DATA_ID, INSTRUCTION_ID, LINE_ID, Breakpoints, Cell, places_of
 from .listings import Listings
-from .machine import Machine
+from .machine import Machine, latest_turn
 from .protocol import Refused
 from .requests import Requests
 from .running import Runner
@@ -33,6 +33,7 @@ class Adapter(Requests):
         self.machine = self.listings = None
         self.points = Breakpoints()
         self.after = None  # what is done after the answer to a request
+        self.restart = self.failure = None  # a request that ended a run, and why the editor can't be understood
         self.is_ended = self.is_paused = self.is_running = self.is_terminated = False
         self.shown = self.paused = 0  # the processor of the last stop, and the one to be shown at a pause
         self.base = 1  # the first line, as the editor counts
@@ -45,24 +46,33 @@ class Adapter(Requests):
         """Does what is asked until the end. What the editor writes that is no message is a failure."""
         while not self.is_ended:
             self.take(self.wire.requests.get())
+        if self.failure:
+            raise self.failure
 
     def take(self, request):
-        """Takes what has come from the editor."""
+        """Takes what has come from the editor. A restart ends a run first."""
         if isinstance(request, Failure):
-            raise request
-        if request is None:
+            self.failure = request
+        if request is None or self.failure:
             self.is_ended = True
+        elif self.is_running and request["command"] == "restart":
+            self.restart = request
         else:
             self.answer(request)
 
+    @property
+    def is_over(self):
+        """Whether no stop is to be reported any more."""
+        return self.is_ended or self.is_terminated or self.restart is not None
+
     def goes_on(self):
         """Takes the requests that have come. Returns whether a run goes on."""
-        while not self.is_ended and not self.wire.requests.empty():
+        while not (self.is_ended or self.restart or self.wire.requests.empty()):
             self.take(self.wire.requests.get())
-        return not (self.is_paused or self.is_ended or self.is_terminated)
+        return not (self.is_paused or self.is_over)
 
     def answer(self, request):
-        """Answers a request, and then does what it began."""
+        """Answers a request, and then does what it began. Returns whether it could be done."""
         command, answer, self.after = request["command"], {"success": True}, None
         try:
             body = self.method(command)(**(request.get("arguments") or {}))
@@ -74,21 +84,31 @@ class Adapter(Requests):
         self.wire.write(type="response", request_seq=request["seq"], command=command, **answer)
         if not self.is_running:
             self.do(self.after if answer["success"] else None)
+        return answer["success"]
 
     def do(self, after):
-        """Does what a request began. If the simulator ends, so does the session."""
-        self.is_running = True
+        """Does what a request began. If a simulator ends, so does the session."""
+        self.is_running, has_failed = True, False
         try:
             if after:
                 after()
         except Failure as failure:
             self.wire.say(failure, "stderr")
+            has_failed = True
         self.is_running = False
         if self.is_terminated:
             self.end_simulator()
             self.wire.event("exited", exitCode=0)
-        if self.is_terminated or self.machine and self.machine.is_ended:
+        if self.is_terminated or has_failed or self.machine and self.machine.is_ended:
             self.lose()
+        if self.restart:
+            self.begin_again()
+
+    def begin_again(self):
+        """Does the restart that has ended a run. If that can't be done, the run was paused."""
+        request, self.restart = self.restart, None
+        if not self.answer(request) and self.machine:
+            self.stopped("pause", self.paused)
 
     def lose(self):
         """The simulator has ended."""
@@ -130,8 +150,6 @@ class Adapter(Requests):
         return CAPABILITIES
 
     def do_launch(self, **arguments):
-        self.end_simulator()
-        self.arguments = arguments
         words = [str(arguments.get("program") or default_program())]
         for name in OPTIONS:
             value = arguments.get(name)
@@ -141,12 +159,14 @@ class Adapter(Requests):
         script = arguments.get("script")
         lines = script_lines(str(script)) if script else []
         symbols = {processor(str(one)): Symbols.of_file(str(path)) for one, path in (arguments.get("symbols") or {}).items()}
-        self.machine = Machine(words)
+        machine = Machine(words)
+        self.end_simulator()
+        self.machine, self.arguments = machine, arguments
         if self.listings is None:
             self.listings = Listings(symbols)
         self.perform_script(lines)
         self.look()
-        self.shown = self.machine.slot if number is None else number
+        self.shown = self.machine.next_slot if number is None else number
         self.after = lambda: self.wire.event("initialized")
 
     def perform_script(self, lines):
@@ -179,7 +199,7 @@ class Adapter(Requests):
 
     def end_simulator(self):
         if self.machine:
-            self.machine.run.close()
+            self.machine.close()
             self.machine = None
 
     def close(self):
@@ -227,9 +247,6 @@ class Adapter(Requests):
     def do_stepBack(self, threadId, **_):
         self.begin(threadId, lambda: self.step_back(self.paused))
 
-    def runner(self):
-        return Runner(self.machine, self.points, self.goes_on)
-
     def run_on(self):
         self.run(lambda runner: runner.forward(self.shown), "pause", "")
 
@@ -238,12 +255,9 @@ class Adapter(Requests):
 
     def run(self, way, otherwise, text):
         """Runs, and reports the stop. If there is none, it is a pause, or another reason with a text."""
-        runner = self.runner()
-        stop = way(runner)
-        if self.is_terminated or self.is_ended:
+        stop = way(Runner(self.machine, self.points, self.goes_on))
+        if self.is_over:
             return
-        if runner.too_many:
-            self.wire.say(f"{runner.too_many:o} turns (octal) after this were made too, and taken back")
         if stop:
             self.report(stop)
         elif self.is_paused:
@@ -256,7 +270,7 @@ class Adapter(Requests):
         if stop.place:
             self.stopped("data breakpoint", stop.number, stop.text, self.points.ids_of(stop.place))
             return
-        cell = Cell(stop.number, int(self.machine.run.registers(stop.number)["P"], 8))
+        cell = Cell(stop.number, int(self.machine.registers(stop.number)["P"], 8))
         ids = self.points.ids_at(cell)
         reason = "step" if not ids else "breakpoint" if ids[0] & LINE_ID else "instruction breakpoint"
         self.stopped(reason, stop.number, f"PP {cell.number:02o} is at {cell.address:04o}" if ids else "", ids)
@@ -264,28 +278,34 @@ class Adapter(Requests):
     def step(self, number, is_out=False):
         """Makes one turn of a processor, and those before it. If it is to be outside a block transfer, it runs on to before the
         turn that follows that."""
-        stop = self.runner().step(number)
+        stop = Runner(self.machine, self.points).step(number)
         if stop:
             self.report(stop)
-        elif is_out and self.machine.run.registers(number)["PHASE"] != "0000":
+        elif is_out and self.machine.registers(number)["PHASE"] != "0000":
             self.run(lambda one: one.forward(None, {number: OUTSIDE_BLOCKS}), "pause", "")
         else:
             self.stopped("step", number)
 
     def step_back(self, number):
-        moved = self.machine.back_over_turn(number)
-        self.stopped("step", number, "" if moved else BEGINNING)
+        position = latest_turn(self.machine.tape, number, self.machine.position)
+        self.machine.goto(position or 0)
+        self.stopped("step", number, BEGINNING if position is None else "")
 
     # ---- breakpoints
 
     def do_setBreakpoints(self, source, breakpoints=(), **_):
         number = self.listings.number_of(source)
-        lines = [one["line"] for one in breakpoints or ()]
+        lines = [self.line(one["line"]) for one in breakpoints or ()]
         if number is None:
             return {"breakpoints": [{"verified": False, "line": line, "message": "no listing of this session"} for line in lines]}
         cells = [line - self.base for line in lines]
         self.points.set_lines(number, [cell for cell in cells if 0 <= cell < CELLS])
         return {"breakpoints": [self.line_breakpoint(number, cell) for cell in cells]}
+
+    def line(self, line):
+        if not isinstance(line, int):
+            raise Refused(f"{line} is no line")
+        return line
 
     def line_breakpoint(self, number, address):
         if not 0 <= address < CELLS:
@@ -327,6 +347,6 @@ class Adapter(Requests):
                 value_of(self.machine, place)
 
     def do_setDataBreakpoints(self, breakpoints, **_):
-        faults = self.points.set_data(breakpoints, self.machine.own, self.check)
+        faults = self.points.set_data(breakpoints, self.machine.state.watched, self.check)
         return {"breakpoints": [{"id": DATA_ID | at, "verified": not fault, **({"message": fault} if fault else {})}
                                 for at, fault in enumerate(faults)]}

@@ -3,9 +3,8 @@
 import re
 from typing import NamedTuple
 
-from ..answers import CELLS, KINDS, PROCESSORS, Place
+from ..core.forms import CELLS, MOST_WATCHES, PROCESSORS, Place
 from ..failure import Failure
-from .machine import MOST_WATCHES
 from .protocol import Refused
 
 LINE_ID, INSTRUCTION_ID, DATA_ID = 1 << 16, 1 << 17, 1 << 18  # of breakpoints; the lower bits say which one
@@ -40,7 +39,7 @@ class Cell(NamedTuple):
 
 def checked(place):
     """Returns a place, if there is one of these numbers."""
-    if any(number >= size for number, size in zip(place.numbers, KINDS[place.kind].sizes)):
+    if not place.exists:
         raise Refused(f"{place.short} is out of range")
     return place
 
@@ -65,16 +64,13 @@ class Breakpoints:
 
     def __init__(self):
         self.lines, self.instructions, self.data = {}, set(), []
-        self.version = 0  # goes up with each change
 
     def set_lines(self, number, addresses):
         """Sets those on the lines of a processor's listing, in the place of others."""
         self.lines[number] = {Cell(number, address) for address in addresses}
-        self.version += 1
 
     def set_instructions(self, cells):
         self.instructions = set(cells)
-        self.version += 1
 
     def cells(self):
         return self.instructions.union(*self.lines.values())
@@ -94,7 +90,6 @@ class Breakpoints:
         """Sets data breakpoints, as they are asked for; the user watches places of their `own`. The function `check` refuses places.
         Returns for each why it is not set, or nothing."""
         self.data, faults = [], []
-        self.version += 1
         for one in asked:
             try:
                 places = self.watched_places(one, own)

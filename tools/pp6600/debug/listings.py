@@ -10,9 +10,8 @@ import re
 import shutil
 import tempfile
 
-from ..answers import CELLS, PROCESSORS, ROW
-from ..instructions import NAMES, TWO_WORDS
-from ..machine_state import ROWS
+from ..core.forms import CELLS, PROCESSORS, ROW, ROWS
+from ..core.turn import NAMES, TWO_WORDS
 
 NAME = re.compile(r"PP(0[0-7]|1[01])\.pplist")
 
@@ -78,7 +77,8 @@ class Listings:
 
     def address(self, number, label):
         """Returns the address of a label; None if there is no such label."""
-        return next((at for at, name in self.beside[number].labels.items() if name == label), None)
+        symbols = self.beside[number].symbols
+        return symbols.address(label) if symbols else None
 
     def source(self, number):
         return {"name": f"PP{number:02o}.pplist", "path": self.path(number)}

@@ -1,174 +1,110 @@
-"""The machine that is debugged: a simulator with its history, what is ahead beyond its redo list, and its state."""
+"""The machine that is debugged: a session of the simulator, and scouts that search in its run.
 
-from ..answers import PROCESSORS, Place
-from ..history import STEP, Actions
-from ..machine_state import MachineState, questions
-from ..run import Run
+The session performs the lines of the user, and turns, and nothing else: it is what the editor is told of. It goes back and
+forward without a limit. A scout is another simulator on the same tape, at a position of its own. Watches, looks and turns that
+only a search needs are made by scouts alone. They stay between searches, so each goes on from where the last one ended."""
 
-MOST_WATCHES = 8
+from ..core.forms import PROCESSORS
+from ..core.simulator import Simulator, without_history
+from ..core.state import state_of
+from ..core.tape import STEP
 
-
-def place_of(action):
-    """Returns the place of a WATCH or an UNWATCH."""
-    return Place.parse(" ".join(action.line.split()[1:]))
-
-
-def perform(run, actions):
-    """Performs actions that were in effect once, in their order. Returns the run."""
-    for line, times in actions:
-        if line != STEP:
-            run.perform(line)
-        elif run.may_watch:
-            for made, _ in run.step(times):
-                run.made(made)
-        else:
-            run.advance(times)
-    return run
+TOO_FEW = ("ERR 07 TOO FEW KEPT", "ERR 16 TOO FEW AHEAD")
+NEAR = 200  # positions that are all looked at, at once
 
 
-class Machine:
-    """A session of the simulator. Going back may be beyond what it keeps: then a fresh one is in its place, in which the script is
-    performed up to there, and the actions after that are beyond its redo list."""
+def latest_turn(tape, number, position):
+    """Returns the position before the latest turn of a processor before a position; None if there is none."""
+    return next((at for at in reversed(range(position)) if tape.slot(at) == number and next(tape.actions(at)).turns), None)
 
-    def __init__(self, words, done=(), later=()):
-        """The actions are those to be performed first, and those after these."""
-        self.words = words
-        self.begin(done, later)
-        self.lent = set()  # places that are watched for data breakpoints alone
-        self.look()
 
-    def begin(self, done, later):
-        """Begins a fresh simulator, in which some actions are performed, and others are ahead."""
-        self.run = perform(Run(self.words), done)
-        self.history.later = Actions(reversed(later))  # the next one last
+def next_turn(tape, number, position):
+    """Returns the position before the next turn of a processor, from a position on. After the tape come turns."""
+    after = tape.end + (number - tape.slot(tape.end)) % PROCESSORS
+    return next((at for at in range(position, tape.end) if tape.slot(at) == number and next(tape.actions(at)).turns), after)
 
-    @property
-    def history(self):
-        return self.run.history
+
+class Scout(Simulator):
+    """A simulator that searches on the tape of a session. Watches on the tape count as actions, but it does not perform them."""
+
+    def move(self, count):
+        first, last = sorted((self.position, self.position + count))
+        passed = sum(action.times for action in self.tape.actions(first, last) if action.is_watch) if self.tape.watches else 0
+        passed = -passed if count < 0 else passed
+        super().move(count - passed)
+        self.history.moved(passed)
+
+    def _perform(self, actions):
+        some = [action for action in actions if not action.is_watch]
+        lines = super()._perform(some) if some else []
+        self.history.performed(sum(action.times for action in actions if action.is_watch))
+        return lines
+
+    def watch_from(self, position, places):
+        """Goes to a position, and watches places from there on."""
+        if self.watched and (self.watched != places or self.position < position):
+            self.unwatch()  # it would stop at each change on the way
+        self.goto(position)
+        if not self.watched:
+            self.watch(places)
+
+
+class Machine(Simulator):
+    """A session of the simulator, and its state, as it was when it was last looked at."""
+
+    def __init__(self, words):
+        self.scouts = {}
+        super().__init__(words)
+
+    def scout(self, name):
+        """Returns the scout of this name."""
+        if name not in self.scouts:
+            self.scouts[name] = Scout(without_history(self.words), self.tape)
+        return self.scouts[name]
 
     @property
     def is_ended(self):
-        """Whether the simulator has ended."""
-        return self.run.pipe.process.poll() is not None
+        """Whether a simulator has ended."""
+        return any(one.pipe.process.poll() is not None for one in (self, *self.scouts.values()))
 
-    @property
-    def slot(self):
-        return self.run.next_slot
+    def close(self):
+        for scout in self.scouts.values():
+            scout.close()
+        super().close()
 
     def look(self):
-        """Reads the state, and which places are watched by the user's own lines."""
-        self.state = MachineState(self.run.ask_all(questions()))
-        self.run.next_slot = self.state.slot
-        self.watched = [Place.parse(watch.place) for watch in self.state.watches]
-        self.own = [place for place in self.watched if place not in self.lent]
+        """Reads the state."""
+        self.renew()
+        self.state = state_of(self)
 
-    def act(self, line):
-        """Performs a line of the user, and returns its answer. An action discards what is ahead."""
-        if self.lent and line.upper().split()[:1] == [STEP]:
-            self.lend([])  # going back may have left a watch that is not the user's
-        return self.run.act(line)
+    def typed(self, line):
+        """Performs a line that was typed. BACK and FORWARD go over all actions, and not only those that the simulator keeps."""
+        self.withdraw(self.position)
+        answer = self.act(line)
+        if answer and answer[0] in TOO_FEW:
+            word, *words = line.upper().split()
+            count = int(words[0], 8) if words else 1
+            position = self.position + (count if word == "FORWARD" else -count)
+            if 0 <= position <= self.tape.end:
+                self.goto(position)
+                return [f"{word} {count:o} SLOT {self.next_slot:02o}"]
+        return answer
 
-    def move(self, word, count):
-        """Goes by so many actions: BACK or FORWARD."""
-        if count:
-            self.run.act(f"{word} {count:o}")
+    def withdraw(self, position):
+        """Sees that no scout is beyond a position, nor goes there by FORWARD, for the tape may be cut there."""
+        for name, scout in list(self.scouts.items()):
+            if scout.history.oldest > position:
+                self.scouts.pop(name).close()
+            else:
+                scout.move(min(position - scout.position, 0))
+                scout.history.ahead = min(scout.history.ahead, position - scout.position)
 
-    # ---- watches for data breakpoints
-
-    def lend(self, places):
-        """Sees that these places are watched, and the user's own, and no others. What is in the redo list stays ahead."""
-        self.watched = [Place.parse(line[2:]) for line in self.run.ask("DUMP W") if line != "W NONE"]
-        gone = [place for place in self.watched if place in self.lent and place not in places]
-        new = [place for place in places if place not in self.watched][:MOST_WATCHES - len(self.watched) + len(gone)]
-        if gone or new:
-            self.keep_ahead()
-        for word, some in (("UNWATCH", gone), ("WATCH", new)):
-            for place in some:
-                self.run.perform(f"{word} {place.short}")
-        self.lent.update(new)
-
-    def keep_ahead(self):
-        """Keeps what is in the redo list, which an action will empty."""
-        for action in self.history.ahead.runs:
-            self.history.later.push(*action)
-        self.history.ahead = Actions()
-
-    def claim(self, line):
-        """Notes a place that the user now watches by a line of their own."""
-        words = line.split()
-        if words and words[0].upper() == "WATCH":
-            self.lent.discard(Place.parse(" ".join(words[1:])))
-
-    def is_lending(self, action):
-        """Returns whether an action watches a place for a data breakpoint, or ends that."""
-        return action.word in ("WATCH", "UNWATCH") and place_of(action) in self.lent
-
-    def back_over_lending(self):
-        """Goes back over the watches for data breakpoints after the latest action of the user: they are no moments of their own."""
-        while self.history.kept.count and self.is_lending(self.history.kept.runs[-1]):
-            self.move("BACK", 1)
-
-    # ---- beyond what is kept
-
-    def actions(self):
-        """Returns the actions in effect, and those ahead, without the watches for data breakpoints."""
-        done = [action for action in self.history.in_effect() if not self.is_lending(action)]
-        return done, [action for action in self.history.redo_list() if not self.is_lending(action)]
-
-    def go_to(self, done, ahead):
-        """Goes to where these actions are in effect, and these are ahead, in a fresh simulator."""
-        old = self.run
-        self.begin(done, ahead)
-        old.close()
-
-    def reach_back(self):
-        """Goes to where what is kept begins, so that what comes before is kept. Returns whether anything does."""
-        older = self.history.older
-        if not older.count:
-            return False
-        kept = [action for action in self.history.kept.runs if not self.is_lending(action)]
-        done = [action for action in older.runs if not self.is_lending(action)]
-        _, ahead = self.actions()
-        self.go_to(done, [*kept, *ahead])
-        return bool(done)
-
-    def see_that_kept(self, turns):
-        """Sees that so many turns are kept, if they were made and so many can be kept."""
-        history = self.history
-        if history.kept.turns < turns and history.older.turns and history.room > 2 * turns:
-            self.go_to(*self.actions())
-
-    # ---- steps
-
-    def back_over_turn(self, number):
-        """Goes back to before the latest turn of a processor. Returns whether there is one."""
-        while self.history.kept.count or self.reach_back():
-            latest = self.history.kept.runs[-1]
-            turns = (self.slot - 1 - number) % PROCESSORS + 1
-            if latest.line == STEP and latest.times >= turns:
-                self.move("BACK", turns)
-                return True
-            self.move("BACK", latest.times)
-        return False
-
-    def perform_later(self):
-        """Performs the next action that is beyond the redo list and no turn. A watch may be there already."""
-        self.run.act_again(self.history.later.pop(1)[0].line)
-
-    def new_turns(self, turns):
-        """Makes so many turns, up to a HIT. Returns how many, and the line of the HIT or None."""
-        first, *rest = self.run.act_again(f"STEP {turns:o}")
-        if not first.startswith("TURNS "):
-            raise self.run.nonsense(first)
-        made = int(first.split()[1], 8)
-        self.were_later(made)
-        return made, rest[0] if rest else None
-
-    def made(self, turns):
-        """Notes new turns that were made."""
-        self.run.made(turns)
-        self.were_later(turns)
-
-    def were_later(self, turns):
-        """Notes that turns were those beyond the redo list, if there are any."""
-        self.history.later.pop(min(turns, self.history.later.count))
+    def part(self, position, most):
+        """Returns the end of the next actions of one kind, at most so many. After the tape come turns, which are added to it."""
+        if position == self.tape.end:
+            self.tape.append(STEP, most)
+        runs, run = self.tape.runs, self.tape.run_after(position)
+        kind, most = (runs[run].turns > 0, runs[run].is_watch), most if runs[run].turns else min(most, NEAR)
+        while run < len(runs) and self.tape.starts[run] < position + most and (runs[run].turns > 0, runs[run].is_watch) == kind:
+            run += 1
+        return min(self.tape.starts[run], position + most)

@@ -1,9 +1,11 @@
 """The debug adapter's beginning and end."""
 
+import contextlib
 import signal
 import sys
 
 from ..command_line import Parser
+from ..ending import end_by_interrupt
 from .adapter import Adapter
 from .protocol import Wire
 
@@ -22,8 +24,10 @@ def main():
     asked = parser.parse()
     for number in (signal.SIGTERM, signal.SIGHUP):
         signal.signal(number, end)  # so that the listings are removed
-    adapter = Adapter(Wire(asked.log))
+    if signal.getsignal(signal.SIGINT) is end_by_interrupt:
+        signal.signal(signal.SIGINT, signal.default_int_handler)
     try:
-        adapter.serve()
-    finally:
-        adapter.close()
+        with contextlib.closing(Adapter(Wire(asked.log))) as adapter:
+            adapter.serve()
+    except KeyboardInterrupt:
+        end_by_interrupt()

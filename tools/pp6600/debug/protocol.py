@@ -81,7 +81,7 @@ class Wire:
         message = {"seq": self.seq, **message}
         data = json.dumps(message).encode("ascii")
         try:
-            rest = b"Content-Length: %d\r\n\r\n%s" % (len(data), data)
+            rest = memoryview(b"Content-Length: %d\r\n\r\n%s" % (len(data), data))
             while rest:
                 rest = rest[os.write(self.output, rest):]
         except BrokenPipeError:  # the client has gone

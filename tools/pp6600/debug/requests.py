@@ -3,16 +3,19 @@
 import base64
 import binascii
 
-from ..answers import CELLS, PROCESSORS, ROW
+from ..core.forms import CELLS, PROCESSORS, ROW
 from .breakpoints import Cell
 from .listings import instruction
 from .protocol import Refused
+from .running import Runner
 from .variables import place_of, scope_and_number, scopes, set_line, value_of, variables
 
 LINE_CONTEXTS = ("repl", "clipboard", "")  # of what is typed; the others must not act
 PREFIX = ":"  # of a line that an editor evaluates as a watch expression
 MOVES = {"OK": "goto", "TURNS": "step", "BACK": "step", "FORWARD": "step"}  # why it has stopped, by an answer
 NO_INSTRUCTION = {"address": "0xffffffff", "instruction": "(no cell)"}
+MOST_INSTRUCTIONS = 1 << 20  # that are disassembled at once
+NO_CHANGE = "ERR 10 NO CHANGE KEPT"  # of BACK W
 
 
 class Requests:
@@ -71,12 +74,15 @@ class Requests:
 
     def do_variables(self, variablesReference, start=0, count=0, **_):
         scope, number = scope_and_number(variablesReference)
-        found = variables(self.machine, scope, number, dict.fromkeys([*self.machine.own, *self.points.places()]))
+        found = variables(self.machine, scope, number, dict.fromkeys([*self.machine.state.watched, *self.points.places()]))
         return {"variables": found[start:start + count] if count else found}
 
     def act(self, line):
         """Performs a line, and returns its answer. What was ahead may be lost by it: that is said."""
-        ahead, answer = self.machine.history.to_redo, self.machine.act(line)
+        ahead, answer = self.machine.history.to_redo, self.machine.typed(line)
+        here = self.machine.position
+        if answer == [NO_CHANGE] and Runner(self.machine, self.points).back(is_typed=True):
+            answer = [f"BACK {here - self.machine.position:o} SLOT {self.machine.next_slot:02o}"]
         if ahead and answer and answer[0].split()[0] in ("OK", "TURNS"):
             self.wire.say(f"{ahead:o} actions (octal) that were ahead are so no longer")
         return answer
@@ -125,7 +131,6 @@ class Requests:
         kind = answer[0].split()[0] if answer else ""
         word = line.upper().split()[:1]
         if kind == "OK" and word in (["WATCH"], ["UNWATCH"]):
-            self.machine.claim(line)
             self.machine.look()
         elif kind in MOVES:
             self.look()
@@ -158,14 +163,17 @@ class Requests:
         return {"bytesWritten": len(data)}
 
     def do_disassemble(self, memoryReference, instructionCount, offset=0, instructionOffset=0, **_):
+        if instructionCount > MOST_INSTRUCTIONS:
+            raise Refused(f"{instructionCount} instructions are too many: {MOST_INSTRUCTIONS} at most")
         cell = Cell.of(memoryReference, offset)
         first = cell.address + instructionOffset
-        return {"instructions": [self.instruction(cell.number, at) for at in range(first, first + instructionCount)]}
+        last = first + instructionCount
+        before, after = range(first, min(last, 0)), range(max(first, CELLS), last)
+        found = [self.instruction(cell.number, at) for at in range(max(first, 0), min(last, CELLS))]
+        return {"instructions": [NO_INSTRUCTION] * len(before) + found + [NO_INSTRUCTION] * len(after)}
 
     def instruction(self, number, address):
         """Returns a cell as an instruction, and where its line is."""
-        if not 0 <= address < CELLS:
-            return NO_INSTRUCTION
         memory = self.machine.state.memories[number]
         return {"address": Cell(number, address).reference, "instructionBytes": memory.word(address),
                 "instruction": instruction(memory, address), "location": self.listings.source(number), "line": address + self.base}

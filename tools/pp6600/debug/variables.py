@@ -2,7 +2,7 @@
 
 import re
 
-from ..answers import CLOCK, KINDS, PROCESSORS, REGISTERS, Place
+from ..core.forms import CLOCK, KINDS, PROCESSORS, REGISTERS, Place
 from ..failure import Failure
 from .breakpoints import Cell, checked
 from .protocol import Refused
@@ -43,8 +43,7 @@ def variables(machine, scope, number, places):
         return devices(state)
     if scope == WATCH_SCOPE:
         return [variable(place.short, value_of(machine, place), place.short) for place in places]
-    history = machine.history
-    counts = {"turns": history.turns, "kept": history.kept.count, "ahead": history.to_redo, "slot": state.slot}
+    counts = {"turns": machine.turn, "kept": machine.position, "ahead": machine.history.to_redo, "slot": state.slot}
     return [variable(name, f"{count:o}") for name, count in counts.items()]
 
 
@@ -65,7 +64,7 @@ def devices(state):
 def value_of(machine, place):
     """Returns the digits of the number at a place; of a channel the state too."""
     if place.kind == "C":
-        answer = machine.run.ask(f"DUMP C {place.numbers[0]:o} {place.numbers[0]:o}")[0]
+        answer = machine.ask(f"DUMP C {place.numbers[0]:o} {place.numbers[0]:o}")[0]
         if answer.startswith("ERR "):
             raise Refused(f"{answer}: {place.short} is not in central memory")
         return answer.split()[2]

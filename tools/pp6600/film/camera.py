@@ -3,55 +3,44 @@
 What a turn may change is dumped after it. At intervals and at the end all numbers are dumped and compared: a change that was
 not dumped ends the tool."""
 
-from ..answers import CELLS, PROCESSORS, dumps_from
-from ..console import MARK, MOST_TURNS, Console
+from ..core.forms import CELLS, PROCESSORS, dumps_from
+from ..core.simulator import MARK, Console, Simulator
+from ..core.state import central_of, questions
+from ..core.tape import STEP, Action, lines_of
+from ..core.turn import CHANNEL_CODES, IN_BLOCK, Turn, TurnKind
 from ..failure import Failure
-from ..history import History, room_of
-from ..run import Run, Script
-from .footprint import dumps_of_turn
-from .machine import Machine
+from ..script import Script
+from .footprint import dumps_of_turns
+from .machine import Machine, Table
 from .places import LAYOUT
-from .sources import TurnWritten, Written
+from .sources import InEffect, Written, written_by
+from .upcoming import upcoming
 
-TURN, LINE, JUMP = range(3)  # the kinds of a moment: a turn, another action, a BACK or FORWARD
+# The kinds of a moment: what a turn was, another action, a BACK or FORWARD. TURNS is that of a line of the script.
+PASSES, WAITS, BUSY, BLOCK, LINE, JUMP, TURNS = range(7)
 MOST_MOMENTS = 0o1000000
 AROUND = 0o4000  # moments before a turn, and after it
 BETWEEN_CHECKS = 0o10000
-REGISTER_DUMPS = [f"DUMP PP {n:o}" for n in range(PROCESSORS)]
-END_DUMPS = [*REGISTER_DUMPS, "DUMP H", "DUMP XP", "DUMP LP", "DUMP W"]  # what the end of a run is compared by
-CELL_DUMPS = [f"DUMP M {n:o} 0 7777" for n in range(PROCESSORS)]
-
-
-class Recorder(Console):
-    """A console that keeps the answers."""
-
-    def start(self):
-        self.answers = []
-        super().start()
-
-    def ask(self, line):
-        self.answers.append(super().ask(line))
-        return self.answers[-1]
+AFTER_DEADSTART = [line for n in range(PROCESSORS) for line in (f"DUMP PP {n:o}", f"DUMP M {n:o} 0 15")] + ["DUMP H", "DUMP LP"]
 
 
 class Transcript:
     """The lines of a script with their answers."""
 
     def __init__(self, words, lines):
-        console = Recorder(words)
-        self.script = Script(console, lines)
-        self.lines = list(zip(lines, console.answers))
+        console = Console(words)
+        self.lines = []
         self.turns = {}  # of each line that did something: how many turns are in effect before and after it
-        self._count_turns(History(room_of(words)))
-        self.end = [console.ask(dump) for dump in END_DUMPS]
+        self.script = Script(console, lines, self._took)
+        self.end = console.ask_all(questions())
         self.size = console.size_of_central()
         console.end()
 
-    def _count_turns(self, history):
-        for number, (line, answer) in enumerate(self.lines):
-            before = history.turns
-            if history.take(line, answer):
-                self.turns[number] = before, history.turns
+    def _took(self, line, answer, turns):
+        """Notes a line with its answer, and how many turns are in effect before and after it if it did something."""
+        if turns:
+            self.turns[len(self.lines)] = turns
+        self.lines.append((line, answer))
 
     def actions(self):
         """Yields for each line that did something its number, its kind, and how many actions it made, took back or
@@ -59,23 +48,23 @@ class Transcript:
         for number, (_, answer) in enumerate(self.lines):
             kind, *rest = answer[0].split() if answer else ["NOTE"]
             if kind == "TURNS":
-                yield number, TURN, int(rest[0], 8)
+                yield number, TURNS, int(rest[0], 8)
             elif kind == "OK":
                 yield number, LINE, 1
             elif kind in ("BACK", "FORWARD"):
                 yield number, JUMP, int(rest[0], 8)
 
     def moments(self):
-        return sum(count if kind == TURN else 1 for _, kind, count in self.actions())
+        return sum(count if kind == TURNS else 1 for _, kind, count in self.actions())
 
     def moment_of_turn(self, turn):
         """Returns the last moment in which so many turns came to be in effect: 0 is the opening."""
         moment = found = 0
         for number, kind, count in self.actions():
             before, after = self.turns[number]
-            if kind == TURN and before < turn <= after:
+            if kind == TURNS and before < turn <= after:
                 found = moment + turn - before
-            moment += count if kind == TURN else 1
+            moment += count if kind == TURNS else 1
         if turn and not found:
             highest = max((after for _, after in self.turns.values()), default=0)
             raise Failure(f"there is no turn {turn:o}: the highest is {highest:o} (octal)")
@@ -96,6 +85,16 @@ def to_film(transcript, last, around):
     return moments - wanted, wanted
 
 
+def kind_of(turn):
+    """Returns the kind of the moment of a turn. One that issues a block transfer is in it, and a jump to itself passes."""
+    kind, processor = turn.kind, turn.processor
+    if kind is TurnKind.WAITED:
+        return WAITS
+    if processor.code in IN_BLOCK:
+        return BLOCK
+    return PASSES if kind is TurnKind.PASSED or processor.registers == turn.after else BUSY
+
+
 class Film:
     """A run, filmed: its moments, each with its kind and the places that it changed."""
 
@@ -103,23 +102,26 @@ class Film:
         """The channels of the devices."""
         self.transcript = transcript
         self.size, self.reader, self.printer = transcript.size, reader, printer
-        self.run = Run(words)
+        self.run = Simulator(words)
         self.machine = Machine()
+        self.upcoming = Table()  # what processors do next, by numbers
+        self.constants = Table({"": 0})  # what the page says of constants, by numbers
+        self.in_effect = InEffect()
         self.moments = []  # each a kind and its changes; the first is the opening
         self.writes = []  # what each moment wrote
         self.jumps = {}  # the moment that a BACK or FORWARD leads to, or None if it is before the film
         self.first_moments, self.lengths = {}, {}  # of each line that is filmed: its first moment, and how many it has
         self.turns_passed = 0  # of the first line that is filmed
         self.opens = None  # the moment at which the page opens, if it was asked for
-        self.history, self.ahead = [], []  # the moments in effect, and those undone; None is one before the film
-        self.below = 0  # how many actions of before the film are undone
+        self.actions = []  # the moments of the actions after position `start`, with those that were taken back
+        self.start = self.opening = 0
         self.unchecked = 0
         self.is_ended = False
 
     def shoot(self, skipped=0, filmed=MOST_MOMENTS):
         """Performs the actions and films so many moments of them, after those that are skipped."""
         for number, kind, count in self.transcript.actions():
-            length = count if kind == TURN else 1
+            length = count if kind == TURNS else 1
             before = min(skipped, length)
             now = min(filmed, length - before)
             skipped, filmed = skipped - before, filmed - now
@@ -130,12 +132,12 @@ class Film:
                     self._open()
                     self.turns_passed = before
                 self.first_moments[number], self.lengths[number] = len(self.moments), now
-                self._film(number, kind, now if kind == TURN else count)
+                self._film(number, kind, now if kind == TURNS else count)
             if before + now < length:
                 self._end()
                 self._pass_over(number, kind, count, length - before - now)
         self._end()
-        if [self.run.ask(dump) for dump in END_DUMPS] != self.transcript.end:
+        if self.run.ask_all(questions()) != self.transcript.end:
             raise Failure("the script did not come to the same end twice: this is a fault of film")
         self.run.end()
 
@@ -150,66 +152,98 @@ class Film:
     def _pass_over(self, number, kind, count, passed):
         """Performs what is not filmed."""
         line = self.transcript.lines[number][0]
-        if kind != TURN:
+        if kind != TURNS:
             self.run.act(f"{line.split()[0]} {count:o}" if kind == JUMP else line)
             return
-        while passed:
-            self.run.act(f"STEP {min(passed, MOST_TURNS):o}")
-            passed -= min(passed, MOST_TURNS)
+        for step in lines_of(Action(STEP, passed)):
+            self.run.act(step)
 
     def _open(self):
         """The opening: all numbers before the first action that is filmed. Those of a new machine are zero."""
-        self._read_all(bool(self.run.history.in_effect()))
+        self.start = self.opening = self.run.position
+        self._read_all(bool(self.run.position))
+        self._renew(range(PROCESSORS))
         self._add(LINE)
+
+    def _renew(self, processors):
+        """Renews what processors do next."""
+        for number in processors:
+            block = self.in_effect.block_of(number)
+            row = upcoming(self.machine, number, block and block.p)
+            self.machine.put(LAYOUT["next"] + number, self.upcoming.number(row))
 
     def _add(self, kind, written=None):
         """Ends a moment."""
         self.moments.append((kind, self.machine.take_changes()))
         self.writes.append(written or Written())
         self.unchecked += 1
-        if self.unchecked >= BETWEEN_CHECKS:
-            self._check(False)
 
     def _film(self, number, kind, count):
-        line = self.transcript.lines[number][0]
-        if kind == TURN:
-            for _ in range(count):
-                self._turn()
-        elif kind == LINE:
-            self._line(line)
-        else:
-            self._jump(line.split()[0].upper(), count)
+        line, size = self.transcript.lines[number][0], PROCESSORS if kind == TURNS else count
+        for left in range(count, 0, -size):
+            if kind == TURNS:
+                self._round(min(left, size))
+            elif kind == LINE:
+                self._line(line)
+            else:
+                self._jump(f"{line.split()[0]} {count:o}")
+            if self.unchecked >= BETWEEN_CHECKS:
+                self._check(False)
 
-    def _done(self, kind, written):
-        """Notes an action that can be taken back."""
-        self.history.append(len(self.moments))
-        self.ahead.clear()
+    def _done(self, kind, written, processors):
+        """Notes an action that can be taken back. What these processors do next may be something else."""
+        self.in_effect.add(written)
+        self._renew(processors)
+        at = self.run.position - 1 - self.start
+        if at < 0:  # before the film, where the script had gone back to
+            self.start, at = self.run.position - 1, 0
+        self.actions[at:] = [len(self.moments)]
         self._add(kind, written)
 
-    def _turn(self):
-        number = self.machine.numbers[LAYOUT["slot"]]
-        processor = self.machine.processor(number)
-        written = TurnWritten(self.machine, number, processor, (self.reader, self.printer))
-        answer = self.run.act("STEP 1", dumps_of_turn(self.machine, number, processor, self.printer, self.size))
+    def _round(self, count):
+        """Makes so many turns at once, at most ten: what a turn may change follows from its own processor."""
+        numbers = [(self.machine.numbers[LAYOUT["slot"]] + at) % PROCESSORS for at in range(count)]
+        dumps = dumps_of_turns(self.machine, numbers, self.printer, self.size)
+        for number, answer in zip(numbers, self._asked([["STEP 1", *some, MARK] for some in dumps])):
+            self.run.history.take("STEP", answer)
+            self._turn(number, answer)
+
+    def _asked(self, groups):
+        """Returns the answers to groups of lines, all written at once. Each group ends with the mark."""
+        self.run.renew(sum(map(len, groups)))
+        self.run.send(*(line for group in groups for line in group))
+        answers, ends = [], []
+        while len(ends) < len(groups):
+            lines = self.run.pipe.more_lines()
+            ends += [len(answers) + at for at, line in enumerate(lines, 1) if line.startswith("CR ")]
+            answers += lines
+        return [answers[first:end] for first, end in zip([0, *ends], ends)]
+
+    def _turn(self, number, answer):
+        """Films a turn of a processor by its answer and the dumps after it."""
         if not answer[0].startswith("TURNS 1 "):
             raise Failure(f"the simulator answers {answer[0]} to STEP 1")
-        self.machine.read(answer, number)
-        self._done(TURN, written.after(self.size))
+        processor, states = self.machine.processor(number), self.machine.states()
+        pointer = self.machine.word(number, processor.channel)  # which the turn may overwrite
+        self.machine.read(answer)
+        turn = Turn(number, processor, self.machine.processor(number).registers, lambda address: pointer, self.size)
+        self._done(kind_of(turn), written_by(self, turn, states), {number, *self._on_channels(states)})
+
+    def _on_channels(self, states):
+        """Returns the processors that are on a channel whose state is no longer that."""
+        changed = {channel for channel, state in enumerate(self.machine.states()) if state != states[channel]}
+        processors = map(self.machine.processor, range(PROCESSORS)) if changed else ()
+        return [number for number, one in enumerate(processors) if one.channel in changed and one.code in CHANNEL_CODES]
 
     def _line(self, line):
         """A SET, WATCH, UNWATCH or DEADSTART."""
-        words = line.upper().split()
-        processor = int(words[2], 8) if words[0] == "SET" and words[1] == "M" else 0
-        answer = self.run.act(line, self._dumps_after(words))
+        answer = self.run.act(line, self._dumps_after(line.upper().split()))
         if answer[0] != "OK":
             raise Failure(f"the simulator answers {answer[0]} to {line}")
-        self.machine.read(answer, processor)
-        if words[0] == "DEADSTART":
-            for number in range(PROCESSORS):
-                self._read(f"DUMP M {number:o} 0 15", number)
+        self.machine.read(answer)
         written = Written()
-        written.add_line(words)
-        self._done(LINE, written)
+        written.add_line(line)
+        self._done(LINE, written, range(PROCESSORS))
 
     @staticmethod
     def _dumps_after(words):
@@ -217,52 +251,36 @@ class Film:
         if words[0] in ("WATCH", "UNWATCH"):
             return ["DUMP W"]
         if words[0] == "DEADSTART":
-            return [*REGISTER_DUMPS, "DUMP H", "DUMP LP"]
+            return AFTER_DEADSTART
         if words[1] == "M":
-            return dumps_from(f"DUMP M {words[2]}", int(words[3], 8), len(words) - 4, CELLS, CELLS)
+            return [f"DUMP PP {words[2]}"] + dumps_from(f"DUMP M {words[2]}", int(words[3], 8), len(words) - 4, CELLS, CELLS)
         if words[1] == "C":
             return [f"DUMP C {words[2]} {words[2]}"]
         return ["DUMP H"] if words[1] == "H" else [f"DUMP PP {words[2]}"]
 
-    def _jump(self, word, count):
-        """A BACK or a FORWARD of so many actions."""
-        self.run.act(f"{word} {count:o}")
-        moved = [self._move(word == "BACK") for _ in range(count)]
-        if None in moved:
+    def _jump(self, line):
+        """A BACK or a FORWARD."""
+        before = self.run.position - self.start
+        self.run.act(line)
+        after = self.run.position - self.start
+        passed = self.actions[max(min(before, after), 0):max(before, after, 0)]
+        for moment in passed if after > before else passed[::-1]:
+            (self.in_effect.add if after > before else self.in_effect.take_back)(self.writes[moment])
+            self.machine.apply(self.moments[moment][1], after < before)
+        self.machine.after_jump()
+        if min(before, after) < 0:
             self._read_all(True)
-        else:
-            for moment in moved:
-                self.machine.apply(self.moments[moment][1], word == "BACK")
-            self.machine.after_jump()
-        self.jumps[len(self.moments)] = self.history[-1] if self.history else None if self.below else 0
+            self._renew(range(PROCESSORS))
+        self.jumps[len(self.moments)] = self.actions[after - 1] if after > 0 else 0 if self.run.position == self.opening else None
         self._add(JUMP)
-
-    def _move(self, back):
-        """Moves a moment between the history and the moments undone, and returns it."""
-        if back:
-            moment = self.history.pop() if self.history else None
-            self.ahead.append(moment)
-            self.below += moment is None
-        else:
-            moment = self.ahead.pop()
-            self.below -= moment is None
-            if moment is not None:
-                self.history.append(moment)
-        return moment
 
     # ---- all numbers at once
 
-    def _read(self, dump, processor=0):
-        self.machine.read(self.run.ask_all([dump, MARK]), processor)
-
     def _read_all(self, central):
         """Reads all numbers; the central words only if it is said."""
-        for number, dump in enumerate(CELL_DUMPS):
-            self._read(dump, number)
-        for dump in END_DUMPS:
-            self._read(dump)
+        self.machine.read(self.run.ask_all(questions()))
         if central:
-            self._read(f"DUMP C 0 {self.size - 1:o}")
+            self.machine.read_central(central_of(self.run))
 
     def _check(self, central):
         """Fails if the film has overlooked a change."""

@@ -23,7 +23,7 @@ def _streams(moments):
     its place from that of the change before; and by how much the number grew."""
     kinds, places, growths = bytearray(), bytearray(), bytearray()
     for kind, changes in moments:
-        _number(kinds, len(changes) << 2 | kind)
+        _number(kinds, len(changes) << 3 | kind)
         last = 0
         for place, was, now in changes:
             _number(places, place - last)
@@ -71,7 +71,7 @@ def decode(text):
         rows.append(_numbers(whole[at:at + length]))
         at += length
     kinds, places, growths, _ = rows
-    return about, [(head & 3, _changes(head >> 2, places, growths)) for head in kinds]
+    return about, [(head & 7, _changes(head >> 3, places, growths)) for head in kinds]
 
 
 def _numbers(stream):

@@ -1,20 +1,23 @@
 """What a turn may change, from the table of instructions; so only that is dumped after the turn."""
 
-from ..answers import CELLS, CENTRAL_ADDRESSES, dumps_from
-from .places import LAYOUT, MODES
+import functools
+
+from ..core.forms import CELLS, CENTRAL_ADDRESSES, dumps_from
 
 PRINTER_TOUCHED = 0o70  # from this code on an instruction may do something to the channel that it names
 
 
-def dumps_of_turn(machine, number, processor, printer, size):
-    """Returns the lines that show what a turn of a processor may change, beside the slot and the card reader. The printer is its
-    channel, and the size is that of central memory."""
-    lines = [f"DUMP PP {number:o}", "DUMP H"]
-    for effect in processor.row.effects:
-        lines += dumps_of(effect.place, number, processor, lambda address: machine.word(number, address), size)
-    if may_print(machine, printer) or processor.code >= PRINTER_TOUCHED and processor.channel == printer:
-        lines.append("DUMP LP")
-    return lines
+def dumps_of_turns(machine, numbers, printer, size):
+    """Yields for each turn of processors, one after the other, the lines that show what it may change, beside the slot and the card
+    reader. The printer is its channel, and the size is that of central memory."""
+    prints = may_print(machine, printer)
+    for number in numbers:
+        processor = machine.processor(number)
+        prints = prints or processor.code >= PRINTER_TOUCHED and processor.channel == printer
+        lines = [f"DUMP PP {number:o}", "DUMP H"]
+        for effect in processor.row.effects:
+            lines += dumps_of(effect.place, number, processor, functools.partial(machine.word, number), size)
+        yield lines + ["DUMP LP"] * prints
 
 
 def dumps_of(place, number, processor, cell, size):
@@ -29,5 +32,5 @@ def dumps_of(place, number, processor, cell, size):
 
 def may_print(machine, printer):
     """Returns whether the printer may do something in the state of its channel."""
-    mode = MODES["printer"][machine.numbers[LAYOUT["printer"] + 2]]
+    mode = machine.mode("printer")
     return {"I": False, "E": mode in ("STATUS", "SENT"), "F": mode == "PRINTING", "X": True}[machine.state(printer)]

@@ -1,10 +1,28 @@
 """All numbers of the machine, taken from the simulator's dumps."""
 
-from ..answers import CHANNELS, REGISTERS, STATES
-from ..instructions import Processor
+import functools
+
+from ..core.forms import CHANNELS, CLOCK, FORMS, REGISTERS, STATES, fields, kind_of
+from ..core.turn import Processor
 from .places import LAYOUT, MODES, cell, register
 
 ZERO = "0" * 20  # a central word
+M, PP, C = (FORMS[kind].columns for kind in ("M", "PP", "C"))
+kind_of_beginning = functools.lru_cache(maxsize=None)(kind_of)  # by two letters of a line
+
+
+@functools.lru_cache(maxsize=10000)
+def processor_of(p, a, q, phase, first, second):
+    """Returns a processor by its registers and the words from P on."""
+    registers = {"P": f"{p:04o}", "A": f"{a:06o}", "Q": f"{q:04o}", "PHASE": f"{phase:04o}"}
+    return Processor(registers, [f"{first:04o}", f"{second:04o}"])
+
+
+class Table(dict):
+    """Things with their numbers, in the order in which they are met."""
+
+    def number(self, thing):
+        return self.setdefault(thing, len(self))
 
 
 class Machine:
@@ -13,11 +31,10 @@ class Machine:
     def __init__(self):
         self.numbers = [0] * LAYOUT["central"]
         self.central = {}  # addresses and their first places
-        self.papers = [(0, "")]  # each a paper and what is printed after it
-        self.paper_numbers = {}
+        self.papers = Table({(0, ""): 0})  # each a paper and what is printed after it
         self.paper_text = ""
-        self.watches = [()]
-        self.channels = ()  # the answer to DUMP H
+        self.watches = Table({(): 0})
+        self.lines = {}  # the last line of each channel, device and word of the frame, which is read only if it is another one
         self.changes = {}  # places and their numbers before the action
 
     def put(self, place, number):
@@ -44,106 +61,100 @@ class Machine:
         self.changes = {}
         return taken
 
-    # ---- a processor and a channel
+    # ---- what there is to see
 
     def word(self, number, address):
         return self.numbers[cell(number, address)]
 
-    def registers(self, number):
-        """Returns the registers of a processor, each as its digits."""
-        first = register(number, "P")
-        p, a, q, phase = self.numbers[first:first + len(REGISTERS)]
-        return {"P": f"{p:04o}", "A": f"{a:06o}", "Q": f"{q:04o}", "PHASE": f"{phase:04o}"}
-
     def processor(self, number):
         """Returns a processor as it is now."""
-        p = self.numbers[register(number, "P")]
-        return Processor(self.registers(number), [f"{self.word(number, p + at):04o}" for at in (0, 1)])
+        first = register(number, "P")
+        p, a, q, phase = self.numbers[first:first + len(REGISTERS)]
+        return processor_of(p, a, q, phase, self.word(number, p), self.word(number, p + 1))
 
     def state(self, channel):
         return STATES[self.numbers[LAYOUT["states"] + channel]]
 
+    def states(self):
+        """Returns the numbers of the states of all channels."""
+        return self.numbers[LAYOUT["states"]:LAYOUT["states"] + CHANNELS]
+
+    def mode(self, device):
+        return MODES[device][self.numbers[LAYOUT[device] + 2]]
+
     # ---- the answers of the simulator
 
-    def read(self, answer, processor=0):
-        """Takes the numbers from an answer. The rows of cells are those of the processor; another row of address 0000
-        begins the next one."""
-        paper, watches, channels, is_printer_in_it = [], [], [], False
+    def read(self, answer):
+        """Takes the numbers from the lines of answers. Cells are those of the processor whose registers come before them."""
+        paper, watches, number = None, [], 0
         for line in answer:
-            kind = line[0]
-            if kind in "01234567":
-                self._read_cells(processor, line)
-            elif kind in "|/":
-                paper.append(line)
-            elif kind == "C" and line[1] == " ":
-                self._read_central(line[2:8], line[9:])
-            elif kind == "H" and line[1] == " ":
-                channels.append(line)
+            kind = kind_of_beginning(line[:2])
+            if kind == "M":
+                self._read_cells(number, line)
+            elif kind == "PP":
+                number = int(line[PP["number"]], 8)
+                self._read_registers(number, line)
+            elif kind == "C":
+                self.read_central([line])
+            elif kind == "PAPER":
+                paper.append(f"{line[1:]}\n" if line[0] == "|" else line[1:])
             elif kind == "W":
                 watches.append(line[2:])
-            else:
-                self._read_line(line)
-                is_printer_in_it |= kind == "L"
-        if channels and channels != self.channels:
-            self._read_channels(channels)
+            elif kind in self.READERS and self.lines.get(line[:5]) != line:
+                self.lines[line[:5]] = line
+                self.READERS[kind](self, line)
+            if kind == "LP":
+                paper = []
+        if paper is not None:
+            self._read_paper("".join(paper))
         if watches:
-            self._read_watches(watches)
-        if is_printer_in_it:
-            self._read_paper("".join(f"{line[1:]}\n" if line[0] == "|" else line[1:] for line in paper))
+            self.put(LAYOUT["watches"], self.watches.number(() if watches == ["NONE"] else tuple(watches)))
 
-    def _read_cells(self, processor, line):
-        first, *words = line.split()
-        place = cell(processor, int(first, 8))
-        for at, word in enumerate(words):
-            self.put(place + at, int(word, 8))
+    def _read_cells(self, number, line):
+        place, words = cell(number, int(line[M["address"]], 8)), [int(word, 8) for word in line[M["words"]].split()]
+        if self.numbers[place:place + len(words)] != words:
+            for at, word in enumerate(words):
+                self.put(place + at, word)
 
-    def _read_central(self, address, word):
-        if word != ZERO or self.central and int(address, 8) in self.central:
-            self.put_word(self.central_place(int(address, 8)), word)
+    def _read_registers(self, number, line):
+        place = register(number, "P")
+        for at, name in enumerate(REGISTERS):
+            self.put(place + at, int(line[PP[name]], 8))
+        self.put(LAYOUT["slot"], int(line[PP["SLOT"]], 8))
 
-    def _read_line(self, line):
-        words = line.split()
-        if words[0] == "PP":
-            place = register(int(words[1], 8), "P")
-            for at in range(len(REGISTERS)):
-                self.put(place + at, int(words[3 + 2 * at], 8))
-            self.put(LAYOUT["slot"], int(words[11], 8))
-        elif words[0] == "XP":
-            self.put_word(LAYOUT["frame"] + 2 * int(words[1], 8), words[2])
-        elif words[0] == "CR":
-            self._read_device("reader", (words[4], words[8], words[10]))
-        elif words[0] == "LP":
-            self._read_device("printer", (words[4], words[6], words[8]))
+    def _read_channel(self, line):
+        number, state, word = fields("H", line).values()
+        channel = int(number, 8)
+        if channel == CLOCK:
+            self.put(LAYOUT["clock"], int(word, 8))
+        else:
+            self.put(LAYOUT["states"] + channel, STATES.index(state))
+            self.put(LAYOUT["words"] + channel, int(word, 8))
 
-    def _read_device(self, name, words):
-        first, second, mode = words
-        for at, number in enumerate((int(first, 8), int(second, 8), MODES[name].index(mode))):
-            self.put(LAYOUT[name] + at, number)
+    def read_central(self, lines):
+        """Takes central words; one that was always zero has no place."""
+        address_from, word_from = C["address"], C["word"]
+        for line in lines:
+            if line[word_from] != ZERO or self.central and int(line[address_from], 8) in self.central:
+                self.put_word(self.central_place(int(line[address_from], 8)), line[word_from])
 
-    def _read_channels(self, lines):
-        for number, line in enumerate(lines[:CHANNELS]):
-            _, _, state, word = line.split()
-            self.put(LAYOUT["states"] + number, STATES.index(state))
-            self.put(LAYOUT["words"] + number, int(word, 8))
-        self.put(LAYOUT["clock"], int(lines[CHANNELS].split()[3], 8))
-        self.channels = lines
+    def _read_frame(self, line):
+        found = fields("XP", line)
+        self.put_word(LAYOUT["frame"] + 2 * int(found["number"], 8), found["word"])
 
-    def _read_watches(self, lines):
-        watches = () if lines == ["NONE"] else tuple(lines)
-        if watches not in self.watches:
-            self.watches.append(watches)
-        self.put(LAYOUT["watches"], self.watches.index(watches))
+    def _read_device(self, line):
+        device, kind, first = ("reader", "CR", "CARD") if line[0] == "C" else ("printer", "LP", "SYMBOLS")
+        found = fields(kind, line)
+        for at, number in enumerate((int(found[first], 8), int(found["COLUMN"], 8), MODES[device].index(found["MODE"]))):
+            self.put(LAYOUT[device] + at, number)
+
+    READERS = {"H": _read_channel, "XP": _read_frame, "CR": _read_device, "LP": _read_device}
 
     def _read_paper(self, text):
-        if text == self.paper_text:
-            return
-        old = self.numbers[LAYOUT["paper"]] if text.startswith(self.paper_text) else 0
-        node = (old, text[len(self.paper_text):] if old else text)
-        if node not in self.paper_numbers:
-            self.paper_numbers[node] = len(self.papers)
-            self.papers.append(node)
-        self.put(LAYOUT["paper"], self.paper_numbers[node])
-        self.paper_text = text
+        if text != self.paper_text:
+            old = self.numbers[LAYOUT["paper"]] if text.startswith(self.paper_text) else 0
+            self.put(LAYOUT["paper"], self.papers.number((old, text[len(self.paper_text):] if old else text)))
+            self.paper_text = text
 
     # ---- a BACK or a FORWARD
 
@@ -153,10 +164,10 @@ class Machine:
             self.put(place, was if back else now)
 
     def after_jump(self):
-        """Sets the paper and the channels right after changes were applied."""
-        self.channels = ()
-        parts, node = [], self.numbers[LAYOUT["paper"]]
+        """Sets the paper right after changes were applied, and forgets the lines."""
+        self.lines.clear()
+        papers, parts, node = list(self.papers), [], self.numbers[LAYOUT["paper"]]
         while node:
-            node, text = self.papers[node]
+            node, text = papers[node]
             parts.append(text)
         self.paper_text = "".join(reversed(parts))

@@ -7,16 +7,13 @@ import shlex
 
 from ..display_code import SYMBOLS
 from ..failure import Failure
-from ..instructions import (
-    BLOCK_GOES_ON, COMPLETES, IN_BLOCK, INDEXED, INDIRECT, NAMES, NOT_THERE, NOT_THERE_IN_BLOCK, RELATIVE_JUMPS, TWO_WORDS,
-    WAITS_FOR)
-from ..listing import symbols_of
+from ..core.turn import NAMES, RELATIVE_JUMPS, STATE_LETTERS, TWO_WORDS
 from ..options import OPTIONS
-from ..sentences import ROWS, STATE_NAMES, WAITS, WAITS_EVER
+from ..sources import symbols_of
 from ..text_files import bytes_of, lines_of
 from .data import encode
 from .places import LAYOUT, MODES
-from .sources import CENTRAL, CONSTANT_NAMES
+from .sources import CENTRAL, COLUMNS, DECK
 
 WEB = os.path.join(os.path.dirname(os.path.abspath(__file__)), "web")
 SCRIPTS = ("state", "places", "machine", "program", "origin", "lanes", "controls")  # the page's script, in the order in which it is joined
@@ -42,8 +39,11 @@ def readable(text):
 
 
 def heading(title, script):
-    """Returns the heading of a page: the title that was asked for, or else the name of the script's file."""
-    return readable(title or "") or name_of(script, "standard input")
+    """Returns the heading of a page: the title that was asked for, or else the name of the script's file; if this is `script`, that
+    of its folder."""
+    folder = os.path.dirname(os.path.abspath(script or ""))
+    name = name_of(script, "standard input")
+    return readable(title or "") or (name_of(folder, name) if name == "script" else name)
 
 
 def write_page(path, text):
@@ -81,12 +81,9 @@ def text_of(film, asked, script):
 
 def tables():
     """What the page has to know of the machine."""
-    return {"layout": LAYOUT, "names": NAMES, "two_words": TWO_WORDS, "block_codes": list(IN_BLOCK), "completes": COMPLETES,
-            "blocks": BLOCK_GOES_ON, "waits_for": WAITS_FOR, "not_there": [NOT_THERE, NOT_THERE_IN_BLOCK], "symbols": SYMBOLS,
-            "relative_jumps": list(RELATIVE_JUMPS), "indirect": list(INDIRECT), "indexed": INDEXED,
-            "sentences": ROWS, "wait_sentences": [WAITS, WAITS_EVER],
-            "state_texts": STATE_NAMES, "modes": MODES, "constants": CONSTANT_NAMES,
-            "first_central": CENTRAL}
+    return {"layout": LAYOUT, "names": NAMES, "two_words": TWO_WORDS, "relative_jumps": list(RELATIVE_JUMPS), "symbols": SYMBOLS,
+            "states": [(letter, name) for name, letter in STATE_LETTERS.items()], "modes": MODES, "first_central": CENTRAL,
+            "first_column": DECK, "columns": COLUMNS}
 
 
 def carried(asked, script):
@@ -122,8 +119,8 @@ def setup(files):
 
 
 def of_machine(film):
-    return {"central_size": film.size, "central": list(film.machine.central), "papers": film.machine.papers,
-            "watches": film.machine.watches, "reader": film.reader, "printer": film.printer,
+    return {"central_size": film.size, "central": list(film.machine.central), "papers": list(film.machine.papers),
+            "watches": list(film.machine.watches), "next": list(film.upcoming), "constants": list(film.constants), "reader": film.reader, "printer": film.printer,
             "devices": {film.reader: "card reader", film.printer: "printer"}}
 
 

@@ -1,7 +1,7 @@
 """The tool that films a script."""
 
 from ..command_line import Failure, add_script, arguments, bytes_of, count, octal, simulator
-from ..listing import add_symbols, symbols_of
+from ..sources import add_symbols, symbols_of
 from ..text_files import lines_of
 from .camera import Film, Transcript, to_film
 from .page import heading, page, text_of, write_page
@@ -17,14 +17,14 @@ def main():
     parser.add_argument("-o", "--output", metavar="FILE.html", required=True, help="the page to write")
     parser.add_argument("--last", metavar="COUNT", type=count, help="film the last moments alone, octal")
     parser.add_argument("--around", metavar="N", type=octal, help="film the moments around turn N, octal, and open there")
-    parser.add_argument("--title", metavar="TEXT", help="the heading of the page (else the name of the script's file)")
+    parser.add_argument("--title", metavar="TEXT", help="the heading of the page (else the name of the script's file or folder)")
     add_symbols(parser)
     add_script(parser)
     asked = parser.parse()
     if asked.last is not None and asked.around is not None:
         raise Failure("give --last or --around, not both")
-    symbols_of(asked)  # a wrong one ends the tool before the run
-    words, script = simulator(asked), bytes_of(asked.script)
+    sources = "".join(f"{line}\n" for line in symbols_of(asked).loading(()))
+    words, script = simulator(asked), sources.encode() + bytes_of(asked.script)
     transcript = Transcript(words, lines_of(script.decode("latin-1")))
     film = Film(words, transcript, int(asked.reader or "12", 8), int(asked.printer or "13", 8))
     skipped, filmed = to_film(transcript, asked.last, asked.around)

@@ -1,18 +1,19 @@
 """The search for where a number came from: from the end of a run backwards, in windows of turns, to the write of each place that is
 still asked for."""
 
-import re
-
-from ..answers import CELLS, CLOCK, PROCESSORS, Place
+from ..core.forms import CELLS, CLOCK, PROCESSORS, Place, fields
+from ..core.probe import idle_processors
+from ..core.tape import STEP
+from ..core.turn import places_of_setting
+from ..core.window import Window
 from ..failure import Failure
-from ..history import STEP
-from .window import Window
 
 FIRST_SIZE, MOST_TURNS_READ, MOST_TURNS_PASSED = 64, 60000, 600000  # of a window
 CLOCK_PLACE = Place("H", (CLOCK,))
 OF_A_PROCESSOR = ("A", "P", "Q", "PHASE", "M")
 
 LINE_END = "LINE END"
+WORDS_OF_CONSTANT = {"d": (0,), "m": (1,), "dm": (0, 1)}  # of an instruction
 
 # What wrote a number.
 TURN, SET, DEADSTART, READER, PRINTER, PAPER, TICK, START = range(8)
@@ -34,6 +35,7 @@ class Step:
         self.place, self.cause, self.position, self.first_position, self.detail = place, cause, position, position, detail
         self.times = 1
         self.links, self.addresses = [], []
+        self.code = []  # links to the words of its instruction that have its constants, and were written in the run
         self.block = None  # the link to the write of the phase, of a turn of a block transfer
         self.number = ""
 
@@ -58,14 +60,17 @@ class Step:
 class Search:
     """Goes backwards from a place to the roots of its number."""
 
-    def __init__(self, replayer, most_steps=None, with_addresses=False, progress=None):
+    def __init__(self, run, most_steps=None, with_addresses=False, progress=None, is_loaded=lambda number, address, word: True):
         """After so many steps by processors the sources of a step are searched no more; None: there is no limit. The function
-        `progress` is called with each position that is reached."""
-        self.replayer, self.positions = replayer, replayer.positions
+        `progress` is called with each position that is reached. The function `is_loaded` returns whether a word of an instruction may
+        be as it was loaded into a processor; if not, a constant in it is followed to who wrote the word."""
+        self.run, self.tape, self.is_loaded = run, run.tape, is_loaded
         self.most_steps, self.with_addresses, self.progress = most_steps, with_addresses, progress or (lambda position: None)
         self.asked = {}  # places, each with the links that ask for it
         self.steps = []
         self.count = 0  # of steps by processors
+        self.of_devices = {Place("H", (channel,)) for channel in (run.reader_channel, run.printer_channel)}
+        self.idle = {}  # by runs of turns: the processors that only pass
         self.is_changed = False
 
     def origin(self, place, position):
@@ -85,7 +90,7 @@ class Search:
         """Asks for the last write of a link's place before a position."""
         self.is_changed = True
         if link.place == CLOCK_PLACE:
-            tick = self.positions.last_tick(position)
+            tick = self.tape.last_tick(position)
             link.step = Step(CLOCK_PLACE, TICK if tick else START, tick)
             self.steps.append(link.step)
         else:
@@ -117,9 +122,17 @@ class Search:
         step.links = [Link(step, place, wanted) for place, wanted in wanted_sources(write, parts)]
         if self.with_addresses:
             step.addresses = [Link(step, place) for place in turn.addresses()]
+        step.code = [Link(step, place) for place in self._written_words(step)]
         if self._is_followed():
-            for link in (*step.links, *step.addresses):
+            for link in (*step.links, *step.addresses, *step.code):
                 self._ask(link, position)
+
+    def _written_words(self, step):
+        """Returns the cells that have the constants of a step and a word that was not loaded."""
+        number, processor = step.turn.number, step.processor
+        distances = sorted({at for name in step.constants for at in WORDS_OF_CONSTANT.get(name, ())})
+        cells = [((processor.p + at) % CELLS, processor.words[at]) for at in distances]
+        return [Place("M", (number, address)) for address, word in cells if not self.is_loaded(number, address, word)]
 
     # ---- backwards
 
@@ -127,15 +140,18 @@ class Search:
         size = FIRST_SIZE
         while self.asked and position:
             self.progress(position)
-            run = self.positions.run_before(position)
-            if self.positions.actions[run].line != STEP:
+            part = self.tape.run_before(position)
+            if self.tape.runs[part].line != STEP:
                 position -= 1
-                self._look_at_line(self.positions.actions[run].line, position + 1)
+                self._look_at_line(self.tape.runs[part].line, position + 1)
                 continue
-            processors = self._processors()
+            processors = self._needed(part)
+            if not processors:
+                position = self.tape.starts[part]
+                continue
             passed = min(size * PROCESSORS // len(processors), MOST_TURNS_PASSED)
-            first = max(self.positions.starts[run], position - passed)
-            position = self._look_at_turns(Window(self.replayer, first, position, processors))
+            first = max(self.tape.starts[part], position - passed)
+            position = self._look_at_turns(Window(self.run, first, position, processors), part)
             size = min(3 * size, MOST_TURNS_READ) if position == first else FIRST_SIZE
         for place in list(self.asked):
             self._found(Step(place, START))
@@ -146,21 +162,28 @@ class Search:
             return set(range(PROCESSORS))
         return {place.numbers[0] for place in self.asked}
 
+    def _needed(self, part):
+        """Returns the processors whose turns are read in a run of turns. Those that only pass write nothing, but devices act in their
+        turns too."""
+        processors = self._processors()
+        if part not in self.idle:
+            self.idle[part] = idle_processors(self.run, self.tape.starts[part], self.tape.starts[part + 1])
+        return processors if self.asked.keys() & self.of_devices else processors - self.idle[part]
+
     def _look_at_line(self, line, position):
         """Looks at a SET or a DEADSTART."""
-        words = line.upper().split()
-        cause, places = (SET, places_of_set(words)) if words[0] == "SET" else (DEADSTART, places_of_dead_start())
+        cause, places = DEADSTART if line.upper().split()[0] == "DEADSTART" else SET, places_of_setting(line)
         for place in self.asked.keys() & places.keys():
             self._found(Step(place, cause, position, (line, places[place])))
 
-    def _look_at_turns(self, window):
+    def _look_at_turns(self, window, part):
         """Looks at the turns of a window, the last one first. Returns the position down to which it did: the window's first, or
         that before the turn whose sources are of a processor that is not in the window."""
         devices, here = Devices(window), set(window.processors)
         self.is_changed, relevant, position = True, set(), window.last
         for at in range(len(window.turns) - 1, -1, -1):
             if self.is_changed:
-                if not self.asked or not self._processors() <= here:
+                if not self.asked or not self._needed(part) <= here:
                     return position
                 relevant, self.is_changed = window.relevant(self.asked), False
                 devices.choose(self.asked)
@@ -172,7 +195,7 @@ class Search:
             if window.keys[at] in relevant:
                 self._look_at_turn(window.turn(at), window.position(at))
                 position = window.position(at) - 1
-        return window.first if self._processors() <= here else position
+        return window.first if self._needed(part) <= here else position
 
     def _look_at_turn(self, turn, position):
         """Looks at a turn: of all that it wrote and is asked for, the sources were read before."""
@@ -210,21 +233,21 @@ class Search:
     def _symbol(self, index, position):
         """Returns the step that printed a symbol, and the position from which its source is searched. The paper only grows, so
         its turn is found by halves."""
-        self.replayer.goto(position)
-        count = symbols_of(self.replayer.printer()[0])
+        self.run.goto(position)
+        count = symbols_of(self.run.printer()[0])
         if index >= count:
             raise Failure(f"the paper has {count:o} symbols (octal), from LP 0 on" if count else "nothing is on the paper")
         low, high = 0, position
         while low < high:
             middle = (low + high) // 2
-            self.replayer.goto(middle)
-            low, high = (low, middle) if symbols_of(self.replayer.printer()[0]) > index else (middle + 1, high)
-        self.replayer.goto(low - 1)
-        before = symbols_of(self.replayer.printer()[0])
-        self.replayer.goto(low)
+            self.run.goto(middle)
+            low, high = (low, middle) if symbols_of(self.run.printer()[0]) > index else (middle + 1, high)
+        self.run.goto(low - 1)
+        before = symbols_of(self.run.printer()[0])
+        self.run.goto(low)
         step = Step(Place("LP", (index,)), PAPER, low, index - before)
-        step.number = symbol_of(self.replayer.printer(), index)
-        link = Link(step, Place("H", (self.replayer.printer_channel,)))
+        step.number = symbol_of(self.run.printer(), index)
+        link = Link(step, Place("H", (self.run.printer_channel,)))
         step.links = [link]
         self._ask(link, low)
         return step, low
@@ -235,19 +258,18 @@ class Search:
             if step.cause == START:
                 step.number = step.place.digits * "0"
                 continue
-            self.replayer.goto(step.position)
-            step.number = number_at(self.replayer, step.place)
+            self.run.goto(step.position)
+            step.number = self.run.number_at(step.place)
 
 
 class Devices:
     """What the reader and the printer put on their channels in a window."""
 
     def __init__(self, window):
-        replayer = window.replayer
         self.window = window
         self.found = {}
-        self.kinds = {Place("H", (replayer.reader_channel,)): (READER, window.words_of_reader),
-                      Place("H", (replayer.printer_channel,)): (PRINTER, window.words_of_printer)}
+        self.kinds = {Place("H", (window.run.reader_channel,)): (READER, window.words_of_reader),
+                      Place("H", (window.run.printer_channel,)): (PRINTER, window.words_of_printer)}
         self.words = {}
 
     def choose(self, asked):
@@ -274,38 +296,12 @@ def wanted_sources(write, parts):
     return [(place, some) for place, some in wanted if some]
 
 
-def places_of_set(words):
-    """Returns the places that a SET writes, each with the number of its word in the line, from 1."""
-    kind, *numbers = words[1:]
-    if kind == "M":
-        number, first = int(numbers[0], 8), int(numbers[1], 8)
-        return {Place("M", (number, (first + at) % CELLS)): 5 + at for at in range(len(numbers) - 2)}
-    place = Place(kind, (int(numbers[0], 8),))
-    if kind == "H":
-        return {place: 5} if len(numbers) > 2 else {}
-    return {place: 4, Place("PHASE", place.numbers): None} if kind == "P" else {place: 4}
-
-
-def places_of_dead_start():
-    """Returns the places that a DEADSTART writes, each with the number of its word of the panel, from 1, or None."""
-    places = {Place("M", (0, at)): at if 0 < at < 0o15 else None for at in range(0o16)}
-    places |= {Place("M", (number, 0)): None for number in range(1, PROCESSORS)}
-    return places | {Place(name, (number,)): None for name in ("A", "P", "Q", "PHASE") for number in range(PROCESSORS)}
-
-
 def symbols_of(line):
     """Returns how many symbols are on the paper, from the line of the printer."""
-    return int(re.search(r"SYMBOLS ([0-7]+)", line)[1], 8)
+    return int(fields("LP", line)["SYMBOLS"], 8)
 
 
 def symbol_of(answer, index):
     """Returns a symbol of the paper as text, from the answer to DUMP LP."""
     symbol = "".join(line[1:] + "\n" * (line[0] == "|") for line in answer[1:])[index]
     return LINE_END if symbol == "\n" else f'"{symbol}"'
-
-
-def number_at(console, place):
-    """Returns the digits of the number at a place."""
-    if place.kind == "XP":
-        return console.frame()[place.numbers[0]].split()[2]
-    return console.registers(place.numbers[0])["PHASE"] if place.kind == "PHASE" else console.number(place.short)

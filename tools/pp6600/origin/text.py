@@ -3,10 +3,11 @@ place goes on at that depth, after the others and the addresses, which are set i
 
 import re
 
-from ..instructions import IN_BLOCK, TWO_WORDS
+from ..core.tape import SourceLine
+from ..core.turn import AT_END_OF_BLOCK, AT_END_OF_INPUT, IN_BLOCK, NO_WORD, RETURN, TWO_WORDS, ZERO
+from ..listing import AllSymbols
 from ..text_files import bytes_of
-from ..writes import AT_END_OF_BLOCK, AT_END_OF_INPUT, NO_WORD, RETURN, ZERO
-from .search import DEADSTART, LINE_END, PAPER, PRINTER, READER, SET, START, TICK, TURN, Search, number_at
+from .search import DEADSTART, LINE_END, PAPER, PRINTER, READER, SET, START, TICK, TURN, Search
 
 INDENT = "  "
 NOTE = re.compile(r"[ \t]*([*].*)?\r?")
@@ -28,28 +29,28 @@ class File:
         raise IndexError(index)
 
 
-def origin_rows(replayer, place, position, *how):
+def origin_rows(run, place, position, *how, symbols=AllSymbols()):
     """Returns the lines of the origin of the number that is at a place at a position, each with its step. How it is searched is as
     `Search` has it."""
-    step, now = Search(replayer, *how).origin(place, position), None
+    step, now = Search(run, *how, is_loaded=symbols.is_loaded).origin(place, position), None
     if place.kind == "P":
-        replayer.goto(position)
-        now = number_at(replayer, place)
-    return list(Writer(replayer.positions, replayer.words).rows(step, now))
+        run.goto(position)
+        now = run.number_at(place)
+    return list(Writer(run.tape, run.words, symbols).rows(step, now))
 
 
 class Writer:
     """Makes the lines."""
 
-    def __init__(self, positions, words):
+    def __init__(self, tape, words, symbols=AllSymbols()):
         """The words are the program and its options, which name the deck file and the panel file."""
-        self.positions = positions
+        self.tape, self.symbols = tape, symbols
         self.deck, self.panel = (File(words[words.index(option) + 1] if option in words else None) for option in ("--deck", "--panel"))
 
     def rows(self, root, now=None):
         """Yields the lines of a step and of all that it came from, each with its step; None for one that was not searched. P advances
         after it is written; now it has this number."""
-        seen = set()
+        seen = set()  # steps, and links that were followed
         todo = [(root, root.place, 0, None)]
         while todo:
             step, place, depth, parts = todo.pop()
@@ -57,13 +58,13 @@ class Writer:
                 yield None, f"{INDENT * depth}{place.text} .. DEEPER"
                 continue
             line = f"{INDENT * depth}{step.place.text} {step.number} {self.turn_of(step)}"
-            if id(step) in seen and (step.links or step.addresses):
+            links = self.wanted(step, parts)
+            if id(step) in seen and (step.links or step.addresses or step.code) and seen.issuperset(map(id, links)):
                 yield step, f"{line} AS ABOVE"
                 continue
-            seen.add(id(step))
-            links = self.wanted(step, parts)
-            yield step, " ".join([line, *self.how(step, links)]).rstrip() + (f", NOW {now}" if now and step is root else "")
-            todo += self.following(step, links, depth)
+            seen.update([id(step), *map(id, links)])
+            yield step, " ".join([line, *self.how(step, links)]).rstrip() + (f", NOW {now}" if now and step is root else "") + self.source_line(step)
+            todo += self.following(step, [*links, *step.code], depth)
 
     @staticmethod
     def wanted(step, parts):
@@ -84,7 +85,7 @@ class Writer:
     def turn_of(self, step):
         if step.cause == START:
             return "START"
-        return f"TURN {self.positions.turn(step.position):o}"
+        return f"TURN {self.tape.turn(step.position):o}"
 
     # ---- what wrote it
 
@@ -97,6 +98,8 @@ class Writer:
 
     def by_set(self, step):
         line, word = step.detail
+        if isinstance(line, SourceLine):
+            return [f"FROM {line.places[word]}"]
         return [f"SET LINE {line.number} WORD {word} (decimal)"]
 
     def by_dead_start(self, step):
@@ -116,20 +119,30 @@ class Writer:
         return [f"LP FROM {step.links[0].place.text}{half}"]
 
     @staticmethod
-    def instruction(step):
+    def performer(step):
+        """The processor before the turn that began the instruction of a step; None if a dead start began it."""
+        if not step.processor.phase:
+            return step.processor
+        return step.block.step.processor if step.block.step.cause == TURN else None
+
+    def source_line(self, step):
+        """The line of the source whose instruction wrote a number, after two blanks."""
+        processor = self.performer(step) if step.cause == TURN else None
+        return self.symbols.line_at_p(step.turn.number, processor) if processor else ""
+
+    def instruction(self, step):
         """The processor, and the address and the text of its instruction."""
         processor, at = step.processor, ""
-        code, second = processor.code, ""
+        code, second, performer = processor.code, "", self.performer(step)
+        if performer:
+            at = self.symbols.beside(step.turn.number, performer.registers["P"])
         if not processor.phase:
-            at = processor.registers["P"]
             second = f" {processor.words[1]}" if code in TWO_WORDS and code not in IN_BLOCK else ""
-        elif step.block.step.cause == TURN:
-            at = step.block.step.processor.registers["P"]
         begun = "" if at else " BEGUN BY DEADSTART"
         return f"PP {step.turn.number:02o}{at and ' AT ' + at} {processor.name} {processor.channel:02o}{second}{begun}"
 
     def times(self, step):
-        first = self.positions.turn(step.first_position)
+        first = self.tape.turn(step.first_position)
         return [f"{step.times:o} TIMES SINCE TURN {first:o}"] if step.times > 1 else []
 
     def sources(self, step, links):
@@ -141,8 +154,9 @@ class Writer:
             verb = "OF "
         else:
             verb = "FROM " if links else ""
+        code = "".join(f" IN {link.place.text}" for link in step.code)
         addresses = "".join(f", ADDRESS IN {link.place.text}" for link in step.addresses)
-        return [f"{verb}{' AND '.join(names) or 'ZERO'}{addresses}"]
+        return [f"{verb}{' AND '.join(names) or 'ZERO'}{code}{addresses}"]
 
     @staticmethod
     def name(link):

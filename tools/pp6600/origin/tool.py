@@ -3,10 +3,13 @@
 import sys
 import time
 
-from ..answers import Place
 from ..command_line import Failure, arguments, count, octal, script_lines, simulator, words_after, write_lines
-from ..run import performed
-from .positions import Replayer, numbered
+from ..conditions import first_place
+from ..core.simulator import Replay
+from ..core.tape import numbered
+from ..listing import AllSymbols
+from ..script import performed
+from ..sources import add_symbols, symbols_of
 from .text import origin_rows
 
 DESCRIPTION = """Shows where the number at a place (M 0 106, A 0, C 1000, H 12 ..; XP 0: a word of the frame; LP 7: a symbol of the
@@ -22,13 +25,13 @@ PATIENCE = 1  # seconds without progress on the screen
 class Progress:
     """Shows at a terminal on standard error how far back the search is."""
 
-    def __init__(self, positions):
-        self.positions, self.began, self.is_shown = positions, time.monotonic(), False
+    def __init__(self, tape):
+        self.tape, self.began, self.is_shown = tape, time.monotonic(), False
 
     def show(self, position):
         if sys.stderr is not None and sys.stderr.isatty() and time.monotonic() > self.began + PATIENCE:
             self.is_shown = True
-            sys.stderr.write(f"\rat turn {self.positions.turn(position):o} of {self.positions.turns:o}\x1b[K")
+            sys.stderr.write(f"\rat turn {self.tape.turn(position):o} of {self.tape.turns:o}\x1b[K")
             sys.stderr.flush()
 
     def end(self):
@@ -37,24 +40,23 @@ class Progress:
             sys.stderr.flush()
 
 
-def place_of(words):
+def place_of(words, symbols):
     """Returns the place that words begin with, and the words after it."""
-    place, rest = Place.first_of(words, ("XP", "LP"))
+    place, rest = first_place(words, symbols, ("XP", "LP"))
     if not place.exists:
         raise Failure(f"there is no {place.short}")
     return place, rest
 
 
-def origin_lines(words, actions, place, turn=None, most_steps=MOST_STEPS, with_addresses=False):
-    """Returns the lines of the origin of the number at a place after so many turns, or at the end of the actions of a history. The
-    words are the program and its options."""
-    replayer = Replayer(words, actions)
-    positions = replayer.positions
-    if place.kind == "C" and place.numbers[0] >= replayer.size:
-        raise Failure(f"there is no {place.short}: central memory has {replayer.size:o} words (octal)")
-    position, progress = positions.end if turn is None else positions.after_turn(turn), Progress(positions)
-    rows = origin_rows(replayer, place, position, most_steps, with_addresses, progress.show)
-    replayer.end()
+def origin_lines(words, tape, place, turn=None, most_steps=MOST_STEPS, with_addresses=False, symbols=AllSymbols()):
+    """Returns the lines of the origin of the number at a place after so many turns of a tape, or at its end. The words are the program
+    and its options."""
+    run = Replay(words, tape)
+    if place.kind == "C" and place.numbers[0] >= run.central_size:
+        raise Failure(f"there is no {place.short}: central memory has {run.central_size:o} words (octal)")
+    position, progress = tape.end if turn is None else tape.after_turn(turn), Progress(tape)
+    rows = origin_rows(run, place, position, most_steps, with_addresses, progress.show, symbols=symbols)
+    run.end()
     progress.end()
     return [line for _, line in rows]
 
@@ -66,11 +68,13 @@ def main():
                         help="follow the sources until N steps by processors are found, octal (40)")
     parser.add_argument("--all", action="store_true", help="follow all sources to their ends")
     parser.add_argument("--addresses", action="store_true", help="follow also the cells and registers that addresses came from")
+    add_symbols(parser)
     parser.add_argument("words", nargs="*", metavar="PLACE [SCRIPT]", help="without a script, standard input is it")
     asked = parser.parse()
-    place, rest = place_of(asked.words)
+    words, symbols = simulator(asked), symbols_of(asked)
+    place, rest = place_of(asked.words, symbols)
     (script,) = words_after(rest, 1, "give one place, one script")
-    words = simulator(asked)
-    run = performed(words, numbered(script_lines(script)))
-    write_lines(origin_lines(words, run.actions, place, asked.turn, None if asked.all else asked.depth, asked.addresses))
-    return run.status()
+    done = performed(words, numbered(symbols.loading(script_lines(script))))
+    most_steps = None if asked.all else asked.depth
+    write_lines(origin_lines(words, done.tape, place, asked.turn, most_steps, asked.addresses, symbols))
+    return done.status()

@@ -5,11 +5,12 @@ import os
 import re
 import time
 
-from ..answers import KINDS
+from ..core.forms import KINDS
 from ..failure import Failure
 from ..keyboard import FIRST_WORDS, card
 from ..timeline import REPLAYED
 from ..listing import AllSymbols
+from ..moments import text_of
 from .keys import LINES, Facts, help_lines
 from .origins import Origin, OriginPage
 from .page import Page
@@ -107,7 +108,7 @@ class Panel:
             return self.page.screen(self.columns, self.rows)
         session = self.session
         shown = Shown(session.state, session.before, self.view, session.history.turns,
-                      session.history.kept.count, session.history.to_redo, session.size, session.log, self.message,
+                      session.history.kept, session.history.to_redo, session.size, session.log, self.message,
                       self.prompt and self.prompt.shown(), self.symbols)
         return screen(shown, self.columns, self.rows)
 
@@ -132,7 +133,7 @@ class Panel:
         count, self.count, self.message = self.count, "", ""
         asked, self.is_asked_to_quit = self.is_asked_to_quit, False
         key = LETTERS.get(key, key)
-        if key.isdigit() and len(key) == 1:
+        if key.isdecimal() and key.isascii():
             self.add_to_count(count, key)
         elif key in CANCEL:
             self.message = "" if count else "q quits, ? shows all keys"
@@ -218,9 +219,9 @@ class Panel:
         self.send(LINES[key](facts, count))
 
     def send(self, lines):
-        """Sends lines, but asks before the first of them discards what is ahead."""
+        """Sends lines, but asks before the first of them discards what is ahead, unless it will be refused."""
         ahead, word = self.session.history.to_redo, first_word(lines[0])
-        if ahead and word in NEW_ACTIONS:
+        if ahead and word in NEW_ACTIONS and not self.guard(self.session.would_refuse, lines[0]):
             self.asked = lines
             self.message = f"{lines[0]} discards the {ahead:o} actions ahead: y sends it, any other key does not"
         else:
@@ -317,7 +318,7 @@ class Panel:
         if found is None:
             self.message = f"NONE: {text}, {where}"
         else:
-            self.show_turn(found.turn, [found.text(self.symbols)])
+            self.show_turn(found.turn, [text_of(found, self.symbols)])
 
     def report_search(self, turn):
         """Shows now and then how far a search is, and ends it if the operator stops it."""
@@ -375,6 +376,6 @@ class Panel:
         if not path:
             raise Failure("w FILE saves what was sent: name a file")
         self.session.save(os.fsdecode(path.encode("latin-1")), over)
-        later = self.session.history.later.count
+        later = self.session.history.to_redo - self.session.history.ahead
         without = f", without the last {later:o} actions ahead" if later else ""
         self.message = f"{len(self.session.sent)} (decimal) lines are saved in {path}{without}"

@@ -2,8 +2,7 @@
 
 from typing import Callable, NamedTuple
 
-from ..answers import PROCESSORS
-from ..console import MOST_TURNS
+from ..core.forms import MOST_TURNS, PROCESSORS
 
 ROUND = PROCESSORS  # turns
 
@@ -64,11 +63,11 @@ def back_to(facts, count):
 def back_to_change(facts, count):
     """With nothing watched it is the number at the cursor that is looked for."""
     watch = [] if facts.watched else toggle_watch(facts, count)
-    return watch + ["BACK W"] * min(count, facts.history.kept.count + 1)  # each one but a refused one undoes an action
+    return watch + ["BACK W"] * min(count, facts.history.kept + 1)  # each one but a refused one undoes an action
 
 
 def to_beginning(facts, count):
-    return [counted("BACK", facts.history.to_undo or 1)]
+    return [counted("BACK", facts.history.position or 1)]
 
 
 def to_newest(facts, count):

@@ -1,7 +1,7 @@
 """Shows the live machine on a full screen, and steps it forward and back by keys."""
 
 from ..command_line import Failure, arguments, octal, script_lines, simulator, words_after
-from ..listing import add_symbols, symbols_of
+from ..sources import add_symbols, symbols_of
 from .app import Panel
 from .session import Session
 
@@ -22,8 +22,9 @@ def main():
     except ImportError:
         raise Failure("this Python has no module curses, so it can't draw on a terminal; the tool talk needs none") from None
     terminal.check()
-    lines = [] if script is None else script_lines(script)
-    panel = Panel(Session(simulator(asked)), symbols_of(asked))
+    symbols = symbols_of(asked)
+    lines = symbols.loading([] if script is None else script_lines(script))
+    panel = Panel(Session(simulator(asked)), symbols)
     ended_by = terminal.run(panel, lines, asked.turn)
     if panel.fault:
         raise Failure(panel.fault)

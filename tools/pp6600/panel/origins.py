@@ -1,8 +1,7 @@
 """Where the number at the cursor came from: a page of steps. The search has a simulator of its own, so the session stays as it is."""
 
-from ..answers import Place
-from ..history import without_watches
-from ..origin.positions import Replayer
+from ..core.forms import Place
+from ..core.simulator import Replay
 from ..origin.text import origin_rows
 from .page import Page
 from .screen import Screen, is_too_small
@@ -19,25 +18,23 @@ class Origin:
         number of turns; it may raise an exception to end the search."""
         history = session.history
         self.history, self.place = history, Place.parse(place)
-        replayer = Replayer(session.simulator.words, history.in_effect())
-        self.positions = positions = replayer.positions
+        run = Replay(session.simulator.words, history.in_effect())
+        self.tape = tape = run.tape
         try:
-            self.rows = origin_rows(replayer, self.place, positions.end, MOST_STEPS, False,
-                                    lambda position: progress(positions.turn(position), positions.turns))
+            self.rows = origin_rows(run, self.place, tape.end, MOST_STEPS, False, lambda position: progress(tape.turn(position), tape.turns))
         finally:
-            replayer.end()
+            run.close()
 
     def undone(self, step):
         """Returns how many actions BACK has to undo, up to before the action that wrote a number; None if none did."""
         if step is None or not step.position:
             return None
-        left, count = self.positions.end - step.position + 1, 0
-        for run in reversed(self.history.in_effect()):
+        left, count = self.tape.end - step.position + 1, 0
+        for action in reversed(self.history.in_effect().runs):
             if not left:
                 break
-            is_watch = not without_watches([run])
-            count += run.times if is_watch else min(run.times, left)
-            left -= 0 if is_watch else min(run.times, left)
+            count += action.times if action.is_watch else min(action.times, left)
+            left -= 0 if action.is_watch else min(action.times, left)
         return count
 
 

@@ -1,6 +1,6 @@
 """The memory of the chosen processor as instructions, and what the next one does."""
 
-from ..answers import CELLS
+from ..core.forms import CELLS
 from ..disassembly import window
 from ..display_code import text_of
 from ..sentences import sentence

@@ -1,5 +1,6 @@
 """What the panel says of the lines that were sent, beside their answers."""
 
+from ..core.forms import Place
 from ..reasons import reason
 from ..timeline import REPLAYED
 from .next_change import next_change
@@ -18,7 +19,7 @@ def remarks(session, outcome, place):
     if kind != "BACK":
         return [f"the {outcome.discarded:o} actions ahead are discarded"] if outcome.discarded else []
     is_to_change = session.log[-1][0].upper().split() == ["BACK", "W"]
-    change = [next_change(session, outcome.watched or [place])] if is_to_change else []
+    change = [next_change(session, [Place.parse(one) for one in outcome.watched or [place]])] if is_to_change else []
     replayed = [f"{REPLAYED} in a fresh simulator"] if REPLAYED in outcome.answer else []
     undone = [watched for watched in outcome.watched if watched not in session.watched()]
     return change + replayed + [f"WATCH {watched} is undone too" for watched in undone[:1]]

@@ -3,9 +3,9 @@
 from dataclasses import dataclass, field
 from typing import Optional
 
-from ..answers import CELLS, ROW
+from ..core.forms import CELLS, ROW
 from ..listing import AllSymbols
-from ..machine_state import MachineState
+from ..core.state import State
 from .program import program_lines, sentence_line
 from .text import (
     CHANGED, CHOSEN, CURSOR, HEAD, HERE, REFUSED, SLOT, TITLE, WATCHED, Line, beside, in_height, last_in)
@@ -24,8 +24,8 @@ HINTS = "s step  b back  G turn  g cursor  W who changed it  i program  ? help  
 class Shown:
     """All that a screen shows. `before` is the state before the last action; the log has lines with their answers."""
 
-    state: MachineState
-    before: MachineState
+    state: State
+    before: State
     view: View
     turn: int = 0  # how many turns are in effect
     kept: int = 0

@@ -1,8 +1,9 @@
 """The turns at which a condition comes to hold, before the present turn and after it. A simulator of its own searches them."""
 
 from ..conditions import Condition
-from ..history import STEP, Action, without_watches
-from ..until import first_found, last_found
+from ..core.seek import Search, last_moments
+from ..core.simulator import Replay
+from ..core.tape import STEP, Tape
 
 MOST_NEW = 0o10000000  # turns that are searched after those that were made
 
@@ -14,13 +15,20 @@ class Stopped(Exception):
 def next_found(session, text, symbols, progress):
     """Returns the first turn after the present one at whose end the condition holds, and at whose beginning it did not: one
     that was made, or a new one. Returns None if there is none."""
-    actions = without_watches([*session.history.all(), Action(STEP, MOST_NEW)])
-    condition = Condition.parse(text, symbols)
-    return next(first_found(session.simulator.words, actions, condition, session.history.turns, 1, progress), None)
+    tape = Tape(session.history.tape.runs)
+    tape.append(STEP, MOST_NEW)
+    run = Replay(session.simulator.words, tape)
+    try:
+        return next(Search(run, Condition.parse(text, symbols), progress).moments(session.history.turns), None)
+    finally:
+        run.close()
 
 
 def last_before(session, text, symbols, progress):
     """As `next_found`, the last turn before the present one."""
-    actions = without_watches(session.history.all())
-    found = last_found(session.simulator.words, actions, Condition.parse(text, symbols), 0, 1, session.history.turns - 1, progress)
+    run = Replay(session.simulator.words, session.history.tape)
+    try:
+        found = last_moments(run, Condition.parse(text, symbols), 1, 0, session.history.turns - 1, progress)
+    finally:
+        run.close()
     return found[0] if found else None

@@ -3,11 +3,11 @@
 import os
 from typing import NamedTuple
 
-from ..answers import Place
-from ..console import MOST_TURNS, has_no_answer
+from ..core.forms import MOST_TURNS, is_refusal
+from ..core.simulator import Console, has_no_answer
 from ..failure import Failure
-from ..machine_state import MachineState, questions
-from ..origin.positions import ScriptLine
+from ..core.state import state_of
+from ..core.tape import ScriptLine
 from ..timeline import Timeline
 
 NEW = ("OK", "TURNS")  # the first words of answers to lines that discard what is ahead
@@ -68,15 +68,14 @@ class Session:
     def read(self):
         """Returns the machine's state."""
         first, last = self.central
-        asked = questions((max(first - ALLOWANCE, 0), min(last + ALLOWANCE, self.size - 1)))
-        state = MachineState(self.simulator.ask_all(asked))
+        state = state_of(self.simulator, (max(first - ALLOWANCE, 0), min(last + ALLOWANCE, self.size - 1)))
         for address in state.missing_central():
-            state.add_central(self.simulator.central(address, address)[0].split()[1:])
+            state.add_central(self.simulator.central(address, address))
         return state
 
     def watched(self):
         """Returns the watched places."""
-        return [Place.parse(watch.place).short for watch in self.state.watches]
+        return [place.short for place in self.state.watched]
 
     def look_at_central(self, first, rows):
         """Sees that the state has so many central words from the first on."""
@@ -94,10 +93,19 @@ class Session:
                         return int(line.split()[1], 8)
         return None
 
+    def would_refuse(self, line):
+        """Returns whether a new action would be refused: whether another simulator, which watches the same places, refuses it."""
+        other = Console(self.simulator.words)
+        try:
+            *_, answer = other.ask_each([*(f"WATCH {place}" for place in self.watched()), line])
+        finally:
+            other.close()
+        return is_refusal(answer)
+
     def send(self, line):
         """Sends a line, and returns its answer."""
         self.lines_sent += 1
-        answer = self.simulator.move(ScriptLine(line, self.lines_sent))
+        answer = self.simulator.act_by_move(ScriptLine(line, self.lines_sent))
         if line.strip():
             self.log_line(line, answer)
         return answer

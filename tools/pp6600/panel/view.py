@@ -3,7 +3,7 @@
 import re
 from dataclasses import dataclass
 
-from ..answers import CELLS, CLOCK, KINDS, PROCESSORS, ROW
+from ..core.forms import CELLS, CLOCK, KINDS, PROCESSORS, ROW
 from ..disassembly import moved
 from ..failure import Failure
 from .program import present, program_of, rows_of

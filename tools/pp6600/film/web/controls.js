@@ -49,7 +49,7 @@ function showChosen() {
   setText(byId("next-change"), `${first && next > 0 ? "first" : "next"} change ]`);
 }
 
-const whenText = (moment) => (film.kinds[moment] === TURN ? `turn ${octal(film.turn[moment])}` : `before turn ${octal(film.turn[moment] + 1)}`);
+const whenText = (moment) => (isTurn(moment) ? `turn ${octal(film.turn[moment])}` : `before turn ${octal(film.turn[moment] + 1)}`);
 
 function moveToChange(direction) {
   if (!shown.chosen) return;
@@ -284,7 +284,9 @@ function build() {
 
 async function openFilm() {
   const [about, heads, places, growths, writes] = await unpack(byId("film").textContent);
-  film = { ...about, at: 0, phaseMarks: [] };
+  film = { ...about, at: 0 };
+  film.next = film.next.map(([name, second, block, waits, sentence]) => (
+    { name, second, block: block && { issued: block[0], address: block[1], back: block[2] }, waits, sentence }));
   film.jumps = new Map(about.jumps.map(([moment, target, turn]) => [moment, [target, turn]]));
   film.centralIndex = new Map(film.central.map((address, at) => [address, at]));
   film.count = heads.length;

@@ -18,8 +18,8 @@ function stretches(kindAt) {
 
 // The lane of a processor; it is quiet if it only passes, or only waits.
 function processorLane(n) {
-  const isTurn = (moment) => film.kinds[moment] === TURN && film.processor[moment] === n;
-  const lane = stretches((moment) => (isTurn(moment) ? film.did[moment] : moment ? null : IDLE));
+  const isOfIt = (moment) => isTurn(moment) && film.processor[moment] === n;
+  const lane = stretches((moment) => (isOfIt(moment) ? film.kinds[moment] : moment ? null : IDLE));
   const waits = lane.kinds.includes(WAITING), passes = lane.kinds.lastIndexOf(IDLE) > 0;
   const isQuiet = lane.kinds.every((kind) => kind < BUSY) && !(waits && passes);
   return { name: `PP ${two(n)}`, ...lane, quiet: isQuiet && (waits ? "only waiting" : "only passing") };
@@ -37,10 +37,10 @@ function channelLanes() {
       lanesOfChannels[c].kinds.push(film.now[at]);
     }
   }
-  const firstTurn = film.kinds.indexOf(TURN);
+  const firstTurn = film.kinds.findIndex((kind) => kind < LINE);
   for (const lane of lanesOfChannels) {
     const last = lane.kinds.length - 1;
-    lane.quiet = lane.begins[last] < firstTurn && `always ${STATE_NAMES[lane.kinds[last]]}`;
+    lane.quiet = lane.begins[last] < firstTurn && `always ${film.states[lane.kinds[last]][1]}`;
   }
   return lanesOfChannels.filter((lane) => lane.kinds.some((kind) => kind > 0));
 }
@@ -200,7 +200,7 @@ function showHead() {
   head.style.left = `${LABEL + pixelOf(film.at + 0.5)}px`;
 }
 
-const LOOKS = ["passes, or inactive", "waits, or empty", "busy, or full", "block transfer, or function"];
+const LOOKS = ["passes", "waits", "busy", "block transfer"]; // each also the state of a channel
 
 function buildLegend() {
   LOOKS.forEach((text, kind) => {
@@ -208,7 +208,7 @@ function buildLegend() {
     canvas.width = 22;
     canvas.height = LANE;
     canvas.dataset.kind = kind;
-    entry.append(canvas, ` ${text}`);
+    entry.append(canvas, ` ${text}, or ${film.states[kind][1]}`);
     byId("legend").append(entry);
   });
 }

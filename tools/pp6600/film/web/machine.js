@@ -77,16 +77,15 @@ function buildProcessors() {
 
 function showProcessors() {
   processorRows.forEach(({ row, words, mark, name, wait }, n) => {
-    const p = film.numbers[register(n, 0)], phase = film.numbers[register(n, 3)];
-    const word = phase || film.numbers[n * CELLS + p];
+    const p = film.numbers[register(n, 0)], next = nextOf(n);
     const isNext = film.numbers[film.layout.slot] === n;
     words.forEach((button, at) => setPlace(button, `M ${two(n)} ${four((p + at) % CELLS)}`));
-    words[1].hidden = Boolean(phase) || !film.two_words.includes(word >> 6);
+    words[1].hidden = !next.second;
     setText(mark, isNext ? ">" : "");
-    setText(name, `${film.names[word >> 6]} ${two(word & 0o77)}${phase ? " in its block" : ""}`);
-    setText(wait, waitText(n));
+    setText(name, next.block ? `${next.name} in its block` : next.name);
+    setText(wait, next.waits);
     row.classList.toggle("next", isNext);
-    row.classList.toggle("acted", film.kinds[film.at] === TURN && film.processor[film.at] === n);
+    row.classList.toggle("acted", isTurn(film.at) && film.processor[film.at] === n);
   });
 }
 
@@ -107,7 +106,7 @@ function buildChannels() {
 function showChannels() {
   channelRows.forEach(({ row, state }, c) => {
     const number = c < CHANNELS ? film.numbers[film.layout.states + c] : 2;
-    setText(state, STATE_NAMES[number]);
+    setText(state, film.states[number][1]);
     row.classList.toggle("quiet", number === 0);
   });
 }
@@ -162,8 +161,8 @@ function showCell(processor, address, always) {
 // The processor of the latest turn, but for one that passed or whose lane is quiet; or one that a line has set since.
 function processorOfTurn() {
   for (let at = resolve(film.at); at > 0; at = resolve(at - 1)) {
-    const isTurn = film.kinds[at] === TURN, processor = isTurn ? film.processor[at] : processorSet(at);
-    if (isTurn ? film.did[at] !== IDLE && !lanes.all[processor].quiet : processor >= 0) return processor;
+    const processor = isTurn(at) ? film.processor[at] : processorSet(at);
+    if (isTurn(at) ? film.kinds[at] !== IDLE && !lanes.all[processor].quiet : processor >= 0) return processor;
   }
   return 0;
 }

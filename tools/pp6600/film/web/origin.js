@@ -1,5 +1,7 @@
 // ---- where a number came from
 
+// What a write of a turn is: a bit each, and above them the number of its constant.
+const MOVED = 1, BY_DEVICE = 2, AGAIN = 4, AT_END = 8, CONSTANT_FROM = 4;
 const MOST_STEPS = 32;
 const HAVE_AN_ORIGIN = ["M", "A", "P", "Q", "H", "C", "XP"];
 
@@ -21,7 +23,7 @@ function fillWrites(numbers) {
     }
     starts[moment + 1] = places.length;
   }
-  film.writes = { starts, places: Int32Array.from(places), whats: Uint8Array.from(whats), firsts: Uint32Array.from(firsts),
+  film.writes = { starts, places: Int32Array.from(places), whats: Int32Array.from(whats), firsts: Uint32Array.from(firsts),
     sources: Int32Array.from(sources), parts: Uint8Array.from(parts) };
 }
 
@@ -36,7 +38,7 @@ function lastWrite(place, moment) {
   const { starts, places } = film.writes;
   let at = resolve(moment);
   for (; at > 0; at = resolve(at - 1)) {
-    if (place === film.layout.clock && film.kinds[at] === TURN && changedIn(at, place, place)) return { moment: at, write: -1 };
+    if (place === film.layout.clock && isTurn(at) && changedIn(at, place, place)) return { moment: at, write: -1 };
     for (let write = starts[at + 1] - 1; write >= starts[at]; write--) if (places[write] === place) return { moment: at, write };
   }
   return { moment: at, write: -1 };
@@ -46,22 +48,20 @@ function lastWrite(place, moment) {
 function sourcesOf(write, wanted) {
   const { firsts, sources, parts, places, whats } = film.writes, first = firsts[write];
   const all = [...sources.subarray(first, firsts[write + 1])].map((place, at) => ({ place, parts: parts[first + at] }));
-  if (!wanted || !(whats[write] & 1) || !isWord(places[write])) return all;
+  if (!wanted || !(whats[write] & MOVED) || !isWord(places[write])) return all;
   if (all.length > 1) return all.filter((_, at) => wanted & (1 << at));
   return all.map(({ place, parts: some }) => ({ place, parts: some ? some & wanted : wanted })).filter((one) => one.parts);
 }
 
-const isTurnStep = (step) => step.moment > 0 && film.kinds[step.moment] === TURN && step.write >= 0;
-const isDevice = (step) => isTurnStep(step) && (film.writes.whats[step.write] & 2) !== 0;
+const isTurnStep = (step) => step.moment > 0 && isTurn(step.moment) && step.write >= 0;
+const is = (step, what) => (film.writes.whats[step.write] & what) !== 0;
+const isDevice = (step) => isTurnStep(step) && is(step, BY_DEVICE);
 
-// Whether a step is the same instruction counting the same place once more.
-function countsAgain(step, sources, earlier) {
-  const { moment } = step, other = earlier.moment;
-  return sources.length === 1 && sources[0].place === step.place && !(film.writes.whats[step.write] & 3) && earlier.write >= 0
-    && film.kinds[other] === TURN && film.writes.whats[earlier.write] === film.writes.whats[step.write]
-    && film.processor[other] === film.processor[moment] && film.word[other] === film.word[moment]
-    && film.inBlock[other] === film.inBlock[moment]
-    && (film.inBlock[moment] ? issueOf(other) === issueOf(moment) : film.p[other] === film.p[moment]);
+// Whether a device changed a place in a turn, and not the processor.
+function isByDevice(moment, place) {
+  const { starts, places, whats } = film.writes;
+  for (let at = starts[moment]; at < starts[moment + 1]; at++) if (places[at] === place && whats[at] & BY_DEVICE) return true;
+  return false;
 }
 
 // The step that wrote a place, with the steps of its sources, the latest first, up to so many.
@@ -82,16 +82,15 @@ function originOf(place, moment) {
   return root;
 }
 
+// Notes the sources of a step. It is one step with those before it in which the same instruction counted the same place.
 function follow(step) {
-  const sources = isDevice(step) ? [] : sourcesOf(step.write, step.parts);
   let last = step;
-  for (;;) {
-    const earlier = sources.length === 1 ? lastWrite(sources[0].place, last.moment - 1) : null;
-    if (!earlier || !countsAgain(step, sources, earlier)) break;
-    last = earlier;
+  while (is(last, AGAIN)) {
+    last = lastWrite(step.place, last.moment - 1);
     step.times++;
-    step.earliest = earlier.moment;
+    step.earliest = last.moment;
   }
+  const sources = isDevice(step) ? [] : sourcesOf(step.write, step.parts);
   step.links = sources.map((source) => ({ ...source, ...lastWrite(source.place, last.moment - 1) }));
 }
 
@@ -104,13 +103,10 @@ function atMoment(moment, ask) {
   return answer;
 }
 
-// The card and the column that the reader put on its channel in a turn, or null for a status.
+// The card and the column that the reader put on its channel in a turn, or null.
 function columnOf(step) {
-  if (!isDevice(step) || step.place !== film.layout.words + film.reader) return null;
-  return atMoment(step.moment, () => {
-    const { reader } = film.layout, isReading = film.modes.reader[film.numbers[reader + 2]] === "READING";
-    return isReading && { card: film.numbers[reader], column: film.numbers[reader + 1] - 1 };
-  }) || null;
+  const [source] = isDevice(step) ? sourcesOf(step.write, 0) : [], at = source && source.place - film.first_column;
+  return source ? { card: Math.floor(at / film.columns), column: at % film.columns } : null;
 }
 
 const PART_NAMES = (parts) => [0, 1, 2, 3, 4].filter((part) => parts & (1 << part)).join(" ");
@@ -118,13 +114,6 @@ const PART_NAMES = (parts) => [0, 1, 2, 3, 4].filter((part) => parts & (1 << par
 function sourceText(link) {
   const name = nameOfWritten(link.place);
   return isWord(link.place) && link.parts ? `${name} part ${PART_NAMES(link.parts)}` : name;
-}
-
-function constantText(step) {
-  const name = film.constants[(film.writes.whats[step.write] >> 2) & 15], { moment } = step;
-  const d = two(film.word[moment] & 0o77), m = four(film.second[moment]);
-  return { "": "", d: `the constant ${d}`, m: `the constant ${m}`, dm: `the constant ${d}${m}`, return: "the return address",
-    zero: "zero", "no central word": "zero, past the last central word" }[name] || "";
 }
 
 // What wrote a step's number, in words.
@@ -144,9 +133,9 @@ function causeText(step) {
     return `${whenText(step.moment)}, the card reader, card ${four(column.card)} column ${octal(column.column, 3)}`;
   }
   const times = step.times > 1 ? `, ${octal(step.times)} times since ${whenText(step.earliest)}` : "";
-  const names = [...step.links.map(sourceText), constantText(step)].filter(Boolean).join(" and ") || "zero";
-  const isEnd = film.inBlock[step.moment] && step.place === register(film.processor[step.moment], 0);
-  const verb = isEnd ? "at its end, of " : !(film.writes.whats[step.write] & 1) ? "of " : step.links.length ? "from " : "";
+  const constant = film.constants[film.writes.whats[step.write] >> CONSTANT_FROM];
+  const names = [...step.links.map(sourceText), constant].filter(Boolean).join(" and ") || "zero";
+  const verb = is(step, AT_END) ? "at its end, of " : !is(step, MOVED) ? "of " : step.links.length ? "from " : "";
   return `${whenText(step.moment)}, ${turnText(step.moment)}${times}, ${verb}${names}`;
 }
 
@@ -227,7 +216,7 @@ function showOriginHere() {
 function drawOrigin(context, colours, drawn) {
   const dotOf = ({ moment, write, place }) => {
     if (moment <= 0 || moment < lanes.from || moment >= lanes.to) return null;
-    const name = film.kinds[moment] !== TURN ? "lines" : isDevice({ moment, write }) ? nameOf(place) : `PP ${two(film.processor[moment])}`;
+    const name = !isTurn(moment) ? "lines" : isDevice({ moment, write }) ? nameOf(place) : `PP ${two(film.processor[moment])}`;
     const lane = name === "lines" ? 0 : 1 + drawn.findIndex((one) => one.name === name);
     return (lane || name === "lines") && { x: LABEL + pixelOf(moment + 0.5), y: GAP + lane * (LANE + GAP) + LANE / 2 };
   };

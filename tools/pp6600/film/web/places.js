@@ -41,7 +41,7 @@ const DIGITS = { A: 6, SYMBOLS: 6, "CARD-COLUMN": 3, "PAPER-COLUMN": 3, SLOT: 2 
 // The text of the number at a place, from the halves or the one number.
 function textOf(kind, numbers) {
   if (kind === "C" || kind === "XP") return octal(numbers[0] || 0, 10) + octal(numbers[1] || 0, 10);
-  if (kind === "STATE") return STATES[numbers[0]];
+  if (kind === "STATE") return film.states[numbers[0]][0];
   if (kind in MODES) return film.modes[MODES[kind]][numbers[0]];
   if (kind === "PAPER") return `${paperText(numbers[0]).length} (decimal) symbols`;
   if (kind === "WATCHES") return film.watches[numbers[0]].join(", ") || "NONE";
@@ -55,6 +55,7 @@ function nameOf(place) {
   const layout = film.layout, at = (first) => place - layout[first];
   if (place >= layout.central) return `C ${octal(film.central[at("central") >> 1], 6)}`;
   if (place >= layout.watches) return "WATCHES";
+  if (place >= layout.next) return "";
   if (place >= layout.slot) return "SLOT";
   if (place >= layout.paper) return "PAPER";
   if (place >= layout.printer) return ["SYMBOLS", "PAPER-COLUMN", "PAPER-MODE"][at("printer")];
@@ -69,37 +70,24 @@ function nameOf(place) {
 
 // ---- what happened, in words
 
-function instructionText(word, second) {
-  const code = word >> 6, d = two(word & 0o77);
-  return film.two_words.includes(code) ? `${film.names[code]} ${d} ${four(second)}` : `${film.names[code]} ${d}`;
-}
-
-// The turn that issued the block transfer in which a processor is before a moment.
-function issueOf(moment) {
-  const marks = film.phaseMarks[film.processor[moment]] ||= momentsThatChanged([register(film.processor[moment], 3)]);
-  return changeBefore(marks, moment - 1);
-}
+// What a turn was before it was made: see nextOf.
+const turnOf = (moment) => film.next[film.turned[moment]];
 
 function turnText(moment) {
-  const who = `PP ${two(film.processor[moment])}`;
-  if (!film.inBlock[moment]) return `${who}, ${instructionText(film.word[moment], film.second[moment])} at ${named(film.processor[moment], film.p[moment])}`;
-  const issue = issueOf(moment);
-  const name = `${film.names[film.word[moment] >> 6]} ${two(film.word[moment] & 0o77)}`;
-  return `${who}, in the block of ${name}` + (issue && film.kinds[issue] === TURN ? ` at ${named(film.processor[moment], film.p[issue])}` : "");
+  const n = film.processor[moment], { name, second, block } = turnOf(moment);
+  if (!block) return `PP ${two(n)}, ${`${name} ${second}`.trim()} at ${named(n, film.p[moment])}`;
+  return `PP ${two(n)}, in the block of ${name}` + (block.issued === null ? "" : ` at ${named(n, block.issued)}`);
 }
 
-// Who may have changed a place in a turn, beside the processor.
+// Who changed a place.
 function makerText(moment, place) {
-  if (film.kinds[moment] !== TURN) return `the line ${lineOf(moment).text.trim()}`;
+  if (!isTurn(moment)) return `the line ${lineOf(moment).text.trim()}`;
   const name = nameOf(place), kind = name.split(" ")[0];
   if (kind === "SLOT" || name === "H 14") return `the barrel, after PP ${two(film.processor[moment])}`;
   if (kind.startsWith("CARD")) return "the card reader";
   if (kind === "SYMBOLS" || kind.startsWith("PAPER")) return "the printer";
   const device = kind === "H" || kind === "STATE" ? film.devices[parseInt(name.split(" ")[1], 8)] : "";
-  if (!device) return turnText(moment);
-  const word = film.word[moment], channel = parseInt(name.split(" ")[1], 8);
-  const touched = (word >> 6) in film.waits_for && (word & 0o77) === channel && film.did[moment] !== WAITING;
-  return touched ? `${turnText(moment)}; or the ${device} in that turn` : `the ${device}`;
+  return device && isByDevice(moment, place) ? `the ${device}` : turnText(moment);
 }
 
 const lineOf = (moment) => film.lines[film.lineAt[moment]];
@@ -107,7 +95,7 @@ const lineOf = (moment) => film.lines[film.lineAt[moment]];
 function actionText(moment) {
   const kind = film.kinds[moment];
   if (moment === 0) return film.turns_before ? "The film begins here" : "The beginning";
-  if (kind === TURN) return `${turnText(moment)}${film.did[moment] === WAITING ? ", waits" : ""}`;
+  if (isTurn(moment)) return `${turnText(moment)}${kind === WAITING ? ", waits" : ""}`;
   if (kind === LINE) return `The line ${lineOf(moment).text.trim()}`;
   const target = film.jumps.get(moment)[0];
   const where = target < 0 ? "before the film begins" : "as it was then";
@@ -119,7 +107,7 @@ function changesOf(moment) {
   const changes = new Map();
   for (let at = film.starts[moment]; at < film.starts[moment + 1]; at++) {
     const name = nameOf(film.places[at]);
-    if (name !== "SLOT" && name !== "PAPER") changes.set(name, at);
+    if (name && name !== "SLOT" && name !== "PAPER") changes.set(name, at);
     if (changes.size > 40) break;
   }
   return [...changes.keys()].map((name) => ({ name, text: changeText(name, moment) }));
@@ -135,21 +123,6 @@ function changeText(name, moment) {
 function numberIn(moment, place, row) {
   for (let at = film.starts[moment]; at < film.starts[moment + 1]; at++) if (film.places[at] === place) return row[at];
   return film.numbers[place];
-}
-
-// The state of a channel as it is; the clock is always full, and a block takes a channel that is not there for another one.
-function stateOf(channel, inBlock) {
-  if (channel < CHANNELS) return STATES[film.numbers[film.layout.states + channel]];
-  return channel === CLOCK ? "F" : film.not_there[inBlock ? 1 : 0];
-}
-
-// For what a processor waits before its next turn, or "".
-function waitText(processor) {
-  const numbers = film.numbers, phase = numbers[register(processor, 3)];
-  const word = phase || numbers[processor * CELLS + numbers[register(processor, 0)]];
-  const code = word >> 6, channel = word & 0o77, goesOn = (phase ? film.blocks : film.completes)[code];
-  if (!goesOn || (phase && numbers[register(processor, 1)] === 0) || goesOn.includes(stateOf(channel, phase))) return "";
-  return `${two(channel)} ${channel < CLOCK ? film.waits_for[code] : "never"}`;
 }
 
 const papers = new Map([[0, ""]]);

@@ -1,10 +1,9 @@
 // A film in the browser: the numbers of the machine are one row of places, and each moment of the film has a list of the places that it
 // changed, with their numbers before and after it. So the page goes to and fro over any distance without computing a turn.
 
-const TURN = 0, LINE = 1, JUMP = 2; // the kinds of a moment: a turn, another action, a BACK or FORWARD
-const IDLE = 0, WAITING = 1, BUSY = 2, BLOCK = 3; // what a processor did in a turn
+// The kinds of a moment: what a processor did in a turn; another action; a BACK or FORWARD.
+const IDLE = 0, WAITING = 1, BUSY = 2, BLOCK = 3, LINE = 4, JUMP = 5;
 const PROCESSORS = 10, CHANNELS = 12, CLOCK = 12, CELLS = 4096, ROUND = 10, FRAME_WORDS = 16;
-const STATES = "IEFX", STATE_NAMES = ["inactive", "empty", "full", "function"];
 const RATES = [1, 8, 64, 512, 4096];
 
 let film; // what the page is made of; see openFilm
@@ -39,6 +38,7 @@ function numbersOf(bytes) {
   return numbers;
 }
 
+const isTurn = (moment) => film.kinds[moment] < LINE;
 const signed = (number) => (number % 2 ? -(number + 1) / 2 : number / 2);
 
 async function unpack(text) {
@@ -53,19 +53,21 @@ async function unpack(text) {
 // Fills the rows of the film: of each moment its kind and its first change, of each change its place and its numbers.
 function fillRows(heads, places, growths) {
   film.count = heads.length;
-  film.kinds = Uint8Array.from(heads, (head) => head & 3);
+  film.kinds = Uint8Array.from(heads, (head) => head & 7);
   film.starts = new Uint32Array(heads.length + 1);
   film.places = new Int32Array(places.length);
   film.was = new Int32Array(places.length);
   film.now = new Int32Array(places.length);
   film.numbers = new Int32Array(film.layout.central + 2 * film.central.length);
-  heads.forEach((head, moment) => fillMoment(moment, head >> 2, places, growths));
+  heads.forEach((head, moment) => fillMoment(moment, head >> 3, places, growths));
 }
 
 function fillMoment(moment, count, places, growths) {
   const first = film.starts[moment];
   let place = 0;
-  before(moment);
+  film.processor[moment] = film.numbers[film.layout.slot];
+  film.p[moment] = film.numbers[register(film.processor[moment], 0)];
+  film.turned[moment] = film.numbers[film.layout.next + film.processor[moment]];
   for (let at = first; at < first + count; at++) {
     place += places[at];
     film.places[at] = place;
@@ -82,35 +84,20 @@ const register = (processor, index) => film.layout.registers + 4 * processor + i
 
 function makeTables() {
   film.processor = new Uint8Array(film.count); // whose turn it was
-  film.word = new Uint16Array(film.count); // the instruction, in a block transfer that of the transfer
-  film.second = new Uint16Array(film.count);
-  film.p = new Uint16Array(film.count); // P before
-  film.inBlock = new Uint8Array(film.count);
-  film.did = new Uint8Array(film.count);
+  film.p = new Uint16Array(film.count); // its P before
+  film.turned = new Int32Array(film.count); // the row of the table of next turns that this one was
   film.turn = new Int32Array(film.count); // how many turns are in effect
   film.depth = new Int32Array(film.count); // how many actions of the film are in effect
 }
 
-// Notes the processor as it is before a moment.
-function before(moment) {
-  const numbers = film.numbers, processor = numbers[film.layout.slot];
-  const p = numbers[register(processor, 0)], phase = numbers[register(processor, 3)];
-  film.processor[moment] = processor;
-  film.p[moment] = p;
-  film.inBlock[moment] = phase ? 1 : 0;
-  film.word[moment] = phase || numbers[processor * CELLS + p];
-  film.second[moment] = numbers[processor * CELLS + (p + 1) % CELLS];
-}
-
 function after(moment) {
   const kind = film.kinds[moment];
-  if (kind === TURN) film.did[moment] = whatWasDone(moment);
   if (kind === JUMP) {
     const [target, turn] = film.jumps.get(moment);
     film.turn[moment] = turn;
     film.depth[moment] = target < 0 ? -1 : film.depth[target];
   } else if (moment) {
-    film.turn[moment] = film.turn[moment - 1] + (kind === TURN ? 1 : 0);
+    film.turn[moment] = film.turn[moment - 1] + (isTurn(moment) ? 1 : 0);
     film.depth[moment] = film.depth[moment - 1] + 1;
   } else {
     film.turn[0] = film.turns_before;
@@ -122,14 +109,6 @@ function changedIn(moment, first, last) {
     if (film.places[at] >= first && film.places[at] <= last) return true;
   }
   return false;
-}
-
-function whatWasDone(moment) {
-  const processor = film.processor[moment], code = film.word[moment] >> 6;
-  const moved = changedIn(moment, register(processor, 0), register(processor, 3));
-  if (film.inBlock[moment]) return moved ? BLOCK : WAITING;
-  if (moved) return film.names[code] === "PSN" ? IDLE : film.block_codes.includes(code) ? BLOCK : BUSY;
-  return code in film.completes ? WAITING : IDLE;
 }
 
 // ---- to and fro
@@ -179,7 +158,7 @@ function aRound(direction) {
   let moment = film.at;
   for (let turns = 0; turns < ROUND && moment + direction >= 0 && moment + direction < film.count;) {
     if (direction > 0) moment++;
-    if (film.kinds[moment] === TURN) turns++;
+    if (isTurn(moment)) turns++;
     if (direction < 0) moment--;
   }
   return moment;

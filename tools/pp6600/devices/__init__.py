@@ -1,0 +1,1 @@
+"""Devices that tools have at hand."""
