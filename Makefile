@@ -11,6 +11,8 @@ uninstall:
 	@share/install --uninstall "$$PREFIX"
 release:
 	@share/release
+wheel: # packages for pip
+	@share/wheel
 check: # all that needs only a program
 	@./check --program
-.PHONY: all install uninstall release check
+.PHONY: all install uninstall release wheel check
