@@ -3,13 +3,13 @@
 
 docs/definitions.txt has the text of the first page. It names the functions whose contracts are the theorem. From there on the page
 has each definition of crates/*/specs and each type of crates/*/src that a definition on the page uses, name by name, with the
-comment above it.
+comment above it, and with its examples of docs/examples.txt, which docs/evaluate --record makes.
 
 These are faults:
 - a name that stands for nothing, or a definition that belongs to no chapter;
 - a definition of the text that is not on the page, a word of the kit without its line in the text, or a line without its word;
-- a definition without a comment, or one of the machine whose comment names neither the manual nor this project's choice;
-- more definitions or lines than the ceilings below, or another count than that of README.md;
+- a definition without a comment, or one of the machine whose comment names no fact of docs/MACHINE.md;
+- a mark of a comment that is no fact there, or a fact there that no definition of the page names;
 - with --check, a page that is not what would be made.
 
 Faults are printed, and the status is 1. The pages are made all the same, but not with --check.
@@ -24,10 +24,9 @@ sys.dont_write_bytecode = True
 from book.html import html  # noqa: E402
 from book.names import Sources, Unresolved  # noqa: E402
 from book.pages import Book, Text, markdown  # noqa: E402
+from evaluating.examples import load  # noqa: E402
 
 TOP = os.path.dirname(os.path.dirname(os.path.abspath(__file__)))
-CEILINGS = (358, 1500)  # of definitions and of lines
-SOURCES = ("the manual", "this project's choice")
 
 
 def read(top, *names):
@@ -48,8 +47,8 @@ def faults_of_definitions(book):
             yield f"{place}: it belongs to no chapter of docs/definitions.txt"
         elif not definition.sentence():
             yield f"{place}: it has no sentence"
-        elif book.text.chapters[chapter].is_machine and not any(source in definition.sentence().lower() for source in SOURCES):
-            yield f"{place}: it has no source, {' or '.join(SOURCES)}"
+        elif book.text.chapters[chapter].is_machine and not definition.marks():
+            yield f"{place}: it names no fact of docs/MACHINE.md"
     for contract in book.contracts:
         for name in sorted(book.reach.readings[contract].unresolved):
             yield f"{contract.scope.path}:{contract.line}: {contract.name}: {name} stands for nothing"
@@ -66,29 +65,21 @@ def faults_of_text(book):
     yield from (f"docs/definitions.txt: no definition uses {name} of the kit" for name in sorted(set(book.text.kit) - kit))
 
 
-def faults_of_counts(book, top, ceilings):
-    words, lines = book.count()
-    if words > ceilings[0] or lines > ceilings[1]:
-        yield f"{words} definitions in {lines} lines: more than {ceilings[0]} in {ceilings[1]}"
-    if f"{words} definitions in {lines:,} lines" not in " ".join(read(top, "README.md").split()):
-        yield f"README.md: it does not say {words} definitions in {lines:,} lines"
-
-
-def made(top, ceilings=CEILINGS):
+def made(top):
     """Returns the pages by their paths, and the faults."""
     try:
-        book = Book(Sources(top), Text(read(top, "docs", "definitions.txt")))
+        book = Book(Sources(top), Text(read(top, "docs", "definitions.txt")), load(read(top, "docs", "examples.txt")))
     except Unresolved as name:
         return {}, [f"{name}: not found"]
-    faults = [*faults_of_definitions(book), *faults_of_text(book), *faults_of_counts(book, top, ceilings)]
+    faults = [*faults_of_definitions(book), *faults_of_text(book), *book.facts.faults_of(book)]
     return {"docs/DEFINITIONS.md": markdown(book), "docs/definitions.html": html(book)}, faults
 
 
-def main(words, top=TOP, ceilings=CEILINGS):
+def main(words, top=TOP):
     if words not in ([], ["--check"]):
         print("docs/definitions.py: the only word it takes is --check", file=sys.stderr)
         return 2
-    pages, faults = made(top, ceilings)
+    pages, faults = made(top)
     for path, page in pages.items():
         if not words:
             with open(os.path.join(top, path), "w", encoding="utf-8") as file:

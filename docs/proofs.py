@@ -8,10 +8,13 @@ docs/promises.txt has the text of the page. A line '### NAME' begins a promise. 
     defined: CRATE/FILE: WORD, WORD            words of specs/FILE.antt that the clauses use
     mutants: TEXT                              what is against it, if it has no mutant of its own
 
+A line 'first: SECTION: NAME; NAME' names promises that matter most. The page begins with these sections, each with these promises.
+Then come the sections without promises, and at last an appendix with all other promises, section by section.
+
 Each mutant, crates/CRATE/must-fail/NAME.edit, has two lines, '# promise: NAME' and '# call: CRATE::TYPE::CALL', or several such
 pairs: a promise that it breaks, and the call of its own crate whose contract rejects it.
 
-What is named and is not there is a fault: a call, a clause, a definition, a promise. Faults are printed, and then nothing is
+What is named and is not there is a fault: a call, a clause, a definition, a promise, a section. Faults are printed, and then nothing is
 written. With --check nothing is written either, and it is a fault if the page is not what would be made.
 """
 
@@ -28,6 +31,10 @@ TEXT = os.path.join(TOP, "docs", "promises.txt")
 MADE = "<!-- docs/proofs.py makes this page from docs/promises.txt, crates/*/src and crates/*/must-fail: change those. -->\n\n"
 WHOLE = {"break_long_words": False, "break_on_hyphens": False}
 KEY = re.compile(r"^(call|theorem|defined|mutants): (.*)\n", re.M)
+FIRST = re.compile(r"^first: (.*?): (.*)\n", re.M)
+APPENDIX = """## Appendix: promises of inner calls
+
+All other promises, section by section: of calls that those above rest on, of calls that only read, and of what tests use."""
 
 # Of a promise: its calls, each with clauses and whether it is a theorem, the definitions, and why it has no mutant of its own.
 Promise = collections.namedtuple("Promise", "name calls definitions without")
@@ -101,6 +108,37 @@ def blocks(text):
         promise = Promise(block.partition("\n")[0][len("### "):], calls, definitions, "".join(without)) if keys else None
         found.append((KEY.sub("", block).rstrip() if keys else block.rstrip(), promise))
     return found
+
+
+def sections_of(text):
+    """Returns the parts of the text by sections: of each its own part, and those of its promises by their names."""
+    sections, promises = {}, {}
+    for part in blocks(FIRST.sub("", text)):
+        marks, _, name = part[0].partition("\n")[0].partition(" ")
+        if marks == "###":
+            promises[name] = part
+        else:
+            promises = {}
+            sections[name] = part, promises
+    return sections
+
+
+def ordered(text):
+    """Returns the parts in the order of the page, and a fault for each name of a line 'first:' that is not there."""
+    sections, faults = sections_of(text), []
+    made = [next(iter(sections.values()))[0]]
+    for name, wanted in FIRST.findall(text):
+        own, promises = sections.get(name, ((f"## {name}", None), {}))
+        found = {one: promises.pop(one, None) for one in wanted.split("; ")}
+        faults += [f"first: {name} has no promise {one}" for one, part in found.items() if not part]
+        made += [own, *filter(None, found.values())]
+    begun = {text for text, _ in made}
+    made += [own for own, promises in sections.values() if not promises and own[0] not in begun] + [(APPENDIX, None)]
+    for name, (own, promises) in sections.items():
+        heading = f"### {name}: inner calls" if own[0] in begun else "#" + own[0]
+        made += [(heading, None)] if promises else []
+        made += [("#" + part, promise) for part, promise in promises.values()]
+    return made, faults
 
 
 def mutants():
@@ -182,9 +220,9 @@ def main():
     if sys.argv[1:] not in ([], ["--check"]):
         print("docs/proofs.py: the only word it takes is --check", file=sys.stderr)
         return 2
-    parts, known = blocks(read(TEXT)), contracts()
+    (parts, faults), known = ordered(read(TEXT)), contracts()
     promises = [promise for _, promise in parts if promise]
-    faults = [*faults_of_names(promises, known), *faults_of_mutants(promises)]
+    faults += [*faults_of_names(promises, known), *faults_of_mutants(promises)]
     page = "" if faults else page_of(parts, known)
     if sys.argv[1:] and not faults and (not os.path.exists(PAGE) or read(PAGE) != page):
         faults = ["docs/PROOFS.md is not what docs/proofs.py makes: run docs/proofs.py"]

@@ -1,16 +1,18 @@
 """Makes the page to print, with numbers, an index, and a link at each name."""
 
+import os
 import re
 from html import escape
 
 import card
-from book.pages import MADE, filled, notes, place_of, slug, users_of
+from book.facts import PAGE
+from book.pages import MADE, examples_of, filled, notes, place_of, slug, users_of
 
 STYLE = """\
-@page { margin: 15mm 14mm 17mm; @bottom-right { content: counter(page); font: 8pt Helvetica, Arial, sans-serif; } }
+@page { margin: 15mm 12mm 17mm 8mm; @bottom-right { content: counter(page); font: 8pt Helvetica, Arial, sans-serif; } }
 * { box-sizing: border-box; }
 body { font: 10pt/1.35 Helvetica, Arial, 'Liberation Sans', 'DejaVu Sans', sans-serif; color: #111; background: #fff;
-  max-width: 240mm; margin: 8mm auto; padding: 0 4mm; }
+  max-width: 250mm; margin: 8mm auto; padding: 0 4mm 0 12mm; }
 h1 { font-size: 1.8em; margin: 0 0 .4em; }
 h2 { font-size: 1.4em; margin: 1.6em 0 .4em; }
 h3 { font-size: 1em; margin: 1.3em 0 .15em; border-top: .4pt solid #999; padding-top: .35em; }
@@ -23,21 +25,29 @@ table { border-collapse: collapse; width: 100%; margin: .5em 0; }
 th, td { text-align: left; vertical-align: top; padding: .12em .5em; border-bottom: .4pt solid #999; }
 th { border-bottom: 1pt solid #333; }
 tr { break-inside: avoid; }
+td:nth-child(3) { overflow-wrap: break-word; }
 td { overflow-wrap: anywhere; }
 code, pre { font-family: 'DejaVu Sans Mono', 'Liberation Mono', Menlo, Consolas, monospace; font-size: .88em; }
 pre { font-size: .84em; margin: .3em 0; padding: .35em .6em; background: #f6f6f4; line-height: 1.3; }
 pre span { display: block; white-space: pre-wrap; overflow-wrap: anywhere; min-height: 1.3em;
   padding-left: 4ch; text-indent: -4ch; }
+pre.examples { background: none; border-left: 2pt solid #ddd; }
 pre a { text-decoration: none; }
 pre a:hover { text-decoration: underline; }
 pre i { color: #666; }
+img { max-width: 100%; }
 .said { font-size: .85em; color: #444; }
+.word { position: relative; }
+.facts { position: absolute; left: -3.6em; top: 2.7em; width: 3em; text-align: right; font-size: .8em; }
+.facts a { display: block; text-decoration: none; }
 .index { columns: 4; font-size: .8em; line-height: 1.25; }
 .index div { break-inside: avoid; overflow-wrap: anywhere; padding-left: 1em; text-indent: -1em; }
 @media print {
-  body { font-size: 8.4pt; max-width: none; margin: 0; padding: 0; }
+  body { font-size: 8.4pt; max-width: none; margin: 0; padding: 0 0 0 8mm; }
   h2, h3 { break-after: avoid; }
-  .chapter { break-before: page; }
+  .chapter, .rows { break-before: page; }
+  .rows { font-size: 6.5pt; line-height: 1.12; break-after: page; }
+  .rows td { padding: 0 .4em; }
   .chapter > h2 { margin-top: 0; }
   .word { break-inside: avoid; }
   .long { break-inside: auto; }
@@ -49,7 +59,7 @@ LONG = 40  # lines: a longer definition may be on two sheets
 
 def code(text):
     """Returns lines of code in HTML, which keep their indentation where they are too long for the sheet."""
-    lines = re.sub(r"((?<!\S)(?:--|//).*)", r"<i>\1</i>", text).splitlines()
+    lines = re.sub(r"((?<!\S)(?:--(?!\S)|//).*)", r"<i>\1</i>", text).splitlines()
     return "<pre>" + "".join(f"<span>{line}</span>" for line in lines) + "</pre>"
 
 
@@ -67,10 +77,13 @@ def block_of(block):
     heading = re.match(r"(#+) (.*)", block)
     if heading:
         return f'<h{len(heading[1])} id="{slug(heading[2])}">{card.inline(heading[2])}</h{len(heading[1])}>'
+    picture = re.fullmatch(r"!\[([^]]*)\]\(([^)]*)\)", block)
+    if picture:
+        return f'<p><img src="{picture[2]}" alt="{escape(picture[1])}"></p>'
     if block.startswith(">"):
         paragraphs = re.sub(r"^> ?", "", block, flags=re.M).split("\n\n")
         return "<blockquote>" + "".join(map(card.html, paragraphs)) + "</blockquote>"
-    made = card.html(block)
+    made = card.html(block).replace("<table>", '<table class="rows">' if block.startswith("| Code | Name") else "<table>")
     return code(made[len("<pre>"):-len("</pre>")]) if made.startswith("<pre>") else made
 
 
@@ -79,15 +92,24 @@ def text_of(text, book):
     return numbered("\n".join(map(block_of, re.split(r"\n\n+", filled(text, book).strip("\n")))), book)
 
 
+def facts_of(entry, book):
+    """Returns the facts that a definition names, for the margin: each leads to its section, and has its text as a title."""
+    found = [(mark, book.facts.facts[mark]) for mark in entry.definition.marks() if mark in book.facts.facts]
+    links = "".join(f'<a href="{os.path.basename(PAGE)}#{slug(fact.heading)}" title="{escape(fact.text)}">{mark}</a>' for mark, fact in found)
+    return f'<div class="facts">{links}</div>\n' if found else ""
+
+
 def entry_of(entry, book):
     """Returns a definition with a link at each name, and all that the page says of it."""
     linked = [(book.entries.get(target), escape(piece, quote=False)) for piece, target in entry.pieces]
     shown = "".join(f'<a href="#{other.anchor}">{piece}</a>' if other not in (None, entry) else piece for other, piece in linked)
     said = card.inline(" ".join([place_of(entry.definition), users_of(entry), *notes(entry, book.entries)]))
+    examples = examples_of(entry, book)
+    examples = code(escape(examples, quote=False)).replace("<pre>", '<pre class="examples">') + "\n" if examples else ""
     return (f'<div class="{"word long" if entry.lines() > LONG else "word"}">\n'
             f'<h3 id="{entry.anchor}"><small>{entry.number}</small> {card.inline(entry.title)}</h3>\n'
-            f"<p>{card.inline(entry.definition.sentence())}</p>\n{code(shown)}\n"
-            f'<p class="said">{numbered(said, book)}</p>\n</div>')
+            f"{facts_of(entry, book)}<p>{card.inline(entry.definition.sentence())}</p>\n{code(shown)}\n"
+            f'<p class="said">{numbered(said, book)}</p>\n{examples}</div>')
 
 
 def index(book):

@@ -226,7 +226,7 @@ class Reading:
 
     def contract(self):
         """Reads the clauses of a function."""
-        bound = {"result", *re.findall(r"\b(\w+):", self.text)}
+        bound = {"result", "self", *re.findall(r"\b(\w+):", self.text)}
         for clause in re.finditer(r"^ +(?:ensures|requires)\*? *\w* \{", self.text, re.M):
             self.keep(Walk(self.names, self.text, bound).over(clause.end(), find_token(self.text, clause.end(), "}")))
 

@@ -1,10 +1,13 @@
 """Makes the page in Markdown: the text of definitions.txt, and each definition with its sentence, its place and its users."""
 
 import collections
+import os
 import re
 
-from book.names import NAMED, TOKEN, Field, is_trait
+from book.facts import PAGE, Facts
+from book.names import NAMED, TOKEN, Field, Library, is_trait
 from book.reach import Reach, contract
+from evaluating.tables import made as made_table
 
 MADE = "<!-- docs/definitions.py makes this page from docs/definitions.txt and the sources: change those. -->\n\n"
 COMMENT = re.compile(r"^\s*(?:--|//)")
@@ -23,8 +26,9 @@ class Text:
     """The text of definitions.txt: the first page, the chapters, and a line for each word of the kit.
 
     A line `contract: CRATE/src/FILE.rt NAME` shows the contract of a function, `contents` the table of the chapters, `kit` that of
-    the words of the kit, and [[NAME]] or [[CRATE/FILE:NAME]] a link to a definition. A chapter has lines `files:` with patterns of
-    CRATE/FILE, CRATE/src/FILE or CRATE/FILE:NAME, and one `facts:` if its definitions name their source.
+    the words of the kit, `table: NAME` one of docs/evaluating/tables.py, and [[NAME]] or [[CRATE/FILE:NAME]] a link to a
+    definition. A chapter has lines `files:` with patterns of CRATE/FILE, CRATE/src/FILE or CRATE/FILE:NAME, and one `facts:` if its
+    definitions name their source.
     """
 
     def __init__(self, text):
@@ -92,10 +96,12 @@ def titles(definitions, taken):
 
 
 class Book:
-    """All that the page shows."""
+    """All that the page shows. The examples of docs/examples.txt are by CRATE/FILE:NAME."""
 
-    def __init__(self, sources, text):
-        self.text, self.entries = text, {}
+    def __init__(self, sources, text, examples=()):
+        self.sources, self.text, self.entries, self.top, self.examples = sources, text, {}, sources.top, dict(examples)
+        with open(os.path.join(sources.top, PAGE), encoding="utf-8") as file:
+            self.facts = Facts(file.read())
         self.contracts = [contract(sources, *found) for found in re.findall(r"^contract: (\S+) (\w+)$", text.front, re.M)]
         self.reach = Reach(sources, self.contracts)
         self.chapters = self.reach.chapters([chapter.files for chapter in text.chapters])
@@ -112,6 +118,7 @@ class Book:
             users = self.reach.users[definition]
             entry.users = [user for user in self.contracts if user in users]
             entry.users += [other for user, other in self.entries.items() if user in users]
+            entry.pieces = [(full_name(piece, target, own, members), target) for piece, target in entry.pieces]
             self.find_notes(entry, own, members)
 
     def find_notes(self, entry, own, members):
@@ -123,17 +130,23 @@ class Book:
         for piece, target in entry.pieces:
             if target in self.entries and target is not entry.definition and "◌" not in target.name:
                 is_own = piece == target.name
-                if own[piece] > 1 if is_own else piece not in target.members or own[piece] + members[piece] > 1:
+                is_full = piece.split(".")[0] == target.name
+                if own[piece] > 1 if is_own else not is_full and piece not in target.members:
                     entry.elsewhere.setdefault((target, is_own), {})[piece] = None
-
-    def count(self):
-        """Returns the number of definitions and of lines."""
-        return len(self.entries), sum(entry.lines() for entry in self.entries.values())
 
     def named(self, name):
         """Returns the entry of a name in the text, as `load` or `pp_step/Rows:load`, or None if there is not exactly one."""
         found = [entry for one, entry in self.entries.items() if name in (one.name, f"{one.place}:{one.name}")]
         return found[0] if len(found) == 1 else None
+
+
+def full_name(piece, target, own, members):
+    """Returns a constructor with its type in front if its name alone does not say which type, and a word of the kit as the kit has it."""
+    if isinstance(target, Library) and not {".", "◌"} & set(piece + target.name):
+        return target.name
+    name = piece.split(".")[-1]
+    is_constructor = name in getattr(target, "members", ()) and own[target.name] == 1
+    return f"{target.name}.{name}" if is_constructor and (piece != name or own[name] + members[name] > 1) else piece
 
 
 def link(entry):
@@ -173,20 +186,35 @@ def users_of(entry):
     return f"Used by {', '.join(names if more < 2 else names[:MOST_USERS])}{f' and {more} more' if more > 1 else ''}."
 
 
-def entry_page(entry, entries):
+def fact_links(entry, book):
+    """Returns links to the facts that a definition names."""
+    facts = book.facts.facts
+    return ", ".join(f"[{mark}]({os.path.basename(PAGE)}#{slug(facts[mark].heading)})" for mark in entry.definition.marks() if mark in facts)
+
+
+def examples_of(entry, book):
+    """Returns the examples of a definition, and what the cases return that have none."""
+    found = book.examples.get(f"{entry.definition.place}:{entry.definition.name}", [])
+    return "\n".join(f"-- no example of {one.without}" if one.without else f"{one.text}\n    = {one.value}" for one in found)
+
+
+def entry_page(entry, book):
     """Returns the part of the page that shows a definition. What is not code in a sentence has no marks of Markdown."""
     parts = re.split(r"(`[^`]+`)", entry.definition.sentence() or "(no sentence)")
     sentence = "".join(part if part.startswith("`") else re.sub(r"([*_<\\])", r"\\\1", part) for part in parts)
-    said = " ".join([place_of(entry.definition), users_of(entry), *notes(entry, entries)])
-    return f"### {entry.title}\n\n{sentence}\n\n```{entry.language}\n{entry.code}\n```\n\n{said}\n"
+    facts = fact_links(entry, book)
+    sentence += f" ({facts})" if facts else ""
+    said = " ".join([place_of(entry.definition), users_of(entry), *notes(entry, book.entries)])
+    examples = examples_of(entry, book)
+    shown = f"\n```text\n{examples}\n```\n" if examples else ""
+    return f"### {entry.title}\n\n{sentence}\n\n```{entry.language}\n{entry.code}\n```\n\n{said}\n{shown}"
 
 
 def contents(book):
     """Returns the table of the chapters."""
-    rows = ["| Chapter | Definitions | Lines |", "|---|---|---|"]
+    rows = ["| Chapter | Definitions |", "|---|---|"]
     for at, (chapter, definitions) in enumerate(zip(book.text.chapters, book.chapters), 1):
-        lines = sum(book.entries[definition].lines() for definition in definitions)
-        rows += [] if not lines else [f"| {at}. [{chapter.title}](#{slug(chapter.title)}) | {len(definitions)} | {lines} |"]
+        rows += [f"| {at}. [{chapter.title}](#{slug(chapter.title)}) | {len(definitions)} |"] if definitions else []
     return "\n".join(rows)
 
 
@@ -211,10 +239,10 @@ def filled(text, book):
 
     text = re.sub(r"^contract: \S+ (\w+)$", shown, text, flags=re.M)
     text = re.sub(r"\[\[(\S+?)\]\]", linked, text)
+    text = re.sub(r"^table: (\S+)$", lambda found: made_table(book.top, found[1]), text, flags=re.M)
     for key, made in (("contents", contents), ("kit", kit_table)):
         text = re.sub(rf"^{key}$", lambda _, made=made: made(book), text, flags=re.M)
-    words, lines = book.count()
-    return text.replace("{words}", str(words)).replace("{lines}", f"{lines:,}")
+    return text.replace("{words}", str(len(book.entries)))
 
 
 def markdown(book):
@@ -222,5 +250,5 @@ def markdown(book):
     parts = [MADE + filled(book.text.front, book)]
     for chapter, definitions in zip(book.text.chapters, book.chapters):
         parts.append(f"## {chapter.title}\n\n{filled(chapter.introduction, book)}\n")
-        parts += [entry_page(book.entries[definition], book.entries) for definition in definitions]
+        parts += [entry_page(book.entries[definition], book) for definition in definitions]
     return "\n".join(parts)

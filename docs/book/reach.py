@@ -3,6 +3,7 @@
 import fnmatch
 import os
 import re
+import textwrap
 
 from book.names import Field, Library, Reading, Unresolved, is_trait
 from book.sources import Definition
@@ -14,10 +15,11 @@ def contract(sources, path, name):
     scope = sources.scopes.get((crate, "src", ".".join(rest[1:])))
     with open(os.path.join(sources.top, "crates", path), encoding="utf-8") as file:
         source = file.read()
-    found = re.search(rf"^pub fn {name}\b.*?(?=^\{{)", source, re.M | re.S)
+    found = re.search(rf"^ *pub fn {name}\b.*?(?=^ *\{{)", source, re.M | re.S)
     if not found:
         raise Unresolved(f"{path}: {name}")
-    return Definition("contract", name, scope, source.count("\n", 0, found.start()) + 1, "", found.group().rstrip())
+    written = textwrap.dedent(found.group()).rstrip()
+    return Definition("contract", name, scope, source.count("\n", 0, found.start()) + 1, "", written)
 
 
 class Reach:

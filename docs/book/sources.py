@@ -2,6 +2,9 @@
 
 import re
 
+from book.facts import MARKS, marks_in
+from book.layout import indented
+
 BLOCK_COMMENT = re.compile(r"^ *(?:--|//+)!? ?", re.M)
 USE = re.compile(r"^\s*(?:ghost )?((?:unfoldable )?pub )?(?:ghost )?use ([^\s;{]+?)(?:\.\{(.*)\})?(?: as (\S+?))?;?$")
 START = re.compile(r"(?=(?:abbrev|unfoldable|irreducible|pub|record|data) |\S+ : )"
@@ -23,15 +26,33 @@ class Scope:
         self.modules = {}  # the name of a module here: the module
         self.public = set()  # the imports that other files may import from here
         self.crates = {}  # a type of another crate that a Rust file uses: that crate
+        self.marks = []  # the facts that its comments name
 
     def add_use(self, line):
         is_public, module, names, alias = USE.match(line).groups()
         if names is None:
             self.modules[alias or module.rsplit(".", 1)[-1]] = module
-        for part in filter(None, map(str.strip, (names or "").split(","))):
-            there, _, here = part.partition(" as ")
-            self.imports[here or there] = (module, there)
+        for path, here in used_names(module, names or ""):
+            within, _, there = path.rpartition(".")
+            self.imports[here or there] = (within, there)
             self.public |= {here or there} if is_public else set()
+
+
+def used_names(module, names):
+    """Yields the whole name of each part of a `use`, and what it is called here; in a group `a.{b, c.d}` a part may be a path or a group."""
+    depth, part = 0, ""
+    for letter in names + ",":
+        depth += (letter == "{") - (letter == "}")
+        if letter != "," or depth:
+            part += letter
+            continue
+        name, _, group = part.strip().partition(".{")
+        there, _, here = name.partition(" as ")
+        if group:
+            yield from used_names(f"{module}.{name}", group[:-1])
+        elif name:
+            yield f"{module}.{there}", here
+        part = ""
 
 
 class Definition:
@@ -46,9 +67,16 @@ class Definition:
     crate = property(lambda self: self.scope.path.split("/")[1])
     place = property(lambda self: re.sub(r"^crates/(\w+)/(?:specs/)?(.*)\.\w+$", r"\1/\2", self.scope.path))
 
+    def marks(self):
+        """Returns the marks of facts in the comment above the definition."""
+        return [mark for marks in MARKS.findall(self.said()) for mark in marks.split(", ")]
+
+    def said(self):
+        return " ".join(BLOCK_COMMENT.sub("", self.comment).split())
+
     def sentence(self):
-        """Returns the comment above the definition as a sentence."""
-        text = " ".join(BLOCK_COMMENT.sub("", self.comment).split())
+        """Returns the comment above the definition as a sentence, without the marks of facts."""
+        text = MARKS.sub("", self.said()).strip()
         if re.match(r"(?:a|[a-z][a-z']+)[ ,;:]", text):
             text = text[0].upper() + text[1:]
         return text if not text or text[-1] in ".:?" else text + "."
@@ -57,6 +85,7 @@ class Definition:
 def parsed_spec(text, scope):
     """Adds what a spec file defines and imports to its scope."""
     header, comment, fixity, current, is_header_open = "", [], "", None, False
+    scope.marks = marks_in(text)
     for number, raw in enumerate(text.splitlines(), 1):
         if is_header_open or raw.startswith("module _"):
             header = header + "\n" + raw if is_header_open else raw
@@ -81,6 +110,7 @@ def parsed_spec(text, scope):
             current.text += "\n" + "\n".join(comment + [line])
             comment = []
     for definition in list(scope.definitions.values()):
+        definition.text = indented(definition.text)
         if definition.kind == "data":
             definition.members = tuple(MEMBER.findall(definition.text))
             scope.definitions.update(dict.fromkeys(definition.members, definition))
@@ -94,6 +124,7 @@ def rust_end(text, start):
 
 def parsed_rust(text, scope):
     """Adds the types, constants and traits of a source file to its scope, and what it imports for its clauses."""
+    scope.marks = marks_in(text)
     for line in re.findall(r"^\s*ghost use .*", text, re.M):
         scope.add_use(line)
     for crate, names in re.findall(r"^use (pp_\w+)::([^;]*);", text, re.M):

@@ -505,56 +505,46 @@ def turn():
 # ---- where a turn's time goes
 
 
-BAR_X, BAR_WIDTH, BAR_TOP, BAR_ROW = 110, 700, 78, 44
+BAR_X, BAR_WIDTH, BAR_TOP, BAR_ROW, BAR_HEIGHT = 110, 700, 78, 74, 15
 SHOWN = ["count", "loop4", "clear", "waits", "crm", "mixed", "exn"]
 COSTS = [
-    ("the turn, as in C", GREEN, GREEN_EDGE),
-    ("its undo record, as in C", AMBER, AMBER_EDGE),
-    ("what the simulator adds", BLUE, BLUE_EDGE),
-    ("what STEP adds to that", GREY, GREY_EDGE),
+    ("C kernel", GREEN, GREEN_EDGE),
+    ("C kernel with records", AMBER, AMBER_EDGE),
+    ("FORWARD", BLUE, BLUE_EDGE),
+    ("STEP", GREY, GREY_EDGE),
 ]
 
 
 def read_speed():
-    """Returns the rows of the table of SPEED.md: for each program the rate, or the ratio in parentheses if there is one."""
+    """Returns the rows of the table of SPEED.md: for each program its rate."""
     with open(SPEED, encoding="utf-8") as file:
         made = file.read().split("\nMade on ")[1]
     rows = [[cell.strip() for cell in row.split("|")[1:-1]] for row in made.splitlines() if row.startswith("|")]
-    cells = {row[0].replace("`", ""): [cell.split("(")[-1].rstrip(")") for cell in row[1:]] for row in rows}
+    cells = {row[0].replace("`", ""): [cell.split(" (")[0] for cell in row[1:]] for row in rows}
     return {name: dict(zip(cells[""], row)) for name, row in cells.items()}
 
 
-def costs_of(table, program):
-    """Returns the nanoseconds of each part of a turn: of the kernel, of its record, of FORWARD, of STEP. A part of C of which the
-    simulator takes less is as long as in the simulator."""
-    kernel = 1000 / float(table["C kernel"][program])
-    ends = [kernel] + [kernel / float(table[row][program]) for row in ("C kernel with records", "FORWARD", "STEP")]
-    ends = [min(ends[at:]) for at in range(len(ends))]
-    return [later - earlier for earlier, later in zip([0] + ends, ends)]
-
-
-def bar(number, program, costs, scale):
-    """Returns the bar of a program: the parts of its turn, side by side."""
-    y, x, drawn = BAR_TOP + number * BAR_ROW, BAR_X, []
+def bars_of(number, program, costs, scale):
+    """Returns the bars of a program, one below the other, each with its nanoseconds a turn."""
+    y, drawn = BAR_TOP + number * BAR_ROW, []
     for cost, (_, fill, edge) in zip(costs, COSTS):
-        width = max(cost, 0) * scale
-        drawn += [box(x, y, width, 28, fill, edge, round_by=2)]
-        drawn += [text(x + width / 2, y + 14, f"{cost:.1f}", 12)] if width > 26 else []
-        x += width
-    return [text(BAR_X - 10, y + 14, program, 14, True, anchor="end"), drawn, text(x + 10, y + 14, f"{sum(costs):.1f}", 13, True, anchor="start")]
+        drawn += [box(BAR_X, y, cost * scale, BAR_HEIGHT - 2, fill, edge, round_by=2)]
+        drawn += [text(BAR_X + cost * scale + 8, y + BAR_HEIGHT / 2 - 1, f"{cost:.1f}", 11, anchor="start")]
+        y += BAR_HEIGHT
+    return [text(BAR_X - 10, y - 2 * BAR_HEIGHT, program, 14, True, anchor="end"), drawn]
 
 
 def speed():
     table = read_speed()
-    costs = [costs_of(table, program) for program in SHOWN]
-    scale = BAR_WIDTH / max(sum(one) for one in costs)
+    costs = [[1000 / float(table[row][program]) for row, *_ in COSTS] for program in SHOWN]
+    scale = BAR_WIDTH / max(map(max, costs))
     key = [
         [box(110 + i * 190, 20, 18, 18, fill, edge, round_by=2), text(134 + i * 190, 29, name, 12, anchor="start")]
         for i, (name, fill, edge) in enumerate(COSTS)
     ]
-    bars = [bar(i, program, cost, scale) for i, (program, cost) in enumerate(zip(SHOWN, costs))]
-    title = "Where the time of a turn goes, in nanoseconds, for each program of the benchmark"
-    return picture(BAR_TOP + len(SHOWN) * BAR_ROW + 16, title, [key, text(BAR_X, 58, "nanoseconds a turn, by STEP", 12, fill=SOFT, anchor="start"), bars])
+    bars = [bars_of(i, program, cost, scale) for i, (program, cost) in enumerate(zip(SHOWN, costs))]
+    title = "The nanoseconds of a turn, for each program of the benchmark"
+    return picture(BAR_TOP + len(SHOWN) * BAR_ROW + 16, title, [key, text(BAR_X, 58, "nanoseconds a turn", 12, fill=SOFT, anchor="start"), bars])
 
 
 # ---- the files

@@ -1,0 +1,1 @@
+"""Computes expressions over the definitions in crates/*/specs, for docs/evaluate."""

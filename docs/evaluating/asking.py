@@ -1,0 +1,150 @@
+"""Asks for the value of an expression, for the steps of a processor, and for a run of the program."""
+
+import functools
+import os
+import re
+from typing import Any, Callable, Dict, Iterator, List, Optional, Tuple
+
+from book.names import Unresolved
+from book.sources import Definition, Scope
+from evaluating.functions import Maker
+from evaluating.kit import CONSTANTS, INLINE, KIT, NONE, OPERATORS, text_of
+from evaluating.lists import Stuck, items, listed
+
+# Of several definitions with one name, the only one of the first crate has it alone, or else the only one outside of the second;
+# those of inner files don't count there.
+MAIN, WORKED = "pp_machine", "pp_worked"
+
+
+class Definitions(Maker):
+    """Every definition of the repository by its name: NAME, CRATE/FILE:NAME or, of a constructor, TYPE.NAME."""
+
+    def __init__(self, top: str, hear: Optional[Callable] = None):
+        super().__init__(top, hear)
+        self.scope, self.several, self.shared = Scope(("", "specs", ""), ""), {}, set()
+        found: Dict[str, Dict[Definition, None]] = {}
+        for scope in self.sources.scopes.values():
+            if "tests" in scope.module[2]:
+                continue
+            for definition in scope.definitions.values():
+                self.scope.definitions[f"{definition.place}:{definition.name}"] = definition
+                for name in (definition.name, *definition.members):
+                    found.setdefault(name, {})[definition] = None
+        for name, definitions in found.items():
+            own = [one for one in definitions if one.name == name] or list(definitions)
+            near = [one for one in own if one.crate != WORKED and "/Inner" not in one.place]
+            self.shared |= {name} if len(near) > 1 else set()
+            alone = [few[0] for few in ([one for one in near if one.crate == MAIN], near, own) if len(few) == 1]
+            if alone:
+                self.scope.definitions[name] = alone[0]
+            else:
+                self.several[name] = sorted(f"{one.place}:{name}" if one.name == name else f"{one.name}.{name}" for one in own)
+        for name in (*KIT, *CONSTANTS, *INLINE, "codes", *(f"◌{name}◌" for name in OPERATORS)):
+            self.scope.imports[name] = ("Rattle.std.specs.Prelude", name)
+            self.scope.definitions.pop(name, None)
+
+    def named(self, name: str) -> Definition:
+        """Returns the definition of a name."""
+        if name not in self.scope.definitions:
+            several = self.several.get(name)
+            raise Unresolved(f"{name} is one of {', '.join(several)}" if several else f"{name} stands for nothing")
+        return self.scope.definitions[name]
+
+    def name_of(self, definition: Definition) -> str:
+        """Returns the shortest name of a definition."""
+        is_alone = self.scope.definitions.get(definition.name) is definition
+        return definition.name if is_alone else f"{definition.place}:{definition.name}"
+
+    def call(self, name: str, *given: Any) -> Any:
+        """Returns the value of a definition with these arguments."""
+        return self.find(self.named(name))(*given)
+
+    def ask(self, text: str) -> Any:
+        """Returns the value of an expression."""
+        try:
+            return self.value(text, self.scope)
+        except Unresolved as fault:
+            self.named(str(fault))  # says which definitions have the name, if several have it
+            raise
+        except (TypeError, KeyError, IndexError, AttributeError):
+            raise Stuck("an argument has another type than its definition says") from None
+
+
+# ---- the program
+
+CUT = "a run that a failed read cuts short: IsCut says what that is, and `program` has whole runs only"
+
+
+def content(path: tuple) -> tuple:
+    """Returns what a path names, if there is one."""
+    try:
+        with open(text_of(path[1]) if path != NONE else "", "rb") as file:
+            return ("Found.Content", listed(file.read()))
+    except OSError as fault:
+        if fault.filename is None or isinstance(fault, IsADirectoryError):  # it was opened, and could not be read
+            raise Stuck(CUT) from None
+        return ("Found.Missing",)
+
+
+def meaning(definitions: Definitions, words: Any) -> tuple:
+    """Returns what the words mean: of what the relation `Means` allows, the first."""
+    faults = list(items(definitions.call("pp_arguments/CommandLine:faults_of", words)))
+    if faults:
+        return ("Err", ("Trouble.Help",) if ("ErrorKind.DisplayHelp",) in faults else ("Trouble.BadArguments",))
+    asked = definitions.call("asked_by", words)
+    return asked if asked[0] == "Ok" else ("Err", definitions.call("of_arguments", asked[1]))
+
+
+def performed(definitions: Definitions, words: List[str], read: Callable[[], bytes]) -> Tuple[bytes, bytes, int]:
+    """Returns what `program` writes to standard output and to standard error, and its exit status; `read` reads standard input."""
+    definitions.memory.clear()
+    texts = listed(listed(os.fsencode(word)) for word in ["pp6600", *words])
+    means = meaning(definitions, texts)
+    asked = means[1] if means[0] == "Ok" else {}
+    files = functools.lru_cache(None)(lambda kind: content(asked[kind[0].split(".")[1].lower()]))
+    try:
+        typed = read() if asked.get("script") == NONE else b""
+    except OSError:
+        raise Stuck(CUT) from None
+    given = {"words": ("Words.Texts", texts), "files": files, "input": listed(typed)}
+    course = definitions.call("program", given, means)
+    out, ended = bytes(items(course["answers"])), course["ended"]
+    line = b"" if ended[0] == "Ok" else bytes(items(definitions.call("line_of", ended[1])))
+    is_help = ended == ("Err", ("Trouble.Help",))
+    return out + line * is_help, line * (not is_help), definitions.call("exit_of", ended)
+
+
+# ---- the steps of a processor
+
+# The places that --step knows: how they are typed, their names in PpPlace, and the digits of their addresses and of their numbers.
+PLACES = (("A", "A", 0, 6), ("P", "P", 0, 4), ("Q", "Q", 0, 4), ("PHASE", "Phase", 0, 4), ("M", "Cell", 4, 4), ("S", "State", 2, 1),
+          ("H", "Register", 2, 4), ("C", "Central", 6, 20), ("XP", "FrameWord", 2, 20))
+
+
+def place_and_number(word: str) -> Tuple[tuple, int]:
+    """Returns what A=5 or `M 20=5` says."""
+    found = re.fullmatch(r"([A-Z]+)(?: +([0-7]+))?=([0-7]+)", word.upper())
+    for short, name, digits, _ in PLACES:
+        if found and found[1] == short and bool(digits) == bool(found[2]):
+            return (f"PpPlace.{name}", *([int(found[2], 8)] if found[2] else [])), int(found[3], 8)
+    raise Stuck(f"{word!r}: write an instruction word, as 3520, or a place and its number, as A=777777 or 'M 20=5'")
+
+
+def stepped(definitions: Definitions, words: List[str], steps: int) -> Iterator[Any]:
+    """Yields what each step writes, of a program at 0100 of a blank processor with these numbers."""
+    program = [int(word, 8) for word in words if re.fullmatch("[0-7]{1,4}", word)]
+    others = [place_and_number(word) for word in words if not re.fullmatch("[0-7]{1,4}", word)]
+    cells = definitions.call("cells_from", 0o100, listed(program))
+    over = definitions.find(definitions.named("pp_step/View:over"))
+    view = over(definitions.call("pp_worked/Processors:blank"), listed([*others, (("PpPlace.P",), 0o100), *items(cells)]))
+    for _ in range(steps):
+        writes = definitions.call("pp_writes", view)
+        yield writes
+        view = over(view, writes)
+
+
+def written(write: Tuple[tuple, int]) -> str:
+    """Returns a place with its number, as A = 000005 or M 0020 = 0005."""
+    (name, *address), number = write
+    short, _, digits, width = next(place for place in PLACES if name == f"PpPlace.{place[1]}")
+    return f"{' '.join([short, *(f'{one:0{digits}o}' for one in address)])} = {number:0{width}o}"

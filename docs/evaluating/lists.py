@@ -1,0 +1,209 @@
+"""The values of the definitions: lists, which share what did not change, and what is computed only when it is read.
+
+A number is an int, a pair a tuple, a record a dict, and a constructor a tuple that begins with its name. A list is NIL, or has a
+head and a tail. No definition can tell in which way a list is kept: as pairs (Cons), as two lists that were appended and not yet
+read (Cat), or as a tree of 64 branches (Tree), so that a memory with one new number shares all others with the old one.
+"""
+
+from itertools import islice
+from typing import Any, Callable, Iterable, Iterator
+
+NIL = None
+
+
+class Stuck(Exception):
+    """What can't be computed."""
+
+
+class Relation:
+    """A type, or a relation: it may be passed on, but not computed."""
+
+    def __init__(self, name: str):
+        self.name = name
+
+    def __call__(self, *_: Any) -> None:
+        raise Stuck(f"{self.name}, which is a type or a relation")
+
+
+class Cons:
+    """A list with a head and a tail."""
+
+    __slots__ = ("head", "tail")
+
+    def __init__(self, head: Any, tail: Any):
+        self.head, self.tail = head, tail
+
+
+class Kept:
+    """A list that becomes pairs when its head or its tail is read."""
+
+    __slots__ = ("pairs",)
+
+    def read(self) -> Cons:
+        """Returns the list as pairs."""
+        if self.pairs is NIL:
+            self.pairs = listed(items(self))
+        return self.pairs
+
+    head = property(lambda self: self.read().head)
+    tail = property(lambda self: self.read().tail)
+
+
+class Cat(Kept):
+    """Two lists, one after the other; neither is empty."""
+
+    __slots__ = ("left", "right")
+
+    def __init__(self, left: Any, right: Any):
+        self.pairs, self.left, self.right = NIL, left, right
+
+
+class Tree(Kept):
+    """A list of at least one element as a tree: element i is below branch `i >> shift & 63` of the root."""
+
+    __slots__ = ("size", "shift", "root")
+
+    def __init__(self, size: int, shift: int, root: tuple):
+        self.pairs, self.size, self.shift, self.root = NIL, size, shift, root
+
+    def __getitem__(self, i: int) -> Any:
+        node = self.root
+        for shift in range(self.shift, -1, -6):
+            node = node[i >> shift & 63]
+        return node
+
+    def replaced(self, i: int, x: Any) -> "Tree":
+        """Returns the list with element i replaced."""
+        def copy(node: tuple, shift: int) -> tuple:
+            k = i >> shift & 63
+            return node[:k] + ((copy(node[k], shift - 6) if shift else x),) + node[k + 1:]
+        return Tree(self.size, self.shift, copy(self.root, self.shift))
+
+
+def uniform(x: Any, shift: int) -> tuple:
+    """Returns a tree that has x everywhere."""
+    return ((uniform(x, shift - 6) if shift else x),) * 64
+
+
+ZEROS = {shift: uniform(0, shift) for shift in range(0, 36, 6)}
+
+
+def replicate(n: int, x: Any) -> Any:
+    """Returns a list of n copies."""
+    shift = 0
+    while n > 64 << shift:
+        shift += 6
+    return Tree(n, shift, ZEROS[shift] if x == 0 else uniform(x, shift)) if n else NIL
+
+
+def items(xs: Any) -> Iterator[Any]:
+    """Yields the elements of a list."""
+    later = [xs]
+    while later:
+        xs = later.pop()
+        while xs is not NIL:
+            if type(xs) is Cons:
+                yield xs.head
+                xs = xs.tail
+            elif type(xs) is Cat and xs.pairs is NIL:
+                later.append(xs.right)
+                xs = xs.left
+            elif type(xs) is Tree:
+                yield from map(xs.__getitem__, range(xs.size))
+                xs = NIL
+            else:
+                xs = xs.pairs
+
+
+def listed(elements: Iterable, end: Any = NIL) -> Any:
+    """Returns a list of elements, with another list behind them."""
+    for x in reversed(list(elements)):
+        end = Cons(x, end)
+    return end
+
+
+def append(xs: Any, ys: Any) -> Any:
+    """Returns one list after the other."""
+    return ys if xs is NIL else xs if ys is NIL else Cat(xs, ys)
+
+
+def length(xs: Any) -> int:
+    """Returns the number of elements."""
+    return xs.size if type(xs) is Tree else sum(1 for _ in items(xs))
+
+
+def element(xs: Any, i: int, default: Any) -> Any:
+    """Returns element i, or the default past the end."""
+    if type(xs) is Tree:
+        return xs[i] if i < xs.size else default
+    while xs is not NIL:
+        if not i:
+            return xs.head
+        xs, i = xs.tail, i - 1
+    return default
+
+
+def with_element(xs: Any, i: int, x: Any) -> Any:
+    """Returns the list with element i replaced; past the end nothing changes."""
+    if type(xs) is Tree:
+        return xs.replaced(i, x) if i < xs.size else xs
+    return listed(x if k == i else y for k, y in enumerate(items(xs)))
+
+
+def take(n: int, xs: Any) -> Any:
+    """Returns the first n elements."""
+    return listed(islice(items(xs), n))
+
+
+def drop(n: int, xs: Any) -> Any:
+    """Returns the list without its first n elements."""
+    while n and xs is not NIL:
+        n, xs = n - 1, xs.tail
+    return xs
+
+
+def is_same(x: Any, y: Any) -> bool:
+    """Tells whether two values of data are the same."""
+    if x is y:
+        return True
+    if isinstance(x, (Cons, Kept)) and isinstance(y, (Cons, Kept)):
+        xs, ys = list(items(x)), list(items(y))
+        return len(xs) == len(ys) and all(map(is_same, xs, ys))
+    if type(x) is tuple and type(y) is tuple:
+        return len(x) == len(y) and all(map(is_same, x, y))
+    if type(x) is dict and type(y) is dict:
+        return x.keys() == y.keys() and all(is_same(x[field], y[field]) for field in x)
+    if callable(x) or callable(y):
+        raise Stuck("whether two functions are the same")
+    return x == y
+
+
+class Lazy:
+    """An argument that is computed when it is read, and once."""
+
+    __slots__ = ("make", "value")
+
+    def __init__(self, make: Callable):
+        self.make, self.value = make, None
+
+
+def force(x: Any) -> Any:
+    """Returns the value of an argument."""
+    if type(x) is not Lazy:
+        return x
+    if x.make:
+        x.value, x.make = x.make(), None
+    return x.value
+
+
+class Partial:
+    """A function that waits for more arguments, which it takes one by one."""
+
+    __slots__ = ("function", "missing", "given")
+
+    def __init__(self, function: Callable, missing: int, *given: Any):
+        self.function, self.missing, self.given = function, missing, given
+
+    def __call__(self, x: Any) -> Any:
+        given = (*self.given, x)
+        return self.function(*given) if self.missing == 1 else Partial(self.function, self.missing - 1, *given)
