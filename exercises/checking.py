@@ -5,12 +5,16 @@ import functools
 import itertools
 import os
 import re
-import resource
 import shutil
 import stat
 import subprocess
 import sys
 import tempfile
+
+try:
+    import resource
+except ImportError:  # Windows has none
+    resource = None
 
 HERE = os.path.dirname(os.path.realpath(__file__))
 sys.path.insert(0, os.path.realpath(os.path.join(HERE, os.pardir, "tools")))  # in an installation this is a link
@@ -42,8 +46,9 @@ def own_names():
 
 @functools.lru_cache(maxsize=None)
 def program():
-    """Returns the simulator: $PP6600, or else that of the checkout or of the installation."""
-    return checked_program(os.environ.get("PP6600") or chosen_program())
+    """Returns the words that run the simulator: $PP6600, or else that of the checkout or of the installation."""
+    named = os.environ.get("PP6600")
+    return checked_program(*([named] if named else chosen_program()))
 
 
 def read(folder, name):
@@ -76,7 +81,7 @@ def prepared(name, found, room):
         with open(os.path.join(room, part), "wb") as file:
             file.write(data)
     args = read(room, "args").decode().splitlines() if os.path.exists(os.path.join(room, "args")) else []
-    return [program(), *(os.path.join(room, word) if word in os.listdir(room) else word for word in args)]
+    return [*program(), *(os.path.join(room, word) if word in os.listdir(room) else word for word in args)]
 
 
 def script_of(room):
@@ -92,7 +97,7 @@ def limited():
 def performed(words, room, seconds):
     """Runs the script and the check, and returns the status and the lines that were written."""
     with open(os.path.join(room, "written"), "wb") as out:
-        process = subprocess.Popen(words, stdin=subprocess.PIPE, stdout=out, stderr=subprocess.PIPE, preexec_fn=limited)
+        process = subprocess.Popen(words, stdin=subprocess.PIPE, stdout=out, stderr=subprocess.PIPE, preexec_fn=limited if resource else None)
         try:
             _, error = process.communicate(script_of(room) + read(room, "check"), timeout=seconds)
         except subprocess.TimeoutExpired:
