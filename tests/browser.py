@@ -11,7 +11,7 @@ import tempfile
 import time
 
 NAMES = ("chromium", "chromium-browser", "google-chrome", "google-chrome-stable")
-PATIENCE = 120  # seconds for one answer
+PATIENCE = 600  # seconds for one answer
 
 
 def found():
@@ -86,15 +86,19 @@ class Browser:
             raise RuntimeError(f"{text[:80]}: {json.dumps(result['exceptionDetails'])[:500]}")
         return result["result"].get("value")
 
+    def wait_for(self, text):
+        """Waits until an expression in the page is true."""
+        end = time.monotonic() + PATIENCE
+        while not self.evaluate(text):
+            if time.monotonic() > end:
+                raise TimeoutError(f"{text} does not come to be so")
+            time.sleep(0.02)
+
     def open(self, path, address=""):
         """Opens a film from its file, and waits until it is shown."""
         self.ask("Page.navigate", url="about:blank")
         self.ask("Page.navigate", url=f"file://{os.path.abspath(path)}{address}")
-        end = time.monotonic() + PATIENCE
-        while self.evaluate("document.body && document.body.dataset.open") != "yes":
-            if time.monotonic() > end:
-                raise TimeoutError(f"{path} does not open")
-            time.sleep(0.02)
+        self.wait_for("document.body && document.body.dataset.open === 'yes'")
 
     def key(self, key, shift=False):
         """Presses a key."""

@@ -6,10 +6,10 @@ import queue
 import subprocess
 import threading
 
-from .support import PYTHON, TOP, program
+from tests.fixtures import WITH_FEW_LINES
+from tests.support import PATIENCE, PYTHON, TOP, program
 
 ADAPTER = os.path.join(TOP, "tools", "debug-adapter")
-PATIENCE = 20  # seconds for a message
 
 
 class Refusal(Exception):
@@ -19,8 +19,10 @@ class Refusal(Exception):
 class Client:
     """An adapter at the other end of pipes."""
 
-    def __init__(self, *words, environment=None):
-        self.process = subprocess.Popen([*PYTHON, ADAPTER, *words], stdin=subprocess.PIPE,
+    def __init__(self, *words, environment=None, lines=None):
+        """Starts an adapter, whose simulators are told at most so many lines."""
+        begin = ["-c", WITH_FEW_LINES, str(lines)] if lines else []
+        self.process = subprocess.Popen([*PYTHON, *begin, ADAPTER, *words], stdin=subprocess.PIPE, cwd=TOP,
                                         stdout=subprocess.PIPE, stderr=subprocess.PIPE,
                                         env={**os.environ, "PP6600": program(), **(environment or {})})
         self.seq = 0

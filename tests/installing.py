@@ -10,12 +10,11 @@ import tempfile
 
 from tests.support import TOP, Case, Done, program, run, write
 
-TOOLS = sorted(name for name in os.listdir(os.path.join(TOP, "tools")) if os.path.isfile(os.path.join(TOP, "tools", name)))
 INSTALL = os.path.join(TOP, "share", "install")
+OWN, PAGES = "libexec/pp6600", "share/doc/pp6600"  # below the prefix of an installation
 PATH = f"{os.path.dirname(sys.executable)}:/usr/sbin:/usr/bin:/sbin:/bin"  # where the Rattle kit is not
 ALONE = {"PATH": PATH, "PP6600": "", "DESTDIR": "", "PYTHONDONTWRITEBYTECODE": "1"}
 ANSWERED = Done("TURNS 12 SLOT 00\n", "", 0)  # by the simulator, to STEP 12
-LIKE_THE_SIMULATOR = "#!/bin/sh\ncat >/dev/null; echo TURNS 12 SLOT 00\n"
 
 
 def alone(*words, env=None, **how):
@@ -42,8 +41,10 @@ def commit(folder):
 
 
 def checkout(folder):
-    """Copies this checkout, with the program under test in dist/, and commits it."""
-    shutil.copytree(TOP, folder, ignore=shutil.ignore_patterns("out", ".git", "__pycache__", "must-fail", "tests"))
+    """Copies this checkout with one crate and the program under test in dist/, and commits it."""
+    shutil.copytree(TOP, folder, symlinks=True, ignore=shutil.ignore_patterns("out", ".git", "__pycache__", "tests", "crates"))
+    for part in ("src", "specs", "proofs"):
+        shutil.copytree(os.path.join(TOP, "crates", "pp_arith", part), os.path.join(folder, "crates", "pp_arith", part))
     shutil.copyfile(program(), os.path.join(folder, "dist", "pp6600"))
     os.chmod(os.path.join(folder, "dist", "pp6600"), 0o755)
     sums = alone("sha256sum", "dist/pp6600", cwd=folder).out[:64], alone("share/which-build", "--checksum", cwd=folder).out
@@ -62,9 +63,9 @@ def lasting_room():
 
 @functools.lru_cache(maxsize=None)
 def installation():
-    """Returns an installation that no test changes."""
+    """Returns an installation that no test changes, made under a strict mask."""
     prefix = os.path.join(lasting_room(), "first")
-    alone(INSTALL, "--program", program(), prefix)
+    alone(INSTALL, "--program", program(), prefix, preexec_fn=lambda: os.umask(0o077))
     return prefix
 
 

@@ -11,10 +11,13 @@ from typing import NamedTuple
 
 TOP = os.path.dirname(os.path.dirname(os.path.abspath(__file__)))
 EXAMPLES = os.path.join(TOP, "examples")
-PATIENCE = 120  # seconds for a command
+TOOLS = sorted(entry.name for entry in os.scandir(os.path.join(TOP, "tools")) if entry.is_file() and "." not in entry.name)
+PATIENCE = 600  # seconds for a command
 PYTHON = (sys.executable, "-S")  # without what is installed beside the standard library: it starts sooner
 
 sys.dont_write_bytecode = True
+os.environ.pop("PYTHONDONTWRITEBYTECODE", None)  # a tool that has been compiled starts sooner
+os.environ.setdefault("PP6600_PATIENCE", str(PATIENCE))
 sys.path.insert(0, os.path.join(TOP, "tools"))  # so that tests can import the tools' package, pp6600
 
 

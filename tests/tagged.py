@@ -1,14 +1,35 @@
-"""The second model of the machine, tests/model.py, with numbers that know what they were computed from, to compare tools/origin with.
+"""The simulator in Python, pp6600-python, with numbers that know what they were computed from, to compare tools/origin with.
 
 Each number that is stored has a record of its write: the place, what wrote it and in which turn, and the records of the numbers that
-it was computed from, which the arithmetic of the model itself hands on."""
+it was computed from, which the arithmetic of that simulator itself hands on."""
 
+import bisect
 import operator
-from unittest import mock
 
-from tests import model
+from tests import support as _  # it finds the package
 
-TURNS = ("turns",)  # a place for the number of turns, which steps back and forward with the others
+from pp6600.simulation import devices, instructions, machine as machines, places
+from pp6600.simulation.places import CELLS, C, FRAME, H, PAPER
+
+TURNS = -1  # a place for the number of turns, which steps back and forward with the others
+# The names of places, by the first of each kind.
+KINDS = {TURNS: "turns", places.M: "M", places.P: "P", H: "H", places.A: "A", places.Q: "Q", places.PHASE: "phase",
+         places.STATE: "state", FRAME: "frame", places.SLOT: "slot", places.WATCHES: "watches", places.CARD: "card", places.CARD_COLUMN: "card column",
+         places.READER_MODE: "reader mode", places.PAPER_LENGTH: "paper length", places.PAPER_COLUMN: "paper column",
+         places.PRINTER_MODE: "printer mode", PAPER: "paper", C: "C"}
+FIRSTS = sorted(KINDS)
+
+
+def name_of(place):
+    """Returns the name of a place: its kind and its numbers."""
+    first = FIRSTS[bisect.bisect_right(FIRSTS, int(place)) - 1]
+    return (KINDS[first], *(divmod(int(place), CELLS) if KINDS[first] == "M" else (int(place) - first,)))
+
+
+def place_of(name):
+    """Returns the place with a name."""
+    first = next(first for first, kind in KINDS.items() if kind == name[0])
+    return first + (name[1] * CELLS + name[2] if name[0] == "M" else name[1])
 
 
 class Number(int):
@@ -47,16 +68,17 @@ class Record:
         self.place, self.cause, self.turn, self.number, self.sources, self.details = place, cause, turn, number, sources, details
 
 
-class Step(model.Step):
+class Processor(instructions.Processor):
     """A step of a processor. Words of its instruction, P and addresses are constants."""
 
-    def __init__(self, machine, n):
-        super().__init__(machine, n)
+    def look(self):
+        super().look()
         self.code, self.d, self.m, self.p, self.phase = map(int, (self.code, self.d, self.m, self.p, self.phase))
-        machine.step = self
+        self.STATE, self.REGISTER = int(self.STATE), int(self.REGISTER)
+        self.machine.step = self
 
     def central_to_cells(self, address):
-        sources = self.machine["C", self.a].sources
+        sources = self.numbers[C + int(self.a)].sources
         return {place: Number(number, {(record, part, None) for record, _, _ in sources})
                 for part, (place, number) in enumerate(super().central_to_cells(address).items())}
 
@@ -65,47 +87,64 @@ class Step(model.Step):
         return {place: Number(number, sources) for place, number in super().cells_to_central(address).items()}
 
 
-class Machine(model.Machine):
-    """The model's machine. `line` is the number of the line of the script that is performed."""
+class Numbers(dict):
+    """Numbers by their places. One that was never written is from the start."""
+
+    def __init__(self, central):
+        super().__init__()
+        self.central, self.starts = central, {}
+
+    def __missing__(self, place):
+        if place >= C + self.central:
+            return Number(0)
+        record = self.starts.setdefault(place, Record(name_of(place)))
+        return Number(0, {(record, None, None)})
+
+
+class Machine(machines.Machine):
+    """The machine of pp6600-python. `line` is the number of the line of the script that is performed."""
+
+    Processor = Processor
 
     def __init__(self, *words, **options):
         super().__init__(*words, **options)
-        self.starts, self.line, self.step = {}, 0, None
+        self.line, self.step = 0, None
 
-    def __missing__(self, place):
-        if place[0] == "C" and place[1] >= self.central:
-            return Number(0)
-        record = self.starts.setdefault(place, Record(place))
-        return Number(0, {(record, None, None)})
+    def blank(self):
+        return Numbers(self.central)
+
+    def named(self):
+        """Returns the numbers that were written by the names of their places."""
+        return {name_of(place): number for place, number in self.numbers.items()}
 
     def writes_of(self, step):
-        before = {TURNS: self[TURNS] + 1} if step is model.processor else {}
-        phases = {n: self["phase", n] for n in range(10)}
-        with mock.patch.object(model, "Step", Step):
-            writes = super().writes_of(step)
-        device = {"card": int(self[model.CARD]), "column": int(self[model.CARD_COLUMN]), "mode": self[model.READER_MODE]}
+        numbers = self.numbers
+        before = {TURNS: numbers[TURNS] + 1} if step is instructions.processor else {}
+        phases = {n: numbers[places.PHASE + n] for n in range(10)}
+        device = {"card": int(numbers[places.CARD]), "column": int(numbers[places.CARD_COLUMN]), "mode": numbers[places.READER_MODE]}
+        writes = super().writes_of(step)
         return {place: self.stored(step, place, number, writes, phases, device) for place, number in {**before, **writes}.items()}
 
     def stored(self, step, place, number, writes, phases, device):
         """Returns a number as it is stored, with its record."""
         if not isinstance(number, int):
             return number  # the watches
-        turn, cause = int(self[TURNS]), step.__name__ if step in CAUSES else "line"
+        turn, cause = int(self.numbers[TURNS]), step.__name__ if step in CAUSES else "line"
         sources, details = getattr(number, "sources", frozenset()), {"line": self.line}
-        if step is model.processor:
+        if step is instructions.processor:
             turn += 1
-            if place[0] == "P" and not self.has_jumped(number, writes):
-                return Number(number, self[place].sources)
+            if name_of(place)[0] == "P" and not self.has_jumped(number, writes):
+                return Number(number, self.numbers[place].sources)
             made = self.step
             details = {"n": made.n, "word": made.phase or made.code << 6 | made.d, "at": None if made.phase else made.p,
                        "block": phases[made.n].record if made.phase else None, "code": made.code}
-        elif step is model.reader:
+        elif step is devices.reader:
             details = device
-        elif step is model.barrel:
+        elif step is machines.barrel:
             sources = frozenset()
-        if place[0] == "paper":
-            sources = self["H", self.printer].sources
-        return Number(number, {(Record(place, cause, turn, int(number), sources, **details), None, None)})
+        if name_of(place)[0] == "paper":
+            sources = self.numbers[H + self.printer].sources
+        return Number(number, {(Record(name_of(place), cause, turn, int(number), sources, **details), None, None)})
 
     def has_jumped(self, number, writes):
         """Returns whether the processor's P did not just go on: docs/TOOLS.md, P's going on is no write."""
@@ -119,4 +158,4 @@ class Machine(model.Machine):
         return made.code in (0o01, 0o02, 0o61, 0o63, 0o71, 0o73)
 
 
-CAUSES = (model.processor, model.reader, model.printer, model.barrel, model.dead_start)
+CAUSES = (instructions.processor, devices.reader, devices.printer, machines.barrel, machines.dead_start)

@@ -15,6 +15,7 @@ import time
 ESCAPE = "\x1b"
 SEQUENCE = re.compile(r"\x1b(?:\[([?>!]?)([0-9;]*)([@-~])|[()][A-Z0-9]|\][^\x07]*\x07|[78=>DM])")
 LONGEST_SEQUENCE = 40
+PATIENCE = 300  # seconds; a program that works takes a few, and more where the machine is busy
 
 
 class Emulator:
@@ -182,7 +183,7 @@ class Terminal:
         self.rest = self.screen.feed(self.rest + self.decoder.decode(data))
         return bool(data)
 
-    def wait_until(self, is_so, seconds=10):
+    def wait_until(self, is_so, seconds=PATIENCE):
         """Reads until something is so of the terminal. Returns the seconds that it took, or None if it never was."""
         began = time.monotonic()
         while not is_so(self):
@@ -191,11 +192,11 @@ class Terminal:
                 return time.monotonic() - began if is_so(self) else None
         return time.monotonic() - began
 
-    def shows(self, text, seconds=10):
+    def shows(self, text, seconds=PATIENCE):
         """Waits until a text is on the screen. Returns the seconds, or None."""
         return self.wait_until(lambda terminal: any(text in line for line in terminal.screen.text()), seconds)
 
-    def settle(self, seconds=0.15):
+    def settle(self, seconds=0.4):
         """Reads until nothing is written for a while."""
         while self.read(seconds):
             pass
@@ -203,7 +204,7 @@ class Terminal:
     def is_ended(self):
         return os.waitid(os.P_PID, self.pid, os.WEXITED | os.WNOHANG | os.WNOWAIT) is not None
 
-    def status(self, seconds=10):
+    def status(self, seconds=PATIENCE):
         """Waits for the end, and returns the exit status, or minus the number of a signal; None if it does not end."""
         self.wait_until(Terminal.is_ended, seconds)
         self.settle(0.05)
@@ -212,7 +213,7 @@ class Terminal:
         self.close()
         return status
 
-    def hang_up(self, seconds=5):
+    def hang_up(self, seconds=PATIENCE):
         """Closes the terminal. Returns whether the program then ends."""
         os.close(self.number)
         self.number = None

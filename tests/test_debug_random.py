@@ -1,4 +1,5 @@
-"""Random sessions with the debug adapter, against a search turn by turn: where it stops, forward and back."""
+"""Random sessions with the debug adapter, against a search action by action: what the editor is told is what a simulator with an endless
+history would answer, in which nothing is watched but what the user watches."""
 
 import os
 import random
@@ -8,14 +9,16 @@ import time
 from tests.debug_client import Client
 from tests.support import Case, program
 
-from pp6600.console import Console
+from pp6600.core.simulator import Console
 
 SESSIONS = int(os.environ.get("PP6600_DEBUG_SESSIONS", "12"))  # in the gate; by hand 200
 FIRST = int(os.environ.get("PP6600_DEBUG_SEED", "0"))
-MOVES = 8  # of a session
+MOVES = 10  # of a session
 ACTIONS = 2500  # of the script and after it that are searched
 PROCESSORS = 10
 PROGRAM = 0o100
+PANEL = os.path.join("examples", "dead-start", "panel")
+MOVE_KINDS = ("continue",) * 4 + ("reverseContinue",) * 3 + ("stepIn", "stepIn", "stepBack", "stepBack", "typed", "typed", "typed")
 
 
 def instruction(chance):
@@ -35,6 +38,19 @@ def instruction(chance):
     return [f"{chance.choice(('54', '50', '55'))}00", f"{chance.choice((0o20, PROGRAM + chance.randrange(0o20))):04o}"]
 
 
+def setting(chance, numbers):
+    """Returns a line that sets a number, begins or ends a watch, or goes back."""
+    number = chance.choice(numbers)
+    return chance.choice((f"SET A {number:o} {chance.randrange(100):o}", f"SET P {number:o} {PROGRAM + chance.randrange(8):o}",
+                          f"SET H {chance.randrange(3)} E 5", f"SET M {number:o} 20 {chance.randrange(9):o}", "BACK 3",
+                          f"WATCH {chance.choice(places(numbers))}", f"UNWATCH {chance.choice(places(numbers))}", "DEADSTART"))
+
+
+def places(numbers):
+    """Returns the places that may be watched."""
+    return ["H 1", "M 0 20", *(f"A {number:o}" for number in numbers)]
+
+
 def script(chance):
     """Returns the lines of a script: programs that loop in some processors, turns, and settings between them."""
     lines = []
@@ -44,40 +60,90 @@ def script(chance):
         lines += [f"SET M {number:o} {PROGRAM + at:o} {' '.join(words[at:at + 8])}" for at in range(0, len(words), 8)]
         lines += [f"SET P {number:o} {PROGRAM:o}"]
     for _ in range(chance.randrange(1, 5)):
-        lines += [f"STEP {chance.randrange(1, 0o300):o}"]
-        other = chance.choice(numbers)
-        lines += [chance.choice((f"SET A {other:o} {chance.randrange(100):o}", f"SET P {other:o} {PROGRAM + chance.randrange(8):o}",
-                                 f"SET H {chance.randrange(3)} E 5", f"SET M {other:o} 20 {chance.randrange(9):o}", "BACK 3"))]
+        lines += [f"STEP {chance.randrange(1, 0o300):o}", *(setting(chance, numbers) for _ in range(chance.choice((0, 1, 1, 2))))]
     return lines, numbers
 
 
-class Timeline:
-    """The machine at each moment of a script and after it, by a look after each action."""
+class Oracle:
+    """A simulator with an endless history: the machine at each position of the run, by a look after each action."""
 
-    def __init__(self, words, lines):
-        console = Console(words)
-        performed = []  # of the script, with its steps back
-        for line in lines:
-            if line.startswith("BACK"):
-                del performed[-int(line.split()[1], 8):]
-            else:
-                performed += ["STEP"] * int(line.split()[1], 8) if line.startswith("STEP") else [line]
-        self.now = len(performed)
-        self.actions = performed + ["STEP"] * (ACTIONS - len(performed))
+    def __init__(self):
+        self.actions, self.states, self.now, self.end = [], [], 0, 0
+        self.run()
+
+    # ---- the run
+
+    def run(self):
+        """Looks at the machine after each action, and after turns that may follow."""
+        self.actions[self.end:] = ["STEP"] * (ACTIONS - self.end)
+        console = Console([program(), "--panel", PANEL])
         looks = [*(f"DUMP PP {number:o}" for number in range(PROCESSORS)), "DUMP M 0 20 20", "DUMP H"]
-        answers = console.ask_all([*looks, *(line for action in self.actions for line in (action, *looks)), "DUMP CR"])[:-1]
-        answers.insert(0, "as it begins")
-        size = 1 + PROCESSORS + 1 + 13
-        self.states = [self.state(answers[at:at + size]) for at in range(0, len(answers), size)]
+        lines = [line for action in self.actions for line in ("DUMP XP" if is_watch(action) else action, *looks)]
+        answers = ["first", *(line for line in console.ask_all([*looks, *lines, "DUMP CR"])[:-1] if not line.startswith("XP "))]
         console.end()
+        self.states, size = [], 1 + PROCESSORS + 1 + 13
+        for action in ["first", *self.actions]:
+            self.states.append(state(answers[:size] if not is_watch(action) else ["watch", *answers[:size - 1]]))
+            del answers[:size - is_watch(action)]
 
-    @staticmethod
-    def state(answers):
-        """Returns the slot, P and phase of the processors, and the numbers at the places, from the answers to an action and looks."""
-        words = [answer.split() for answer in answers[1:1 + PROCESSORS]]
-        values = {"M 0 20": answers[1 + PROCESSORS].split()[1], "H 1": answers[3 + PROCESSORS].split()[3],
-                  **{f"A {int(one[1], 8):o}": one[5] for one in words}}
-        return int(words[0][-1], 8), [(one[3], one[9]) for one in words], values
+    def act(self, line):
+        """Performs a line. Returns its answer, and whether it moved."""
+        word, *words = line.split()
+        if word in ("BACK", "FORWARD"):
+            return self.move(word, words)
+        if word == "STEP":
+            return self.typed_step(int(words[0], 8))
+        refusal = self.refusal(word, " ".join(words))
+        if refusal:
+            return refusal
+        self.new(line)
+        return "OK"
+
+    def refusal(self, word, place):
+        watched = self.watched(self.now)
+        if word == "WATCH" and place in watched:
+            return "ERR 12 ALREADY WATCHED"
+        return "ERR 13 NOT WATCHED" if word == "UNWATCH" and place not in watched else None
+
+    def new(self, line):
+        self.actions[self.now:] = [line]
+        self.now = self.end = self.now + 1
+        self.run()
+
+    def move(self, word, words):
+        if words == ["W"]:
+            return self.back_to_change()
+        count = int(words[0], 8)
+        if word == "BACK" and count > self.now:
+            return "ERR 07 TOO FEW KEPT"
+        if word == "FORWARD" and count > self.end - self.now:
+            return "ERR 16 TOO FEW AHEAD"
+        self.now += -count if word == "BACK" else count
+        return f"{word} {count:o} SLOT {self.slot(self.now):02o}"
+
+    def back_to_change(self):
+        watched = self.watched(self.now)
+        if not watched:
+            return "ERR 15 NOTHING WATCHED"
+        found = next((at for at in reversed(range(self.now)) if self.changed(at, watched)), None)
+        return "ERR 10 NO CHANGE KEPT" if found is None else self.move("BACK", [f"{self.now - found:o}"])
+
+    def typed_step(self, turns):
+        """Makes new turns, up to one that changes what is watched."""
+        first, watched = self.now, self.watched(self.now)
+        if self.end != self.now:
+            self.end = self.now
+            self.run()
+        last = next((at + 1 for at in range(first, first + turns) if self.changed(at, watched)), first + turns)
+        self.now = self.end = last
+        text = f"TURNS {last - first:o} SLOT {self.slot(last):02o}"
+        place = self.changed(last - 1, watched)
+        if place:
+            was, now = (self.states[at][2][place] for at in (last - 1, last))
+            text += f"\nHIT {' '.join(place_text(place))} {was} {now}"
+        return text
+
+    # ---- what is there
 
     def slot(self, at):
         return self.states[at][0]
@@ -91,102 +157,177 @@ class Timeline:
     def turns(self, at):
         return self.actions[:at].count("STEP")
 
+    def watched(self, at):
+        """Returns the places that are watched at a position, the oldest first."""
+        found = []
+        for action in self.actions[:at]:
+            if action.startswith("WATCH "):
+                found.append(action[6:])
+            elif action.startswith("UNWATCH "):
+                found.remove(action[8:])
+        return found
+
+    def changed(self, at, some):
+        """Returns the first place of some that the action after a position changes; or None."""
+        return next((place for place in some if self.states[at][2][place] != self.states[at + 1][2][place]), None)
+
+    # ---- where it stops
+
     def comes(self, at, cells):
-        """Whether at a moment the processor whose turn is next has come to a breakpoint."""
+        """Whether at a position the processor whose turn is next has come to a breakpoint."""
         number = self.slot(at)
         here = self.where(at, number)
         if (number, here[0]) not in cells or here[1] != "0000":
             return False
         if at and at != self.now and not self.is_turn(at - 1) and self.slot(at - 1) == number and self.where(at - 1, number) == here:
             return False
-        for before in reversed(range(at)):
-            if self.is_turn(before) and self.slot(before) == number:
-                return self.where(before, number) != here
-        return True
+        before = next((before for before in reversed(range(at)) if self.is_turn(before) and self.slot(before) == number), None)
+        return before is None or self.where(before, number) != here
 
-    def changes(self, at, places):
-        """Whether the action after a moment changes a place."""
-        return any(self.states[at][2][place] != self.states[at + 1][2][place] for place in places)
-
-    def forward(self, shown, cells, places):
+    def forward(self, shown, cells, data):
         if self.slot(self.now) != shown and self.comes(self.now, cells):
-            return self.now, "breakpoint"
-        for at in range(self.now + 1, ACTIONS):
-            if self.changes(at - 1, places):
-                return at, "data breakpoint"
-            if self.comes(at, cells):
-                return at, "breakpoint"
+            return self.now, "breakpoint", ""
+        watched = self.watched(self.now)
+        for at in range(self.now, ACTIONS - 1):
+            if place := self.changed(at, [*watched, *data]):
+                return at + 1, "data breakpoint", self.text(place, at, "{} was {} and is {}")
+            if self.comes(at + 1, cells):
+                return at + 1, "breakpoint", ""
+            watched = self.watched(at + 1) if is_watch(self.actions[at]) else watched
         return None
 
-    def back(self, cells, places):
+    def back(self, cells, data):
+        some = [*self.watched(self.now), *data]
         for at in reversed(range(self.now)):
-            if self.changes(at, places):
-                return at, "data breakpoint"
+            if place := self.changed(at, some):
+                return at, "data breakpoint", self.text(place, at, "{} is {}, and will be {}")
             if self.comes(at, cells):
-                return at, "breakpoint"
-        return 0, "entry"
+                return at, "breakpoint", ""
+        return 0, "entry", ""
 
-    def step(self, number, places):
-        for at in range(self.now, ACTIONS):
-            if self.changes(at, places):
-                return at + 1, "data breakpoint"
+    def text(self, place, at, form):
+        return form.format(" ".join(place_text(place)), self.states[at][2][place], self.states[at + 1][2][place])
+
+    def step(self, number, data):
+        watched = self.watched(self.now)
+        for at in range(self.now, ACTIONS - 1):
+            if place := self.changed(at, [*watched, *data]):
+                return at + 1, "data breakpoint", self.text(place, at, "{} was {} and is {}")
             if self.is_turn(at) and self.slot(at) == number:
-                return at + 1, "step"
+                return at + 1, "step", ""
+            watched = self.watched(at + 1) if is_watch(self.actions[at]) else watched
         return None
 
     def step_back(self, number):
         for at in reversed(range(self.now)):
             if self.is_turn(at) and self.slot(at) == number:
-                return at, "step"
-        return 0, "step"
+                return at, "step", ""
+        return 0, "step", ""
+
+
+def is_watch(action):
+    return action.startswith(("WATCH", "UNWATCH"))
+
+
+def place_text(place):
+    """Returns the words of a place as answers have them."""
+    kind, *numbers = place.split()
+    return [kind, f"{int(numbers[0], 8):02o}", *(f"{int(number, 8):04o}" for number in numbers[1:])]
+
+
+def state(answers):
+    """Returns the slot, P and phase of the processors, and the numbers at the places, from the answers to an action and looks."""
+    words = [answer.split() for answer in answers[1:1 + PROCESSORS]]
+    values = {"M 0 20": answers[1 + PROCESSORS].split()[1], "H 1": answers[3 + PROCESSORS].split()[3],
+              **{f"A {int(one[1], 8):o}": one[5] for one in words}}
+    return int(words[0][-1], 8), [(one[3], one[9]) for one in words], values
 
 
 class Session(Case):
     """Sessions by the numbers of their seeds."""
 
     def session(self, seed):
-        chance = random.Random(seed)
-        lines, numbers = script(chance)
-        path = self.file("".join(f"{line}\n" for line in lines))
-        timeline = Timeline([program()], lines)
-        client = Client()
-        self.addCleanup(client.end)
+        self.chance = chance = random.Random(seed)
+        lines, self.numbers = script(chance)
+        self.oracle = Oracle()
+        for line in lines:
+            self.oracle.act(line)
+        self.client = Client()
+        self.addCleanup(self.client.end)
         history = chance.choice((None, 10000, 100, 50))
-        shown = client.launch(script=path, processor=f"{numbers[0]:o}", **({"history": history} if history else {}))["threadId"] - 1
-        folder = os.path.dirname(client.ask("stackTrace", threadId=1)["stackFrames"][0]["source"]["path"])
+        self.what = f"seed {seed}, history {history}"
+        path = self.file("".join(f"{line}\n" for line in lines))
+        self.shown = self.client.launch(script=path, processor=f"{self.numbers[0]:o}", panel=PANEL,
+                                        **({"history": history} if history else {}))["threadId"] - 1
+        self.folder = os.path.dirname(self.client.ask("stackTrace", threadId=1)["stackFrames"][0]["source"]["path"])
         for move in range(MOVES):
             if not move % 3:
-                cells, places = self.set_breakpoints(client, chance, folder, numbers)
-            shown = self.move(client, chance, timeline, shown, cells, places, f"seed {seed}, move {move}, history {history}")
-        self.assertEqual((0, ""), client.end())
+                self.set_breakpoints()
+            self.move(move)
+        self.assertEqual((0, ""), self.client.end())
 
-    def set_breakpoints(self, client, chance, folder, numbers):
-        cells = {(chance.choice(numbers), f"{PROGRAM + chance.randrange(0o20):04o}") for _ in range(chance.randrange(4))}
+    def set_breakpoints(self):
+        chance = self.chance
+        self.cells = {(chance.choice(self.numbers), f"{PROGRAM + chance.randrange(0o20):04o}") for _ in range(chance.randrange(4))}
         for number in range(PROCESSORS):
-            client.ask("setBreakpoints", source={"path": f"{folder}/PP{number:02o}.pplist"},
-                       breakpoints=[{"line": int(cell, 8) + 1} for one, cell in sorted(cells) if one == number])
-        places = chance.sample(["H 1", "M 0 20", *(f"A {number:o}" for number in numbers)], chance.randrange(3))
-        client.ask("setDataBreakpoints", breakpoints=[{"dataId": place} for place in places])
-        return cells, places
+            self.client.ask("setBreakpoints", source={"path": f"{self.folder}/PP{number:02o}.pplist"},
+                            breakpoints=[{"line": int(cell, 8) + 1} for one, cell in sorted(self.cells) if one == number])
+        self.data = chance.sample(places(self.numbers), chance.randrange(3))
+        self.client.ask("setDataBreakpoints", breakpoints=[{"dataId": place} for place in self.data])
 
-    def move(self, client, chance, timeline, shown, cells, places, what):
-        """Makes a random move, and compares where it stops. Returns the processor that is shown."""
-        number = chance.choice((shown, chance.randrange(PROCESSORS)))
-        command = chance.choice(("continue", "continue", "continue", "reverseContinue", "reverseContinue", "stepIn", "stepBack"))
-        expected = {"continue": lambda: timeline.forward(shown, cells, places), "reverseContinue": lambda: timeline.back(cells, places),
-                    "stepIn": lambda: timeline.step(number, places), "stepBack": lambda: timeline.step_back(number)}[command]()
-        if expected is None:
-            return shown
-        stop = client.stop_after(command, threadId=number + 1)
-        timeline.now, reason = expected
-        words = [client.typed(f"DUMP PP {one:o}").split() for one in range(PROCESSORS)]
-        turns = next(one["value"] for one in client.ask("variables", variablesReference=5 << 8)["variables"] if one["name"] == "turns")
-        slot, where, _ = timeline.states[timeline.now]
-        self.assertEqual((reason, f"{timeline.turns(timeline.now):o}", slot, where),
-                         (stop["reason"], turns, int(words[0][-1], 8), [(one[3], one[9]) for one in words]), f"{what}, {command}")
+    def move(self, move):
+        """Makes a random move, and compares what the editor is told."""
+        kind = self.chance.choice(MOVE_KINDS)
+        number = self.chance.choice((self.shown, self.chance.randrange(PROCESSORS)))
+        what = f"{self.what}, move {move}, {kind}"
+        if kind == "typed":
+            self.type(what)
+        else:
+            oracle = self.oracle
+            expected = {"continue": lambda: oracle.forward(self.shown, self.cells, self.data),
+                        "reverseContinue": lambda: oracle.back(self.cells, self.data),
+                        "stepIn": lambda: oracle.step(number, self.data), "stepBack": lambda: oracle.step_back(number)}[kind]()
+            if expected is None:
+                return
+            self.go(kind, number, expected, what)
+        self.compare(what)
+
+    def type(self, what):
+        """Types a line."""
+        count = self.chance.choice((1, 12, 100, 1000))
+        lines = (setting(self.chance, self.numbers), "BACK W", f"BACK {self.chance.randrange(1, 1 + count):o}",
+                 f"FORWARD {self.chance.randrange(1, 1 + count):o}", f"STEP {self.chance.randrange(1, 0o100):o}")
+        line = self.chance.choice(lines)
+        expected = self.oracle.act(line)
+        got = self.client.typed(line)
+        if got == "OK" and line == "DEADSTART":
+            self.client.event("stopped")
+        self.assertEqual(expected, got, f"{what} {line}")
+
+    def go(self, kind, number, expected, what):
+        """Runs the machine, and compares why it stops."""
+        stop = self.client.stop_after(kind, threadId=number + 1)
+        now, reason, text = expected
+        before, self.oracle.now = self.oracle.now, now
+        self.oracle.end = max(self.oracle.end, now)
+        self.assertEqual(reason, stop["reason"], what)
         if reason == "breakpoint":
-            self.assertEqual(slot, stop["threadId"] - 1, what)
-        return stop["threadId"] - 1
+            self.assertEqual(self.oracle.slot(now), stop["threadId"] - 1, what)
+        elif reason == "data breakpoint":
+            changed = now if kind == "reverseContinue" else now - 1
+            self.assertEqual((text, self.oracle.slot(changed)), (stop["text"], stop["threadId"] - 1), f"{what} from {before}")
+        self.shown = stop["threadId"] - 1
+
+    def compare(self, what):
+        """Compares where the machine is, what is ahead and what is watched."""
+        oracle = self.oracle
+        words = [self.client.typed(f"DUMP PP {one:o}").split() for one in range(PROCESSORS)]
+        history = {one["name"]: int(one["value"], 8) for one in self.client.ask("variables", variablesReference=5 << 8)["variables"]}
+        slot, where, _ = oracle.states[oracle.now]
+        self.assertEqual(({"turns": oracle.turns(oracle.now), "kept": oracle.now, "ahead": oracle.end - oracle.now, "slot": slot}, where),
+                         (history, [(one[3], one[9]) for one in words]), what)
+        watched = [" ".join(["W", *place_text(place)]) for place in oracle.watched(oracle.now)]
+        self.assertEqual("\n".join(watched) or "W NONE", self.client.typed("DUMP W"), what)
 
     def test_sessions(self):
         began = time.monotonic()
@@ -195,4 +336,3 @@ class Session(Case):
                 self.session(seed)
         if SESSIONS > 100:
             print(f"{SESSIONS} sessions in {time.monotonic() - began:.0f} s", file=sys.stderr)
-

@@ -1,16 +1,11 @@
-"""Tests docs/DEFINITIONS.md by its text alone, and that docs/definitions.py finds faults that are planted in a small repository."""
+"""Tests docs/DEFINITIONS.md by its text alone."""
 
-import contextlib
-import io
 import os
 import re
 import subprocess
 import sys
 
 from tests.support import TOP, Case, read
-
-sys.path.insert(0, os.path.join(TOP, "docs"))
-import definitions  # noqa: E402
 
 ENTRY = re.compile(r"^### (`([^`]+)`.*)\n\n(.*)\n\n```(antt|rust)\n((?:(?!```).*\n)*)```\n\n(.*)", re.M)
 NOT_CODE = re.compile(r'"(?:\\.|[^"\\])*"|(?<!\S)(?:--|//)[^\n]*')
@@ -91,188 +86,34 @@ class Page(Case):
         self.assertEqual(set(), {place for path, place in links if not path} - set(places))
         self.assertEqual([], [path for path, _ in links if not os.path.exists(os.path.join(TOP, "docs", path))])
 
-    def test_counts(self):
-        """The page and README.md have the number of definitions and of their lines, without comments and headers of modules."""
-        codes = (re.sub(r"^module _.*?\bwhere\n", "", entry.code, flags=re.S) for entry in self.entries)
-        lines = [line for code in codes for line in code.splitlines() if line.strip()]
-        count = f"{len(self.entries)} definitions in {len(lines):,} lines"
-        for text in (self.text, read("README.md")):
-            self.assertIn(count, " ".join(text.split()))
+    def test_count(self):
+        self.assertIn(f"all {len(self.entries)}.", " ".join(self.text.split()))
 
+    def test_facts(self):
+        """Each mark on the page is a fact of docs/MACHINE.md below the heading that its link has, and of the manual if it is M."""
+        facts = {}
+        for section in re.split(r"^## ", read("docs", "MACHINE.md"), flags=re.M)[1:]:
+            heading = section.split("\n")[0].lower().replace(" ", "-")
+            facts.update(dict.fromkeys(re.findall(r"^(?:- )?\*\*([MP]\d+)\*\*", section, re.M), heading))
+        found = re.findall(r"\[([MP]\d+)\]\(MACHINE\.md#([\w-]+)\)", self.text)
+        self.assertEqual(facts, dict(found))
+        self.assertLess(100, len(found))
+        kinds = dict(re.findall(r"^\| \*\*([MP])1\*\*, .* \| is (the manual's|this project's choice)\b", read("docs", "MACHINE.md"), re.M))
+        self.assertEqual({"M": "the manual's", "P": "this project's choice"}, kinds)
 
-# A repository of a few definitions, in which each form occurs that docs/definitions.py has to read.
-SMALL = {
-    "README.md": "There are 11 definitions in 27 lines.\n",
-    "docs/definitions.txt": """# The definitions
+    def test_facts_in_the_margin(self):
+        printed = read("docs", "definitions.html")
+        for mark, text in (("M16", "Channel 14 is the real-time clock."), ("P12", "A wait changes nothing of the processor, not even P")):
+            self.assertRegex(printed, rf'<div class="facts">.*<a href="MACHINE.md#channels" title="{text}[^"]*">{mark}</a>.*</div>')
 
-All {words}, of [[Outcome]].
+    def test_constructors(self):
+        """A name that several types have is one constructor of one type wherever it is used."""
+        for name in ("Cell", "Central", "Register", "RegA", "FrameWord"):
+            uses = [line for entry in self.entries for line in entry.code.splitlines() if re.search(rf"(?<![\w.]){name}\b", line)]
+            self.assertEqual([], [line for line in uses if not re.match(rf"\s+{name}( [:{{]|,)", line)], name)
 
-contract: pp_small/src/lib.rt run
-
-== chapters
-## The top
-files: pp_small/*
-
-## The base
-files: pp_base/*
-facts: of the machine
-
-== kit
-`ℕ`: a number
-`List`: a list
-`[]`: the empty list
-`◌∷◌`: an element in front
-`codes`: the bytes of a text
-""",
-    "crates/pp_small/src/lib.rt": """ghost use Rattle.pp_small.specs.Top.{Outcome, shown_of};
-
-pub fn run<H: Host>(host: &mut H) -> u8
-    ensures { Outcome (shown_of H.Host host.new) result }
-{
-    0
-}
-""",
-    "crates/pp_small/src/host.rt": """ghost use Rattle.std.specs.Prelude.{ℕ, List};
-
-pub trait Host {
-    // What was read so far.
-    ghost read: { Self → List ℕ };
-
-    // Not read by any definition.
-    ghost other: { Self → Unknown };
-}
-""",
-    "crates/pp_small/specs/Top.antt": """-- The header of the file.
-use Rattle.std.specs.Prelude.{ℕ, List, [], ◌∷◌, codes}
-use Rattle.pp_base.specs.Prelude.{Color, mixed as blend}
-use Rattle.pp_base.specs.declared.color.Color.TheVariants as color
-use Rattle.pp_small.specs.inner.Deep.{◌⇒◌}
-use Rattle.pp_small.specs.declared.host.Host.{Ghosts as HostGhosts}
-
--- the outcome of a run
-pub record Outcome (shown : List ℕ) (status : ℕ) : Type 0 where
-  -- a field
-  pub color : Color
-  pub text : shown ⇒ text_of color
-
--- what a host shows
-abbrev pub shown_of : {H : Type 0} → HostGhosts H → H → List ℕ
-shown_of H host = H.read host
-
--- its text
-abbrev pub text_of : Color → List ℕ
-text_of color.Red = codes "RED -- {not_a_word}"
--- a comment between two clauses
-text_of other = number (blend other) ∷ (λ (a, number). number) []
-
--- a number
-abbrev pub number : Color → ℕ
-number _ = 7
-""",
-    "crates/pp_small/specs/inner/Deep.antt": """use Rattle.std.specs.Prelude.{List, ℕ}
-
-module _ {A : Type 0} where
-  -- the arrow
-  infix 10 ◌⇒◌
-  abbrev pub ◌⇒◌ : List A → List A → Type 0
-  xs ⇒ ys = Same xs ys
-
-  -- they are the same
-  abbrev pub Same : List A → List A → Type 0
-  Same xs ys = number
-
-  -- another number, in (words) and <marks>
-  abbrev number : Type 0
-  number = List ℕ
-""",
-    "crates/pp_base/specs/Prelude.antt": """pub use Rattle.pp_base.specs.Colors.{mixed}
-pub use Rattle.pp_base.specs.declared.color.Color.{Color}
-""",
-    "crates/pp_base/specs/Colors.antt": """use Rattle.pp_base.specs.declared.color.Color.{Color}
-use Rattle.pp_base.specs.declared.color.Color.TheVariants.{Red, Green}
-
--- a mixture (the manual)
-abbrev pub mixed : Color → Color
-mixed Red = Green
-mixed other = other
-""",
-    "crates/pp_base/src/color.rt": """ghost use Rattle.std.specs.Prelude.{ℕ, List};
-
-/// A color, this project's choice.
-#[derive(Clone)]
-pub enum Color {
-    /// The first.
-    #[default]
-    Red,
-    Green,
-    Depth(Depth),
-}
-
-/// How dark it is (the manual).
-pub struct Depth { pub ghost tone: { List ℕ }, level: u8 }
-""",
-}
-
-
-class Small(Case):
-    """The small repository, and faults that are planted in it."""
-
-    def setUp(self):
-        self.top = self.room()
-        for path, text in SMALL.items():
-            self.write(path, text)
-        self.assertEqual(("", 0), self.printed())
-
-    def write(self, path, text):
-        os.makedirs(os.path.dirname(os.path.join(self.top, path)), exist_ok=True)
-        with open(os.path.join(self.top, path), "w", encoding="utf-8") as file:
-            file.write(text)
-
-    def printed(self, *words, ceilings=(11, 27)):
-        """Returns what docs/definitions.py prints of the small repository, and its status."""
-        shown = io.StringIO()
-        with contextlib.redirect_stdout(shown):
-            status = definitions.main(list(words), self.top, ceilings)
-        return shown.getvalue(), status
-
-    def test_page(self):
-        """What is on the page is what is used, in the order of its use."""
-        page = definitions.read(self.top, "docs", "DEFINITIONS.md")
-        names = ["Outcome", "◌⇒◌", "Same", "number", "text_of", "number", "shown_of", "Host.read", "mixed", "Color", "Depth"]
-        self.assertEqual(names, [name for _, name, *_ in ENTRY.findall(page)])
-        for part in ("\n\nThe outcome of a run.\n\n", "`blend` is [`mixed`](#mixed)", "`HostGhosts` has [`Host.read`](#hostread).",
-                     "Another number, in (words) and \\<marks>.", "\nmodule _ {A : Type 0} where\ninfix 10 ◌⇒◌\nabbrev pub ◌⇒◌ :",
-                     "\n-- a comment between two clauses\n", "`color.Red` is of [`Color`](#color)",
-                     "All 11, of [`Outcome`](#outcome)."):
-            self.assertIn(part, page)
-
-    def test_current(self):
-        self.assertEqual(("", 0), self.printed("--check"))
-        self.write("docs/DEFINITIONS.md", definitions.read(self.top, "docs", "DEFINITIONS.md") + "By hand.\n")
-        fault = "docs/DEFINITIONS.md is not what docs/definitions.py makes: run docs/definitions.py\n"
-        self.assertEqual((fault, 1), self.printed("--check"))
-
-    def test_ceilings(self):
-        for words, lines in ((10, 27), (11, 26)):
-            fault = f"11 definitions in 27 lines: more than {words} in {lines}\n"
-            self.assertEqual((fault, 1), self.printed(ceilings=(words, lines)))
-
-    def test_planted(self):
-        base, deep, text = "crates/pp_base/specs/Colors.antt", "crates/pp_small/specs/inner/Deep.antt", "docs/definitions.txt"
-        for path, old, new, fault in (
-                (deep, "Same xs ys = number", "Same xs ys = numbers", f"{deep}:10: Same: numbers stands for nothing"),
-                (deep, "  -- they are the same\n", "", f"{deep}:9: Same: it has no sentence"),
-                (base, " (the manual)", "", f"{base}:5: mixed: it has no source, the manual or this project's choice"),
-                (base, "declared.color.Color.{", "declared.colors.Color.{", "pp_base.colors.Color: not found"),
-                (text, "[[Outcome]]", "[[Outcomes]]", f"{text}: [[Outcomes]] is not exactly one definition of the page"),
-                (text, "[[Outcome]]", "[[number]]", f"{text}: [[number]] is not exactly one definition of the page"),
-                (text, "`List`: a list\n", "", f"{text}: no line says what List of the kit means"),
-                (text, "`List`:", "`Map`: a map\n`List`:", f"{text}: no definition uses Map of the kit"),
-                (text, "files: pp_base/*", "files: pp_none/*", f"{base}:5: mixed: it belongs to no chapter of {text}"),
-                ("README.md", "11", "12", "README.md: it does not say 11 definitions in 27 lines")):
-            with self.subTest(fault):
-                self.assertIn(old, SMALL[path])
-                self.write(path, SMALL[path].replace(old, new))
-                said, status = self.printed()
-                self.assertEqual((fault, 1), (said.split("\n")[0], status))
-                self.write(path, SMALL[path])
+    def test_layout(self):
+        """What a case of a chain of conditions gives is indented below its condition."""
+        code = self.text.split("\n### `reader_step`\n")[1].split("```")[1]
+        self.assertEqual(7, code.count(" then\n        (Channel"))
+        self.assertNotIn(" then\n    (Channel", code)

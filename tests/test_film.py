@@ -1,75 +1,51 @@
-"""Tests tools/film: what it writes and says, that docs/films has what it makes today, and a long run.
+"""Tests tools/film: what it writes and says, that docs/films has what it makes today.
 
 Other expected values are those of docs/FILM.md and of the run's own files.
 """
 
+import glob
 import os
 import re
 import stat
 import subprocess
-from unittest import mock
 
-from tests.films import FOLDER, SHOWN, FilmCase, PageCase, about, film_text, random_session, shown_film
-from tests.support import TOP, Case, program, read, run, tool, write
+from tests.films import DEVICES, FOLDER, SHOWN, FilmCase, about, decode, film_text, numbers_at, random_session, shown_film
+from tests.fixtures import WITH_FEW_LINES
+from tests.support import PYTHON, TOP, read, run, tool, write
 
-from pp6600.failure import Failure
-from pp6600.film.camera import JUMP, Film, Transcript, to_film
-from pp6600.film.data import decode
-from pp6600.film.page import SCRIPTS, page
-from pp6600.film.places import LAYOUT
-from pp6600.run import Run
+from pp6600.film.camera import LINE
 
-RANDOM_WORDS = ("--central", "32", "--panel", f"{TOP}/examples/dead-start/panel", "--deck", f"{TOP}/examples/read-a-deck/deck")
 BYTE = "\udcff"  # a byte of a command line that is not UTF-8, as Python has it
 
 
-def filmed(words, lines, *which):
-    film = Film(words, Transcript(words, lines), 0o12, 0o13)
-    film.shoot(*which)
-    return film
-
-
-class Camera(Case):
+class Camera(FilmCase):
     """How a run is filmed."""
 
     def setUp(self):
-        self.words = [program(), *RANDOM_WORDS]
-        self.lines = random_session(3)
+        self.script = "".join(f"{line}\n" for line in random_session(3)) + "STEP 20\n"
 
     def test_fresh_simulators(self):
         """A film that goes on in fresh simulators is the same, and one that begins late has the same end."""
-        whole = filmed(self.words, self.lines)
-        with mock.patch.object(Run, "most_lines", 700):
-            self.assertEqual(whole.moments, filmed(self.words, self.lines).moments)
-        late = filmed(self.words, self.lines, len(whole.moments) // 2)
-        paper = LAYOUT["paper"]
-        self.assertEqual(whole.machine.numbers[:paper], late.machine.numbers[:paper])
-
-    def test_middle(self):
-        """A film of the moments in the middle has these, and the run is performed to its end."""
-        whole = filmed(self.words, self.lines)
-        count = len(whole.moments) // 3
-        middle = filmed(self.words, self.lines, count, count)
-        self.assertEqual(count, len(middle.moments) - 1)
-        is_jump = [kind == JUMP for kind, _ in whole.moments]
-        self.assertEqual([kind for kind, _ in whole.moments[count + 1:2 * count + 1]], [kind for kind, _ in middle.moments[1:]])
-        self.assertTrue(any(is_jump))
+        whole = read(self.film(*DEVICES, script=self.script, status=None))
+        path = self.path("film.html")
+        run(*PYTHON, "-c", WITH_FEW_LINES, "700", os.path.join(TOP, "tools", "film"), *DEVICES, "-o", path, script=self.script)
+        self.assertEqual(whole, read(path))
+        late = read(self.film(*DEVICES, "--last", "30", script=self.script, status=None))
+        about, changes = decode(film_text(whole))
+        self.assertEqual(0o30, len(decode(film_text(late))[1]) - 1)
+        ends = [numbers_at(page, [end])[0][end][:about["layout"]["paper"]] for page, end in ((whole, len(changes) - 1), (late, 0o30))]
+        self.assertEqual(*ends)
 
     def test_around(self):
         """The turn is one in effect: what was undone does not count."""
-        transcript = Transcript([program()], ["SET A 0 1", "STEP 10", "BACK 4", "SET A 1 1", "STEP 10"])
-        self.check_rows(transcript.moment_of_turn, (0, 0), (1, 2), (4, 5), (5, 12), (0o14, 0o23))
-        self.assertEqual((0, 0o23), to_film(transcript, None, 1))
-        self.assertEqual((0, 0o23), to_film(transcript, None, None))
-        with self.assertRaisesRegex(Failure, r"^there is no turn 15: the highest is 14 \(octal\)$"):
-            transcript.moment_of_turn(0o15)
-        long = Transcript([program()], ["STEP 100000"])
-        self.assertEqual((0o40000 - 0o4000, 0o10000), to_film(long, None, 0o40000))
-        self.assertEqual((0o100000 - 0o4001, 0o4001), to_film(long, None, 0o77777))
-
-    def test_a_change_that_was_not_dumped(self):
-        with mock.patch("pp6600.film.footprint.dumps_of", lambda *_: []), self.assertRaisesRegex(Failure, "^a change was overlooked"):
-            filmed(self.words, ["SET M 0 0 1405 3420", "STEP 20"])
+        script = "SET A 0 1\nSTEP 10\nBACK 4\nSET A 1 1\nSTEP 10\n"
+        opens = [about(read(self.film("--around", turn, script=script)))["opens"] for turn in ("0", "2", "4", "5", "14")]
+        self.assertEqual([0, 3, 5, 0o14, 0o23], opens)  # 1 SET and 10 turns; 4 undone by one BACK; 1 SET and 10 turns
+        done = tool("film", "-o", self.path("film.html"), "--around", "15", script=script)
+        self.assertEqual(("", "film: there is no turn 15: the highest is 14 (octal)\n", 2), done)
+        for turn, first, count in (("40000", 0o34000, 0o10000), ("77777", 0o73777, 0o4001)):
+            known, changes = decode(film_text(read(self.film("--around", turn, script="STEP 100000\n"))))
+            self.assertEqual((first, count), (known["turns_before"], len(changes) - 1))
 
 
 class Tool(FilmCase):
@@ -110,18 +86,6 @@ class Tool(FilmCase):
     def test_central_memory_of_a_number_in_another_form(self):
         self.film("--central", "032", script="SET A 0 100000\nSET M 0 0 6200\nSTEP\n")
 
-    def test_links(self):
-        """Nothing is written through a link at the name of a part; the file that the output's link names is replaced."""
-        other, target, link = map(self.path, ("other", "target.html", "film.html"))
-        for path in other, target:
-            write(path, "kept")
-        os.symlink(other, f"{link}.part")
-        os.symlink(target, link)
-        self.assertEqual(("", "", 0), tool("film", "-o", link, script="STEP\n"))
-        self.assertEqual("kept", read(other))
-        self.assertTrue(os.path.islink(link) and read(target).startswith("<!DOCTYPE html>"))
-        self.assertEqual(["film.html", "film.html.part", "other", "target.html"], sorted(os.listdir(self.folder)))
-
     def test_a_page_that_can_not_be_written_whole(self):
         """What was there before stays."""
         path = self.film(script="STEP\n")
@@ -131,21 +95,21 @@ class Tool(FilmCase):
         self.assertEqual((before, ["film.html"]), (read(path), os.listdir(os.path.dirname(path))))
 
     def test_headings(self):
-        """The title that was asked for, or the name of the script's file without its folders; never the page's own source."""
+        """The title that was asked for, or the name of the script's file, or of its folder if it is called script; never the page's own
+        source."""
         script, odd = (write(self.path(name), "STEP\n") for name in ("a <script>", f"b{BYTE}"))
         for words, wanted in (((script,), "a &lt;script&gt;"), ((odd,), "b\ufffd"), (("--title", f"c{BYTE}", script), "c\ufffd"),
+                              (("examples/handshake/script",), "handshake"),
                               ((), "standard input"), (("--title", "/*--script--*/<!--film-->"), "/*--script--*/&lt;!--film--&gt;")):
             with self.subTest(words=words):
                 made = read(self.film(*words, script="STEP\n"))
                 self.assertEqual([wanted] * 2, re.findall(r"<(?:title|h1)>(.*?)</", made))
 
-    def test_one_page_of_five_scripts(self):
+    def test_one_page(self):
         """The page's script is all files of its folder, each once, and no mark of the template is left."""
-        folder = os.path.join(TOP, "tools", "pp6600", "film", "web")
-        self.assertEqual(sorted(f"{name}.js" for name in SCRIPTS), sorted(name for name in os.listdir(folder) if name.endswith(".js")))
-        made = page("title", "text")
-        for name in SCRIPTS:
-            self.assertEqual(1, made.count(read(folder, f"{name}.js").strip()))
+        made = read(self.film(script="STEP\n"))
+        for path in glob.glob(os.path.join(TOP, "tools", "pp6600", "film", "web", "*.js")):
+            self.assertEqual(1, made.count(read(path).strip()), path)
         self.assertEqual([], re.findall(r"<!--\w+-->|/\*--\w+--\*/", made))
 
     def test_files_of_the_run(self):
@@ -176,21 +140,14 @@ class Tool(FilmCase):
             with self.subTest(name, part="film"):
                 self.assertEqual(*(decode(film_text(page)) for page in pages))
 
-
-class Long(PageCase):
-    """100,000 (decimal) turns of a program in each processor that stores, counts and jumps."""
-
-    needs_browser = False
-
-    def test_long(self):
-        """Less than 10 MB, and five moves through it in less than a second."""
-        words = "1405 3460 3060 3161 1003 1277 5450 200 3650 1277 3450 5550 300 562 361".split()
-        lines = [f"SET M {n:o} {0o100 + at:o} {' '.join(words[at:at + 8])}" for n in range(10) for at in (0, 8)]
-        lines += [f"SET P {n:o} 100" for n in range(10)] + [f"STEP {100000:o}"]
-        path = self.film(script="\n".join(lines))
-        self.assertLess(os.path.getsize(path), 10_000_000)
-        if self.browser:
-            self.browser.open(path)
-            took = self.value("(() => { const start = performance.now(); for (const at of [0.9, 0.1, 0.5, 1, 0]) "
-                              "moveTo(Math.floor(at * (film.count - 1))); return performance.now() - start; })()")
-            self.assertLess(took, 1000)
+    def test_links(self):
+        """In the turn of a link of the pages its place changes."""
+        for page in ("README.md", "docs/FILM.md"):
+            for name, turn, place in re.findall(r"films/([\w-]+)\.html#turn=([0-7]+)&place=([\w+]+)\)", read(page)):
+                known, changes = decode(film_text(read(FOLDER, f"{name}.html")))
+                kind, *numbers = place.split("+")
+                cell = known["layout"][{"M": "cells", "H": "words", "SYMBOLS": "paper"}[kind]] + sum(
+                    int(number, 8) * 0o10000 ** at for at, number in enumerate(reversed(numbers)))
+                turns = [moment for moment, (kind_of_moment, _) in enumerate(changes) if kind_of_moment < LINE]
+                with self.subTest(page, film=name):
+                    self.assertIn(cell, dict(changes[turns[int(turn, 8) - 1]][1]))

@@ -4,13 +4,8 @@ and of the tool's search on random sessions."""
 import json
 import random
 
-from tests.films import PageCase, random_session, shown_film
-from tests.support import EXAMPLES, program
-
-from pp6600.answers import Place
-from pp6600.origin.text import origin_rows
-from pp6600.origin.positions import Replayer, numbered
-from pp6600.run import performed
+from tests.films import DEVICES, PageCase, random_session, shown_film
+from tests.support import EXAMPLES, tool
 
 STEPS = "[...document.querySelectorAll('#origin li')].map((one) => one.innerText)"
 MARKED = "[...document.querySelectorAll('{} .origin')].map((one) => one.textContent)"
@@ -92,24 +87,20 @@ class Origin(PageCase):
         """The page and the tool find the same steps."""
         for seed in range(6):
             lines, choose = random_session(seed), random.Random(seed)
-            words = ["--deck", f"{EXAMPLES}/read-a-deck/deck", "--panel", f"{EXAMPLES}/dead-start/panel"]
-            script = performed([program(), *words], numbered(lines))
-            replayer = Replayer([program(), *words], script.actions)
-            self.browser.open(self.film(*words, script="\n".join(lines) + "\n", status=int(bool(script.refusals.count))))
-            places = [Place("M", (choose.randrange(3), choose.randrange(0o100))) for _ in range(6)]
-            places += [Place("C", (choose.randrange(0o400),)) for _ in range(3)]
-            for place in [*places, *(Place(kind, (choose.randrange(3),)) for kind in "APQ"), Place("H", (5,)), Place("H", (0o12,)), Place("XP", (0,))]:
-                wanted = self.tool_lines(replayer, place)
+            script = "".join(f"{line}\n" for line in lines)
+            self.browser.open(self.film(*DEVICES, script=script, status=None))
+            places = [f"M {choose.randrange(3)} {choose.randrange(0o100):o}" for _ in range(6)] + [f"C {choose.randrange(0o400):o}" for _ in range(3)]
+            for place in (*places, *(f"{kind} {choose.randrange(3)}" for kind in "APQ"), "H 5", "H 12", "XP 0"):
+                wanted = self.tool_lines(script, place)
                 if len(wanted) < 0o40:  # the page has at most so many steps
-                    with self.subTest(seed=seed, place=place.text):
-                        self.assertEqual(wanted, [tuple(line) for line in self.value(f"{PAGE_LINES}({json.dumps([place.short])})")])
-            replayer.end()
+                    with self.subTest(seed=seed, place=place):
+                        self.assertEqual(wanted, [tuple(line) for line in self.value(f"{PAGE_LINES}({json.dumps([place])})")])
 
     @staticmethod
-    def tool_lines(replayer, place):
-        """The same of the tool's search."""
+    def tool_lines(script, place):
+        """The places, numbers and turns that the tool has."""
         found = []
-        for _, line in origin_rows(replayer, place, replayer.positions.end):
+        for line in tool("origin", *DEVICES, *place.split(), script=script).out.splitlines():
             head, _, rest = line.partition(", NOW ")[0].strip().partition(" TURN ")
             found.append((head.removesuffix(" START"), int(rest.split()[0], 8) if rest else 0))
         return found

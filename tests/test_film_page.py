@@ -3,27 +3,13 @@
 Expected values are those of README.md, docs/FILM.md, docs/EXERCISES.md, docs/MACHINE.md and the notes of the examples.
 """
 
-import itertools
-import json
 import os
 import re
 
 from tests.films import PageCase, shown_film, text_of
-from tests.test_panel import BLOCKS_GO_ON, COMPLETES
-
-from pp6600.instructions import Processor
-from pp6600.machine_state import Channel
-from pp6600.sentences import sentence
 
 CHOSEN = "byId('chosen-text').textContent"
 TURN_AND_PLACE = "[film.turn[film.at], shown.chosen && shown.chosen.name]"
-# In the page: for what PP 00 waits with a word at P or as its phase, where all channels have one state.
-WAIT = """([word, state, count, phase]) => {
-  const numbers = film.numbers;
-  [numbers[0], numbers[register(0, 1)], numbers[register(0, 3)]] = phase ? [0, count, word] : [word, count, 0];
-  numbers.fill(STATES.indexOf(state), film.layout.states, film.layout.states + CHANNELS);
-  return waitText(0);
-}"""
 # In the page: the controls that are seen and smaller than 32 pixels.
 SMALL = """[...document.querySelectorAll("button, select, input")].filter((one) => one.offsetParent
   && (one.getBoundingClientRect().width < 32 || one.getBoundingClientRect().height < 32)).map((one) => one.outerHTML)"""
@@ -66,6 +52,13 @@ class Answers(PageCase):
         self.browser.key("]")
         self.assertIn("No change before the line BACK W, which goes back.", self.value(CHOSEN))
 
+    def test_who(self):
+        """docs/TOOLS.md: the card reader put the word on channel 12 in turn 373; the first instruction is the FNC 12 of README.md."""
+        for turn, wanted in (("373", "H 12 is 0027. Changed here, by the card reader."),
+                             ("1", "H 12 is 0001. Changed here, by PP 00, FNC 12 0001 at 0100.")):
+            self.browser.open(shown_film("overwritten-loader"), f"#turn={turn}&place=H+12")
+            self.assertIn(wanted, self.value(CHOSEN))
+
     def test_handshake(self):
         """The notes of examples/handshake: after 1000 turns PP 00 waits at 0105 for the answer on channel 06, PP 01 at 0103 for
         the question on channel 05; the OAN at 0102 put the question there, and DCN 05 disconnected a full channel."""
@@ -103,29 +96,6 @@ class Answers(PageCase):
         self.browser.key("[")
         self.assertEqual([0o15, "0004"], self.value("[film.turn[film.at], textAt(placeNamed('M 2 30'))]"))
 
-    def test_each_wait(self):
-        """docs/MACHINE.md: in which state of its channel each instruction completes, and each block goes on or ends; what they
-        do on channel 14; and that there is no channel 15 to 77."""
-        self.browser.open(self.film(script="STEP\n"), "#moment=0")
-        cases, wanted = [], []
-        for code, channel, state, count, phase in itertools.product(range(0o100), (3, 0o14, 0o15, 0o77), "IEFX", (0, 1), (False, True)):
-            if phase and code not in (0o61, 0o63, 0o71, 0o73):
-                continue
-            goes_on, name = (BLOCKS_GO_ON if phase else COMPLETES).get(code, ("IEFX", ""))
-            if channel == 0o14:
-                waits = code in (0o72, 0o74, 0o76, 0o77) if not phase else code == 0o73
-            elif channel > 0o14:
-                waits = name != "" and not phase
-            else:
-                waits = state not in goes_on
-            waits = waits and not (phase and count == 0)
-            wanted.append(f"{channel:02o} {name if channel < 0o14 else 'never'}" if waits else "")
-            cases.append((code << 6 | channel, state, count, phase))
-        self.assertEqual(wanted, self.value(f"{json.dumps(cases)}.map({WAIT})"), "in the film")
-        self.assertEqual(wanted, [
-            Processor({"A": f"{count:06o}", "PHASE": f"{word if phase else 0:04o}"}, [f"{0 if phase else word:04o}"])
-            .waits_for([state] * 12 + ["F"]) for word, state, count, phase in cases], "in the tools")
-
 
 class Program(PageCase):
     """Memory as instructions, and what the next turn does."""
@@ -162,32 +132,6 @@ class Program(PageCase):
         self.assertEqual("PP 00, in the block of IAM 12 at 0104 INPUT", self.value("turnText(film.at)"))
         self.assertIn("0106 INPUT+2", self.value(texts))
 
-    def test_sentences(self):
-        """Each sentence is that of the tools, for each code, state of the channel and count."""
-        self.browser.open(self.film(script="STEP\n"), "#moment=0")
-        self.value("window.ask = ([p, word, second, a, q, phase, state]) => { const n = film.numbers;"
-                   "[0x50, 0x10].forEach((at) => { n[at] = 0o1234; }); n[0] = 0o77; n[0o76] = phase; n[0o77] = 0o60; n[p] = word; n[p + 1] = second;"
-                   "[p, a, q, phase].forEach((number, at) => { n[register(0, at)] = number; });"
-                   "n.fill(STATES.indexOf(state), film.layout.states, film.layout.states + CHANNELS); return sentenceOf(0); }; 0")
-        cases, wanted = [], []
-        for code, d, state, (a, q), phase in itertools.product(range(0o100), (0, 3, 0o14, 0o20, 0o50, 0o77), "IEFX",
-                                                               ((0, 0), (1, 1), (0o400000, 2)), (False, True)):
-            if phase and code not in (0o61, 0o63, 0o71, 0o73):
-                continue
-            word, p = code << 6 | d, 0 if phase and a == 1 else 0o100
-            cases.append((p, word, 0o7000, a, q, word if phase else 0, state))
-            wanted.append(self.sentence(*cases[-1]))
-        self.assertEqual(wanted, self.value(f"{json.dumps(cases)}.map(ask)"))
-
-    def sentence(self, p, word, second, a, q, phase, state):
-        """Returns the sentence of the tools for the numbers of a case."""
-        cells = {0o120: 0o1234, 0o20: 0o1234, 0: 0o77, 0o76: phase, 0o77: 0o60}
-        cells.update({p: word, p + 1: second})
-        processor = Processor({"P": f"{p:04o}", "A": f"{a:06o}", "Q": f"{q:04o}", "PHASE": f"{phase:04o}"},
-                              [f"{cells[p]:04o}", f"{cells[p + 1]:04o}"])
-        channels = [Channel(f"{number:02o}", state, "0000") for number in range(12)] + [Channel("14", "F", "0000")]
-        return sentence(processor, lambda address: cells.get(address % 0o10000, 0), channels)
-
 
 class Controls(PageCase):
     """Keys, fields and buttons."""
@@ -213,8 +157,8 @@ class Controls(PageCase):
         self.assertEqual([0o770, "BACK 10 SLOT 04"], self.value("[film.turn[film.at], lineOf(film.at).answer[0]]"))
         self.value("moveTo(0); byId('rate').value = 4")
         self.browser.key(" ")
-        self.value("new Promise((done) => setTimeout(done, 600))")
-        self.assertEqual([last, None], self.value("[film.at, shown.playing]"))
+        self.browser.wait_for("shown.playing === null")
+        self.assertEqual(last, self.value("film.at"))
 
     def test_around(self):
         """docs/FILM.md: a film around a turn opens there."""
@@ -324,9 +268,7 @@ class Controls(PageCase):
 
     def saved(self, path):
         """Waits for a file that the page saves, and returns its bytes."""
-        for _ in range(100):
-            if os.path.exists(path) and os.path.getsize(path):
-                break
+        while not os.path.exists(path) or not os.path.getsize(path):
             self.value("new Promise((done) => setTimeout(done, 50))")
         with open(path, "rb") as file:
             return file.read()
@@ -366,8 +308,8 @@ class Opening(PageCase):
                         ("#turn=405&place=M+0+106", [0o405, "M 00 0106"]), ("#turn=405", [0o405, None]), ("#moment=0", [0, None]),
                         ("#place=A+0", [0o335, "A 00"]), ("#turn=405&place=nothing", [0o405, None]))
         self.assertEqual("no such place", self.value("byId('no-place').innerText"))
-        self.value("moveTo(film.turn.indexOf(0o400)); choose(placeNamed('M 0 106')); new Promise((done) => setTimeout(done, 500))")
-        self.assertEqual("#moment=403&place=M+00+0106", self.value("location.hash"))
+        self.value("moveTo(film.turn.indexOf(0o400)); choose(placeNamed('M 0 106'))")
+        self.browser.wait_for("location.hash === '#moment=403&place=M+00+0106'")
 
 
 class Looks(PageCase):
@@ -390,7 +332,7 @@ class Looks(PageCase):
 
     def test_first_screen(self):
         """Memory is on the first screen, and no number of it below."""
-        for name, address in (("overwritten-loader", "#turn=405&place=M+0+106"), ("handshake", "#turn=31&place=H+5"),
+        for name, address in (("overwritten-loader", "#turn=405&place=M+0+106"), ("handshake", "#turn=25&place=H+5"),
                               ("dead-start-from-cards", "")):
             with self.subTest(name):
                 self.browser.open(shown_film(name), address)
@@ -410,7 +352,7 @@ class Looks(PageCase):
         exchange = self.film(script=EXCHANGE)
         for name, path, address in (("loader", shown_film("overwritten-loader"), "#turn=405&place=M+0+106"),
                                     ("handshake", shown_film("handshake"), ""), ("exchange", exchange, "#place=C+0"),
-                                    ("cards", shown_film("dead-start-from-cards"), "#turn=520&place=SYMBOLS")):
+                                    ("cards", shown_film("dead-start-from-cards"), "#turn=551&place=SYMBOLS")):
             self.browser.open(path, address)
             self.value("showHelp(true)")
             with self.subTest(name):

@@ -8,13 +8,13 @@ moments of a film from its name. Other seeds: FILM_SEEDS="100 50" compares 50 se
 import os
 import random
 
-from tests.films import PageCase, film_text, random_session, text_of
+from tests.films import DEVICES, PageCase, about, numbers_at, random_session, text_of
+from tests.fixtures import wait_text
 from tests.support import TOP, program
 
-from pp6600.console import Console
-from pp6600.film.data import decode
-from pp6600.film.places import LAYOUT
-from pp6600.instructions import processor_at, states_of
+from pp6600 import Console
+from pp6600.core.state import state_of
+from pp6600.sentences import sentence
 
 MOMENTS = 10  # compared of each run
 SEEDS = "0 5"  # of the random sessions: the first, and how many
@@ -25,7 +25,6 @@ WALKED = (
 # An OAM on channel 77, which does not exist, ends at once. Its return address, 7777 in cell 0000, is then the next instruction:
 # FNC 77, which waits for ever.
 NO_CHANNEL = ("SET M 0 7776 7377 7120", "SET P 0 7776", "STEP 64", "SET M 1 0 7417 7615", "STEP 64", "BACK 100", "FORWARD 3")
-RANDOM_OPTIONS = ("--central", "32", "--panel", "examples/dead-start/panel", "--deck", "examples/read-a-deck/deck")
 
 # In the page: what is shown, as the dumps have it.
 STATE = """(processor, first) => {
@@ -42,6 +41,7 @@ STATE = """(processor, first) => {
     processors: range(10).map((n) => `PP ${two(n)} P ${number(`P ${two(n)}`)} A ${number(`A ${two(n)}`)} Q ${number(`Q ${two(n)}`)}`
       + ` PHASE ${number(`PHASE ${two(n)}`)} SLOT ${slot}`),
     waits: rows.map((row) => row.cells[8].textContent),
+    sentences: range(10).map(sentenceOf),
     at_p: rows.map((row) => row.cells[3].querySelector("button").textContent),
     channels: [...range(12).map((c) => `H ${two(c)} ${number(`STATE ${two(c)}`)} ${number(`H ${two(c)}`)}`), `H 14 F ${number("H 14")}`],
     frame: range(16).map((i) => `XP ${two(i)} ${number(`XP ${two(i)}`)}`),
@@ -60,9 +60,9 @@ STATE = """(processor, first) => {
 WAITED_WRONGLY = """() => {
   const wrong = [];
   for (let at = 1; at < film.count; at++) {
-    if (film.kinds[at] !== TURN) continue;
+    if (!isTurn(at)) continue;
     goTo(at - 1);
-    if ((waitText(film.processor[at]) !== "") !== (film.did[at] === WAITING)) wrong.push(at);
+    if ((nextOf(film.processor[at]).waits !== "") !== (film.kinds[at] === WAITING)) wrong.push(at);
   }
   return wrong;
 }"""
@@ -88,15 +88,23 @@ def moments_of(words, lines):
     slow.end()
 
 
+def waiting(registers, cells, states):
+    """Returns for what a processor waits, by the words of its dump, its cells and the states of the channels."""
+    word, phase = int(cells[int(registers[3], 8)], 8), int(registers[9], 8)
+    code, channel = divmod(phase or word, 64)
+    return wait_text(code, channel, states[channel] if channel < 0o14 else "F", int(registers[5], 8), phase != 0)
+
+
 def dumped(console, last_word, window):
     """The dumps of a simulator, as the page's state has them."""
     cells = [console.cells(n, 0, 0o7777) for n in range(10)]
     processors = [console.ask(f"DUMP PP {n:o}")[0] for n in range(10)]
     channels = console.channels()
-    waits = [processor_at(console, n).waits_for(states_of(channels)) for n in range(10)]
-    processor, first = window
+    waits = [waiting(line.split(), cells[n], [channel.split()[2] for channel in channels]) for n, line in enumerate(processors)]
+    state, (processor, first) = state_of(console), window
+    sentences = [sentence(one, memory.number, state.channels) for one, memory in zip(state.processors, state.memories)]
     words = [line.split()[1:] for line in console.ask(f"DUMP C 0 {last_word:o}") if line[9:].strip("0")]
-    return {"processors": processors, "channels": channels, "waits": waits, "frame": console.ask("DUMP XP"),
+    return {"processors": processors, "channels": channels, "waits": waits, "sentences": sentences, "frame": console.ask("DUMP XP"),
             "at_p": [cells[n][int(line.split()[3], 8)] for n, line in enumerate(processors)],
             "reader": console.ask("DUMP CR"), "printer": console.ask("DUMP LP"), "watches": console.ask("DUMP W"),
             "window": [cells[processor][(first + at) % 0o10000] for at in range(0o200)],
@@ -130,18 +138,6 @@ def chosen_moments(choose, words, lines):
     return windows, states, total, int(any(answer[0] == "ERR" for answer in answers))
 
 
-def numbers_at(page, moments):
-    """The numbers of all places at each of the moments, as they are kept in a page, and how many moments it has."""
-    about, changes = decode(film_text(page))
-    numbers, states = [0] * (LAYOUT["central"] + 2 * len(about["central"])), {}
-    for moment, (_, changed) in enumerate(changes):
-        for place, growth in changed:
-            numbers[place] += growth
-        if moment in moments:
-            states[moment] = list(numbers)
-    return states, len(changes)
-
-
 class Walk(PageCase):
 
     needs_browser = False  # what is kept in the films is compared without one
@@ -165,7 +161,7 @@ class Walk(PageCase):
                 numbers = got[moment]
                 self.assertEqual(wanted["cells"], [[at, word] for at, word in enumerate(numbers[:0o10000 * 10]) if word])
                 registers = [[int(word, 8) for word in line.split()[3:10:2]] for line in wanted["processors"]]
-                first = LAYOUT["registers"]
+                first = about(page)["layout"]["registers"]
                 self.assertEqual(sum(registers, []), numbers[first:first + 40])
 
     def compare_page(self, choose, path, windows, states, total):
@@ -208,4 +204,4 @@ class Walk(PageCase):
         first, count = map(int, os.environ.get("FILM_SEEDS", SEEDS).split())
         for seed in range(first, first + count):
             with self.subTest(seed=seed):
-                self.walk(f"random session, seed {seed}", RANDOM_OPTIONS, random_session(seed))
+                self.walk(f"random session, seed {seed}", DEVICES, random_session(seed))

@@ -1,90 +1,74 @@
-"""Tests the installation, and what the programs that make files do with odd outputs and inputs."""
+"""Tests the installation and the archive of a release, without the repository and the Rattle kit."""
 
+import functools
 import os
+import re
 import shutil
-import signal
-import subprocess
-import sys
-import time
+import unittest
 
-from tests.installing import ALONE, ANSWERED, INSTALL, TOOLS, InstallCase, alone, below, checkout, installation
-from tests.support import TOP, program, read, write
+from tests.installing import ANSWERED, INSTALL, OWN, PAGES, InstallCase, alone, below, checkout, commit, installation, lasting_room
+from tests.support import TOOLS, Done, program, read, write
 
-from pp6600.installation import OWN, PAGES
-
-ODD = os.fsdecode(b"\xff\xfe")  # a name that is not UTF-8
+ARCHIVE = f"pp6600-{read('VERSION').strip()}-x86_64-linux.tar.gz"
+LINKS = {".md": r"\]\(([^)#:\s]+)[^)]*\)", ".html": r' href="([^"#:]+)'}
 ADVICE = ": put this folder on the path; see man pp6600\n"
 
 
-class Refused(InstallCase):
-    """What share/install can't do is one line, status 2, and nothing is written."""
+@functools.lru_cache(maxsize=None)
+def original():
+    """Returns a checkout that no test changes, but for what git does not see."""
+    return checkout(os.path.join(lasting_room(), "original"))
 
-    def test_words(self):
-        taken = self.path("taken")
-        write(taken)
-        for words, said in (
-                ((), "PREFIX"), (("",), "PREFIX is empty"), (("--uninstall", ""), "PREFIX is empty"), (("--program",), "--program"),
-                (("--program", "", "new"), "not the simulator"), (("--program", "/bin/true", "new"), "not the simulator"),
-                (("--bogus", "new"), "--bogus"), (("--program", program(), "a", "b"), "b"), (("--uninstall", "new"), "nothing"),
-                (("--program", program(), taken), taken), (("--without", "x", "new"), "--without"),
-                (("--program", program(), ODD), "not UTF-8")):
-            with self.subTest(words):
-                self.check_refused(alone(INSTALL, *words, cwd=self.folder), said)
-        self.assertEqual(["taken"], os.listdir(self.folder))
 
-    def test_relative_prefix_below_another_folder(self):
-        done = alone(INSTALL, "--program", program(), "new", cwd=self.folder, env={"DESTDIR": self.path("stage")})
-        self.check_refused(done, "absolute")
-        self.assertEqual([], os.listdir(self.folder))
+@functools.lru_cache(maxsize=None)
+def archive():
+    """Returns its release."""
+    alone("share/release", cwd=original())
+    return os.path.join(original(), "out", ARCHIVE)
+
+
+def lost_links(top):
+    """Returns the links of all pages below a folder that lead to no file."""
+    lost = []
+    for folder, _, names in os.walk(top):
+        for name in names:
+            link = LINKS.get(os.path.splitext(name)[1])
+            found = re.findall(link, read(folder, name)) if link else []
+            lost += [(name, target) for target in found if not os.path.exists(os.path.join(folder, target))]
+    return lost
 
 
 class Installed(InstallCase):
-    """Everything in a folder, under a strict mask, used without the repository and without rt."""
+    """Everything in a folder, used from there."""
 
-    @classmethod
-    def setUpClass(cls):
-        super().setUpClass()
-        cls.prefix = installation()
+    def setUp(self):
+        self.prefix = installation()
 
-    def test_over_another(self):
-        prefix = self.path("prefix")
-        os.mkdir(prefix)
-        for words in ((INSTALL, "--program", program()), (f"{self.prefix}/{OWN}/install",)):  # the second puts the new in the place of the old
-            done = alone(*words, prefix, preexec_fn=lambda: os.umask(0o077))
-            self.assertEqual((f"install: pp6600 is in {prefix}/bin{ADVICE}", "", 0), done)
-        self.assertEqual({"0o755", "0o644"}, {mode for mode in below(prefix).values() if mode.startswith("0o")})
-        self.assertEqual(below(self.prefix), below(prefix))
-
-    def test_program(self):
+    def test_program_and_tools(self):
         os.symlink(f"{self.prefix}/bin/pp6600", self.path("linked"))
         for name in (f"{self.prefix}/bin/pp6600", self.path("linked")):
             self.assertEqual(ANSWERED, alone(name, script="STEP 12\n", cwd=self.folder))
-
-    def test_tool(self):
         done = alone(f"{self.prefix}/bin/pp6600-show", script="STEP 12\n", cwd=self.folder)
         self.assertEqual("> STEP 12\nTURNS 12 SLOT 00\n", done.out)
         self.assertEqual(f"pp6600-state {read('VERSION')}", alone(f"{self.prefix}/bin/pp6600-state", "--version").out)
 
-    def test_debug_adapter(self):
-        request = '{"seq":1,"type":"request","command":"threads"}'
-        done = alone(f"{self.prefix}/bin/pp6600-debug-adapter", script=f"Content-Length: {len(request)}\r\n\r\n{request}")
-        self.assertIn("no simulator runs: launch one first", done.out)
-
     def test_what_is_there(self):
+        there = below(self.prefix)
+        self.assertEqual({"0o755", "0o644"}, {mode for mode in there.values() if mode.startswith("0o")}, "all may read it")
         for name in ("pp6600", *(f"pp6600-{name}" for name in TOOLS)):
             for path in (f"bin/{name}", f"share/man/man1/{name}.1.gz", f"share/bash-completion/completions/{name}"):
-                with self.subTest(path):
-                    self.assertTrue(os.path.isfile(os.path.join(self.prefix, path)))
+                self.assertIn(path, there)
         for path in ("docs/CONSOLE.md", "docs/card.html", "docs/drawings/session.svg", "examples/clock/script", "exercises/grade",
                      "share/editors/kate/dap.json", "share/editors/vscode/package.json"):
-            with self.subTest(path):
-                self.assertTrue(os.path.isfile(os.path.join(self.prefix, PAGES, path)))
+            self.assertIn(f"{PAGES}/{path}", there)
         self.assertEqual(read("CHANGELOG.md"), alone("gunzip", "-c", f"{self.prefix}/{PAGES}/changelog.gz").out)
+        self.assertEqual([], lost_links(self.prefix))
 
     def test_completion(self):
         """What bash proposes: the options that --help prints, and the values of options."""
         for words, wanted in (
-                (("pp6600", "--pa"), "--panel"), (("pp6600", "--central", "3"), "32"), (("pp6600-trace", "--pro"), "--processor --program"),
+                (("pp6600", "--pa"), "--panel"), (("pp6600", "--central", "3"), "32"),
+                (("pp6600-trace", "--pro"), "--processor --program"),
                 (("pp6600-changes", "--deck", f"{self.prefix}/b"), f"{self.prefix}/bin")):
             script = f"""PATH={self.prefix}/bin:$PATH; . {self.prefix}/share/bash-completion/completions/pp6600
                 COMP_WORDS=({' '.join(words)}); COMP_CWORD={len(words) - 1}; _pp6600; echo "${{COMPREPLY[@]}}"
@@ -93,108 +77,139 @@ class Installed(InstallCase):
                 self.assertEqual((f"{wanted}\n", "", 0), alone("bash", "-c", script))
 
     def test_uninstall(self):
-        prefix = self.path("prefix")
-        alone(f"{self.prefix}/{OWN}/install", prefix)
-        alone(f"{prefix}/bin/pp6600-show", script="STEP 12\n", env={"PYTHONDONTWRITEBYTECODE": ""})  # Python keeps what it has compiled
+        """What was installed is taken away, with what Python has compiled; what else is there stays."""
+        prefix, seat = self.path("prefix"), self.path("seat")
+        self.assertEqual((f"install: pp6600 is in {prefix}/bin{ADVICE}", "", 0), alone(f"{self.prefix}/{OWN}/install", prefix))
+        self.assertEqual(0, alone(f"{self.prefix}/{OWN}/install", "--without", "solutions", seat).status)
+        self.assertEqual(0, alone(f"{seat}/{OWN}/install", self.path("another")).status)
+        self.assertEqual(below(seat), below(self.path("another")))
+        self.assertEqual(below(self.prefix), below(prefix))
+        alone(f"{prefix}/bin/pp6600-show", script="STEP 12\n", env={"PYTHONDONTWRITEBYTECODE": ""})
         write(f"{prefix}/bin/own")
         self.assertEqual((f"install: pp6600 is taken away from {prefix}\n", "", 0), alone(INSTALL, "--uninstall", prefix))
         self.assertEqual(["bin", "bin/own"], sorted(below(prefix)))
         self.check_refused(alone(INSTALL, "--uninstall", prefix), "nothing of pp6600")
 
-    def test_other_program(self):
-        """An installation that is installed again with another program."""
-        other, prefix = self.path("other"), self.path("prefix")
-        write(other, f'#!/bin/sh\nexec {program()} "$@"\n', 0o755)
-        alone(f"{self.prefix}/{OWN}/install", "--program", other, prefix)
+    def test_where_the_program_does_not_start(self):
+        """The launcher, the tools and the exercises take pp6600-python, which is installed too, and say so."""
+        prefix, said = self.path("prefix"), "pp6600: the proved program does not start here; this is pp6600-python, which is not proved\n"
+        alone(f"{self.prefix}/{OWN}/install", prefix)
+        write(f"{prefix}/{OWN}/pp6600", "#!/bin/sh\nexit 1\n", 0o755)
+        self.assertEqual(("TURNS 12 SLOT 00\n", said, 0), alone(f"{prefix}/bin/pp6600", script="STEP 12\n"))
+        self.assertEqual(("TURNS 12 SLOT 00\n", "", 0), alone(f"{prefix}/bin/pp6600-python", script="STEP 12\n"))
+        self.assertEqual(("> STEP 12\nTURNS 12 SLOT 00\n", said, 0), alone(f"{prefix}/bin/pp6600-show", script="STEP 12\n"))
+        exercises = f"{prefix}/{PAGES}/exercises"
+        done = alone(f"{exercises}/check-exercise", "first-program", f"{exercises}/first-program/solution")
+        self.assertEqual(("first-program: solved\n", said, 0), done)
+
+    def test_over_another(self):
+        """What the older one had and the newer has not is taken away."""
+        other, prefix = write(self.path("other"), f'#!/bin/sh\nexec {program()} "$@"\n', 0o755), self.path("prefix")
+        write(f"{prefix}/{OWN}/installed", "bin/older\n")
+        write(f"{prefix}/bin/older")
+        self.assertEqual(0, alone(f"{self.prefix}/{OWN}/install", "--program", other, prefix).status)
         self.assertEqual(0, alone("cmp", other, f"{prefix}/{OWN}/pp6600").status)
+        self.assertEqual(below(self.prefix), below(prefix))
+
+    def test_refused(self):
+        for words, said in (((), "give PREFIX"), (("",), "give PREFIX"), (("--bogus", "new"), "--bogus"),
+                            (("--program", "/bin/true", "new"), "not the simulator"), (("--without", "x", "new"), "--without")):
+            with self.subTest(words):
+                self.check_refused(alone(INSTALL, *words, cwd=self.folder), said)
+        self.assertEqual([], os.listdir(self.folder))
 
 
-class Staged(InstallCase):
-    """Below another folder, as packagers do it."""
-
-    def test_destdir(self):
-        stage, prefix = self.path("stage"), self.path("usr")
-        words, env = (f"{installation()}/{OWN}/install", prefix), {"DESTDIR": stage}
-        self.assertEqual((f"install: pp6600 is in {stage}{prefix}/bin\n", "", 0), alone(*words, env=env))
-        self.assertFalse(os.path.exists(prefix))
-        self.assertEqual(ANSWERED, alone(f"{stage}{prefix}/bin/pp6600", script="STEP 12\n"))
-        alone(INSTALL, "--uninstall", prefix, env=env)
-        self.assertFalse(os.path.exists(stage + prefix))
+@unittest.skipUnless(shutil.which("make") and shutil.which("git"), "there is no make or no git here")
+class Made(InstallCase):
+    """By make, as packagers and users do it."""
 
     def test_make(self):
-        """With odd names of folders, which make must hand on as they are."""
-        if not shutil.which("make"):
-            self.skipTest("there is no make here")
-        top, stage, prefix = checkout(self.path("top")), self.path(f"a 'stage' {ODD}"), "/us\"r $HOME"
+        top, stage = original(), self.path("a stage")
         self.assertEqual((f"{top}/dist/pp6600\ndist\n", "", 0), alone("make", cwd=top))
-        done = alone("make", "install", f"DESTDIR={stage}", f"PREFIX={prefix.replace('$', '$$')}", cwd=top)
-        self.assertEqual(("", 0), done[1:])
-        self.assertEqual(below(installation()), below(stage + prefix))
-        self.assertEqual(0, alone("make", "uninstall", f"DESTDIR={stage}", f"PREFIX={prefix.replace('$', '$$')}", cwd=top).status)
-        self.assertEqual([], os.listdir(stage))
+        self.assertEqual((f"install: pp6600 is in {stage}/usr/bin; see man pp6600\n", "", 0),
+                         alone("make", "install", f"DESTDIR={stage}", "PREFIX=/usr", cwd=top))
+        self.assertEqual(below(installation()), below(f"{stage}/usr"))
+        self.assertEqual(ANSWERED, alone(f"{stage}/usr/bin/pp6600", script="STEP 12\n"))
+        self.assertEqual(0, alone("make", "uninstall", f"DESTDIR={stage}", "PREFIX=/usr", cwd=top).status)
+        self.assertEqual(["usr"], list(below(stage)))
         done = alone("make", "install", "PREFIX=~/.local", cwd=top, env={"HOME": self.path("home")})
         self.assertEqual((f"install: pp6600 is in {self.path('home')}/.local/bin{ADVICE}", "", 0), done)
 
 
-class Undone(InstallCase):
-    """A file of someone else, a failure and a kill leave nothing behind."""
+@unittest.skipUnless(shutil.which("git"), "there is no git here")
+class Release(InstallCase):
+    """It is made of a commit and of the proved program; the same commit makes the same bytes."""
 
     def setUp(self):
-        self.prefix = self.path("prefix")
-        self.words = (f"{installation()}/{OWN}/install", self.prefix)
+        self.top = self.path("another", "checkout")
+        alone("git", "clone", "-q", original(), self.top, preexec_fn=lambda: os.umask(0o077))
 
-    def put_in_the_way(self):
-        """A folder in the place of a file that is put, which is a failure in the middle."""
-        os.makedirs(f"{self.prefix}/share/man/man1/pp6600.1.gz.new/own")
+    def test_same_bytes(self):
+        """In another clone, where the pages' own files lie, under another mask and in another time zone."""
+        for name in ("loader", "class/README.md"):
+            write(f"{self.top}/{name}", "README.md and docs/EXERCISES.md tell one to make it\n")
+        done = alone("share/release", "made", cwd=self.top, env={"DESTDIR": "/nowhere", "TZ": "Asia/Tokyo"})
+        self.assertEqual((f"release: {self.top}/made/{ARCHIVE}\n", "", 0), done)
+        self.assertEqual(Done("", "", 0), alone("sha256sum", "--quiet", "-c", f"{ARCHIVE}.sha256", cwd=f"{self.top}/made"))
+        self.assertEqual(Done("", "", 0), alone("cmp", archive(), f"{self.top}/made/{ARCHIVE}"))
 
-    def check_unchanged(self, said):
-        before = below(self.prefix)
-        self.check_refused(alone(*self.words), said)
-        self.assertEqual(before, below(self.prefix))
+    def test_not_committed(self):
+        write(f"{self.top}/docs/NEW.md")
+        self.check_refused(alone("share/release", cwd=self.top), "docs/NEW.md")
+        shutil.rmtree(f"{self.top}/.git")
+        self.assertIn("no checkout of git", alone("share/release", cwd=self.top).err)
 
-    def test_file_in_the_way(self):
-        write(f"{self.prefix}/bin/pp6600-show", "mine")
-        self.check_unchanged("is there already")
-
-    def test_failure(self):
-        self.put_in_the_way()
-        self.check_unchanged("pp6600.1.gz.new")
-
-    def test_failure_over_an_installation(self):
-        alone(*self.words)
-        self.put_in_the_way()
-        self.check_unchanged("pp6600.1.gz.new")
-
-    def test_killed(self):
-        """The list is written before any file, so what a killed installation has put can be taken away."""
-        os.makedirs(f"{self.prefix}/bin")
-        process = subprocess.Popen(self.words, stdout=subprocess.DEVNULL, env={**os.environ, **ALONE})
-        while process.poll() is None and not os.path.exists(f"{self.prefix}/{OWN}/installed"):
-            time.sleep(0.0005)
-        process.send_signal(signal.SIGKILL)
-        process.wait()
-        self.assertEqual(0, alone(INSTALL, "--uninstall", self.prefix).status)
-        self.assertEqual({"bin": "0o755"}, below(self.prefix))
+    def test_another_program_or_source(self):
+        """Neither is packed, installed or measured."""
+        for path, said in (("crates/pp_arith/src/lib.rt", "the sources are not those of dist/pp6600"),
+                           ("dist/pp6600", "dist/pp6600 is not the program that dist/sources names")):
+            with open(f"{self.top}/{path}", "ab") as file:
+                file.write(b"\n")
+            commit(self.top)
+            for words in (("share/release",), ("share/install", self.path("new")), ("exercises/hand-out", self.path("new")),
+                          ("bench/run",)):
+                with self.subTest(words, path=path):
+                    self.check_refused(alone(*words, cwd=self.top), said)
+            alone("git", "reset", "-q", "--hard", "HEAD~1", cwd=self.top)
+        self.assertEqual(["another"], os.listdir(self.folder))
 
 
-class OutputsAndInputs(InstallCase):
-    """Standard streams that can't be used, and a Python that does not look beside the program."""
+@unittest.skipUnless(shutil.which("git"), "there is no git here")
+class Unpacked(InstallCase):
+    """What is in the archive."""
 
-    def test_outputs(self):
-        """An output that is full or closed is one line on standard error, and status 2."""
-        for path, word, where in (
-                ("share/install", "--help", "&-"), ("share/release", "--help", "&-"), ("share/manual", "--print", "&-"),
-                ("exercises/hand-out", "--help", "&-"), ("exercises/grade", "--help", "&-"), ("exercises/check-exercise", "--help", "&-"),
-                ("share/manual", "--print", "/dev/full"), ("exercises/grade", f"'{TOP}/exercises'", "/dev/full")):
-            with self.subTest(path, where=where):
-                done = alone("bash", "-c", f'"$0" {word} >{where}', os.path.join(TOP, path), cwd=self.folder, env={"PP6600": program()})
-                self.check_refused(done, "standard output")
+    @classmethod
+    def setUpClass(cls):
+        super().setUpClass()
+        folder = lasting_room()
+        alone("tar", "xzf", archive(), "-C", folder)
+        cls.top = os.path.join(folder, ARCHIVE.removesuffix(".tar.gz"))
 
-    def test_python(self):
-        """The folder of the program is not on Python's path."""
-        for path in ("share/install", "share/release", "exercises/hand-out", "exercises/grade", "exercises/check-exercise"):
-            wanted = alone(os.path.join(TOP, path), "--help", cwd=self.folder)
-            self.assertEqual(("", 0), wanted[1:])
-            for words, env in (((sys.executable, "-B", "-I"), {}), ((sys.executable,), {"PYTHONSAFEPATH": "1"})):
-                with self.subTest(path, words=words):
-                    self.assertEqual(wanted, alone(*words, os.path.join(TOP, path), "--help", cwd=self.folder, env=env))
+    def test_program(self):
+        version = read("VERSION").strip()
+        self.assertEqual(f"# pp6600 {version}:", read(self.top, "README.md")[:len(f"# pp6600 {version}:")])
+        self.assertEqual(f"pp6600 {version}\n", alone("./pp6600", "--version", cwd=self.top).out)
+        done = alone("./pp6600", "examples/first-steps/script", cwd=self.top)
+        self.assertEqual(read("examples", "first-steps", "stdout"), done.out)
+        self.assertEqual("> STEP 12\nTURNS 12 SLOT 00\n", alone("tools/show", script="STEP 12\n", cwd=self.top).out)
+        for path in ("dist/pp6600", "dist/sources"):
+            self.assertEqual(Done("", "", 0), alone("cmp", path, f"{original()}/{path}", cwd=self.top))
+        libraries = re.findall(r"(\S+) (?:=>|\()", alone("ldd", "dist/pp6600", cwd=self.top).out)
+        self.assertLessEqual({os.path.basename(path).split("-")[0] for path in libraries}, {"linux", "libc.so.6", "ld"})
+
+    def test_links(self):
+        self.assertEqual([], lost_links(self.top))
+
+    def test_install(self):
+        prefix = self.path("prefix")
+        self.assertEqual(0, alone("./install", prefix, cwd=self.top).status)
+        self.assertEqual(below(installation()), below(prefix))
+        self.assertEqual(Done("", "", 0), alone("diff", "-r", prefix, installation()))
+        self.assertEqual(0, alone("./install", "--uninstall", prefix, cwd=self.top).status)
+        self.assertEqual({}, below(prefix))
+
+    def test_class(self):
+        done = alone("exercises/hand-out", self.path("class"), cwd=self.top)
+        self.assertEqual((f"hand-out: {self.path('class')} has 8 exercises\n", "", 0), done)
+        done = alone("./check-exercise", "exchange", f"{self.top}/exercises/exchange/solution", cwd=self.path("class"))
+        self.assertEqual(("exchange: solved\n", "", 0), done)

@@ -4,17 +4,16 @@ import contextlib
 import hashlib
 import os
 import shutil
-import signal
 import subprocess
-import time
+import sys
 import unittest
 
 from tests.installing import ANSWERED, InstallCase
-from tests.support import TOP, Done, program, read, write
+from tests.support import PATIENCE, TOP, Done, program, read, write
 from tests.terminal import Terminal
 
 NEEDED = ("bash", "readlink", "dirname", "find", "sort", "xargs", "sha256sum", "cut", "grep", "awk", "nproc", "rm", "cp", "cmp", "mkdir",
-          "mktemp", "tee", "tail", "sleep", "stty", "sed", "cat", "chmod", "python3")
+          "mktemp", "tee", "tail", "sleep", "stty", "sed", "cat", "chmod", "python3", "uname")
 GREETING = ("pp6600 7.8.9: SET STEP BACK FORWARD WATCH UNWATCH DEADSTART DUMP\r\n"
             "All numbers are octal. Card: docs/CARD.md. Ctrl-D ends.\r\n"
             "This program was proved elsewhere; ./prove proves it here.\r\n")
@@ -27,7 +26,6 @@ case $* in
     ci) mkdir -p crates/pp6600/out; cp '{program}' crates/pp6600/out/pp6600; cat '{room}/ci'; exit ;;
 esac
 if [ -e '{room}/edits' ]; then echo >>'{room}/repository/crates/pp_arith/src/lib.rt'; fi
-if [ -e '{room}/slow' ]; then echo $$ >'{room}/child'; exec sleep 60; fi
 """
 
 
@@ -78,23 +76,19 @@ class Launched(InstallCase):
         names = {"PATH": ":".join([*([self.kit] if rt else []), self.plain, *more]), "TERM": "xterm"}
         return {**names, "HOME": self.folder} if home else names
 
-    def run_here(self, *words, rt=False, script="STEP 12\n", before=()):
+    def run_here(self, *words, rt=False, script="STEP 12\n", folder=None):
         """Runs a command of the repository, as pp6600, and returns what it wrote and its status."""
         path = words[0] if os.sep in words[0] else os.path.join(self.top, words[0])
-        done = subprocess.run([*before, path, *words[1:]], input=script, capture_output=True, text=True, cwd=self.folder,
-                              env=self.environment(rt), timeout=60, check=False)
+        done = subprocess.run([path, *words[1:]], input=script, capture_output=True, text=True, cwd=folder or self.folder,
+                              env=self.environment(rt), timeout=PATIENCE, check=False)
         return Done(done.stdout, done.stderr, done.returncode)
 
 
 class Choice(Launched):
     """Which build is run, by checksums alone."""
 
-    def test_a_fresh_clone_runs_the_program_of_dist_at_once(self):
-        began = time.monotonic()
-        self.assertEqual(ANSWERED, self.run_here("pp6600"))
-        self.assertLess(time.monotonic() - began, 0.5)
-
-    def test_neither_python_nor_rt_is_needed(self):
+    def test_a_fresh_clone_runs_the_program_of_dist(self):
+        """Neither Python nor rt is needed."""
         os.remove(os.path.join(self.plain, "python3"))
         self.assertEqual(ANSWERED, self.run_here("pp6600"))
 
@@ -131,15 +125,86 @@ class Choice(Launched):
             with self.subTest(name):
                 self.write(name, "#!/bin/sh\necho planted\n", 0o755)
                 self.assertNotIn("planted", "".join(self.run_here("pp6600")[:2]))
-        self.check_refused(self.run_here("pp6600"), "./prove")  # the second was that of dist
 
-    def test_the_checksum_knows_no_locale_mask_or_owner(self):
-        before = self.checksum()
-        self.assertEqual(before, self.checksum(env={**os.environ, "LC_ALL": "tr_TR.UTF-8", "LANG": "tr_TR.UTF-8"}))
-        self.assertEqual(before, self.checksum(preexec_fn=lambda: os.umask(0o077)))
+    def test_a_program_that_was_changed_is_said_so(self):
+        """A program that was stripped, or that can't be run, is no change of the sources."""
+        name = "dist/pp6600"
+        os.chmod(os.path.join(self.top, name), 0o644)
+        self.check_refused(self.run_here("pp6600"), "dist/pp6600 can't be read and run: chmod +rx dist/pp6600")
+        self.write(name, "stripped\n", 0o755)
+        self.check_refused(self.run_here("pp6600"), "dist/pp6600 is not the program that dist/sources names: git checkout dist brings it back")
+        os.remove(os.path.join(self.top, "dist/sources"))
+        self.check_refused(self.run_here("pp6600"), "dist/sources can't be read: git checkout dist brings it back")
+
+    def test_what_is_no_plain_file_is_not_waited_for(self):
+        """FIFOs in the place of a build, of its stamp and of VERSION."""
+        for name in ("crates/pp6600/out/pp6600", "crates/pp6600/out/pp6600.proved", "VERSION"):
+            path = os.path.join(self.top, name)
+            os.makedirs(os.path.dirname(path), exist_ok=True)
+            if os.path.exists(path):
+                os.remove(path)
+            os.mkfifo(path)
+        self.assertEqual(ANSWERED, self.run_here("pp6600"))
+        self.assertEqual(("pp6600\n", "", 0), self.run_here("pp6600", "--version"))
+        os.remove(os.path.join(self.top, "dist/sources"))
+        os.mkfifo(os.path.join(self.top, "dist/sources"))
+        self.check_refused(self.run_here("pp6600"), "dist/sources can't be read")
+
+    def test_sources_that_are_gone_or_links(self):
+        path = os.path.join(self.top, "crates/pp_arith/src/lib.rt")
+        os.rename(path, self.path("elsewhere"))
+        os.symlink(self.path("elsewhere"), path)
+        self.assertEqual(ANSWERED, self.run_here("pp6600"))
+        write(self.path("elsewhere"), "// changed\n")
+        self.check_refused(self.run_here("pp6600"), "./prove")
+        os.symlink("..", os.path.join(self.top, "crates/pp_arith/src/round"))
+        self.check_refused(self.run_here("pp6600"), "the sources can't all be read: find: ")
+        shutil.rmtree(os.path.join(self.top, "crates"))
+        self.check_refused(self.run_here("pp6600"), "the sources can't all be read: find: ")
+
+    def test_a_folder_whose_name_ends_with_a_line_end(self):
+        top = f"{self.path('odd')}\n"
+        os.rename(self.top, top)
+        self.assertEqual(ANSWERED, self.run_here(os.path.join(top, "pp6600")))
 
     def test_the_version(self):
         self.assertEqual(("pp6600 7.8.9\n", "", 0), self.run_here("pp6600", "--version"))
+
+
+class OtherMachines(Launched):
+    """Where the proved program does not start, the launcher runs the one in Python, and says so."""
+
+    SAID = "pp6600: the proved program does not start here; this is pp6600-python, which is not proved\n"
+
+    def setUp(self):
+        super().setUp()
+        shutil.copytree(os.path.join(TOP, "tools", "pp6600"), os.path.join(self.top, "tools", "pp6600"),
+                        ignore=shutil.ignore_patterns("__pycache__"))
+        shutil.copy2(os.path.join(TOP, "pp6600-python"), self.top)
+
+    def on(self, machine):
+        """Makes uname name another machine."""
+        path = os.path.join(self.plain, "uname")
+        os.remove(path)
+        write(path, f"#!/bin/bash\necho {machine}\n", 0o755)
+
+    def test_another_machine(self):
+        """Nothing is chosen there, for which it may lack commands."""
+        for name in ("sha256sum", "xargs", "find"):
+            os.remove(os.path.join(self.plain, name))
+        for machine in ("Linux aarch64", "Darwin arm64"):
+            self.on(machine)
+            with self.subTest(machine):
+                self.assertEqual(("TURNS 12 SLOT 00\n", self.SAID, 0), self.run_here("pp6600"))
+                self.assertEqual(("", f"{self.SAID}pp6600: BAD ARGUMENTS\n", 2), self.run_here("pp6600", "--tape", "x"))
+
+    def test_a_program_that_does_not_start(self):
+        """As under an older C library."""
+        self.write("dist/pp6600", "#!/bin/sh\nexit 1\n", 0o755)
+        self.write("dist/sources", f"program {self.sum_of('dist/pp6600')}\nsources {self.checksum()}\nkit a kit\n")
+        self.assertEqual(("TURNS 12 SLOT 00\n", self.SAID, 0), self.run_here("pp6600"))
+        tool = self.run_here("/usr/bin/env", sys.executable, "-S", "-m", "pp6600", "show", "--program", self.launcher, folder=f"{self.top}/tools")
+        self.assertEqual(("> STEP 12\nTURNS 12 SLOT 00\n", self.SAID, 0), tool)
 
 
 class Prove(Launched):
@@ -182,24 +247,6 @@ class Prove(Launched):
     def test_what_hinders_it_is_one_line(self):
         self.check_refused(self.run_here("prove"), "kit")
         self.check_refused(self.run_here("prove", "--test", rt=True), "usage")
-        nobody = [] if os.geteuid() else ["setpriv", "--reuid=65534", "--regid=65534", "--clear-groups"]
-        if nobody:
-            os.symlink(shutil.which("setpriv"), os.path.join(self.plain, "setpriv"))
-        os.chmod(self.folder, 0o711)
-        os.chmod(os.path.join(self.top, "crates/pp6600"), 0o555)
-        self.check_refused(self.run_here("prove", rt=True, before=nobody), "cannot be written")
-
-    def test_an_interrupt_ends_rt(self):
-        with self.marked("slow"):
-            run = subprocess.Popen([os.path.join(self.top, "prove")], env=self.environment(), start_new_session=True,
-                                   stdout=subprocess.DEVNULL, stderr=subprocess.DEVNULL,
-                                   preexec_fn=lambda: signal.signal(signal.SIGINT, signal.SIG_DFL))
-            child = self.path("child")
-            while not os.path.exists(child) or not os.path.getsize(child):
-                time.sleep(0.05)
-            os.killpg(run.pid, signal.SIGINT)
-            self.assertNotEqual(0, run.wait(timeout=30))
-        self.assertFalse(os.path.exists(f"{self.built}.proved"))
 
 
 class Check(Launched):

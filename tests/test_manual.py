@@ -8,8 +8,8 @@ import sys
 import unittest
 
 from tests.browser import found
-from tests.installing import TOOLS, InstallCase, alone
-from tests.support import TOP, names_of_codes, program, read
+from tests.installing import InstallCase, alone
+from tests.support import TOOLS, TOP, names_of_codes, program, read
 
 LINES = "| Line | What it does | Answer |"
 
@@ -79,7 +79,10 @@ class ManualPages(InstallCase):
         for name in TOOLS:
             with self.subTest(name):
                 options = options_in(alone(os.path.join(TOP, "tools", name), "--help").out)
-                self.assertEqual(set(), options - options_in(self.shown(f"pp6600-{name}")))
+                page = self.shown(f"pp6600-{name}")
+                self.assertEqual(set(), options - options_in(page))
+                line = re.search(r"^NAME\n +(.*)$", page, flags=re.M)[1]
+                self.assertRegex(line, rf"^pp6600-{name} - [a-z][^.:()]*$")
 
 
 class Version(InstallCase):

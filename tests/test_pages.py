@@ -179,21 +179,11 @@ class Pages(Case):
                 done = subprocess.run([sys.executable, os.path.join(TOP, script), "--check"], capture_output=True, text=True, check=False)
                 self.assertEqual(("", 0), (done.stdout + done.stderr, done.returncode))
 
-    def test_planted_faults(self):
-        """The checks find these faults, and nothing else."""
-        self.check_rows(lambda text: faults("page.md", text),
-                ("`add18` of `pp_arith`, `pp_rig::Rig::check`, `crates.txt`, `BACK W`, the clause `fits`, the mutant `plain_end_around`.", []),
-                ("A call that is gone: `no_such_call`.", ["no no_such_call for `no_such_call`"]),
-                ("In another crate: `pp_arith::Session`.", ["no pp_arith::Session for `pp_arith::Session`"]),
-                ("A call of another type: `Rig::back`.", ["no Rig::back for `Rig::back`"]),
-                ("A path: `specs/NoSuchFile.antt`.", ["no specs/NoSuchFile.antt for `specs/NoSuchFile.antt`"]),
-                ("A file that is elsewhere: `docs/check`.", ["no docs/check for `docs/check`"]),
-                ("An option: `./check --slowly`.", ["no --slowly for `./check --slowly`"]),
-                ("A word of the console: `STEPZ 3`.", ["no STEPZ for `STEPZ 3`"]),
-                ("Not of its kind: the clause `add18`, the mutant `fits`.", ["add18 is none of the clauses", "fits is none of the mutants"]),
-                ("# A page: `add18`\n\nTo [itself](#a-page-add18), a [file](VERSION), a [heading](docs/CONSOLE.md#the-program).", []),
-                ("To [itself](#no-heading), to a [file](docs/NO-PAGE.md#speed).", ["no #no-heading", "no docs/NO-PAGE.md#speed"]),
-                ("To a [heading](docs/CONSOLE.md#no-such-heading).", ["no docs/CONSOLE.md#no-such-heading"]),
-                ("A block has names of its own:\n\n```\n`no_such_call`\n```\n\n    `no_such_call`\n", []),
-                ("There are 17 crates.", ["'17 crates' is a count, which goes stale"]),
-                ("It has twelve short tests.", ["'twelve short tests' is a count, which goes stale"]))
+    def test_order_of_promises(self):
+        """PROOFS begins with what the lines 'first:' name. A section without promises is before the appendix, which has the others."""
+        names = "".join(f"## {one}\n\nAll.\n\n### {one}1\n\nSo.\ncall: c\n\n### {one}2\n\nSo.\ncall: c\n\n" for one in "AB")
+        text = f"# Page\n\nfirst: B: B2; B3\nfirst: C: C1\n\n{names}## Last\n\nIt is.\n"
+        parts, faults = PROOFS["ordered"](text)
+        order = "# Page, ## B, ### B2, ## C, ## Last, ## Appendix: promises of inner calls, ### A, #### A1, #### A2, ### B: inner calls, #### B1"
+        self.assertEqual(order.split(", "), [part.partition("\n")[0] for part, _ in parts])
+        self.assertEqual(["first: B has no promise B3", "first: C has no promise C1"], faults)

@@ -1,32 +1,29 @@
-"""What the panel shows of a state, without a terminal. The states are those of the model in tests/model.py after sessions of
+"""What the panel shows of a state, without a terminal. The states are those of the simulator in Python after sessions of
 README.md, docs/TUTORIAL-2.md and docs/CONSOLE.md, and what else docs/HOWTO.md and docs/MACHINE.md say."""
 
 import os
 import re
 
-from . import model
-from .support import EXAMPLES, Case, blocks
+from tests.fixtures import BLOCKS_GO_ON, COMPLETES
+from tests.support import EXAMPLES, Case, blocks
 
-from pp6600.machine_state import MachineState, questions
+from pp6600.core.state import State, questions
 from pp6600.panel.screen import Shown, layout, screen, small_screen
 from pp6600.panel.text import CHANGED, CURSOR, REFUSED
 from pp6600.panel.view import View, memory_top
-
-
-# By the tables of docs/MACHINE.md: in which states of its channel each instruction completes, and each block goes on or ends, and
-# what it waits for.
-COMPLETES = {0o70: ("F", "full"), 0o72: ("E", "empty"), 0o74: ("I", "inactive"), 0o75: ("EFX", "active"), 0o76: ("I", "inactive"),
-             0o77: ("I", "inactive")}
-BLOCKS_GO_ON = {0o71: ("IF", "full"), 0o73: ("IE", "empty")}
+from pp6600.simulation.console import SYMBOLS, Console
+from pp6600.simulation.machine import Machine
+from pp6600.simulation.places import CLOCK, EMPTY, PAPER, PAPER_LENGTH, PHASE, SLOT, STATE, WATCHES, A, C, P, place_of
+from pp6600.simulation.program import console_of, read_words
 
 
 def console_at(page, first, last):
-    """Returns a console of the model that has performed a session of a page, with those that continue it, up to its line `last`.
+    """Returns a console of the simulator in Python that has performed a session of a page, with those that continue it, up to its line `last`.
     The line `first` is in the first one."""
     sessions = blocks(page, "session")
     at = next(number for number, block in enumerate(sessions) if first in block.text)
     words = [os.path.join(EXAMPLES, word) if "/" in word else word for word in sessions[at].words[1:]]
-    console = model.console_of(model.read_words(words))
+    console = console_of(read_words(words))
     for line in "".join(block.text for block in sessions[at:]).splitlines():
         if line.startswith("> "):
             console.answer(line[2:].encode())
@@ -35,10 +32,18 @@ def console_at(page, first, last):
     raise LookupError(last)
 
 
+def machine_with(numbers):
+    """Returns a machine with some numbers at their places."""
+    machine = Machine()
+    for place, number in numbers.items():
+        machine.numbers[place] = number
+    return machine
+
+
 def state_of(machine):
-    """Returns the state of a machine of the model."""
-    console = model.Console(machine)
-    return MachineState([line for question in questions((0, 0o177)) for line in console.answer(question.encode())])
+    """Returns the state of a machine of that simulator."""
+    console = Console(machine)
+    return State([line for question in questions((0, 0o177)) for line in console.answer(question.encode())])
 
 
 def page_state(*where):
@@ -53,7 +58,7 @@ def texts(shown, columns=80, rows=24):
     return [line.text for line in screen(shown, columns, rows).lines]
 
 
-class Machine(Case):
+class WholeScreen(Case):
     """Processors, channels, devices and memories."""
 
     def test_loader(self):
@@ -81,7 +86,7 @@ class Machine(Case):
         self.assertEqual(">02 0003 0000 0000 PSN 000000 0000 0000", lines[4][:52].rstrip(), "it is next, and does not wait")
         self.assertEqual("05 I 0000 ", lines[7][54:64])
         self.assertEqual("14 F 0003 clk", lines[7][67:80])
-        machine["state", 5] = model.EMPTY
+        machine.numbers[STATE + 5] = EMPTY
         self.assertEqual("", texts(shown_of(state_of(machine)))[2][40:54].strip(), "PP 00 goes on")
 
     def test_each_wait(self):
@@ -90,16 +95,13 @@ class Machine(Case):
                  for of_block, table in enumerate((COMPLETES, BLOCKS_GO_ON))
                  for code, (completes, name) in table.items() for letter in "IEFX"]
         for code, phase, letter, wanted in cases:
-            machine = model.Machine()
-            machine.update({("P", 4): 0o100, ("A", 4): 2, ("phase", 4): int(phase, 8), ("M", 4, 0o100): int(f"{code}03", 8),
-                            ("state", 3): "IEFX".index(letter)})
+            machine = machine_with({P + 4: 0o100, A + 4: 2, PHASE + 4: int(phase, 8), place_of("M", 4, 0o100): int(f"{code}03", 8),
+                                    STATE + 3: "IEFX".index(letter)})
             state = state_of(machine)
             with self.subTest(f"{code} on a channel {letter}"):
                 self.assertEqual(wanted, state.processors[4].waits_for(state.states()))
         for word, wanted in (0o7214, "14 never"), (0o7014, ""), (0o7514, ""), (0o7777, "77 never"):
-            machine = model.Machine()
-            machine["M", 0, 0] = word
-            state = state_of(machine)
+            state = state_of(machine_with({place_of("M", 0, 0): word}))
             with self.subTest(f"{word:o}"):
                 self.assertEqual(wanted, state.processors[0].waits_for(state.states()))
 
@@ -118,26 +120,25 @@ class Machine(Case):
         self.assertEqual("PAPER 000007* |HELLO.", lines[19].rstrip())
         lines = texts(shown_of(before, state))
         self.assertEqual("PAPER 000006* /HELLO.", lines[19].rstrip(), "a line without its end")
-        machine, text = model.Machine(), "".join(f"LINE {number}\n" for number in range(9))
-        machine.update({("paper", at): f"{model.SYMBOLS}\n".index(symbol) for at, symbol in enumerate(text)})
-        machine[model.PAPER_LENGTH] = len(text)
+        text = "".join(f"LINE {number}\n" for number in range(9))
+        symbols = {PAPER + at: f"{SYMBOLS}\n".index(symbol) for at, symbol in enumerate(text)}
+        machine = machine_with({**symbols, PAPER_LENGTH: len(text)})
         lines = texts(shown_of(state_of(machine)), 80, 40)
         paper = [line[14:].rstrip() for line in lines if re.match(r"(PAPER.{9}|.{14})\|LINE", line)]
         self.assertEqual([f"|LINE {number}" for number in range(9 - layout(80, 40).paper, 9)], paper)
 
     def test_central(self):
         """docs/CONSOLE.md: a central word; a star is before one that changed."""
-        after = model.Machine()
-        after["C", 0o101] = 0o1234
+        after = machine_with({C + 0o101: 0o1234})
         view = View(pane="central", word=0o101, central_top=0o100)
-        got = screen(shown_of(state_of(after), state_of(model.Machine()), view), 80, 24)
+        got = screen(shown_of(state_of(after), state_of(Machine()), view), 80, 24)
         self.assertEqual("000101*00000000000000001234", got.lines[14].text[53:])
         self.assertEqual("000100 00000000000000000000", got.lines[13].text[53:])
         self.assertEqual((14, 60), got.cursor)
 
     def test_heads(self):
         """The heads of two columns have two blanks between them, and the numbers are below their heads."""
-        lines = texts(shown_of(state_of(model.Machine())))
+        lines = texts(shown_of(state_of(Machine())))
         self.assertIn(" Q    PHASE  WAITS FOR   CHANNELS", lines[1])
         self.assertEqual(lines[1].index("PHASE"), lines[3].rindex("0000", 0, 41))
 
@@ -152,12 +153,11 @@ class Machine(Case):
                 ("past another word", 50, {3: ("0076", "0103")}, "3")):
             states = []
             for at in range(2):
-                machine = model.Machine()
-                machine.update({model.SLOT: turns % 10 * at, model.CLOCK: turns // 10 * at})
+                numbers = {SLOT: turns % 10 * at, CLOCK: turns // 10 * at}
                 for number, ends in moves.items():
                     p, *a = ends[at].split(" A ")
-                    machine.update({("M", number, 0o100): 0o2400, ("P", number): int(p, 8), ("A", number): int(*a, 8) if a else 0})
-                states.append(state_of(machine))
+                    numbers.update({place_of("M", number, 0o100): 0o2400, P + number: int(p, 8), A + number: int(*a, 8) if a else 0})
+                states.append(state_of(machine_with(numbers)))
             for state, before in states, states[::-1]:
                 with self.subTest(what, slot=state.slot):
                     lines = texts(shown_of(state, before))[2:12]
@@ -170,40 +170,39 @@ class Parts(Case):
     def test_watches(self):
         """docs/CONSOLE.md: five watches; eight of the longest fit a wide terminal, and a small one says how many more."""
         state = page_state("docs/CONSOLE.md", "WATCH H 14", "STEP 100")
-        state.add_central(["001000", f"{5:020}"])
+        state.add_central([f"C 001000 {5:020}"])
         rows = texts(shown_of(state))[18:20]
         self.assertEqual("WATCHES M 00 0050 0000  A 00 000000  Q 00 0000  C 001000 00000000000000000005", rows[0].rstrip())
         self.assertEqual("        H 14 0001", rows[1].rstrip())
-        machine = model.Machine()
-        machine[model.WATCHES] = tuple(("C", at) for at in range(8))
+        machine = machine_with({WATCHES: tuple(("C", at) for at in range(8))})
         state = state_of(machine)
         rows = texts(shown_of(state))[18:20]
         self.assertIn("C 000003 0", rows[1], "as many as there is room for")
         self.assertTrue(rows[1].rstrip().endswith("4 more"), rows)
         wide = texts(shown_of(state), 120, 24)
         self.assertEqual(8, sum(f"C {at:06o} {0:020}" in line[82:] for line in wide for at in range(8)))
-        machine[model.WATCHES] = ("M", 0, 0o102),
+        machine.numbers[WATCHES] = ("M", 0, 0o102),
         got = screen(shown_of(state_of(machine), view=View(top=0o100, cell=0o100, following=False)), 80, 24).lines[13]
         self.assertEqual("0100 0000  0000 w0000  0000", got.text[:27])
 
     def test_log(self):
         """docs/CONSOLE.md: lines with their answers, one refused."""
         log = [("STEP 1000", ["TURNS 12 SLOT 00", "HIT H 14 0000 0001"]), ("BACK", ["ERR 07 TOO FEW KEPT"])]
-        got = screen(shown_of(state_of(model.Machine()), log=log), 80, 24)
+        got = screen(shown_of(state_of(Machine()), log=log), 80, 24)
         self.assertEqual("> STEP 1000             TURNS 12 SLOT 00; HIT H 14 0000 0001", got.lines[21].text.rstrip())
         self.assertEqual("> BACK                  ERR 07 TOO FEW KEPT", got.lines[22].text.rstrip())
         self.assertEqual(["ERR 07 TOO FEW KEPT"], got.lines[22].marked(REFUSED))
-        got = [line[82:].rstrip() for line in texts(shown_of(state_of(model.Machine()), log=log), 120, 30)]
+        got = [line[82:].rstrip() for line in texts(shown_of(state_of(Machine()), log=log), 120, 30)]
         at = got.index("> STEP 1000")
         self.assertEqual(["> STEP 1000", "TURNS 12 SLOT 00", "HIT H 14 0000 0001", "> BACK", "ERR 07 TOO FEW KEPT"], got[at:at + 5])
 
     def test_cut_texts(self):
         """A text that is cut ends with a mark; one that just fits has none."""
         log = [("SET M 0 100 7712 1 7412 1477 7112 60 7512 100", ["OK"]), ("X" * 36, ["ERR 01 NOT A COMMAND"])]
-        lines = [line[82:] for line in texts(shown_of(state_of(model.Machine()), log=log), 120, 30)]
+        lines = [line[82:] for line in texts(shown_of(state_of(Machine()), log=log), 120, 30)]
         self.assertEqual(["> SET M 0 100 7712 1 7412 1477 7112 6\u2026", "> " + "X" * 36],
                          [line for line in lines if line.startswith("> ")])
-        self.check_rows(lambda message: texts(shown_of(state_of(model.Machine()), message=message))[-1],
+        self.check_rows(lambda message: texts(shown_of(state_of(Machine()), message=message))[-1],
                         ("X" * 81, "X" * 79 + "\u2026"), ("X" * 80, "X" * 80), ("X" * 80 + "   ", "X" * 80))
         whole = "".join(texts(shown_of(page_state("README.md", "STEP 1300", "BACK W"))))
         self.assertEqual(0, whole.count("\u2026"), "nothing of a small screen is cut")
@@ -222,7 +221,7 @@ class Parts(Case):
                     self.assertEqual([], [part for part in parts if part not in whole])
 
     def test_too_small(self):
-        state = state_of(model.Machine())
+        state = state_of(Machine())
         for columns, rows in ((c, r) for c in (1, 2, 10, 79, 80, 200) for r in (1, 2, 23, 24) if c < 80 or r < 24):
             with self.subTest(columns=columns, rows=rows):
                 self.assertEqual([columns] * rows, [len(line.text) for line in screen(shown_of(state), columns, rows).lines])

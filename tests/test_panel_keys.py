@@ -2,124 +2,56 @@
 are those of README.md, docs/TUTORIAL.md, docs/HOWTO.md and docs/CONSOLE.md."""
 
 import os
-import random
 import re
 import sys
 
-from .support import EXAMPLES, TOP, Case, program, read, run
+from tests.fixtures import DECK, FIRST_PROGRAM, OVERWRITTEN
+from tests.panels import PROGRAM, PanelCase, bottom, press
+from tests.support import EXAMPLES, TOP, Case, read, run
 
-from pp6600.console import Console
-from pp6600.failure import Failure
-from pp6600.history import History
+from pp6600 import Failure
 from pp6600.listing import AllSymbols
 from pp6600.panel.app import Panel
-from pp6600.panel.keys import LINE_KEYS, LINES, OTHER_KEYS, Facts, help_lines, step_lines
 from pp6600.panel.session import Session
+from pp6600.sources import Source
 
-PROGRAM = program()
-DECK = os.path.join(EXAMPLES, "overwritten-loader", "deck")
-# The loader of README.md up to its first question.
-OVERWRITTEN = """\
-SET M 0 100 7712 1 7412 1477 7112 60 7512 100
-SET M 0 110 60
-SET P 0 100
-STEP 1300
-"""
-FIRST_PROGRAM = "SET M 0 100 1405 3420 300\nSET P 0 100\n"
 CULPRIT = "the next turn, PP 00 in the block of IAM 12 at 0104, changes M 0 106 from 7512"
-
-
-def press(panel, *keys):
-    """Presses keys: names in angles, and characters. Returns the lines of the screen."""
-    for key in re.findall(r"<[A-Z][^>]*>|.", "".join(keys), flags=re.S):
-        panel.press(key[1:-1] if len(key) > 1 else key)
-    return [line.text for line in panel.screen().lines]
-
-
-def bottom(panel, *keys):
-    """Presses keys, and returns the last line of the screen."""
-    return press(panel, *keys)[-1].rstrip()
-
-
-class PanelCase(Case):
-    """A test of panels without a terminal."""
-
-    def panel(self, script="", *options, size=(80, 24)):
-        """Returns a panel that has performed a script."""
-        panel = Panel(Session([PROGRAM, *options]))
-        self.addCleanup(panel.session.close)
-        panel.resize(*size)
-        panel.perform_script(script.splitlines())
-        return panel
-
-    def wide_panel(self, script, *options):
-        """Returns a panel with room for a whole message."""
-        return self.panel(script, *options, size=(160, 24))
 
 
 # ---- the lines that keys send
 
 
-def facts(slot=0, processor=0, place="P 0", watched=(), history=None):
-    return Facts(slot, processor, place, watched, history or History())
+class Lines(PanelCase):
+    def sent(self, script, keys):
+        """Returns the lines that keys send after a script."""
+        panel = self.panel(script)
+        before = len(panel.session.sent)
+        press(panel, keys)
+        return ", ".join(panel.session.sent[before:])
 
-
-class Lines(Case):
     def test_lines(self):
         """The lines of README.md and docs/HOWTO.md, and turns counted by the barrel's order."""
-        self.check_rows(lambda key, slot, processor, count: LINES[key](facts(slot, processor), count),
-                ("s", 0, 0, 1, ["STEP"]), ("s", 0, 0, 0o12, ["STEP 12"]), ("S", 3, 0, 1, ["STEP 12"]), ("S", 0, 0, 3, ["STEP 36"]),
-                ("n", 0, 3, 1, ["STEP 3"]), ("n", 0, 0, 1, ["STEP 12"]), ("n", 9, 0, 1, ["STEP"]), ("n", 4, 0, 2, ["STEP 20"]),
-                ("W", 0, 0, 1, ["WATCH P 0", "BACK W"]), ("b", 0, 0, 1, ["BACK"]), ("b", 0, 0, 0o675, ["BACK 675"]),
-                (" ", 0, 0, 1, ["STEP"]))
-        self.assertEqual(["STEP 1000000"], step_lines(0o1000000), "as many turns as a line may make")
-        self.assertEqual(["STEP 1000000", "STEP 1000000", "STEP"], step_lines(0o2000001))
+        self.check_rows(self.sent,
+                ("", "s", "STEP"), ("", "12s", "STEP 12"), ("", " ", "STEP"), ("STEP 3", "S", "STEP 12"), ("", "3S", "STEP 36"),
+                ("", "3)n", "STEP 3"), ("", "n", "STEP 12"), ("STEP", "n", "STEP 11"), ("STEP 11", "n", "STEP"), ("STEP 4", "2n", "STEP 20"),
+                ("STEP 10", "b", "BACK"), ("STEP 1000", "675b", "BACK 675"), ("", "2000001s", "STEP 1000000, STEP 1000000, STEP"),
+                (FIRST_PROGRAM, "gP 0<Enter>W", "WATCH P 0, BACK W"))
 
     def test_watches(self):
-        watched = facts(place="M 0 106", watched=("M 0 106", "A 0"))
-        self.assertEqual(["UNWATCH M 0 106"], LINES["t"](watched, 1))
-        self.assertEqual(["WATCH M 0 107"], LINES["t"](watched._replace(place="M 0 107"), 1))
-        self.assertEqual(["BACK W"], LINES["W"](watched, 1))
-        self.assertEqual(["WATCH M 0 106", "BACK W"], LINES["W"](watched._replace(watched=()), 1))
+        script = "WATCH M 0 106\nWATCH A 0\nSTEP 3\n"
+        self.check_rows(self.sent, (script, "gM 0 106<Enter>t", "UNWATCH M 0 106"), (script, "gM 0 107<Enter>t", "WATCH M 0 107"),
+                        (script, "gM 0 106<Enter>W", "BACK W"), ("STEP\n", "gM 0 106<Enter>W", "WATCH M 0 106, BACK W"))
 
     def test_back(self):
-        """Back by turns goes back over the lines that were typed between them."""
-        history = History()
-        for line, answer in (("SET P 0 100", "OK"), ("STEP 25", "TURNS 25 SLOT 01"), ("SET A 0 0", "OK"), ("WATCH A 0", "OK"),
-                             ("STEP 3", "TURNS 3 SLOT 04")):
-            history.take(line, [answer])
-        here = facts(4, 0, history=history)
-        self.check_rows(lambda key, count: ", ".join(LINES[key](here, count)), ("b", 1, "BACK"), ("B", 1, "BACK 14"),
-                        ("B", 2, "BACK 26"), ("p", 1, "BACK 6"), ("p", 2, "BACK 20"), ("B", 3, "BACK 41"), ("<", 1, "BACK 33"))
-        self.assertEqual(["BACK 14"], LINES["p"](here._replace(processor=4), 1), "to the slot's own last turn")
-        history.take("BACK 6", ["BACK 6 SLOT 00"])
-        self.assertEqual((0o25, 6), (history.kept.count, history.ahead.count))
-        here = facts(0, 0, history=history)
-        self.check_rows(lambda key: ", ".join(LINES[key](here, 1)), (" ", "FORWARD"), ("s", "FORWARD"), (">", "FORWARD 6"),
-                        ("S", "FORWARD 6, STEP 6"), ("n", "FORWARD 6, STEP 6"))  # what is ahead comes first
-        self.assertEqual(["FORWARD 4"], LINES["n"](here._replace(processor=2), 1), "over the lines that were typed between")
-        history.take("STEP", ["TURNS 1 SLOT 01"])
-        self.assertEqual((0o26, 0), (history.kept.count, history.ahead.count), "a new action discards what is ahead")
-
-    def test_counts_of_history(self):
-        """docs/CONSOLE.md: BACK by all that is kept is performed, by one more it is ERR 07; so with FORWARD and ERR 16."""
-        chance = random.Random(6600)
-        for room in (3, 40, None):
-            console = Console([PROGRAM] + (["--history", str(room)] if room else []))
-            history = History(room) if room else History()
-            for _ in range(60):
-                line = chance.choice(("STEP", "STEP 7", "SET A 0 1", "WATCH H 14", "UNWATCH H 14", "BACK", "BACK 5", "BACK W",
-                                      "FORWARD", "FORWARD 3", "GO", "DUMP W", "STEP 100"))
-                history.take(line, console.ask(line))
-            kept, ahead = history.kept.count, history.ahead.count
-            lines = [f"BACK {kept + 1:o}", f"FORWARD {ahead + 1:o}"]
-            lines += [f"FORWARD {ahead:o}", f"BACK {ahead:o}"] if ahead else []
-            lines += [f"BACK {kept:o}"] if kept else []
-            wanted = ["ERR 07 TOO FEW KEPT", "ERR 16 TOO FEW AHEAD", *lines[2:]]
-            with self.subTest(room=room):
-                self.assertEqual(wanted, [console.ask(line)[0].split(" SLOT")[0] for line in lines])
-                self.assertTrue(kept)
-            console.end()
+        """Back by turns goes back over the lines that were typed between them, and forward too; what is ahead comes first."""
+        script = "SET P 0 100\nSTEP 25\nSET A 0 0\nWATCH A 0\nSTEP 3\n"
+        self.check_rows(self.sent, (script, "b", "BACK"), (script, "B", "BACK 14"), (script, "2B", "BACK 26"), (script, "p", "BACK 6"),
+                        (script, "2p", "BACK 20"), (script, "3B", "BACK 41"), (script, "<Home>", "BACK 33"), (script, "4)p", "BACK 14"))
+        script += "BACK 6\n"
+        self.check_rows(self.sent, (script, "s", "FORWARD"), (script, " ", "FORWARD"), (script, "<End>", "FORWARD 6"),
+                        (script, "S", "FORWARD 6, STEP 6"), (script, "n", "FORWARD 6, STEP 6"), (script, "2)n", "FORWARD 4"))
+        self.assertIn(" KEPT 25  AHEAD 6 ", press(self.panel(script))[0])
+        self.assertIn(" KEPT 26  AHEAD 0 ", press(self.panel(script + "STEP\n"))[0], "a new action discards what is ahead")
 
 
 # ---- sessions
@@ -227,11 +159,9 @@ class Turns(PanelCase):
         made = min(turn, 0o35)
         lines = [*self.script[:2], *([f"STEP {made:o}"] if made else []), *(self.script[3:4] if turn >= 0o35 else []),
                  *([f"STEP {turn - made:o}"] if turn > made else [])]
-        other = Session([PROGRAM])
-        other.perform_script(lines)
+        other = self.panel("\n".join(lines)).session
         for dump in "DUMP PP 0", "DUMP PP 1", "DUMP M 0 0 7777", "DUMP H":
             self.assertEqual(other.simulator.ask(dump), panel.session.simulator.ask(dump), f"{dump} after turn {turn:o}")
-        other.close()
         self.assertIn(f" TURN {turn:o} ", press(panel)[0])
 
     def test_number(self):
@@ -298,16 +228,10 @@ class Turns(PanelCase):
 
     def test_option(self):
         """Without a script there is no turn 1."""
-        for turn, wanted in (0, None), (0o405, None), (0o1301, "there is no turn 1301 yet: the last one is 1300"):
-            panel = Panel(Session([PROGRAM, "--deck", DECK]))
-            self.addCleanup(panel.session.close)
-            with self.subTest(turn):
-                if wanted:
-                    with self.assertRaisesRegex(Failure, wanted):
-                        panel.perform_script(OVERWRITTEN.splitlines(), turn)
-                else:
-                    panel.perform_script(OVERWRITTEN.splitlines(), turn)
-                    self.assertIn(f" TURN {turn:o} ", press(panel)[0])
+        for turn in 0, 0o405:
+            self.assertIn(f" TURN {turn:o} ", press(self.panel(OVERWRITTEN, "--deck", DECK, turn=turn))[0])
+        with self.assertRaisesRegex(Failure, "there is no turn 1301 yet: the last one is 1300"):
+            self.panel(OVERWRITTEN, "--deck", DECK, turn=0o1301)
 
 
 class Until(PanelCase):
@@ -409,10 +333,7 @@ class Program(PanelCase):
     def test_symbols(self):
         """Labels and the listing's own text, and g with a label."""
         path = self.file("0100 7712 0001 START FNC 12 1\n0102 7412 ACN 12\n0103 1477 LDN 77\n0104 7112 0060 INPUT IAM 12 60\n")
-        panel = Panel(Session([PROGRAM, "--deck", DECK]), AllSymbols([(0, path)]))
-        self.addCleanup(panel.session.close)
-        panel.resize(160, 24)
-        panel.perform_script(OVERWRITTEN.splitlines(), 3)
+        panel = self.wide_panel(OVERWRITTEN, "--deck", DECK, turn=3, symbols=[(0, path)])
         rows, _ = self.rows(panel, "i")
         self.assertEqual("PP 00  INSTRUCTIONS   P is START+2", rows[0])
         self.assertEqual([" 0100 7712 0001  FNC 12 0001     START FNC 12 1", ">0102 7412       ACN 12          ACN 12"], rows[3:5])
@@ -421,6 +342,31 @@ class Program(PanelCase):
         self.assertEqual("TURN 405 PP 00 P 0106 INPUT+2 IAM WAS 7512 NOW 0027", bottom(panel, "]"))
         self.assertIn("neither an octal address nor a place", bottom(panel, "gNOWHERE<Enter>"))
         self.assertEqual("TURN 405 PP 00 P 0106 INPUT+2 IAM WAS 7512 NOW 0027", bottom(panel, "G0<Enter>uM 0 input+2 = 27<Enter>"))
+
+    def test_source(self):
+        """The lines of a source that is loaded before the script, as far as they are in the cells."""
+        symbols = AllSymbols()
+        symbols.of[0] = Source.of_file(self.file(" COUNT EQU 20B\n  ORG 100B\n START LDN 5\n  STD COUNT\n  UJN *\n  END START\n"))
+        panel = Panel(Session([PROGRAM]), symbols)
+        self.addCleanup(panel.session.close)
+        panel.resize(160, 24)
+        panel.perform_script(symbols.loading(["STEP 13", "SET M 0 100 1406"]), None)
+        rows, _ = self.rows(panel, "i")
+        self.assertEqual("PP 00  INSTRUCTIONS   P is START+2", rows[0])
+        self.assertEqual([" 0100 1406*      LDN 06          START", " 0101 3420       STD 20          STD COUNT",
+                          ">0102 0300       UJN 00 to 0102  UJN *"], rows[2:5])
+
+    def test_wrong_return(self):
+        """A return is wrong by a call before the present turn, forward and back. It is to 0033; the call is in turn 1."""
+        symbols = AllSymbols()
+        source = ("  BASE OCTAL", "  ORG 100", " START RJM SUB", "  UJN *", " SUB SUBR", "  LDN 33", "  STM SUB", "  UJN SUBX", "  END START")
+        symbols.of[0] = Source.of_file(self.file("\n".join(source)))
+        panel = Panel(Session([PROGRAM]), symbols)
+        self.addCleanup(panel.session.close)
+        panel.perform_script(symbols.loading(["STEP 100"]), None)
+        found = "TURN 51 PP 00 P 0103 SUBX LJM WAS 0103 NOW 0033"
+        self.assertIn(found, bottom(panel, "30GuPP 0 returns wrongly<Enter>"))
+        self.assertIn(found, bottom(panel, "70GUPP 0 returns wrongly<Enter>"))
 
     def test_sizes(self):
         """Every size has lines of its width, with the sentence below memory."""
@@ -488,28 +434,12 @@ class Typed(PanelCase):
         press(panel, ":SET C 123456 7<Enter>gC 0<Enter>/7<Enter>")
         self.assertEqual("C 123456", panel.view.place())
 
-    def test_save_to_no_file(self):
-        """What is no file is not opened: a FIFO that nobody reads would wait forever."""
-        panel = self.panel("STEP\n")
-        press(panel, "s")
-        os.mkfifo(self.path("fifo"))
-        os.symlink("fifo", self.path("link"))
-        for name in "fifo", "link", ".":
-            for key in "w", "w! ":
-                with self.subTest(key + name):
-                    self.assertIn("is not a file" if key == "w! " else "exists", bottom(panel, f"{key}{self.path(name)}<Enter>"))
-                    self.assertFalse(panel.session.is_saved())
-
     def test_help(self):
         """The help and docs/PANEL.md have each key, in the same order."""
-        panel = self.panel()
-        got = "\n".join([*press(panel, "?"), *help_lines()])
-        self.assertEqual([], [key.help for key in LINE_KEYS if key.help not in got])
-        self.assertLessEqual(max(map(len, help_lines())), 80)
         rows = re.findall(r"^\| (`.*?`) \| (.*) \|$", read("docs", "PANEL.md"), flags=re.M)
-        keys = [(key.names, key.help) for key in LINE_KEYS] + list(OTHER_KEYS)
-        quoted = [(", ".join(f"`{'Space' if name == ' ' else name}`" for name in names), text) for names, text in keys]
-        self.assertEqual(quoted, rows)
+        wanted = [f"{'  '.join(re.findall('`(.*?)`', names)):17}{text}" for names, text in rows]
+        got = [line.rstrip() for line in press(self.panel(size=(80, 60)), "?")]
+        self.assertEqual(wanted, [line for line in got if line in wanted])
 
     def test_quit(self):
         panel = self.panel(FIRST_PROGRAM)
@@ -530,7 +460,7 @@ class Sessions(PanelCase):
     def test_stops(self):
         """A long run and a script are stopped."""
         panel = self.panel("STEP\n" * 9)
-        self.assertEqual(9, panel.session.history.kept.count)
+        self.assertEqual(9, panel.session.history.kept)
         self.assertTrue(panel.session.is_saved())
         panel.is_stopped = lambda: True
         press(panel, "30000000s")
@@ -538,7 +468,7 @@ class Sessions(PanelCase):
         panel = self.panel()
         panel.is_stopped = lambda: True
         panel.perform_script(["STEP"] * 5)
-        self.assertEqual(0, panel.session.history.kept.count)
+        self.assertEqual(0, panel.session.history.kept)
         self.assertIn("stopped after 0 (decimal) lines", bottom(panel))
 
     def test_moves(self):
@@ -598,11 +528,11 @@ class Origins(PanelCase):
         for keys in "c<Escape>", "cc", "c<Down><Down><Up>q":
             panel = self.panel(OVERWRITTEN, "--deck", DECK)
             press(panel, "g106<Enter>")
-            before = list(panel.session.sent), panel.session.history.kept.count, panel.session.state
+            before = list(panel.session.sent), panel.session.history.kept, panel.session.state
             with self.subTest(keys):
                 press(panel, keys)
                 self.assertIsNone(panel.page)
-                self.assertEqual(before, (panel.session.sent, panel.session.history.kept.count, panel.session.state))
+                self.assertEqual(before, (panel.session.sent, panel.session.history.kept, panel.session.state))
 
     def test_watches_between(self):
         """A WATCH is an action, which BACK undoes too; the search does not know it."""
@@ -620,7 +550,7 @@ class Origins(PanelCase):
         """What the simulator no longer keeps is performed anew; nothing comes before a number that was never written."""
         panel = self.wide_panel("SET M 0 20 5\nSTEP 30\n", "--history", "8")
         press(panel, "gM 0 20<Enter>c<Enter>")
-        self.assertEqual((0, 0o31), (panel.session.history.to_undo, panel.session.history.to_redo))
+        self.assertEqual((0, 0o31), (panel.session.history.position, panel.session.history.to_redo))
         self.assertEqual("nothing wrote it: M 00 0021 0000 START", bottom(panel, "gM 0 21<Enter>c<Enter>"))
 
     def test_registers(self):

@@ -49,9 +49,9 @@ def words_of(case):
 class Ways:
     """The ways to run a case. Each returns what the program wrote to standard output and error, and its status."""
 
-    def __init__(self, case, folder):
+    def __init__(self, case, folder, simulator=None):
         self.case, self.folder = case, folder
-        self.script, self.words = part(case, "stdin"), [program(), *words_of(case)]
+        self.script, self.words = part(case, "stdin"), [simulator or program(), *words_of(case)]
 
     def plain(self, **how):
         how = {"stdout": subprocess.PIPE, "stderr": subprocess.PIPE, **how}
@@ -81,7 +81,8 @@ class Ways:
 
     def file_size_limit(self, size):
         """Under its launcher, with a file of at most so many bytes as standard output."""
-        self.words[0] = os.path.join(TOP, "pp6600")
+        if self.words[0] == program():
+            self.words[0] = os.path.join(TOP, "pp6600")
         path = os.path.join(self.folder, "output")
         with open(path, "wb") as file:
             limit = (int(size), int(size))
@@ -116,13 +117,13 @@ class Ways:
 class Cases(Case):
     """The cases of tests/cases and of examples/."""
 
-    def check(self, case):
+    def check(self, case, simulator=None):
         folder = self.room()
         for name in os.listdir(case):
             if name not in PLAIN:
                 shutil.copy(os.path.join(case, name), folder)
         way, *words = part(case, "how", b"plain").decode().split()
-        out, err, status = getattr(Ways(case, folder), way.replace("-", "_"))(*words)
+        out, err, status = getattr(Ways(case, folder, simulator), way.replace("-", "_"))(*words)
         self.assertEqual(part(case, "stdout"), out)
         self.assertEqual((part(case, "stderr"), int(part(case, "status", b"0"))), (err, status))
 
@@ -162,14 +163,14 @@ class System(Case):
         for name, content in contents.items():
             with open(writer(os.path.join(folder, name)), "wb") as pipe:
                 pipe.write(content)
-        out, err = process.communicate(timeout=60)
+        out, err = process.communicate(timeout=PATIENCE)
         self.assertEqual((b"OK\n0001 1405 3420\nCR H 12 CARD 0000 OF 0001 COLUMN 000 MODE IDLE\n", b"", 0), (out, err, process.returncode))
 
     def test_with_a_script_file_nothing_of_standard_input_is_read(self):
         path = self.file(b"STEP\n")
         reader, end = os.pipe()
         os.write(end, b"STEP 2\n")
-        done = subprocess.run([program(), path], stdin=reader, capture_output=True, timeout=60, check=False)
+        done = subprocess.run([program(), path], stdin=reader, capture_output=True, timeout=PATIENCE, check=False)
         left = os.read(reader, 100)
         os.close(reader)
         os.close(end)
@@ -181,7 +182,7 @@ class System(Case):
                 (["--deck", ""], b"", (b"", b"pp6600: CANNOT OPEN DECK\n", 2)), ([b"\xff"], b"", (b"", b"pp6600: BAD ARGUMENTS\n", 2)),
                 (["."], b"", (b"", b"pp6600: READ FAILED\n", 3))):
             with self.subTest(words):
-                done = subprocess.run([program(), *words], input=script, capture_output=True, timeout=60, check=False)
+                done = subprocess.run([program(), *words], input=script, capture_output=True, timeout=PATIENCE, check=False)
                 self.assertEqual(wanted, (done.stdout[:6], done.stderr, done.returncode))
 
     def test_the_compiler_has_put_a_turn_into_the_loops(self):
@@ -194,7 +195,7 @@ class System(Case):
 
 def writer(path):
     """Returns the end of a named pipe to write to, once somebody has opened it to read."""
-    for _ in range(600):
+    for _ in range(10 * PATIENCE):
         try:
             return os.open(path, os.O_WRONLY | os.O_NONBLOCK)
         except OSError:

@@ -6,14 +6,13 @@ import re
 
 from .support import Case, program
 
-from pp6600.answers import CELLS, CHANNELS
-from pp6600.console import Console
-from pp6600.disassembly import row_at, rows_from, window
-from pp6600.instructions import NAMES, Processor
-from pp6600.machine_state import Channel
+from pp6600 import Console
+from pp6600.disassembly import row_at, rows_from
+from pp6600.core.turn import NAMES, Processor
+from pp6600.core.state import Channel
 from pp6600.sentences import ROWS, sentence
 
-STATES = "IEFX"
+STATES, CELLS, CHANNELS = "IEFX", 0o10000, 12
 
 
 def sentence_of(words, p="0100", a="000051", q="0002", phase="0000", states="", cells=None):
@@ -156,12 +155,3 @@ class Rows(Case):
         self.assertEqual("LJM 00", row_at(self.word, 0o107, {0o110}).text, "at P another row begins")
         self.assertEqual("UJN 73 to 0074", row_at(lambda address: "0373", 0o100, ()).text)
         self.assertEqual(0, row_at(lambda address: "0100", 0o7776, ()).end)
-
-    def test_window(self):
-        """It stays while the address is in it, and begins where an instruction does."""
-        for top, address, wanted in ((0o100, 0o106, 0o100), (0o100, 0o107, 0o106), (0o7000, 0o105, 0o103), (0o7000, 0o100, 0o77),
-                                     (0o100, 0o77, 0o76)):
-            rows = window(self.word, top, address, 5, ())
-            with self.subTest(top=oct(top), address=oct(address)):
-                self.assertEqual(oct(wanted), oct(rows[0].address))
-                self.assertTrue(any(row.has(address) for row in rows))

@@ -1,8 +1,12 @@
-"""Runs every session and every shell command that a page shows, and every exercise with its solution.
+"""Runs every session and every shell command that a page shows, the transcripts of tests/sessions, and every exercise with its
+solution.
 
 A block of a page that begins with `session` has typed lines after > and their answers; the words after `session` are the program's,
 and `continued` goes on with the session before. A block `shell` has commands after $ and what they write, and so have the blocks
-`tools`, which go on in one folder; a block `python NAME` is the file NAME for all later commands of the page.
+`tools`, which go on in one folder; a block `python NAME` or `compass NAME` is the file NAME for all commands of the page.
+
+A transcript, tests/sessions/NAME.txt, has such commands and what they write, standard error too, in one folder; the lines from
+<<END to END are a command's own, a line that begins with # is a note, and `at-terminal COMMAND` runs a command at a terminal.
 
 An exercise is a folder: script (the lines to begin with), check (the lines that follow the finished script), expected (the last lines
 that the program must then write), args, and solution, a folder with the files that replace those of the same name.
@@ -13,7 +17,7 @@ import os
 import re
 import shutil
 
-from tests.support import EXAMPLES, TOP, Case, add_tests, blocks, program, read, run, write
+from tests.support import EXAMPLES, TOP, Case, add_tests, blocks, program, read, run, tool, write
 
 PAGES = ["README.md", *sorted(os.path.relpath(path, TOP) for path in glob.glob(os.path.join(TOP, "docs", "*.md")))]
 EXERCISES = [path for path in sorted(glob.glob(os.path.join(TOP, "exercises", "*"))) if os.path.isdir(os.path.join(path, "solution"))]
@@ -35,7 +39,7 @@ def shell_blocks():
     """Returns the place of each block of commands, and a list of the commands, what they write, and the page's files."""
     found = []
     for page in PAGES:
-        files = {block.words[1]: block.text for block in blocks(page, "python") if len(block.words) == 2}
+        files = {block.words[1]: block.text for kind in ("python", "compass") for block in blocks(page, kind) if len(block.words) == 2}
         for some in filter(None, [*([block] for block in blocks(page, "shell")), blocks(page, "tools")]):
             lines = "".join(block.text for block in some).splitlines(keepends=True)
             commands = "".join(line[2:] for line in lines if line.startswith("$ "))
@@ -52,6 +56,8 @@ class Sessions(Case):
         done = run(program(), *words, script="".join(script), cwd=self.folder)
         self.assertEqual("".join(answers), done.out)
         self.assertEqual(("", int(any(line.startswith("ERR ") for line in answers))), done[1:])
+        shown = tool("show", *words, script="".join(script), cwd=self.folder).out.splitlines(keepends=True)
+        self.assertEqual(answers, [line for line in shown if not line.startswith(">")], "tools/show knows each answer")
 
 
 class Commands(Case):
@@ -66,6 +72,33 @@ class Commands(Case):
             write(self.path(name), text)
         done = run("bash", "-c", f"exec 2>&1\n{commands}", cwd=self.folder)
         self.assertEqual(wanted, done.out)
+
+
+AT_TERMINAL = """#!/bin/sh
+exec python3 -c 'import pty, sys; sys.exit(pty.spawn(sys.argv[1:]) >> 8)' "$@" </dev/null | tr -d '\\r'
+"""
+COMMAND = re.compile(r"^\$ (.*<<END.*\n(?:.*\n)*?END|.*)\n", re.M)  # with its own lines
+MARK = "====\n"
+
+
+class Transcripts(Case):
+    """The transcripts of tests/sessions."""
+
+    def check(self, path):
+        text = re.sub("^#.*\n|^\n", "", read(path), flags=re.M)
+        begin, *parts = COMMAND.split(text)
+        self.assertEqual("", begin)
+        for name in ("examples", "exercises", "tools"):
+            os.symlink(os.path.join(TOP, name), self.path(name))
+        os.symlink(program(), self.path("pp6600"))
+        write(self.path("bin", "at-terminal"), AT_TERMINAL, 0o755)
+        commands = "".join(f"{command}\n{{ status=$?; echo; echo -n '{MARK}'; (exit $status); }}\n" for command in parts[::2])
+        done = run("bash", "-c", f"exec 2>&1; PATH=$PWD/bin:$PATH\n{commands}", cwd=self.folder)
+        written = done.out.split(f"\n{MARK}")
+        for command, wanted, got in zip(parts[::2], parts[1::2], written):
+            with self.subTest(command):
+                self.assertEqual(wanted, re.sub("^\n", "", got, flags=re.M))
+        self.assertEqual(len(parts[::2]) + 1, len(written))
 
 
 class Exercises(Case):
@@ -85,4 +118,6 @@ class Exercises(Case):
 
 add_tests(Sessions, Sessions.check, sessions())
 add_tests(Commands, Commands.check, shell_blocks())
+add_tests(Transcripts, Transcripts.check, [(os.path.basename(path)[:-len(".txt")], path)
+                                           for path in sorted(glob.glob(os.path.join(TOP, "tests", "sessions", "*.txt")))])
 add_tests(Exercises, Exercises.check, [(os.path.basename(path), path) for path in EXERCISES])

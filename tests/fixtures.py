@@ -1,0 +1,52 @@
+"""Scripts and tables of the pages that several tests use, and terminals for tools."""
+
+import os
+import subprocess
+
+from tests.support import EXAMPLES, PYTHON, TOP, program
+
+DECK = os.path.join(EXAMPLES, "overwritten-loader", "deck")
+# The loader of README.md up to its first question.
+OVERWRITTEN = """\
+SET M 0 100 7712 1 7412 1477 7112 60 7512 100
+SET M 0 110 60
+SET P 0 100
+STEP 1300
+"""
+# docs/TUTORIAL.md: LDN 5, STD 20, UJN 0.
+FIRST_PROGRAM = "SET M 0 100 1405 3420 300\nSET P 0 100\n"
+# By the tables of docs/MACHINE.md: in which states of its channel each instruction completes, and each block goes on or ends, and
+# what it waits for.
+COMPLETES = {0o70: ("F", "full"), 0o72: ("E", "empty"), 0o74: ("I", "inactive"), 0o75: ("EFX", "active"), 0o76: ("I", "inactive"),
+             0o77: ("I", "inactive")}
+BLOCKS_GO_ON = {0o71: ("IF", "full"), 0o73: ("IE", "empty")}
+
+
+def wait_text(code, channel, state, count, in_block):
+    """Returns for what an instruction, or the block that it began, waits on a channel in this state, as 05 full, or nothing."""
+    goes_on, name = (BLOCKS_GO_ON if in_block else COMPLETES).get(code, ("IEFX", ""))
+    if channel == 0o14:
+        waits = code == 0o73 if in_block else code in (0o72, 0o74, 0o76, 0o77)
+    else:
+        waits = name != "" and not in_block if channel > 0o14 else state not in goes_on
+    if not waits or in_block and count == 0:
+        return ""
+    return f"{channel:02o} {name if channel < 0o14 else 'never'}"
+
+
+# Runs a tool in simulators that are told few lines, so that a run goes on in fresh ones.
+WITH_FEW_LINES = """import runpy, sys
+sys.path.insert(0, "tools")
+from pp6600.core.simulator import Simulator as Run
+Run.most_lines = int(sys.argv.pop(1))
+sys.argv = sys.argv[1:]
+runpy.run_path(sys.argv[0], run_name="__main__")
+"""
+
+
+def at_terminal(name, *words):
+    """Returns what a tool writes at a terminal."""
+    spawn = "import pty, sys; pty.spawn(sys.argv[1:])"
+    done = subprocess.run([*PYTHON, "-c", spawn, *PYTHON, os.path.join(TOP, "tools", name), *words], stdin=subprocess.DEVNULL,
+                          stdout=subprocess.PIPE, env={**os.environ, "PP6600": program()}, cwd=TOP, check=False)
+    return done.stdout.decode().replace("\r\n", "\n")

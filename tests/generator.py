@@ -1,0 +1,318 @@
+"""Makes random programs and sessions. A session follows from its seed and its profile alone."""
+
+import dataclasses
+import random
+
+from tests import support as _  # it finds the package
+
+from pp6600.simulation.console import FORMS, Console
+from pp6600.simulation.instructions import TWO_WORDS
+from pp6600.simulation.machine import Machine
+
+
+@dataclasses.dataclass
+class Session:
+    """The words after the program's name, the files, and the lines of the script, which is standard input too."""
+    words: list
+    files: dict
+    lines: list
+    standard_input: str = 'script'
+    output_fails: bool = False
+
+    def all_files(self):
+        return {**self.files, 'script': b'\n'.join(self.lines)}
+
+
+@dataclasses.dataclass(frozen=True)
+class Profile:
+    """What the sessions of a kind have. Shares are percents, and of numbers in a tuple one is taken by chance."""
+    codes: tuple = tuple(range(64))  # of most instructions
+    parts: int = 45  # the share of PARTS in programs
+    bases: tuple = (0, 0o20, 0o100, 0o100, 0o7760)  # where programs begin
+    processors: tuple = (1, 2, 3, 10)  # how many have one
+    steps: tuple = (1, 1, 20, 20, 60, 300, 700)  # the most turns of a STEP
+    actions: tuple = (2, 25)  # the fewest and the most
+    lines: tuple = (('step', 45), ('move', 10), ('watched', 5), ('start', 4), ('watch', 4), ('form', 18), ('spoilt', 14))
+    dumps: int = 15  # the share of actions that dumps follow
+
+
+ALL = Profile()
+# Stores, block transfers, channels, central memory and exchange; few lines are refused.
+BUSY = Profile(codes=(0o02, 0o10, 0o14, 0o16, 0o20, 0o26, 0o27, *range(0o34, 0o40), *range(0o44, 0o50), *range(0o54, 0o64),
+                      *range(0o70, 0o100)),
+               bases=(0, 0, 0o100, 0o7770), processors=(1, 2, 3), steps=(0o100,), actions=(20, 60), dumps=0,
+               lines=(('step', 40), ('move', 12), ('watched', 3), ('start', 3), ('watch', 4), ('form', 36), ('spoilt', 2)))
+# Programs that count, wait and jump round, and settings of what they use.
+LOOPS = Profile(codes=(0o14, 0o16, 0o30, 0o34, 0o36, 0o50, 0o54, 0o55, *range(0o03, 0o10), *range(0o64, 0o76)), parts=0,
+                bases=(0o100,), processors=(1, 2, 3, 4), steps=(0o300,), actions=(2, 10), dumps=0,
+                lines=(('step', 50), ('back', 10), ('setting', 40)))
+
+# Parts of programs: r is the reader's channel, p the printer's, c any; k is a small number, m an address, z the
+# upper digits of the central size.
+PARTS = (
+    '77rr 1 74rr 71rr m 75rr', '77rr 1 74rr 2000 124 71rr m', '77rr 2 74rr 70rr',
+    '70rr 77rr 1 74rr 70rr 70rr 75rr 77rr 1 74rr', '77rr 1 74rr 75rr 77rr 1 74rr 70rr',
+    '77pp 1 74pp 73pp m 75pp 77pp 3', '77pp 1 74pp 2000 105 73pp m', '77pp 2 74pp 70pp',
+    '77pp 1 74pp 72pp 72pp 75pp 77pp 3 77pp 2', '14kk 74cc 73cc m 75cc', '14kk 71cc m', '74cc 72cc 70cc 75cc',
+    '76cc 75cc 77cc m', '71cc m', '73cc m', '7114 m', '14kk 7314 m', '64cc m 65cc m 66cc m 67cc m',
+    '6414 m 6514 m 6614 m 6714 m 7014 7514', '14kk 34kk 61kk m 63kk m', '14kk 3400 6100 m', '60kk 62kk',
+    '20zz 0 62kk 60kk', '14kk 34kk 2077 7776 61kk m 63kk m', '2600 2700', '2077 m 2600', '0100 m', '0200 m',
+    '14kk 10kk', '15kk 10kk 16kk 17kk', '2077 m 0777', '2040 0 0603 0702', '2077 7777 0403 0502', '0377',
+    '3600 0500 3700', '5000 m 5400 m', '14kk 62kk 60kk')
+JUNK = (
+    '8', '9', 'X', 'W', 'M', 'Z', 'PP', '-1', '+1', '1.', '0x1', '7777', '10000', '777777', '1000000', '1000001', '12',
+    '14', '15', '400000', '7' * 20, '1' + '0' * 20, '7' * 40, '0' * 30 + '1', '*', 'STEP', 'I', 'E', 'F', '')
+# Words of which the program mostly refuses some.
+WORDS = (
+    *(['--history', number] for number in ('0', '10001', '-1', '+1', '1.5', 'x', '', '9' * 20, '0001', '10000')),
+    *(['--central', number] for number in ('0', '16', '63', '128K', '0x20', '032', '')),
+    *(['--reader', number] for number in ('14', '8', '-1', '', '12', '13', '012', 'x', '7' * 12)),
+    *(['--printer', number] for number in ('14', '8', '-1', '', '12', '13', '012', 'x', '7' * 12)),
+    *(['--deck', path] for path in ('absent', '.', '/dev/null', 'script', 'deck', 'panel', '', '-')),
+    *(['--panel', path] for path in ('absent', '.', '/dev/null', 'script', 'deck', 'panel', '', '-')),
+    ['absent'], ['.'], ['script'], ['script'], ['-'], ['--tape', 'deck'], ['-d'], ['--deck'], ['--help'], ['-h'],
+    ['--history=7'], ['--central=32'], ['--reader=13'], ['--deck=deck'])
+
+
+class Maker:
+    """Makes one random session."""
+
+    def __init__(self, seed, profile=ALL):
+        self.profile = profile
+        self.random = random.Random(seed)
+        self.choice, self.below = self.random.choice, self.random.randrange
+        self.words, self.lines, self.actions = [], [], 0
+        self.base = self.choice(profile.bases)
+        self.processors = self.random.sample(range(10), self.choice(profile.processors))
+        self.channels = [self.below(12), self.below(12)]
+        self.parts = self.random.sample(PARTS, self.choice((1, 3, 3, len(PARTS))))
+
+    def chance(self, percent):
+        return self.below(100) < percent
+
+    def script(self):
+        """Returns the lines of a script for a simulator with a deck of its own, a panel and a small central memory."""
+        self.set_machine(10000, 32, 0o12, 0o13)
+        self.add_machine()
+        for _ in range(self.random.randint(*self.profile.actions)):
+            self.add_action()
+        return [line.decode('latin-1') for line in self.lines]
+
+    def session(self):
+        """Returns a session with random options and files."""
+        self.choose_options()
+        files = {'deck': self.deck(), 'panel': self.panel()}
+        self.add_machine()
+        for _ in range(self.random.randint(*self.profile.actions)):
+            self.add_action()
+        self.add_dumps()
+        session = Session(self.words, files, self.lines + [b''] * self.chance(90))
+        if self.chance(8):
+            session.words = [word for _ in range(self.choice((1, 1, 2, 3))) for word in self.choice(WORDS)]
+        elif self.chance(4):
+            session.standard_input, session.output_fails = self.choice((('.', False), ('script', True)))
+        return session
+
+    # Numbers
+
+    def number(self):
+        """Returns a number that is likely to matter: small, near the programs, near the end of a range, or any."""
+        near = self.base + self.below(40)
+        end = self.choice((0o10000, self.central, 0o400000, 0o1000000)) - self.below(3)
+        any_number = self.below(2 ** self.choice((12, 18, 60)))
+        return self.choice((self.below(4), self.below(0o20), near, near, end, any_number))
+
+    def channel(self):
+        return self.choice(self.channels * 4 + [self.below(12), 0o14, 0o15, 0o77])
+
+    def instruction(self):
+        """Returns the words of an instruction."""
+        code = self.choice(self.profile.codes) if self.chance(90) else self.below(64)
+        if self.profile is LOOPS:
+            return self.near_instruction(code)
+        d = self.choice((0, 1, 2, 3, 0o37, 0o40, 0o74, 0o75, 0o76, 0o77, self.below(64), self.below(64), self.below(8)))
+        if code >= 0o64:
+            d = self.channel()
+        return [code << 6 | d] + [self.number() % 0o10000] * (code in TWO_WORDS)
+
+    def near_instruction(self, code):
+        """Returns the words of an instruction that uses cells 0020 on, the channels 00 to 02, and the program."""
+        d, m = 0o20 + self.below(8), self.base + self.below(0o20)
+        if code < 0o10:
+            d = self.choice((1, 2, 3, 0o76, 0o75, 0o74, 0))
+        elif code >= 0o60:
+            d, m = self.below(3), 0o300 + self.below(8) if code in (0o71, 0o73) else m
+        elif code >= 0o50:
+            d, m = 0, self.choice((0o20, m))
+        return [code << 6 | d] + [m] * (code in TWO_WORDS)
+
+    def part(self):
+        """Returns the words of a part of a program."""
+        kk, cc = self.choice((0, 1, 2, 7, 0o37, 0o50, 0o77, self.below(64))), self.channel()
+        numbers = {'kk': kk, 'cc': cc, 'rr': self.channels[-2], 'pp': self.channels[-1], 'zz': self.central >> 12}
+        text = self.choice(self.parts)
+        for letters, number in numbers.items():
+            text = text.replace(letters, f'{number:02o}')
+        return [self.number() % 0o10000 if word == 'm' else int(word, 8) for word in text.split()]
+
+    def operand(self, kind):
+        if kind == 'S':
+            return self.choice('IEF')
+        least, greatest = self.ranges[kind]
+        number = self.below(40) if kind == 'count' else self.number()
+        if kind == 'n' and self.chance(80):
+            number = self.choice(self.processors)
+        if kind in ('h', 'h14') and self.chance(80):
+            number = self.channel()
+        number = number % (greatest + 1) if self.chance(98) else self.choice((greatest, greatest + 1, 0))
+        return f'{number:o}'.zfill(self.choice((0, 0, 0, 0, 6, 24)))
+
+    # Lines
+
+    def add(self, *words):
+        self.lines.append(' '.join(word if isinstance(word, str) else f'{word:o}' for word in words).encode())
+
+    def add_machine(self):
+        """Adds lines that set programs, which end with a jump to their beginning, and other numbers."""
+        for n in self.processors:
+            cells, length = [], self.choice((8, 16, 24))
+            while len(cells) < length:
+                cells += self.part() if self.chance(self.profile.parts) else self.instruction()
+            cells += [0o0100, self.base]
+            low = [self.number() % 0o10000 for _ in range(8)]
+            for a, numbers in [(0, low), *((self.base + i, cells[i:i + 8]) for i in range(0, len(cells), 8))]:
+                self.add('SET M', n, a % 0o10000, *numbers)
+            self.add('SET P', n, self.base)
+            self.add('SET A', n, self.number() % 0o1000000)
+        for _ in range(self.below(4)):
+            self.add('SET C', self.number() % self.central, self.number() << self.choice((0, 0, 36)) & 2 ** 60 - 1)
+            self.add('SET H', self.channel() % 12, self.choice('IEF'), self.below(4))
+        for _ in range(0 if self.profile is LOOPS else self.choice((0, 0, 1, 3, 10))):
+            self.add(*self.form('WATCH'))
+
+    def form(self, command=''):
+        """Returns the words of a random line."""
+        form = self.choice([form for form in FORMS if form.startswith(command)])
+        kinds, least, _ = FORMS[form]
+        kinds = kinds.split()
+        operands = [self.operand(kind) for kind in kinds[:least + self.below(len(kinds) - least + 1)]]
+        if form in ('DUMP M', 'DUMP C'):  # few lines, and now and then none
+            operands[-1] = f'{max(0, int(operands[-2], 8) + self.below(20) - 1):o}'
+        return form.split() + operands
+
+    def add_spoilt(self):
+        """Adds a line that is unusual, and mostly rejected."""
+        words = self.form(self.choice(('', '', 'SET', 'SET H')))
+        at = self.below(len(words) + 1)
+        words[at:at + self.below(2)] = [self.choice(JUNK)] if self.chance(80) else []
+        if words[:1] in (['STEP'], ['DUMP']) and any(len(word.lstrip('0')) in (5, 6, 7) for word in words):
+            words = ['BACK', *words[1:]]  # neither a million turns nor words
+        line = self.choice((' ', '\t', '  ')).join(words).encode()
+        line = self.choice((line, line.lower(), b' ' + line + b'\t', line + b'\r', b'* ' + line, line))
+        if self.chance(25):
+            line = line.ljust(self.choice((254, 255, 256, 257, 1000)), self.choice((b' ', b'0', b'*')))
+            line += b'\r' * self.below(2)
+        if self.chance(20):
+            at = self.choice((0, len(line), self.below(len(line) + 1)))
+            odd = b'\r', b'\r\r', b'\0', b'\x1f', b'\x7f', b'\x80', b'\xc3\xaf', b'\x0b', b'\x0c', b'~', b'*'
+            line = line[:at] + self.choice(odd) + line[at:]
+        self.lines.append(line)
+
+    def add_dumps(self):
+        """Adds dumps of the machine; of all cells now and then."""
+        whole = self.chance(2)
+        ranges = [(0, 0o27), (self.base, min(self.base + 0o47, 0o7777)), (0o7770, 0o7777)]
+        for n in range(10):
+            self.add('DUMP PP', n)
+            if whole or n in self.processors:
+                for a, b in [(0, 0o7777)] if whole else ranges:
+                    self.add('DUMP M', n, a, b)
+        for a in 0, self.base, self.central - 8:
+            self.add('DUMP C', a, a + 7)
+        for kind in 'H', 'XP', 'CR', 'LP', 'W':
+            self.add('DUMP', kind)
+
+    def add_action(self):
+        """Adds a line or two of a kind of the profile."""
+        kinds, weights = zip(*self.profile.lines)
+        getattr(self, f'add_{self.random.choices(kinds, weights)[0]}')()
+        if self.chance(self.profile.dumps):
+            self.add_dumps()
+
+    def add_step(self):
+        turns = 1 + self.below(self.choice(self.profile.steps))
+        self.actions += turns
+        self.add('STEP', turns)
+
+    def add_move(self):
+        few, kept = self.below(20), self.below(self.actions + 2)
+        count = self.choice((few % 3, few, kept, self.history - 1, self.history))
+        self.add('BACK', count + 1)
+        for _ in range(self.below(3)):
+            self.add('FORWARD', self.below(count + 2) + 1)
+
+    def add_back(self):
+        self.add('BACK', 3)
+
+    def add_watched(self):
+        self.add('BACK W')
+
+    def add_start(self):
+        self.add('DEADSTART')
+
+    def add_watch(self):
+        watches = [line for line in self.lines if line.startswith(b'WATCH')] or [b'WATCH A 0']
+        self.lines.append(self.choice((b'', b'UN')) + self.choice(watches))
+
+    def add_form(self):
+        self.add(*self.form(self.choice(('', 'SET', 'SET H'))))
+
+    def add_setting(self):
+        """Adds a line that sets what programs of LOOPS use."""
+        n = self.choice(self.processors)
+        self.add(*self.choice((('SET A', n, self.below(100)), ('SET P', n, self.base + self.below(8)),
+                               ('SET H', self.below(3), 'E', 5), ('SET M', n, 0o20, self.below(9)))))
+
+    # Options and files
+
+    def choose_options(self):
+        reader, printer = self.random.sample(range(12), 2)
+        options = [
+            (35, '--history', self.choice(('1', '2', '3', '10', '0100', '10000'))),
+            (35, '--central', self.choice(('32', '64', '128'))), (70, '--deck', 'deck'), (60, '--panel', 'panel'),
+            (35, '--reader', f'{reader:o}', '--printer', f'{printer:o}'), (30, 'script')]
+        chosen = [words for percent, *words in options if self.chance(percent)]
+        self.random.shuffle(chosen)
+        self.words = [word for words in chosen for word in words]
+        given = dict(zip(self.words, self.words[1:]))
+        self.set_machine(int(given.get('--history', 10000)), int(given.get('--central', 128)),
+                         int(given.get('--reader', '12'), 8), int(given.get('--printer', '13'), 8))
+
+    def set_machine(self, history, central, *devices):
+        """Sets the numbers of actions kept and of central words (in 1024), and the channels of the devices."""
+        self.history, self.central = history, central * 1024
+        self.ranges = Console(Machine(central=self.central)).ranges
+        self.channels += devices
+
+    def deck(self):
+        cards = [self.below(0o10000) if self.chance(70) else 0 for _ in range(self.choice((0, 3, 80, 100, 240)))]
+        return self.file(cards, self.choice((1, 20, 80, 80, 80)))
+
+    def panel(self):
+        c = self.below(9) + 1
+        panel = [0o1404, 0o7300 + c, 0o11, 0o7500 + c, 0o0300, 0, 0, 0, self.base, 0o1400, 0o7301, 0]
+        while self.chance(50):
+            panel = self.part() + panel
+        return self.file(panel[:12], self.choice((1, 4, 8, 12)))
+
+    def file(self, numbers, width):
+        """Returns the bytes of a deck or panel file; it has notes, and rarely a fault."""
+        rows = [' '.join(f'{number:o}' for number in numbers[i:i + width]) for i in range(0, len(numbers), width)]
+        for _ in range(self.below(3)):
+            rows.insert(self.below(len(rows) + 1), self.choice(('', ' \t', '* na\xefve', ' *', '*' * 1023)))
+        text = self.choice(('\n', '\r\n', ' \n')).join(rows) + self.choice(('\n', '\r', ''))
+        while self.chance(6):
+            at = self.choice((0, len(text), self.below(len(text) + 1)))
+            faults = '8', ' 10000 ', ' 77777777 ', '\f', '\r', '\xe9', ' 0' * 81, '*', ' ' * 1024, '\n0\n', ' 1 '
+            text = text[:at] + self.choice(faults) + text[at:]
+        return text.encode('latin-1')

@@ -1,0 +1,377 @@
+"""The assembler: docs/ASSEMBLER.md. The words of instructions come from the tables of docs/MACHINE.md by a second encoder, and all
+others are worked by hand; tests/programs has programs, and files of cases."""
+
+import glob
+import os
+import random
+import re
+
+from .support import EXAMPLES, TOP, Case, add_tests, blocks, names_of_codes, program, read, run, tool
+
+from pp6600.listing import Symbols
+from pp6600.source.forms import lines_of
+from pp6600.source.passes import assembled
+
+PROGRAMS = os.path.join(TOP, "tests", "programs")
+COLUMN_OF_SOURCE = 22  # of a listing, counted from 0
+EDGES_OF_D = (0, 1, 0o37, 0o40, 0o41, 0o76, 0o77)
+EDGES_OF_M = (0, 1, 0o77, 0o100, 0o3777, 0o4000, 0o7776, 0o7777)
+
+
+def codes_with_two_words():
+    """Returns the codes of docs/MACHINE.md that have two words."""
+    listed = re.search(r"The codes ([0-7, to]+ and [0-7]+)\s+have two words", read("docs", "MACHINE.md").replace("\n", " "))[1]
+    ranges = [part.split(" to ") for part in re.split(", | and ", listed)]
+    return {code for first, *last in ranges for code in range(int(first, 8), int((last or [first])[0], 8) + 1)}
+
+
+NAMES, TWO = names_of_codes(), codes_with_two_words()
+
+
+def wanted(code, d, m):
+    """Returns the words of an instruction: code and d, and m if it has two words."""
+    return [code << 6 | d, m] if code in TWO else [code << 6 | d]
+
+
+def spelled(code, d, m, address):
+    """Returns the operand of an instruction at an address, octal; None if it has none."""
+    if 0o03 <= code <= 0o07:  # forward by d to 37, backward by 77-d from 40 on; 77 is not spelled
+        return None if d == 0o77 else f"{(address + (d if d < 0o40 else d - 0o77)) % 0o10000:o}"
+    if 0o20 <= code <= 0o23:
+        return f"{d << 12 | m:o}"
+    if code in (0o01, 0o02) or 0o50 <= code <= 0o57:
+        return f"{m:o},{d:o}" if d else f"{m:o}"
+    return f"{m:o},{d:o}" if code in TWO else f"{d:o}"
+
+
+def made(lines):
+    """Returns the words of a source from cell 0100 on, by their addresses; its faults are a fault of the test."""
+    found = assembled(["          ORG    100B", *lines])
+    assert not found.messages, found.messages
+    return {address: cell.word for address, cell in found.cells.items()}
+
+
+def digits(words):
+    return " ".join(f"{word:04o}" for word in words)
+
+
+class Encoding(Case):
+    def test_all_codes(self):
+        """Each code with the edges of d and m."""
+        self.assertEqual(23, len(TWO))
+        for code in range(0o100):
+            if code in (0o24, 0o25):  # that pass, as 00 does, and have no spelling
+                continue
+            address, lines, words = 0o100, ["          BASE   OCTAL"], []
+            for d in EDGES_OF_D:
+                for m in EDGES_OF_M if code in TWO else (0,):
+                    operand = spelled(code, d, m, address)
+                    if operand is not None:
+                        lines.append(f"          {NAMES[code]}    {operand}")
+                        words += wanted(code, d, m)
+                        address += len(wanted(code, d, m))
+            with self.subTest(f"{code:02o} {NAMES[code]}"):
+                self.assertEqual(dict(enumerate(words, 0o100)), made(lines))
+
+    def test_jumps_go_round(self):
+        """A relative jump wraps modulo 10000."""
+        self.check_rows(lambda *lines: [f"{word:04o}" for word in made(lines).values()],
+                        ("  ORG 7776B", "  UJN 1", ["0303"]), ("  ORG 1", "  UJN 7776B", ["0374"]),
+                        ("  ORG 1", "  UJN *-3", ["0374"]), ("  ORG 7776B", "  UJN *+3", ["0303"]),
+                        ("  ORG 0", "  MJN *-37B", ["0740"]), ("  ORG 0", "  PJN *+37B", ["0637"]))
+
+
+def sections(name):
+    """Returns the sections of a file of cases by their headings: each case is the lines of a source, and what follows these."""
+    found = {}
+    for part in read("tests", "programs", name).split("\n# ")[1:]:
+        heading, _, text = part.partition("\n")
+        cases = [case.splitlines() for case in re.split(r"\n\n+", text.strip("\n"))]
+        found[heading.partition(".")[0]] = [([line[1:] for line in case if line.startswith("|")],
+                                            [line for line in case if not line.startswith("|")]) for case in cases]
+    return found
+
+
+class Words(Case):
+    """Statements and their words from cell 0100 on; those of each case are worked by hand."""
+
+    def check(self, cases):
+        for lines, wanted in cases:
+            with self.subTest(lines):
+                self.assertEqual(wanted, [digits(made(lines).values())])
+
+    def test_conditions(self):
+        for name, *holds in (("IFEQ", 0, 1, 0), ("IFNE", 1, 0, 1), ("IFGT", 0, 0, 1), ("IFGE", 0, 1, 1), ("IFLT", 1, 0, 0),
+                             ("IFLE", 1, 1, 0)):
+            for number, one in zip((1, 2, 3), holds):
+                lines = [f"  {name} {number},2", "  CON 5", "  ELSE", "  CON 6", "  ENDIF"]
+                with self.subTest(name, number=number):
+                    self.assertEqual([5 if one else 6], list(made(lines).values()))
+
+    def test_counters(self):
+        """BSS leaves cells, and LOC moves the location counter alone."""
+        lines = ["  CON 1", "  BSS 3", "  CON 2", "  ORG 300B", "  LOC 10B", "  CON 3", "  CON 4", "  LOC *O", "  CON 5"]
+        self.assertEqual({0o100: 1, 0o104: 2, 0o300: 3, 0o301: 4, 0o302: 5}, made(lines))
+
+    def test_start(self):
+        self.assertEqual(["SET M 3 100 1405 300", "SET P 3 101"],
+                         lines_of(assembled(["  ORG 100B", "  LDN 5", "A UJN *", "  END A"]), "set", 3))
+
+
+class Faults(Case):
+    """What is wrong, each once and with its place."""
+
+    @staticmethod
+    def faults(lines):
+        return [f"{line}:{column}: {text}" for line, column, text in assembled(lines).messages] or ["right"]
+
+    def check(self, cases):
+        for lines, wanted in cases:
+            with self.subTest(lines):
+                self.assertEqual(wanted, self.faults(lines))
+
+    def test_nested_lines(self):
+        lines = ["  IFEQ 1,1"] * 200 + ["  ENDIF"] * 200
+        self.assertEqual(["100:1: lines are nested more than 100 (decimal) deep"], self.faults(lines))
+
+    def test_no_fault_of_its_own(self):
+        """Sources with lines changed at random give messages or words, never anything else."""
+        choose = random.Random(57)
+        sources = [read(path).splitlines() for path in sorted(glob.glob(f"{PROGRAMS}/*.pp"))]
+        for _ in range(300):
+            lines = list(choose.choice(sources))
+            for _ in range(choose.randrange(1, 6)):
+                at = choose.randrange(len(lines))
+                other = choose.choice(choose.choice(sources))
+                cut = choose.randrange(len(lines[at]) + 1)
+                put = choose.choice(("", " ", ",", "*", "=", "-", "9", "H", "(", "\t", other[cut:], other))
+                lines[at] = lines[at][:cut] + put + lines[at][cut:]
+            messages = assembled(lines).messages
+            self.assertEqual(sorted(set(messages)), messages)
+            self.assertTrue(all(1 <= message.line <= len(lines) and message.column > 0 for message in messages))
+
+
+add_tests(Words, Words.check, sections("words.txt").items())
+add_tests(Faults, Faults.check, sections("faults.txt").items())
+
+
+class Listings(Case):
+    """The listing is read back to the same words and names."""
+
+    def check_read_back(self, lines):
+        found = assembled(lines)
+        self.assertEqual([], found.messages, lines)
+        printed = lines_of(found, "listing", 0)
+        symbols = Symbols(printed)
+        self.assertEqual({address: f"{cell.word:04o}" for address, cell in found.cells.items()},
+                         {address: word for address, (word, _) in symbols.listing.cells.items()}, printed)
+        tables = symbols.names.labels, symbols.names.equates
+        self.assertEqual({(name, symbol.value) for name, symbol in found.symbols.named() if 0 <= symbol.value <= 0o7777},
+                         {(name, number) for table in tables for number, names in table.items() for name in names},
+                         "\n".join(printed))
+
+    def test_programs(self):
+        for path in sorted([*glob.glob(f"{PROGRAMS}/*.pp"), *glob.glob(f"{TOP}/ex*/**/*.pp", recursive=True)]):
+            with self.subTest(path):
+                self.check_read_back(read(path).splitlines())
+
+    def test_random_programs(self):
+        choose = random.Random(57)
+        for _ in range(200):
+            self.check_read_back(self.random_program(choose))
+
+    @staticmethod
+    def random_program(choose):
+        """Returns a program with statements of all kinds that make or name addresses. Each fits in its place."""
+        lines = ["          BASE   OCTAL", " MAC      MACRO  P", "          LOCAL  L", " L        LDN    P", "          ENDM",
+                 f"          ORG    {choose.randrange(0o100, 0o6000):o}"]
+        for number in range(choose.randrange(1, 30)):
+            label = choose.choice(("", "", f" A{number}", f"B{number}=", f" C.{number}"))
+            statement = choose.choice((
+                "LDN 5", "LDC 123456", "PSN", "BSS 3", "BSS 0", "CON 1,2,3,4,5", "DIS ,*ABC DEF*", "MAC 7", "", "BSSZ 2", "SUBR",
+                "LDN 5           A NOTE", "EQU 777", "EQU 123456", "EQU *-1", "SET 5", "LOC 20", "LOC *O", "UJN *", "VFD 60/1",
+                "DATA H*LDN*,17", "LDM =1234", "DUP 2", "IFEQ 1,2"))
+            if statement.split(" ")[0] in ("SUBR", "EQU", "SET"):
+                label = label or f" D{number}"
+            lines.append(f"{label:9} {statement}")
+            body = {"DUP 2": ["          PSN", "          ENDD"], "IFEQ 1,2": [" NOT      PSN", "          ENDIF"]}
+            lines += body.get(statement, [])
+        return [*lines, "          PSN"]
+
+    def test_form(self):
+        """An address, words and the source line; code for another place has its load address after a >."""
+        source = ["* NOTE", " N EQU 5", "  ORG 100B", "START LDC 123456B", "  DATA H*ABCDEF*", "  LOC 1", "A PSN"]
+        self.assertEqual([
+            "                      * NOTE",
+            "0005                   N EQU 5",
+            "0100                    ORG 100B",
+            "0100       2012 3456  START LDC 123456B",
+            "0102       0102 0304    DATA H*ABCDEF*",
+            "0104       0506",
+            "0001 >0105              LOC 1",
+            "0001 >0105 0000       A PSN"],
+            lines_of(assembled(source), "listing", 0))
+
+
+class Package(Case):
+    def test_imports(self):
+        """The package knows the machine in one place, and of the tools only their failures."""
+        folder = os.path.join(TOP, "tools", "pp6600", "source")
+        names = [name for name in os.listdir(folder) if name.endswith(".py")]
+        found = {(name, line) for name in names for line in read("tools", "pp6600", "source", name).splitlines()
+                 if re.match(r"\s*(from \.\.|import pp6600)", line)}
+        self.assertEqual({"machine.py", "forms.py"}, {name for name, _ in found})
+        self.assertEqual({"from ..failure import Failure"}, {line for name, line in found if name == "forms.py"})
+
+
+class Forms(Case):
+    SOURCE = "  ORG 100B\nA LDC 5\n  ORG 104B\n  UJN A\n  END A\n"
+
+    def test_forms(self):
+        path = self.file(self.SOURCE, "a.pp")
+        deck = "2000 0005 0000 0000 0373\n"
+        for words, out in (((), "0100 2000\n0101 0005\n0104 0373\n"), (("--words",), "0100 2000\n0101 0005\n0104 0373\n"),
+                           (("--set", "11"), "SET M 11 100 2000 5\nSET M 11 104 373\nSET P 11 100\n"), (("--deck",), deck)):
+            with self.subTest(words):
+                self.assertEqual((out, "", 0), tool("assemble", *words, path))
+                self.assertEqual((out, "", 0), tool("assemble", *words, script=self.SOURCE))
+
+    def test_panel(self):
+        source = read("examples", "dead-start", "panel.pp")
+        path = self.file(tool("assemble", "--panel", script=source).out)
+        wanted_path = os.path.join(EXAMPLES, "dead-start", "panel")
+        session = "DEADSTART\nDUMP M 0 0 15\n"
+        self.assertEqual(run(program(), "--panel", wanted_path, script=session), run(program(), "--panel", path, script=session))
+        self.assertIn("cell 0100 is not on the panel", tool("assemble", "--panel", script=self.SOURCE).err)
+
+    def test_faults(self):
+        """They are on standard error, in the form that editors jump to, and nothing is written."""
+        path = self.file("  LDN 100B\n  LDN Q\n", "a.pp")
+        said = f"{path}:1:7: 100 (octal) does not fit in 6 (decimal) bits; LDC 100B would do\n{path}:2:7: Q is not defined\n"
+        self.assertEqual(("", said, 1), tool("assemble", "--set", "0", path))
+        self.assertEqual("standard input:1:7: Q is not defined\n", tool("assemble", script="  LDN Q\n").err)
+        self.assertEqual(("", "assemble: the source has no word\n", 2), tool("assemble", script="* NOTHING\n"))
+
+    def test_mark_before_a_text(self):
+        self.assertEqual("0000 1405\n", tool("assemble", self.file("\ufeff  LDN 5\r\n")).out)
+
+
+class Programs(Case):
+    """Programs that the simulator runs; the answers are reasoned from docs/MACHINE.md."""
+
+    def answers(self, names, dump, *words, turns=100000):
+        """Returns the answers to dumps after a run of programs, the first in PP 00."""
+        paths = [os.path.join(PROGRAMS, f"{name}.pp") for name in names]
+        lines = [tool("assemble", "--set", str(number), path).out for number, path in enumerate(paths)]
+        done = run(program(), *words, script="".join(lines) + f"STEP {turns:o}\n{dump}\n")
+        return done.out.splitlines()[sum(text.count("\n") for text in lines) + 1:]
+
+    def test_lister(self):
+        """Three cards: HELLO., none, and ABC with a blank. Line ends are symbols: 6 + 1, 1, 4 + 1."""
+        deck = self.file("1005 1414 1757\n0\n0102 0355\n")
+        self.assertEqual(["0050 0001", "LP H 13 SYMBOLS 000015 COLUMN 000 MODE PRINTING", "|HELLO.", "|", "|ABC "],
+                         self.answers(["lister"], "DUMP M 0 50 50\nDUMP LP", "--deck", deck))
+
+    def test_numbers(self):
+        """Five lines of ten symbols, one of eight, and six line ends: 64 (decimal)."""
+        lines = [f"|VALUE {number}" for number in ("0000", "1234", "7777", "7776", "0007")]
+        state = "LP H 13 SYMBOLS 000100 COLUMN 000 MODE PRINTING"
+        self.assertEqual([state, *lines, "|THE END."], self.answers(["numbers"], "DUMP LP"))
+
+    def test_sender_and_receiver(self):
+        """1 + 2 + 4 + 10 + 20 + 40 is 77, in PP 00; both stay at their ends."""
+        self.assertEqual(["0050 0077"], self.answers(["sender", "receiver"], "DUMP M 0 50 50"))
+
+    def test_mover(self):
+        """The program that was moved stores 5 + 2 and the 1234 after it, and stays at 0106. Behind it all is cleared."""
+        got = self.answers(["mover"], "DUMP M 0 50 51\nDUMP M 0 100 117\nDUMP PP 0")
+        self.assertEqual(["0050 0007 1234", "0100 1405 1602 3450 5000 0107 3451 0300 1234", "0110" + " 0000" * 8], got[:3])
+        self.assertEqual("PP 00 P 0106 A 001234", got[3][:21])
+
+    def test_monitor(self):
+        """3, doubled, 3 more is 11; one request is none; then the overlay overwrites the return address: the monitor is lost."""
+        got = self.answers(["monitor"], "DUMP M 0 50 52\nDUMP PP 0")
+        self.assertEqual(["0050 0011 0001 0077", "PP 00 P 0502 A 000077"], [got[0], got[1][:21]])
+
+
+# Each source beside a script: the processor, and the file with its words.
+SOURCES = {
+    "examples/clock/clock.pp": (0, "script"), "examples/dead-start/panel.pp": (None, "panel"),
+    "examples/first-steps/first-steps.pp": (0, "script"), "examples/handshake/answers.pp": (1, "script"),
+    "examples/handshake/asks.pp": (0, "script"),
+    "examples/loop/loop.pp": (0, "script"), "examples/overwritten-loader/loader.pp": (0, "script"),
+    "examples/print-a-page/page.pp": (0, "script"),
+    "examples/read-a-deck/reader.pp": (0, "script"), "exercises/dead-start-from-cards/ready.pp": (None, "deck"),
+    "exercises/dead-start-from-cards/solution/panel.pp": (None, "panel"), "exercises/exchange/exchange.pp": (0, "script"),
+    "exercises/exchange/solution/exchange.pp": (0, "script"), "exercises/first-program/solution/first-program.pp": (0, "script"),
+    "exercises/hanging-channel/receives.pp": (1, "script"), "exercises/hanging-channel/sends.pp": (0, "script"),
+    "exercises/list-a-deck/solution/list-a-deck.pp": (0, "script"), "exercises/loader-goes-round/loader.pp": (0, "script"),
+    "exercises/sum-of-a-table/solution/sum-of-a-table.pp": (0, "script"), "exercises/who-wrote-it/block.pp": (2, "script"),
+    "exercises/who-wrote-it/other-word.pp": (3, "script"), "exercises/who-wrote-it/word.pp": (1, "script")}
+
+
+class Sources(Case):
+    """The program of each script as a source."""
+
+    @staticmethod
+    def cells_set(path, processor):
+        """Returns the cells of a processor that the lines of a script set before its first turn."""
+        cells = {}
+        for line in read(path).splitlines():
+            words = line.split()
+            if words[:1] == ["STEP"]:
+                break
+            if words[:3] == ["SET", "M", str(processor)]:
+                cells.update(enumerate((int(word, 8) for word in words[4:]), int(words[3], 8)))
+        return cells
+
+    @staticmethod
+    def words_of(path):
+        """Returns the words of a panel or of a deck."""
+        return [int(word, 8) for line in read(path).splitlines() for word in line.partition("*")[0].split()]
+
+    def test_all_are_here(self):
+        found = [path for folder in ("examples", "exercises") for path in glob.glob(f"{TOP}/{folder}/**/*.pp", recursive=True)]
+        self.assertEqual(set(SOURCES), {os.path.relpath(path, TOP) for path in found})
+
+    def test_words(self):
+        for path, (number, name) in SOURCES.items():
+            found = assembled(read(path).splitlines())
+            beside = os.path.join(os.path.dirname(path), name)
+            with self.subTest(path):
+                self.assertEqual([], found.messages)
+                if number is not None:
+                    self.assertEqual(self.cells_set(beside, number), {address: cell.word for address, cell in found.cells.items()})
+                else:
+                    self.assertEqual(self.words_of(beside), self.words_of_source(found, name))
+
+    @staticmethod
+    def words_of_source(found, name):
+        return [int(word, 8) for line in lines_of(found, name, 0) for word in line.split()]
+
+    def test_each_script_has_one(self):
+        """Each program of a script has a source: the processors for which it sets cells before its first turn."""
+        for path in sorted(glob.glob(f"{TOP}/ex*/*/script")):
+            folder = os.path.relpath(os.path.dirname(path), TOP)
+            numbers = {number for number in range(10) if self.cells_set(os.path.join(folder, "script"), f"{number:o}")}
+            sources = {source[0] for name, source in SOURCES.items() if name.startswith(f"{folder}/")}
+            with self.subTest(path):
+                self.assertLessEqual(numbers, sources)
+
+    def test_solutions(self):
+        """A program that is a source solves its exercise, as words do."""
+        for name in ("first-program", "sum-of-a-table", "exchange", "list-a-deck"):
+            lines = tool("assemble", "--set", "0", os.path.join(TOP, "exercises", name, "solution", f"{name}.pp")).out
+            path = self.file(read("exercises", name, "script") + lines, "script")
+            with self.subTest(name):
+                done = run(os.path.join(TOP, "exercises", "check-exercise"), name, os.path.dirname(path))
+                self.assertEqual((f"{name}: solved\n", "", 0), done)
+
+    def test_listings_of_pages(self):
+        """A page shows a source with its words beside it."""
+        for page in sorted(glob.glob(f"{TOP}/docs/*.md")):
+            for block in blocks(os.path.relpath(page, TOP), "listing"):
+                lines = block.text.splitlines()
+                source = [line[COLUMN_OF_SOURCE:] for line in lines if line[COLUMN_OF_SOURCE:]]
+                with self.subTest(block.place):
+                    self.assertEqual(lines, lines_of(assembled(["          BASE   OCTAL", *source]), "listing", 0)[1:])

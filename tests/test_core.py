@@ -1,0 +1,61 @@
+"""Tests how the tools' package is built: its types, its launchers, and who imports whom."""
+
+import glob
+import os
+import re
+import shutil
+import subprocess
+import sys
+import unittest
+
+from tests.support import PYTHON, TOP, Case, read, run
+
+TOOLS = os.path.join(TOP, "tools")
+COMMANDS = [os.path.basename(path)[:-len(".py")] for path in glob.glob(os.path.join(TOOLS, "pp6600", "commands", "[!_]*.py"))]
+
+
+class Package(Case):
+    @unittest.skipUnless(shutil.which("mypy"), "mypy is not installed")
+    def test_types(self):
+        """mypy --strict accepts the core and the assembler, as pyproject.toml configures it."""
+        done = subprocess.run(["mypy", "--cache-dir", self.room()], cwd=TOP, capture_output=True, text=True, check=False)
+        self.assertEqual(0, done.returncode, done.stdout)
+
+    @unittest.skipUnless(shutil.which("ruff"), "ruff is not installed")
+    def test_style(self):
+        done = subprocess.run(["ruff", "check", "--no-cache", "tools/pp6600/core"], cwd=TOP, capture_output=True, text=True, check=False)
+        self.assertEqual(0, done.returncode, done.stdout)
+
+    def test_launchers(self):
+        """Each tool is a copy of one launcher, is a script of the package, and has a module."""
+        names = [name for name in os.listdir(TOOLS) if "." not in name and os.path.isfile(os.path.join(TOOLS, name))]
+        for name in names:
+            self.assertEqual(read(TOOLS, "launch.py"), read(TOOLS, name), name)
+        scripts = re.findall(r'^pp6600-(\S+) = "pp6600.__main__:launch"$', read("pyproject.toml"), re.M)
+        self.assertEqual(sorted(names), sorted(scripts))
+        self.assertEqual(set(), set(COMMANDS) - set(names))
+
+    def test_by_name(self):
+        """python3 -m pp6600 NAME is tools/NAME; another name gets a line that says which there are."""
+        words = [*PYTHON, "-m", "pp6600"]
+        self.assertEqual("2425\n", run(*words, "words", "TU", cwd=TOOLS).out)
+        done = run(*words, "unti", cwd=TOOLS)
+        self.assertEqual(("", 2), (done.out, done.status))
+        self.assertIn("unti is no tool; the tools are assemble, changes, ", done.err)
+
+    def test_copies(self):
+        """A copy of the folder works elsewhere."""
+        copy = os.path.join(self.room(), "tools")
+        shutil.copytree(TOOLS, copy)
+        self.assertEqual("2425\n", run(sys.executable, os.path.join(copy, "words"), "TU").out)
+
+    def test_imports(self):
+        """No command is imported by another module, and the core imports no front end."""
+        for path in glob.glob(os.path.join(TOOLS, "pp6600", "**", "*.py"), recursive=True):
+            text, below = read(path), os.path.relpath(path, os.path.join(TOOLS, "pp6600"))
+            with self.subTest(below):
+                self.assertEqual([], re.findall(r"^from \.*commands\S* import .*", text, re.M))
+                if below.startswith("commands"):
+                    self.assertEqual([], [name for name in re.findall(r"^from \.(\w+) import", text, re.M) if name in COMMANDS])
+                if below.startswith("core"):
+                    self.assertEqual([], re.findall(r"^from \.\.(?!choice|failure|options|pipe)\S+ import .*", text, re.M))

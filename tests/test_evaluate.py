@@ -1,0 +1,207 @@
+"""Tests docs/evaluate: the definitions, run, say what the program and pp6600-python do.
+
+The worked rows of crates/pp_worked are computed as statements about data. The cases of tests/cases and of examples/, and random
+sessions, are performed by the definitions, by the program and by pp6600-python, and all that is written is compared. Which faults in
+the definitions this would find is what python3 -m tests.slips says, which takes longer.
+"""
+
+import os
+import re
+import shutil
+import sys
+
+from tests import slips
+from tests.support import EXAMPLES, PYTHON, TOP, Case, add_tests, names_of_codes, read, run
+from tests.test_program import PLAIN, cases, part, words_of
+from tests.test_random import Maker
+
+sys.path.insert(0, os.path.join(TOP, "docs"))
+from evaluating.asking import Definitions  # noqa: E402
+from evaluating.examples import faults_of, worked  # noqa: E402
+from evaluating.lists import Stuck  # noqa: E402
+
+EVALUATE = os.path.join(TOP, "docs", "evaluate")
+RANDOM = int(os.environ.get("PP6600_EVALUATED", "100"))  # random sessions
+MOST_TURNS = 1500  # of a random session
+CUT_SHORT = ("folder-as-deck", "folder-as-panel", "folder-as-script")  # a read fails
+
+
+def evaluate(*words, script=""):
+    """Runs docs/evaluate."""
+    return run(*PYTHON, EVALUATE, *words, script=script)
+
+
+class WorkedRows(Case):
+    """The worked rows, which the prover proves, hold when they are computed."""
+
+    def test_rows(self):
+        definitions = Definitions(TOP)
+        rows = [row for row in worked(TOP, definitions) if not re.match(r"\([\w ]+ : ", row[1])]  # those are about each x
+        for name, text, scope in rows:
+            with self.subTest(name):
+                self.assertIs(True, definitions.value(text, scope))
+        self.assertGreater(len(rows), 100)
+
+
+class Sessions(Case):
+    """Sessions by the definitions, by the program and by pp6600-python."""
+
+    def setUp(self):
+        self.addCleanup(os.chdir, os.getcwd())
+        os.chdir(self.room())
+
+    def check(self, case):
+        """Checks a case, whose expected output the program is tested to have."""
+        for name in os.listdir(case):
+            if name not in PLAIN:
+                shutil.copy(os.path.join(case, name), ".")
+        words, script = words_of(case), part(case, "stdin")
+        wanted = part(case, "stdout"), part(case, "stderr"), int(part(case, "status", b"0"))
+        self.assertEqual(wanted, slips.performed(slips.definitions(), words, script))
+        self.assertEqual(wanted, slips.by_python(words, script))
+
+    def test_random(self):
+        numbers = iter(range(10 ** 6))
+        done = 0
+        while done < RANDOM:
+            number = next(numbers)
+            session = Maker(number).session()
+            if session.output_fails or session.standard_input != "script" or slips.turns(session.lines) > MOST_TURNS:
+                continue
+            words, script = session.words, slips.write_files(session)
+            with self.subTest(f"PP6600_RANDOM={number}:1"):
+                try:
+                    found = slips.performed(slips.definitions(), words, script)
+                except Stuck:  # a file is a folder
+                    continue
+                self.assertEqual(slips.by_program(words, script), found)
+                self.assertEqual(found, slips.by_python(words, script))
+            done += 1
+
+
+def plain_cases():
+    """Yields the cases that are run in the plain way, and whose reads don't fail."""
+    for root in (os.path.join(TOP, "tests", "cases"), EXAMPLES):
+        for name, case in cases(root):
+            if name not in CUT_SHORT and not os.path.exists(os.path.join(case, "how")):
+                yield name, case
+
+
+add_tests(Sessions, Sessions.check, plain_cases())
+
+
+class Command(Case):
+    """The command docs/evaluate."""
+
+    def test_expressions(self):
+        self.check_rows(lambda *words: evaluate(*words).out,
+                        ("add18 0o777776 1", "0\n"),
+                        ("5 - 7", "2 ^ 5", "0\n0o40\n"),
+                        ("--text", "octal_text 0o1465 6", "001465\n"),
+                        ("slice_index (1 ∷ 2 ∷ []) 9", "0\n"),
+                        ("split60 0o01234567012345670123", "0o123 ∷ 0o4567 ∷ 0o123 ∷ 0o4567 ∷ 0o123 ∷ []\n"),
+                        ("turn at_rest", "over at_rest ((Place.RegP 0, 1) ∷ (Slot, 1) ∷ [])\n"),
+                        ("SetP 0 0o100", "SetP 0 0o100\n"),
+                        ("number (turn (turn at_rest)) Slot ≡ 2", "true\n"))
+
+    def test_steps(self):
+        """One step, and the worked row of a block that overwrites its own return address."""
+        self.assertEqual("P = 0101\nA = 000000\nM 0020 = 0000\n", evaluate("--step", "3520", "A=777777").out)
+        steps = evaluate("--steps", "4", "6110", "7776", "A=1000", "M 10=2", "C 1000=00010002000300040005").out.splitlines()
+        self.assertEqual("1: P = 7776, Q = 0002, PHASE = 6110, M 0000 = 0101", steps[0])
+        self.assertEqual("4: P = 0004, PHASE = 0000", steps[3])
+        self.assertEqual("waits\n", evaluate("--step", "7003").out)
+
+    def test_script(self):
+        done = evaluate("--script", "--central", "32", script="SET A 0 5\nDUMP PP 0\nGO\n")
+        self.assertEqual(("OK\nPP 00 P 0000 A 000005 Q 0000 PHASE 0000 SLOT 00\nERR 01 NOT A COMMAND\n", "", 1), done)
+        self.assertEqual(("", "pp6600: BAD CHANNEL\n", 2), evaluate("--script", "--reader", "14"))
+
+    def test_refusals(self):
+        """What can't be computed is said in one line."""
+        folder = self.room()
+        for *words, said in (("IsRun", "IsRun, which is a type or a relation"),
+                             ("(n : ℕ) → n ≡ n", "a statement about each or some x"),
+                             ("no_such_word 1", "no_such_word stands for nothing"),
+                             ("Missing", "Missing is one of Event.Missing, FileEvent.Missing, Found.Missing"),
+                             ("add18 1", None), ("λ x. x", "the text of a function"),
+                             ("1 +", "a text with an end in place of an expression"),
+                             ("(1", "a text with the end in place of )"),
+                             ("suc None", "an argument has another type than its definition says"),
+                             ("--step", "3520", "B=1", "'B=1': write an instruction word, as 3520, or a place and its number, "
+                                                       "as A=777777 or 'M 20=5'"),
+                             ("--script", folder, "a run that a failed read cuts short: IsCut says what that is, "
+                                                  "and `program` has whole runs only")):
+            with self.subTest(words):
+                wanted = ("", f"docs/evaluate: can't compute {said}\n", 2) if said else ("add18 1\n", "", 0)
+                self.assertEqual(wanted, evaluate(*words))
+
+    def test_full_output(self):
+        done = run("bash", "-c", f"{EVALUATE} 1 >/dev/full; echo status $?")
+        self.assertEqual(("status 2\n", "docs/evaluate: No space left on device\n"), done[:2])
+
+    def test_route(self):
+        """The commands of the route of one hour do what they are there for."""
+        front = read("docs", "DEFINITIONS.md").split("\n## The theorem, read aloud\n")[0]
+        commands = re.findall(r"^```text\n(.*?)\n```", front, re.M | re.S)
+        self.assertEqual(["0", "OK", "P = 0101", "1: P = 7776, Q = 0002, PHASE = 6110, M 0000 = 0101"],
+                         [run("bash", "-c", command).out.split("\n")[0] for command in commands])
+
+    def test_help(self):
+        done = evaluate("--help")
+        self.assertIn("no proof", done.out)
+        self.assertEqual(done._replace(status=2), evaluate())
+
+    def test_examples(self):
+        """Each example of the page has the value that the page says, and each case has an example or is said to have none."""
+        self.assertEqual(("", "", 0), evaluate("--check"))
+
+
+class Tables(Case):
+    """The table of the instructions in docs/DEFINITIONS.md."""
+
+    def test_rows(self):
+        """It has the names of docs/MACHINE.md, and examples that were worked by hand."""
+        row = re.compile(r"^\| ([0-7]{2}) \| ([A-Z]{3}) \| (\w+) \| `(.*)` \| (.*) \|$", re.M)
+        rows = {code: rest for code, *rest in row.findall(read("docs", "DEFINITIONS.md"))}
+        self.assertEqual([(f"{code:02o}", name) for code, name in enumerate(names_of_codes())],
+                         [(code, name) for code, (name, *_) in rows.items()])
+        self.check_rows(lambda code: tuple(rows[code][1:]),
+                        ("03", ("NoAddress", "P := relative s.p i.d", "P = 0105")),
+                        ("02", ("Memory", "P := cell_after i.address 1; Cell i.address := i.next", "P = 0501, M 0500 = 0102")),
+                        ("44", ("Indirect", "Cell i.address := lower12 s.a", "M 0200 = 1003")),
+                        ("74", ("NoAddress", "is_in Inactive i.d s.states: State i.d := Empty / nothing", "waits")))
+
+
+class Examples(Case):
+    """Faults that are planted in docs/examples.txt are found."""
+
+    def test_planted(self):
+        text = read("docs", "examples.txt")
+        example = re.search(r"^slot_step at_rest\n  = (.*)\n", text, re.M)
+        other = example[0].replace(example[1], "[]")
+        planted = ((example[0], other, f"slot_step at_rest is {example[1]}"),
+                   ("== pp_rig/Turn:clock_step\n", "== pp_rig/Turn:clock\n",
+                    "pp_rig/Turn:clock: no computable definition on the page"),
+                   ("\nexit_of (Ok 1)\n  = 1\n", "\n", "pp_program/Program:exit_of: no line for the case status"),
+                   ("\nends (", "\nend (", "end (codes \"OK\\n\") (Ok 0): can't compute end stands for nothing"))
+        for old, new, _ in planted:
+            self.assertEqual(1, text.count(old), old)
+            text = text.replace(old, new)
+        found = slips.deep(lambda: faults_of(TOP, text))
+        self.assertEqual([], [fault for *_, fault in planted if fault not in found])
+
+
+class Slips(Case):
+    """The slips that python3 -m tests.slips plants fit the definitions."""
+
+    def test_fit(self):
+        definitions = Definitions(TOP)
+        for slip in slips.slips():
+            with self.subTest(slip.name):
+                self.assertEqual(1, definitions.named(slip.name).text.count(slip.old))
+
+    def test_one_is_found(self):
+        """The worked rows find a sum that is minus zero."""
+        found = slips.Battery([]).finds(next(slip for slip in slips.slips() if re.search(":add18$", slip.name)))
+        self.assertRegex(found, "^worked row ")

@@ -1,0 +1,180 @@
+"""What the tools find in runs, against a look at the machine after each action: turns at which something comes to be so, changes,
+traces, states, differences, and where the debug adapter stops.
+
+    PP6600_SEEK=SEED:COUNT   tries COUNT random sessions from seed SEED on; the default is 0:10
+"""
+
+import os
+import random
+import re
+
+from tests.debug_client import Client
+from tests.generator import LOOPS, Maker
+from tests.oracle import Timeline
+from tests.support import Case, program, tool
+
+FIRST, COUNT = map(int, os.environ.get("PP6600_SEEK", "0:10").split(":"))
+CELLS = 0o347  # of the cells from 0 on, which programs of LOOPS use
+PARTS = ("P {n} = {p}", "P {n} outside 100 {p}", "P {n} != {p}", "A {n} > 5", "Q {n} changes", "M {n} 20 = 1", "M {n} {p} changes",
+         "M {n} 0 27 changes", "H 1 is {s}", "H 2 is {s}", "H 1 > 3", "H 14 = {a}", "H 14 changes", "PP {n} waits",
+         "PP {n} in a block", "PP {n} not in a block", "H 1 changes", "H 1 changes state", "H 0 changes state", "A {n} inside 1 {p}", "P {n} < {p}")
+
+
+class SeekCase(Case):
+    """Random sessions of programs that loop."""
+
+    def session(self, seed):
+        """Returns the choice of a session, the numbers of its processors and its lines."""
+        maker = Maker(seed, LOOPS)
+        return random.Random(seed), maker.processors, maker.script()
+
+    def each_session(self, check, count=COUNT):
+        for seed in range(FIRST, FIRST + count):
+            with self.subTest(seed=seed):
+                check(*self.session(seed))
+
+    def timeline(self, numbers, lines):
+        return Timeline([program()], lines, [(number, 0, CELLS) for number in numbers])
+
+
+def turns_in(out):
+    """Returns the numbers of the turns that lines begin with."""
+    return [int(line.split()[1], 8) for line in out.splitlines() if line.startswith("TURN")]
+
+
+class Until(SeekCase):
+    def check(self, choose, numbers, lines):
+        timeline, text = self.timeline(numbers, lines), "".join(f"{line}\n" for line in lines)
+        for _ in range(2):
+            parts = [choose.choice(PARTS).format(n=f"{choose.choice(numbers):o}", a=f"{choose.randrange(9):o}",
+                                                 s=choose.choice("IEF"), p=f"{0o100 + choose.randrange(8):o}")
+                     for _ in range(choose.choice((1, 1, 2)))]
+            condition = " and ".join(parts)
+            wanted, first = timeline.until(condition), choose.randrange(0o100)
+            later = [turn for turn in wanted if turn > first]
+            for words, found in ((["--all"], wanted), (["--from", f"{first + 1:o}"], later[:1]),
+                                 (["--last", "--count", "2"], wanted[-2:]),
+                                 (["--last", "--count", "1", "--from", f"{first + 1:o}"], later[-1:])):
+                with self.subTest(condition, words=words):
+                    self.assertEqual(found, turns_in(tool("until", condition, *words, script=text).out))
+
+    def test_random_conditions(self):
+        self.each_session(self.check)
+
+
+class Changes(SeekCase):
+    def check(self, choose, numbers, lines):
+        """Every change of a place, by an action too that is no turn, with the numbers before and after it."""
+        timeline = self.timeline(numbers, lines)
+        number = choose.choice(numbers)
+        for place in (f"M {number:o} 20", f"A {number:o}", "H 14"):
+            found = [state.numbers[place] for state in timeline.states]
+            wanted = [f"TURN {timeline.turns(at):o} WAS {found[at - 1]} NOW {found[at]}"
+                      for at in range(1, len(found)) if found[at - 1] != found[at]]
+            got = tool("changes", *place.split(), script="\n".join([*lines, ""])).out.splitlines()
+            with self.subTest(place):
+                self.assertEqual(wanted or ["NO CHANGE"], [re.sub("^(TURN [0-7]+) .* (WAS .*)$", r"\1 \2", line) for line in got])
+
+    def test_random_sessions(self):
+        self.each_session(self.check)
+
+
+class States(SeekCase):
+    def check(self, choose, numbers, lines):
+        """The state after a turn, and the trace of the turns around it."""
+        timeline, text = self.timeline(numbers, lines), "".join(f"{line}\n" for line in lines)
+        turns = [at for at in range(len(timeline.actions)) if timeline.is_turn(at)]
+        for at in choose.sample(turns, 2) if len(turns) > 1 else ():
+            turn = timeline.turns(at + 1)
+            after = next((later for later in turns if later > at), len(timeline.actions))  # with the settings before the next turn
+            shown = tool("state", "--turn", f"{turn:o}", script=text).out.splitlines()
+            state = timeline.states[after]
+            wanted = [f"{'>' if number == state.slot else ' '}PP {number:02o} P {p} A {a} Q {q} PHASE {phase}"
+                      for number, (p, a, q, phase) in enumerate(map(state.registers, range(10)))]
+            self.assertEqual(wanted, [line[:40] for line in shown[:10]])
+            before = timeline.states[at]
+            number = before.slot
+            p, a, q, phase = before.registers(number)
+            line = tool("trace", "--from", f"{turn:o}", "--to", f"{turn:o}", script=text).out
+            self.assertRegex(line, rf"^TURN {turn:o} PP {number:02o} P {p} .* A {a} Q {q} PHASE {phase}")
+            self.assertEqual(timeline.waits[at + 1][number], " WAITS" in line)
+
+    def test_random_sessions(self):
+        self.each_session(self.check)
+
+
+class Compare(SeekCase):
+    def check(self, choose, numbers, lines):
+        """The first turn after which a number differs that did not differ before the first one."""
+        others = list(lines)
+        number = choose.choice(numbers)
+        others.insert(choose.randrange(len(lines) - 1), f"SET M {number:o} {0o100 + choose.randrange(8):o} 1477")
+        known, wanted = None, []
+        timelines = [self.timeline(numbers, some) for some in (lines, others)]
+        ends = [{line.turns(at): state.numbers for at, state in enumerate(line.states)} for line in timelines]
+        for turn in range(min(map(len, ends))):
+            differ = {place for place, digits in ends[0][turn].items() if digits != ends[1][turn][place]}
+            if known is not None and differ - known:
+                wanted = [f"AFTER TURN {turn:o}"]
+                break
+            known = differ if known is None else known
+        done = tool("compare", *(self.file("".join(f"{line}\n" for line in some)) for some in (lines, others)))
+        self.assertEqual(wanted, [line for line in done.out.splitlines() if line.startswith("AFTER")], done)
+
+    def test_random_sessions(self):
+        self.each_session(self.check, COUNT // 2)
+
+
+class Debugged(SeekCase):
+    """Sessions with the debug adapter."""
+
+    MOVES = 8
+    ACTIONS = 2500  # of the script and after it that are searched
+
+    def check(self, chance, numbers, lines):
+        timeline = Timeline([program()], lines, [(number, 0o20, 0o20) for number in numbers], count=self.ACTIONS)
+        client = Client(lines=chance.choice((None, 5000)))  # with few lines it goes on in fresh simulators
+        history = chance.choice(({}, {"history": 10000}, {"history": 100}, {"history": 50}))
+        self.addCleanup(client.end)
+        script = self.file("".join(f"{line}\n" for line in lines))
+        shown = client.launch(script=script, processor=f"{numbers[0]:o}", **history)["threadId"] - 1
+        folder = os.path.dirname(client.ask("stackTrace", threadId=1)["stackFrames"][0]["source"]["path"])
+        for move in range(self.MOVES):
+            if not move % 3:
+                cells, places = self.set_breakpoints(client, chance, folder, numbers)
+            shown = self.move(client, chance, timeline, shown, cells, places, f"move {move}, history {history}")
+        self.assertEqual((0, ""), client.end())
+
+    @staticmethod
+    def set_breakpoints(client, chance, folder, numbers):
+        cells = {(chance.choice(numbers), f"{0o100 + chance.randrange(0o20):04o}") for _ in range(chance.randrange(4))}
+        for number in range(10):
+            client.ask("setBreakpoints", source={"path": f"{folder}/PP{number:02o}.pplist"},
+                       breakpoints=[{"line": int(cell, 8) + 1} for one, cell in sorted(cells) if one == number])
+        places = chance.sample(["H 1", f"M {numbers[0]:o} 20", *(f"A {number:o}" for number in numbers)], chance.randrange(3))
+        client.ask("setDataBreakpoints", breakpoints=[{"dataId": place} for place in places])
+        return cells, places
+
+    def move(self, client, chance, timeline, shown, cells, places, what):
+        """Makes a random move, and compares where it stops. Returns the processor that is shown."""
+        number = chance.choice((shown, chance.randrange(10)))
+        command = chance.choice(("continue", "continue", "continue", "reverseContinue", "reverseContinue", "stepIn", "stepBack"))
+        expected = {"continue": lambda: timeline.forward(shown, cells, places),
+                    "reverseContinue": lambda: timeline.back(cells, places),
+                    "stepIn": lambda: timeline.step(number, places), "stepBack": lambda: timeline.step_back(number)}[command]()
+        if expected is None:
+            return shown
+        stop = client.stop_after(command, threadId=number + 1)
+        timeline.now, reason = expected
+        words = [client.typed(f"DUMP PP {one:o}").split() for one in range(10)]
+        history = client.ask("variables", variablesReference=5 << 8)["variables"]
+        turns = next(one["value"] for one in history if one["name"] == "turns")
+        state = timeline.states[timeline.now]
+        self.assertEqual((reason, f"{timeline.turns(timeline.now):o}", state.slot, [state.registers(one) for one in range(10)]),
+                         (stop["reason"], turns, int(words[0][-1], 8), [one[3:10:2] for one in words]), f"{what}, {command}")
+        if reason == "breakpoint":
+            self.assertEqual(state.slot, stop["threadId"] - 1, what)
+        return stop["threadId"] - 1
+
+    def test_random_sessions(self):
+        self.each_session(self.check)

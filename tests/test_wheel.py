@@ -1,0 +1,92 @@
+"""Tests the packages for pip, without a network: in an empty environment, from two clones."""
+
+import functools
+import os
+import shutil
+import subprocess
+import sys
+import unittest
+
+from tests.installing import InstallCase, alone, checkout, lasting_room
+from tests.support import EXAMPLES, TOOLS, Done, blocks, read
+
+VERSION = read("VERSION").strip()
+PLATFORM, ANY = (f"pp6600-{VERSION}-py3-none-{machine}.whl" for machine in ("manylinux_2_34_x86_64", "any"))
+SAID = "pp6600: the proved program does not start here; this is pp6600-python, which is not proved\n"
+
+
+@functools.lru_cache(maxsize=None)
+def original():
+    """Returns a checkout that no test changes, with its packages in out."""
+    top = checkout(os.path.join(lasting_room(), "original"))
+    done = alone("make", "wheel", cwd=top)
+    assert done == Done("".join(f"wheel: {top}/out/{name}\n" for name in (PLATFORM, ANY)), "", 0), done
+    return top
+
+
+@functools.lru_cache(maxsize=None)
+def environment(name):
+    """Returns the folder of commands of an environment with a package and nothing else."""
+    folder = os.path.join(lasting_room(), "environment")
+    subprocess.run([sys.executable, "-m", "venv", folder], check=True)
+    own = os.path.join(folder, "bin")
+    subprocess.run([os.path.join(own, "python"), "-m", "pip", "install", "--quiet", "--no-index", "--disable-pip-version-check",
+                    os.path.join(original(), "out", name)], check=True, stdout=subprocess.DEVNULL, stderr=subprocess.DEVNULL)
+    return own
+
+
+def has_needed():
+    return all(map(shutil.which, ("make", "git"))) and not subprocess.run(
+        [sys.executable, "-c", "import ensurepip, venv"], capture_output=True, check=False).returncode
+
+
+@unittest.skipUnless(has_needed(), "there is no make, no git or no ensurepip here")
+class Wheel(InstallCase):
+    def test_same_bytes(self):
+        """In another clone, under another mask and in another time zone."""
+        top = self.path("another")
+        alone("git", "clone", "-q", original(), top, preexec_fn=lambda: os.umask(0o077))
+        self.assertEqual(0, alone("share/wheel", "made", cwd=top, env={"TZ": "Asia/Tokyo"}).status)
+        for name in (PLATFORM, ANY):
+            self.assertEqual(Done("", "", 0), alone("cmp", f"{original()}/out/{name}", f"{top}/made/{name}"))
+
+    def test_refused(self):
+        top = self.path("another")
+        alone("git", "clone", "-q", original(), top)
+        self.check_stopped(alone("share/wheel", "--bogus", cwd=top), "give FOLDER")
+        with open(os.path.join(top, "tools", "pp6600", "more.py"), "w", encoding="ascii"):
+            self.check_stopped(alone("share/wheel", cwd=top), "tools/pp6600/more.py; commit or take it away first")
+
+    def check_stopped(self, done, said):
+        self.assertEqual((1, 1, True, ""), (done.status, len(done.err.splitlines()), said in done.err, done.out), done.err)
+
+    def test_entry_points(self):
+        """Each tool has its command."""
+        there = os.listdir(environment(PLATFORM))
+        self.assertEqual([], [name for name in ("pp6600", "pp6600-python", *(f"pp6600-{name}" for name in TOOLS)) if name not in there])
+
+    def test_session(self):
+        """README's session, on the proved program and on the one in Python."""
+        block = blocks("README.md", "session")[0]
+        script = "".join(f"{line[2:]}\n" for line in block.text.splitlines() if line.startswith("> "))
+        wanted = "".join(f"{line}\n" for line in block.text.splitlines() if not line.startswith(">"))
+        words = block.words[1:]
+        for package, command, said in ((PLATFORM, "pp6600", ""), (PLATFORM, "pp6600-python", ""), (ANY, "pp6600", SAID)):
+            with self.subTest(package, command=command):
+                done = alone(f"{environment(package)}/{command}", *words, script=script, cwd=EXAMPLES)
+                self.assertEqual((wanted, said, 0), done)
+
+    def test_versions(self):
+        for command, wanted in (("pp6600", f"pp6600 {VERSION}\n"), ("pp6600-python", f"pp6600-python {VERSION}: not the proved program\n"),
+                                ("pp6600-until", f"pp6600-until {VERSION}\n")):
+            done = alone(f"{environment(PLATFORM)}/{command}", "--version")
+            self.assertEqual((wanted.strip(), "", 0), (done.out.strip(), *done[1:]))
+
+    def test_tools_and_console(self):
+        for package, said in ((PLATFORM, ""), (ANY, SAID)):
+            with self.subTest(package):
+                done = alone(f"{environment(package)}/pp6600-show", script="STEP 12\n", cwd=self.folder)
+                self.assertEqual(("> STEP 12\nTURNS 12 SLOT 00\n", said, 0), done)
+                text = "from pp6600 import Console; console = Console(); print(console.ask('STEP 12')); print(console.end())"
+                done = alone(f"{environment(package)}/python", "-c", text, cwd=self.folder)
+                self.assertEqual(("['TURNS 12 SLOT 00']\n0\n", said, 0), done)
