@@ -12,14 +12,17 @@ import concurrent.futures
 import glob
 import os
 import re
+import signal
 import subprocess
 import sys
+import tempfile
 import time
 
 HERE = os.path.dirname(os.path.abspath(__file__))
 RAN = re.compile(r"^Ran (\d+) tests? in", re.M)
 PASSED = re.compile(r"^.*\.\.\. ok\n", re.M)
 SKIPPED = re.compile(r"\.\.\. skipped (['\"])(.*)\1$", re.M)
+LONGEST = 1800  # seconds, far more than any module takes on a busy machine
 FIRST = ("test_sessions", "test_random", "test_debug_adapter", "test_film_walk")  # they take longest
 NOT_PASSED = re.compile(r"(failures|errors|unexpected successes|skipped)=(\d+)")
 
@@ -34,20 +37,34 @@ def modules(names):
     return [name for name in found if not names or name[len("test_"):] in names]
 
 
+def output_of(name):
+    """Runs a module, and returns what it wrote, and whether it ended well. One that never ends is ended, so that the others count."""
+    words = [sys.executable, "-m", "unittest", "-v", f"tests.{name}"]
+    with tempfile.TemporaryFile("w+", encoding="utf-8", errors="replace") as written:
+        process = subprocess.Popen(words, cwd=os.path.dirname(HERE), stdin=subprocess.DEVNULL, stdout=written, stderr=written,
+                                   start_new_session=True)
+        try:
+            process.wait(LONGEST)
+        except subprocess.TimeoutExpired:
+            os.killpg(process.pid, signal.SIGKILL)
+            process.wait()
+        written.seek(0)
+        late = "" if process.returncode >= 0 else f"\nended by signal {-process.returncode}; a module may take {LONGEST} s\n"
+        return written.read() + late, process.returncode == 0
+
+
 def run(name):
     """Runs a module, shows what it wrote, and returns how many of its tests passed, failed and were skipped."""
     began = time.monotonic()
-    words = [sys.executable, "-m", "unittest", "-v", f"tests.{name}"]
-    done = subprocess.run(words, cwd=os.path.dirname(HERE), stdin=subprocess.DEVNULL,
-                          stdout=subprocess.PIPE, stderr=subprocess.STDOUT, encoding="utf-8", errors="replace", check=False)
-    ran = RAN.search(done.stdout)
+    output, ended_well = output_of(name)
+    ran = RAN.search(output)
     counts = dict.fromkeys(("failures", "errors", "unexpected successes", "skipped"), 0)
-    counts.update((kind, int(number)) for kind, number in NOT_PASSED.findall(done.stdout.rsplit("\n\n", 1)[-1]))
+    counts.update((kind, int(number)) for kind, number in NOT_PASSED.findall(output.rsplit("\n\n", 1)[-1]))
     skipped = counts.pop("skipped")
-    failed = max(sum(counts.values()), int(done.returncode != 0))
+    failed = max(sum(counts.values()), int(not ended_well))
     passed = max(int(ran[1]) - failed - skipped, 0) if ran else 0
-    reasons = collections.Counter(reason for _, reason in SKIPPED.findall(done.stdout))
-    shown = PASSED.sub("", done.stdout) if failed else "".join(f"skipped {count}: {reason}\n" for reason, count in reasons.items())
+    reasons = collections.Counter(reason for _, reason in SKIPPED.findall(output))
+    shown = PASSED.sub("", output) if failed else "".join(f"skipped {count}: {reason}\n" for reason, count in reasons.items())
     print(f"{shown}{name}: {passed} passed, {failed} failed, {skipped} skipped in {time.monotonic() - began:.0f} s", flush=True)
     return passed, failed, skipped
 
