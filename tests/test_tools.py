@@ -101,6 +101,14 @@ class Answers(Case):
             with self.subTest(name, words=words):
                 self.assertEqual(whole, few)
 
+    def test_settings_that_nearly_fill_a_simulator(self):
+        script = "".join(f"SET M 0 20 {number % 0o10000:o}\n" for number in range(14000)) + "STEP 5\n"
+        for name, words in (("changes", ["M", "0", "20"]), ("until", ["P", "0", "=", "1"])):
+            few = run(*PYTHON, "-c", WITH_FEW_LINES, "20000", os.path.join(TOP, "tools", name), *words, script=script)
+            with self.subTest(name, words=words):
+                self.assertEqual(tool(name, *words, script=script), few)
+                self.assertEqual("", few.err)
+
     def test_three_forms(self):
         """Words that were loaded from a file of each form are saved as the same file."""
         choose = random.Random(1)

@@ -112,8 +112,13 @@ class Hands(HandsCase):
                 self.assertEqual(2 if name in WITHOUT else 1, status)
 
     def test_simulator_that_is_left(self):
-        """An interrupt ends the simulator too, which here waits for a writer of its deck."""
-        deck = self.path("fifo")
+        """An interrupt ends the simulator too, which here waits for a writer of its deck; and so do two at once."""
+        for count in (1, 2, 2, 2):
+            with self.subTest(count):
+                self.interrupted(count)
+
+    def interrupted(self, count):
+        deck = os.path.join(self.room(), "fifo")
         os.mkfifo(deck)
         tool = subprocess.Popen([*PYTHON, os.path.join(TOP, "tools", "state"), "--deck", deck], stdin=subprocess.DEVNULL,
                                 env={**self.environment, "PP6600_PATIENCE": "600"},
@@ -122,8 +127,9 @@ class Hands(HandsCase):
         while not self.simulators_with(deck):
             self.assertIsNone(tool.poll(), "it ended before it had a simulator")
             time.sleep(0.05)
-        tool.send_signal(signal.SIGINT)
-        self.assertEqual(-signal.SIGINT, tool.wait())
+        for _ in range(count):
+            tool.send_signal(signal.SIGINT)
+        self.assertEqual(-signal.SIGINT, tool.wait(600))
         self.assertEqual([], self.simulators_with(deck))
 
     @staticmethod

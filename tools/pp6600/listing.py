@@ -49,6 +49,15 @@ class Names:
         return sum(len(own) for names in (self.labels, self.equates) for own in names.values())
 
 
+def made_of(path, make):
+    """Returns what is made of the lines of a text. What is wrong with a line is said with the name of the file."""
+    lines = read_lines(path)
+    try:
+        return make(lines)
+    except Failure as failure:
+        raise Failure(f"{named(path)}, {failure}") from failure
+
+
 class Listing:
     """The words, names and texts of a listing."""
 
@@ -65,10 +74,7 @@ class Listing:
 
     @classmethod
     def of_file(cls, path, columns=None):
-        try:
-            return cls(read_lines(path), columns)
-        except Failure as failure:
-            raise Failure(f"{named(path)}, {failure}") from failure
+        return made_of(path, lambda lines: cls(lines, columns))
 
     @property
     def labels(self):
@@ -200,10 +206,7 @@ class Symbols(AddressNames):
 
     @classmethod
     def of_file(cls, path, columns=None):
-        try:
-            symbols = cls(read_lines(path), columns)
-        except Failure as failure:
-            raise Failure(f"{named(path)}, {failure}") from failure
+        symbols = made_of(path, lambda lines: cls(lines, columns))
         if not len(symbols.names) and not symbols.listing.cells:
             raise Failure(f"{named(path)} has neither lines of a listing nor lines NAME ADDRESS")
         return symbols
