@@ -300,7 +300,7 @@ SOURCES = {
     "examples/first-steps/first-steps.pp": (0, "script"), "examples/handshake/answers.pp": (1, "script"),
     "examples/handshake/asks.pp": (0, "script"),
     "examples/loop/loop.pp": (0, "script"), "examples/overwritten-loader/loader.pp": (0, "script"),
-    "examples/print-a-page/page.pp": (0, "script"),
+    "examples/overlay/overlay.pp": (0, "script"), "examples/print-a-page/page.pp": (0, "script"),
     "examples/read-a-deck/reader.pp": (0, "script"), "exercises/dead-start-from-cards/ready.pp": (None, "deck"),
     "exercises/dead-start-from-cards/solution/panel.pp": (None, "panel"), "exercises/exchange/exchange.pp": (0, "script"),
     "exercises/exchange/solution/exchange.pp": (0, "script"), "exercises/first-program/solution/first-program.pp": (0, "script"),

@@ -9,7 +9,8 @@ from .failure import Failure
 from .listing import AllSymbols
 
 FORM = ("a condition is PLACE = 105 (also != < > <= >=), PLACE outside 100 117, PLACE inside 100 117, PLACE changes, "
-        "M 0 100 117 changes, H 12 is F, H 12 changes state, PP 3 waits, PP 3 in a block or PP 3 not in a block; conditions are joined by and")
+        "M 0 100 117 changes, H 12 is F, H 12 changes state, PP 3 waits, PP 3 in a block, PP 3 not in a block or PP 3 returns wrongly; "
+        "conditions are joined by and")
 COMPARISONS = {"=": operator.eq, "!=": operator.ne, "<": operator.lt, ">": operator.gt, "<=": operator.le, ">=": operator.ge}
 OF_A_PROCESSOR = ("M", "A", "P", "Q")
 RJM = "RJM"
