@@ -10,13 +10,15 @@ from ..core.tape import STEP
 from ..listing import AllSymbols
 from ..script import performed
 from ..sources import add_files, add_symbols, symbols_from, symbols_of
+from ..versions import Versions
 
 DESCRIPTION = """Compares two runs: those of two scripts, or of one script with another deck or panel. Shows the first turn, octal from
 1, after which the machines differ, the places with both numbers, and the processor and the instruction of that turn in each run.
 Numbers that differ before the first turn are shown first, and compared no more. It looks at some turns and then halves the
-distance, so machines that differ for a while and are then the same again may be missed. With --path it compares for each processor
-the addresses to which its turns led, and shows the turn in which the ways part; addresses are compared by their labels, so two
-versions of a program may have them at different places. The exit status is 0 if there is no difference, else 1."""
+distance, so machines that differ for a while and are then the same again may be missed. If the second run has labels of its own, as two
+versions of a program have, the cells of that processor are compared by their labels, and so are addresses in cells and registers. With
+--path it compares for each processor the addresses to which its turns led, by their labels too, and shows the turn in which the ways
+part. The exit status is 0 if there is no difference, else 1."""
 
 SAMPLES = 0o20  # turns that are looked at first
 MOST_SHOWN = 0o20  # of the places that differ
@@ -64,18 +66,23 @@ class Side:
 
 
 class Comparison:
-    """Two runs, and the places that are compared no more."""
+    """Two runs, the programs of which they have two versions, and the places that are compared no more."""
 
-    def __init__(self, sides):
+    def __init__(self, sides, numbers=()):
+        """The processors with these numbers have labels in each run."""
         self.sides = sides
+        self.versions = [Versions(number, [side.symbols.of[number] for side in sides]) for number in numbers]
         self.turns = min(side.turns for side in sides)
         self.known = set()
 
     def after(self, turn, with_central=True, has_settings=True):
         """Returns the differences after a turn, but those at known places."""
         runs = [side.at(turn, has_settings) for side in self.sides]
-        one, other = map(state_of, runs)
-        found = [*one.differences(other), *(differences(*map(central_of, runs)) if with_central else ())]
+        states = [state_of(run) for run in runs]
+        found = list(states[0].differences(states[1]))
+        for program in self.versions:
+            found = [*program.differences(states), *(difference for difference in found if not program.replaces(difference))]
+        found += differences(*map(central_of, runs)) if with_central else ()
         return [difference for difference in found if difference[0] not in self.known]
 
     def first_after(self, same, end, with_central):
@@ -144,9 +151,14 @@ def other_words(asked):
     return simulator(asked)
 
 
+def of_its_own(asked):
+    """Returns the processors of which the second run has symbols or a source of its own."""
+    return {processor(number) for number, _ in (*asked.other_symbols, *asked.other_source)}
+
+
 def other_symbols(asked):
     """Returns the symbols and sources of the second run: its own, and for the other processors those of the first one."""
-    own = {processor(number) for number, _ in (*asked.other_symbols, *asked.other_source)}
+    own = of_its_own(asked)
     listings, sources = ([one for one in pairs if processor(one[0]) not in own] for pairs in (asked.symbols, asked.source))
     return symbols_from([*listings, *asked.other_symbols], [*sources, *asked.other_source])
 
@@ -171,7 +183,8 @@ def main():
     scripts = [script_lines(path) for path in asked.scripts or [None]]
     sides = [Side(words, scripts[0], symbols), Side(other_words(asked), scripts[-1], other_symbols(asked))]
     status = 0
-    for line in compare_paths(sides) if asked.path else compare(Comparison(sides)):
+    versions = sorted(of_its_own(asked).intersection(symbols.of))
+    for line in compare_paths(sides) if asked.path else compare(Comparison(sides, versions)):
         write(line, at_once=True)
         status = 1
     for side in sides:

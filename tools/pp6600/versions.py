@@ -1,0 +1,60 @@
+"""Two versions of one processor's program, compared by their labels.
+
+A cell of one version is the cell of the other with the same label, or as far behind it, up to the next label of either. A number is
+the same in both if its digits are, or if it is the address of the same label."""
+
+from typing import Iterator, List, Sequence, Tuple
+
+from .core.forms import CELLS
+from .core.state import Difference, State
+from .listing import FARTHEST, AddressNames
+
+ADDRESSES = ("P", "A", "Q")  # registers that may hold an address
+
+
+class Versions:
+    """The names of one processor in two runs."""
+
+    def __init__(self, number: int, names: Sequence[AddressNames]) -> None:
+        self.number, self.names = number, names
+        self.cells = self._cells()
+
+    def _cells(self) -> List[Tuple[int, int]]:
+        """Returns the addresses of each cell that both have."""
+        one, other = self.names
+        places = {label: address for address, label in reversed(other.labels.items())}
+        found = []
+        for first, label in one.labels.items():
+            if label in places:
+                count = min(cells_of_label(one, first), cells_of_label(other, places[label]))
+                found += [(first + at, places[label] + at) for at in range(count)]
+        return found
+
+    def is_same(self, digits: Sequence[str]) -> bool:
+        """Returns whether two numbers are the same one."""
+        if digits[0] == digits[1]:
+            return True
+        numbers = [int(one, 8) for one in digits]
+        called = {names.name(number) for names, number in zip(self.names, numbers)} if max(numbers) < CELLS else {""}
+        return len(called) == 1 and "" not in called
+
+    def replaces(self, difference: Difference) -> bool:
+        """Returns whether a difference of two states is none here, or is found by the labels."""
+        kind, number, *_ = difference[0].split()
+        return number == f"{self.number:02o}" and (kind == "M" or kind in ADDRESSES and self.is_same(difference[1:]))
+
+    def differences(self, states: Sequence[State]) -> Iterator[Difference]:
+        """Yields the cells that differ, by the address and the label of the first run."""
+        one, other = (state.memories[self.number] for state in states)
+        for first, second in self.cells:
+            words = one.word(first), other.word(second)
+            if not self.is_same(words):
+                yield (f"M {self.number:02o} {first:04o} {self.names[0].name(first)}", *words)
+
+
+def cells_of_label(names: AddressNames, first: int) -> int:
+    """Returns how many cells belong to the label at an address: those up to the next one; behind the last one those that are filled."""
+    after = [address for address in names.addresses if address > first]
+    if after:
+        return after[0] - first
+    return next((at for at in range(1, CELLS - first) if first + at not in names.filled), min(FARTHEST, CELLS - first))
