@@ -10,19 +10,20 @@ function buildSource() {
   byId("source").hidden = false;
   for (const [text, { name, lines }] of Object.entries(film.sources)) {
     const n = Number(text), one = { processor: n, name, times: lines.map(() => []), last: 0, body: tableOf("source").createTBody() };
-    addTimes(one, 1);
     one.rows = lines.map((line, at) => addSourceRow(one, at + 1, ...line));
     source.of.set(n, one);
     byId("source-of").add(new Option(`PP ${two(n)}`, n));
   }
   source.processor = source.of.keys().next().value;
+  for (const one of source.of.values()) addTimes(one, 1);
   byId("source-of").hidden = source.of.size < 2;
   byId("source-of").onchange = () => chooseMemory(Number(byId("source-of").value));
   byId("previous-time").onclick = () => moveToTime(source.line, -1);
   byId("next-time").onclick = () => moveToTime(source.line, 1);
 }
 
-// Notes for each line at which moments from the first one on it was begun. A line that waits, or that is in its block, only goes on.
+// Notes for each line at which moments from the first one on it was begun: a line that waits, or that is in its block, only goes on. A line
+// can be clicked if it was performed.
 function addTimes(one, first) {
   for (let moment = first; moment < film.count; moment++) {
     if (!isTurn(moment) || film.processor[moment] !== one.processor) continue;
@@ -30,25 +31,25 @@ function addTimes(one, first) {
     if (line.number && !line.note && !block && !waited) one.times[line.number - 1].push(moment);
     one.last = moment;
   }
+  one.rows.forEach(({ button }, at) => { button.disabled = !one.times[at].length; });
 }
 
 // A row of a line: of one with words the address of the first and the place of its mark too.
 function addSourceRow(one, number, text, address, place) {
   const element = addRow(one.body, ["", number, address === undefined ? "" : four(address), "", ""]), cells = [...element.cells];
-  const button = document.createElement("button"), isPerformed = one.times[number - 1].length > 0;
+  const button = document.createElement("button"), words = document.createElement("span");
+  const blanks = text.slice(0, text.length - text.trimStart().length);
   button.type = "button";
   button.className = "line";
-  const words = document.createElement("span"), blanks = text.length - text.trimStart().length;
-  words.textContent = text.slice(blanks);
-  button.append(text.slice(0, blanks) || " ", words);
-  button.disabled = !isPerformed;
+  words.textContent = text.trimStart();
+  button.append(text ? blanks : " ", words);
   button.onclick = (event) => moveToTime(number, event.shiftKey ? -1 : 1);
   cells[4].append(button);
   cells[1].className = cells[2].className = "name";
   cells[3].className = "mark";
   cells[3].append("", " ");
   element.classList.toggle("note", text.trim().startsWith("*"));
-  return { element, at: cells[0], words: cells[3].firstChild, mark: cells[3], place, number: null, shown: "" };
+  return { element, button, at: cells[0], words: cells[3].firstChild, mark: cells[3], place, number: null, shown: "" };
 }
 
 // It is that of the chosen processor, if this has one.
