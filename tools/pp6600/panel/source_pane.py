@@ -38,7 +38,7 @@ class Notes:
                 continue
             waiting += [] if row.line.call else [row.line]
             if after is None or row.has_address and after.origin != row.origin:
-                self.at.setdefault(row.location % CELLS, []).extend(waiting)
+                self.at.setdefault((row.location if after else row.origin) % CELLS, []).extend(waiting)
                 waiting = []
 
     def of(self, address, line):
