@@ -80,11 +80,6 @@ class Listings:
             NAME.fullmatch(os.path.basename(path))
         return int(found[1], 8) if found else None
 
-    def address(self, number, label):
-        """Returns the address of a label; None if there is no such label."""
-        symbols = self.beside[number].symbols
-        return symbols.address(label) if symbols else None
-
     def source(self, number):
         return {"name": f"PP{number:02o}.pplist", "path": self.path(number)}
 

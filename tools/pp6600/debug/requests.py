@@ -128,8 +128,8 @@ class Requests:
 
     def value(self, text, number):
         """Returns the number at a place, or the cell that a label of the processor's symbols names."""
-        address = self.listings.address(number, text)
-        if address is None:
+        address = self.own.symbols.address(number, text)
+        if address is None or address >= CELLS:
             return value_of(self.machine, place_of(text, number))
         return instruction(self.machine.state.memories[number], address)
 

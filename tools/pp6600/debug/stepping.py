@@ -36,7 +36,7 @@ class Stepper:
             aim = self.aim(line, before)
             if not aim:
                 return None
-            stop, before = self.runner.forward(None, aim), None
+            stop, before = self.runner.forward(self.number, aim), None
             if stop and not stop.place and not stop.met:
                 stop = None
         return stop
@@ -66,7 +66,7 @@ class Stepper:
         entry = self.entry_of_call()
         stop = self.runner.step(self.number) if entry is None else None
         if not stop and (entry is not None or self.machine.processor(self.number).phase):
-            stop = self.runner.forward(None, Aim(self.number, OUTSIDE_BLOCKS if entry is None else frozenset(), entry))
+            stop = self.runner.forward(self.number, Aim(self.number, OUTSIDE_BLOCKS if entry is None else frozenset(), entry))
         return stop
 
     def entry_of_call(self):
