@@ -29,6 +29,11 @@ class Runner:
         last = next_turn(self.machine.tape, number, self.machine.position) + 1
         return self.run(lambda: Wanted(self.points.in_a_step, tuple(self.watched)), None, last)
 
+    def to_turn(self, number):
+        """Runs to where the turn of a processor is next. Returns the stop on the way, or None."""
+        last = next_turn(self.machine.tape, number, self.machine.position)
+        return self.run(lambda: Wanted(self.points.all, tuple(self.watched)), number, last) if last > self.machine.position else None
+
     def run(self, wanted, shown, last=math.inf):
         """Runs to the next stop, or to a position. Returns the stop or None."""
         machine, tape, end = self.machine, self.machine.tape, self.machine.tape.end

@@ -35,7 +35,7 @@ class Stepper:
         while not stop and self.runner.goes_on():
             aim = self.aim(line, before)
             if not aim:
-                return None
+                return self.runner.to_turn(self.number)  # so that a breakpoint there is not met again
             stop, before = self.runner.forward(self.number, aim), None
             if stop and not stop.place and not stop.met:
                 stop = None
