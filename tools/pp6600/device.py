@@ -11,6 +11,7 @@ import enum
 from typing import Any, Iterable, List, NamedTuple, Optional, Tuple
 
 from .failure import Failure
+from .pictures import Picture
 
 MOST_WORD = 0o7777
 
@@ -84,6 +85,10 @@ class Device:
     def told(self, state: Any, event: Event) -> Answer:
         """The user has done something to the device, as to press a key: event.word is what."""
         return state, NOTHING
+
+    def picture(self, state: Any) -> Optional[Picture]:
+        """Returns what the device shows in a state; None if it shows nothing."""
+        return None
 
 
 class Chain(NamedTuple):
