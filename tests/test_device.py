@@ -233,7 +233,7 @@ def difference(session, move):
         for line in DUMPS:
             if session.session.act(line) != defined.console.ask(line):
                 return f"{line}: {session.session.act(line)}, and not {defined.console.ask(line)}"
-        return fault_of_script(session, defined)
+        return fault_of_counts(session) or fault_of_script(session, defined)
     finally:
         defined.console.close()
 
@@ -253,16 +253,39 @@ def fault_of_back_w(session, before, units, oldest, answer, count):
 
 
 def fault_of_script(session, defined):
-    """Returns what is wrong in the saved script: alone it must make the same machine in as many turns."""
-    console = Console(session.words[:3])
-    answers = list(console.ask_each(session.session.save()))
-    turns = sum(int(answer[0].split()[1], 8) for answer in answers if answer[0].startswith("TURNS "))
+    """Returns what is wrong in the saved script, or in what was sent: alone each must make the same machine, the first one in as many
+    turns."""
+    saved = answers_to(session, session.session.save(), defined)
+    sent = answers_to(session, session.session.sent, defined)
+    turns = sum(int(answer[0].split()[1], 8) for answer in saved if answer and answer[0].startswith("TURNS "))
+    if turns != defined.turn:
+        return f"the script has {turns} turns, and not {defined.turn}"
+    refused = [answer for answer in saved + sent if answer and answer[0].startswith("ERR ")]
+    return f"the script has {refused[0]}" if refused else None
+
+
+def answers_to(session, lines, defined):
+    """Returns the answers to the lines of a script. The machine after it must be the defined one."""
+    console = Console(session.words)
     try:
-        if turns != defined.turn:
-            return f"the script has {turns} turns, and not {defined.turn}"
-        return next((f"the script: {line}" for line in DUMPS if console.ask(line) != defined.console.ask(line)), None)
+        answers = list(console.ask_each(lines))
+        wrong = next((line for line in DUMPS if console.ask(line) != defined.console.ask(line)), None)
+        return [*answers, [f"ERR {wrong}"]] if wrong else answers
     finally:
         console.close()
+
+
+def fault_of_counts(session):
+    """Returns what is wrong in the counts of units."""
+    counts, units, here = session.session.counts, session.units, session.position
+    if (counts.position, counts.to_redo) != (here, len(units) - here):
+        return f"{counts.position} units and {counts.to_redo} ahead, and not {here} and {len(units) - here}"
+    for name, some in (("back_over", units[:here][::-1]), ("forward_over", units[here:])):
+        ends = [0, *(number for number, unit in enumerate(some, 1) if unit == STEP)]
+        for turns in {0, 1, len(ends) // 2, len(ends) - 1} & set(range(len(ends))):
+            if getattr(counts, name)(turns) != ends[turns]:
+                return f"{name} {turns}: {getattr(counts, name)(turns)}, and not {ends[turns]}"
+    return None
 
 
 def first_difference(seed, panel, moves=40):

@@ -53,7 +53,9 @@ def full(word: int) -> Reply:
 
 class Device:
     """A device on a channel. A subclass overrides the methods for what it reacts to. A method may be called for a turn that is
-    then taken back, or with a word that does not come: it must depend on its arguments alone, and change nothing."""
+    then taken back, or with a word that does not come: it must depend on its arguments alone, and change nothing.
+
+    The option `--device NAME:WORD,..@CHANNEL` calls the constructor with the words, as texts, and then sets `channel`."""
 
     channel = 0o11
     start: Any = None  # its state at first
