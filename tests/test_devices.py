@@ -6,10 +6,11 @@ import re
 import unittest
 from unittest import mock
 
-from tests.support import EXAMPLES, PYTHON, Case, program, read, run
+from tests.support import EXAMPLES, PYTHON, Case, program, read, run, tool, write
 
 from pp6600 import Attached, Failure
 from pp6600.device import Event
+from pp6600.device_options import device_of
 from pp6600.devices import console_display
 from pp6600.devices.console_display import ConsoleDisplay
 from pp6600.devices.magnetic_tape import MagneticTape
@@ -332,6 +333,25 @@ class Pictures(Case):
             self.assertEqual(wanted, shown(line))
         self.assertNotIn("<path", shown("BACK 16700")[0])
         self.assertEqual(whole, shown("STEP 16700"))
+
+
+class Options(Case):
+    """The words after --device."""
+
+    def test_names(self):
+        tape = write(self.path("tape"), TapeFiles.BYTES)
+        for name, words, kind in (("paper_tape", f":{tape}", PaperTape), ("magnetic_tape", f":{tape},ring", MagneticTape),
+                                  ("magnetic_tape", ":,ring", MagneticTape), ("console_display", "", ConsoleDisplay),
+                                  ("console_display", ":100000", ConsoleDisplay)):
+            device = device_of(f"{name}{words}@13")
+            self.assertEqual((kind, 0o13), (type(device), device.channel))
+        self.assertEqual(0o100000, device.fading)
+
+    def test_wrong_words(self):
+        for words, reason in (("magnetic_tape:,rong@5", "the word after a tape is ring, and not rong"),
+                              ("magnetic_tape:/no/tape@5", "can't read /no/tape: No such file or directory"),
+                              ("console_display:0@10", "what is drawn can't fade in less than a turn")):
+            self.assertEqual(("", f"talk: --device {words}: {reason}\n", 2), tool("talk", "--device", words))
 
 
 class Examples(Case):

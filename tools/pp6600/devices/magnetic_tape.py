@@ -90,8 +90,9 @@ class MagneticTape(Device):
             raise Failure(f"the word after a tape is ring, and not {ring}")
         self.channel = channel
         self.codes = CODES if ring else CODES - {WRITE, WRITE_MARK}
-        blocks = read_tape(tape) if isinstance(tape, str) else list(tape)
-        self.start = State(ahead=chain_of(reversed(blocks)))
+        if isinstance(tape, str):
+            tape = read_tape(tape) if tape else ()  # without a name it is a new one
+        self.start = State(ahead=chain_of(reversed(list(tape))))
 
     def status(self, state: State) -> int:
         """Returns the status word."""
