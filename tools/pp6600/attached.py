@@ -67,9 +67,9 @@ class States:
         self.folded = min(self.folded, end)
 
 
-def name_of(device: Device) -> str:
-    """Returns the name of a device, that of its class, as a note of the console may have it."""
-    return type(device).__name__.encode("ascii", "replace").decode()[:MOST_NAME]
+def names_of(devices: Sequence[Device]) -> Dict[int, str]:
+    """Returns the names of devices by their channels: those of their classes, as a note of the console may have them."""
+    return {device.channel: type(device).__name__.encode("ascii", "replace").decode()[:MOST_NAME] for device in devices}
 
 
 class Attached(Simulator):
@@ -90,7 +90,7 @@ class Attached(Simulator):
             raise
         self.units, self.states = Units(), States(self.values, self.exact_states, self.every_state)
         self.counts, self.plain = UnitHistory(self.history, self.units), PlainScript(self.history.room, self.tape)
-        self.names = {device.channel: name_of(device) for device in self.devices}
+        self.names = names_of(self.devices)
         self.reply_lines: Dict[str, ReplyLine] = {}
         self.told: Dict[int, Tuple[int, Any]] = {}  # the number of a device and what it was told, by the position after it
         self.planner = Planner(self.devices)
@@ -140,7 +140,11 @@ class Attached(Simulator):
     def act(self, line: str, dumps: Sequence[str] = ()) -> List[str]:
         """Performs a line of any kind. Returns the lines of its answer, and of the answers to dumps as `Simulator.act`."""
         before = self.position
-        answer = self._perform_line(line)
+        try:
+            answer = self._perform_line(line)
+        except DeviceFailure:
+            self.goto(before)
+            raise
         if self.position != before:
             self.plain.go(self.position)
         elif not is_refusal(answer):
@@ -273,13 +277,14 @@ class Attached(Simulator):
     # ---- turns
 
     def _step(self, turns: int) -> List[str]:
+        begin, ahead = self.position, Ahead(self)
         self._begin_action()
-        begin = self.position
         try:
             watched = [line[2:] for line in self.demand("DUMP W")] if self.may_watch else []
             made, hit = self._turns(turns, [] if watched == ["NONE"] else watched)
         except DeviceFailure:
             self._take_back(begin)
+            ahead.put_back(self)
             raise
         return [f"TURNS {made:o} SLOT {self.next_slot:02o}", *([hit] if hit else [])]
 
@@ -340,6 +345,31 @@ class Attached(Simulator):
         self.renew(len(lines) + 10)
         answers = self.ask_all([*lines, MARK])
         return Check(self, plan, answers, watched).run(moment)
+
+
+class Ahead:
+    """What is ahead in a session. If a device fails in a new action, it is put back."""
+
+    def __init__(self, session: Attached) -> None:
+        position, tape, states, plain = session.position, session.tape, session.states, session.plain
+        first = states.entry(position) + 1
+        self.actions = list(tape.actions(position, tape.end))
+        self.replies = session.units.of_replies[position - session.unit:]
+        self.at, self.values = states.at[first:], states.values[first:]
+        self.stops = plain.stops[bisect.bisect_right(plain.stops, position):]
+        self.told = {at: told for at, told in session.told.items() if at > position} if self.actions else {}
+        self.kept = plain.history.ahead
+
+    def put_back(self, session: Attached) -> None:
+        """Puts it back where it was. The session is at the position where it was then."""
+        for line, times in self.actions:
+            session.tape.append(line, times)
+        session.units.of_replies += self.replies
+        session.states.at += self.at
+        session.states.values += self.values
+        session.plain.stops += self.stops
+        session.plain.history.ahead = self.kept
+        session.told.update(self.told)
 
 
 class Check:

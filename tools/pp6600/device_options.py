@@ -8,10 +8,11 @@ import types
 from . import devices
 from .attached import Attached
 from .core.forms import CHANNELS
-from .device import Device
+from .device import Device, DeviceFailure
 from .failure import Failure
 from .options import up_to
-from .text_files import bytes_of
+from .script import Refusals
+from .text_files import bytes_of, lines_of
 from .timeline import Timeline
 
 FORM = "NAME[:WORD,..]@CHANNEL"
@@ -31,6 +32,19 @@ def devices_of(asked):
 def timeline(words, attached):
     """Returns a session that goes back without a limit, with these devices if there are any."""
     return Attached(words, attached) if attached else Timeline(words)
+
+
+def script_with(words, attached, script):
+    """Performs a script, given as bytes, with devices. Returns the script for the simulator alone that gives the same session, as bytes
+    too, and the lines that were refused."""
+    run, refusals = Attached(words, attached), Refusals()
+    for number, line in enumerate(lines_of(script.decode("latin-1")), 1):
+        try:
+            refusals.note(number, line, run.act(line))
+        except DeviceFailure as failure:
+            raise Failure(f"line {number} (decimal): {failure}") from failure
+    run.end()
+    return "".join(f"{line}\n" for line in run.sent).encode("latin-1"), refusals
 
 
 def device_of(text):

@@ -117,5 +117,6 @@ class PlainScript:
         if count:
             self.lines.append(f"{'BACK' if count < 0 else 'FORWARD'} {abs(count):o}")
             history.moved(count)
-        self.lines += self.part(history.position, position)
-        history.performed(position - history.position)
+        if position > history.position:
+            self.lines += self.part(history.position, position)
+            history.performed(position - history.position)

@@ -102,6 +102,7 @@ class Film:
         """The channels of the devices."""
         self.transcript = transcript
         self.size, self.reader, self.printer = transcript.size, reader, printer
+        self.attached = {}  # the names of devices of one's own, by their channels
         self.run = Simulator(words)
         self.machine = Machine()
         self.upcoming = Table()  # what processors do next, by numbers

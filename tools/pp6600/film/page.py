@@ -121,7 +121,7 @@ def setup(files):
 def of_machine(film):
     return {"central_size": film.size, "central": list(film.machine.central), "papers": list(film.machine.papers),
             "watches": list(film.machine.watches), "next": list(film.upcoming), "constants": list(film.constants), "reader": film.reader, "printer": film.printer,
-            "devices": {film.reader: "card reader", film.printer: "printer"}}
+            "devices": {film.reader: "card reader", film.printer: "printer", **film.attached}}
 
 
 def of_script(film):

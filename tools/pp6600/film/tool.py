@@ -1,6 +1,8 @@
 """The tool that films a script."""
 
+from ..attached import names_of
 from ..command_line import Failure, add_script, arguments, bytes_of, count, octal, simulator
+from ..device_options import add_devices, devices_of, script_with
 from ..sources import add_symbols, symbols_of
 from ..text_files import lines_of
 from .camera import Film, Transcript, to_film
@@ -19,17 +21,22 @@ def main():
     parser.add_argument("--around", metavar="N", type=octal, help="film the moments around turn N, octal, and open there")
     parser.add_argument("--title", metavar="TEXT", help="the heading of the page (else the name of the script's file or folder)")
     add_symbols(parser)
+    add_devices(parser)
     add_script(parser)
     asked = parser.parse()
     if asked.last is not None and asked.around is not None:
         raise Failure("give --last or --around, not both")
     sources = "".join(f"{line}\n" for line in symbols_of(asked).loading(()))
     words, script = simulator(asked), sources.encode() + bytes_of(asked.script)
+    devices, refusals = devices_of(asked), None
+    if devices:
+        script, refusals = script_with(words, devices, script)
     transcript = Transcript(words, lines_of(script.decode("latin-1")))
     film = Film(words, transcript, int(asked.reader or "12", 8), int(asked.printer or "13", 8))
     skipped, filmed = to_film(transcript, asked.last, asked.around)
+    film.attached = names_of(devices)
     film.shoot(skipped, filmed)
     if asked.around is not None:
         film.opens = transcript.moment_of_turn(asked.around) - skipped
     write_page(asked.output, page(heading(asked.title, asked.script), text_of(film, asked, script)))
-    return transcript.script.status()
+    return (refusals or transcript.script).status()
