@@ -11,6 +11,7 @@ from ..core.turn import CHANNEL_CODES, IN_BLOCK, Turn, TurnKind
 from ..failure import Failure
 from ..script import Script
 from .footprint import dumps_of_turns
+from .lines import Lines
 from .machine import Machine, Table
 from .places import LAYOUT
 from .sources import InEffect, Written, written_by
@@ -98,8 +99,8 @@ def kind_of(turn):
 class Film:
     """A run, filmed: its moments, each with its kind and the places that it changed."""
 
-    def __init__(self, words, transcript, reader, printer):
-        """The channels of the devices."""
+    def __init__(self, words, transcript, reader, printer, sources=()):
+        """The channels of the devices, and pairs of a processor and its source."""
         self.transcript = transcript
         self.size, self.reader, self.printer = transcript.size, reader, printer
         self.attached = {}  # the names of devices of one's own, by their channels
@@ -107,6 +108,8 @@ class Film:
         self.machine = Machine()
         self.upcoming = Table()  # what processors do next, by numbers
         self.constants = Table({"": 0})  # what the page says of constants, by numbers
+        self.source_lines = Lines(sources)
+        self.machine.numbers += [0] * len(self.source_lines.lines)
         self.in_effect = InEffect()
         self.moments = []  # each a kind and its changes; the first is the opening
         self.writes = []  # what each moment wrote
@@ -164,17 +167,21 @@ class Film:
         self.start = self.opening = self.run.position
         self._read_all(bool(self.run.position))
         self._renew(range(PROCESSORS))
+        self.source_lines.begin(self.machine, not self.run.position)
         self._add(LINE)
 
     def _renew(self, processors):
         """Renews what processors do next."""
         for number in processors:
             block = self.in_effect.block_of(number)
-            row = upcoming(self.machine, number, block and block.p)
-            self.machine.put(LAYOUT["next"] + number, self.upcoming.number(row))
+            issued = block and block.p
+            row, line = upcoming(self.machine, number, issued), self.source_lines.at(self.machine, number, issued)
+            self.machine.put(LAYOUT["next"] + number, self.upcoming.number((*row, line) if line else row))
 
     def _add(self, kind, written=None):
         """Ends a moment."""
+        if self.source_lines.lines:
+            self.source_lines.renew(self.machine, list(self.machine.changes))
         self.moments.append((kind, self.machine.take_changes()))
         self.writes.append(written or Written())
         self.unchecked += 1

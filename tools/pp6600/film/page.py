@@ -9,14 +9,14 @@ from ..display_code import SYMBOLS
 from ..failure import Failure
 from ..core.turn import NAMES, RELATIVE_JUMPS, STATE_LETTERS, TWO_WORDS
 from ..options import OPTIONS
-from ..sources import symbols_of
+from ..source.statements import TAB
 from ..text_files import bytes_of, lines_of
 from .data import encode
 from .places import LAYOUT, MODES
 from .sources import CENTRAL, COLUMNS, DECK
 
 WEB = os.path.join(os.path.dirname(os.path.abspath(__file__)), "web")
-SCRIPTS = ("state", "places", "machine", "program", "origin", "lanes", "controls")  # the page's script, in the order in which it is joined
+SCRIPTS = ("state", "places", "machine", "program", "source", "origin", "lanes", "controls")  # the page's script, in the order in which it is joined
 LONGEST_ANSWER = 40  # lines of one that a page keeps
 
 
@@ -72,11 +72,12 @@ def replace_file(path, data):
         raise
 
 
-def text_of(film, asked, script):
-    """Returns the text of a film of the script, which is given as bytes, with the options that were asked for."""
+def text_of(film, asked, script, symbols):
+    """Returns the text of a film of the script, which is given as bytes, with the options that were asked for and the symbols."""
     given = carried(asked, script)
-    named = {"labels": symbols_of(asked).tables()}
-    return encode({**tables(), **named, **given, **setup(given["files"]), **of_machine(film), **of_script(film)}, film.moments, film.writes)
+    named = {"labels": symbols.tables()}
+    about = {**tables(), **named, **given, **setup(given["files"]), **of_machine(film), **of_script(film)}
+    return encode({**about, **of_sources(film.source_lines)}, film.moments, film.writes)
 
 
 def tables():
@@ -122,6 +123,24 @@ def of_machine(film):
     return {"central_size": film.size, "central": list(film.machine.central), "papers": list(film.machine.papers),
             "watches": list(film.machine.watches), "next": list(film.upcoming), "constants": list(film.constants), "reader": film.reader, "printer": film.printer,
             "devices": {film.reader: "card reader", film.printer: "printer", **film.attached}}
+
+
+def of_sources(source_lines):
+    """The lines of the sources, each with the address of its first word and the place of its mark if it has words; nothing without a
+    source."""
+    if not source_lines.sources:
+        return {}
+    first = LAYOUT["central"]
+    places = {(line.processor, line.number): (line.location, first + at) for at, line in enumerate(source_lines.lines)}
+    sources = {number: {"name": name_of(source.path, "source"), "lines": [
+        (text, *places.get((number, at), ())) for at, text in enumerate(texts_of(source), 1)]} for number, source in source_lines.sources.items()}
+    return {"sources": sources, "marks": list(source_lines.marks), "layout": {**LAYOUT, "lines": first, "central": first + len(places)}}
+
+
+def texts_of(source):
+    """Returns the texts of the lines of a source, without those that macros made."""
+    texts = {row.line.number: row.line.text for row in source.program.rows if row.line.call is None}
+    return [texts.get(number, "").expandtabs(TAB) for number in range(1, max(texts) + 1)]
 
 
 def of_script(film):

@@ -63,6 +63,7 @@ function show() {
   showProcessors();
   showChannels();
   showMemory();
+  showSource();
   showCentral();
   showReader();
   showPrinter();
@@ -270,7 +271,7 @@ function chooseTyped() {
 }
 
 function build() {
-  for (const part of [buildControls, buildProcessors, buildChannels, buildMemory, buildProgram, buildCentral, buildFrame, buildReader,
+  for (const part of [buildControls, buildProcessors, buildChannels, buildMemory, buildProgram, buildSource, buildCentral, buildFrame, buildReader,
     buildPrinter, buildScript, buildFiles, buildLanes, buildSigns]) part();
   byId("panel").hidden = !film.panel.length;
   document.querySelector("#panel p").textContent = film.panel.map(four).join(" ");
@@ -285,8 +286,9 @@ function build() {
 async function openFilm() {
   const [about, heads, places, growths, writes] = await unpack(byId("film").textContent);
   film = { ...about, at: 0 };
-  film.next = film.next.map(([name, second, block, waits, sentence]) => (
-    { name, second, block: block && { issued: block[0], address: block[1], back: block[2] }, waits, sentence }));
+  film.next = film.next.map(([name, second, block, waits, sentence, line]) => (
+    { name, second, block: block && { issued: block[0], address: block[1], back: block[2] }, waits, sentence,
+      line: line ? { number: line[0], note: line[1] } : { number: 0, note: "" } }));
   film.jumps = new Map(about.jumps.map(([moment, target, turn]) => [moment, [target, turn]]));
   film.centralIndex = new Map(film.central.map((address, at) => [address, at]));
   film.count = heads.length;

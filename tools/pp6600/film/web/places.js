@@ -54,6 +54,7 @@ const textAt = (place) => textOf(place.kind, place.places.map((at) => film.numbe
 function nameOf(place) {
   const layout = film.layout, at = (first) => place - layout[first];
   if (place >= layout.central) return `C ${octal(film.central[at("central") >> 1], 6)}`;
+  if (place >= layout.lines) return "";
   if (place >= layout.watches) return "WATCHES";
   if (place >= layout.next) return "";
   if (place >= layout.slot) return "SLOT";
