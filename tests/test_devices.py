@@ -10,11 +10,13 @@ from tests.support import EXAMPLES, PYTHON, Case, program, read, run, tool, writ
 
 from pp6600 import Attached, Failure
 from pp6600.device import Event
-from pp6600.device_options import device_of
+from pp6600.device_options import device_of, script_with
 from pp6600.devices import console_display
 from pp6600.devices.console_display import ConsoleDisplay
 from pp6600.devices.magnetic_tape import MagneticTape
 from pp6600.devices.paper_tape import PaperTape
+from pp6600.film import pictures as film_pictures
+from pp6600.film.camera import LINE, Film, Transcript, to_film
 from pp6600.pictures import Mark, Picture, braille, svg
 from pp6600.tape_file import read_tape, write_tape
 
@@ -333,6 +335,56 @@ class Pictures(Case):
             self.assertEqual(wanted, shown(line))
         self.assertNotIn("<path", shown("BACK 16700")[0])
         self.assertEqual(whole, shown("STEP 16700"))
+
+
+class Films(Case):
+    """The pictures of a film are those of the session."""
+
+    # FNC 7001, ACN, LDN 7, OAM 0112, FJM *, DCN, UJN 0100, and seven words
+    SCRIPT = ("SET M 0 100 7710 7001 7410 1407 7310 112 6610 106\nSET M 0 110 7510 366 6100 7200 1411 2425 102 304\n"
+              "SET M 0 120 506\nSET P 0 100\nSTEP 300\nBACK 60\nSTEP 20\nSET M 0 114 555\nSTEP 400\nBACK 150\nFORWARD 30\n")
+
+    def filmed(self, last=None):
+        """Returns a film of the script with a console display, and the turn of each moment."""
+        words, display = [program()], ConsoleDisplay()
+        script, _ = script_with(words, [display], self.SCRIPT.encode())
+        transcript = Transcript(words, script.decode().splitlines())
+        film = Film(words, transcript, 0o12, 0o13, (), [display])
+        film.shoot(*to_film(transcript, last, None))
+        return film
+
+    def shown(self, film, moment):
+        """Returns the picture that a film shows at a moment."""
+        (shown,) = film.pictures.shown
+        lines = list(film.pictures.lines)
+        return "".join(f"{lines[number]}\n" for number in next(one for first, one in reversed(shown) if first <= moment))
+
+    def pictures(self):
+        """Returns the picture of the session after each of its lines, turn by turn."""
+        session = Attached([program()], [ConsoleDisplay()])
+        self.addCleanup(session.close)
+        found = []
+        for line in self.SCRIPT.splitlines():
+            is_step = line.startswith("STEP")
+            for one in ["STEP"] * int(line.split()[1], 8) if is_step else [line]:
+                session.act(one)
+                picture = svg(session.devices[0].picture(session.state()))
+                found += [picture] if is_step or line.startswith(("BACK", "FORWARD")) else []
+        return found
+
+    def test_pictures(self):
+        """Each turn and each step back is a moment, and so is each reply, which changes no picture."""
+        film, wanted = self.filmed(), self.pictures()
+        kinds = [kind for kind, _ in film.moments]
+        moments = [moment for moment, kind in enumerate(kinds) if moment and kind != LINE]
+        self.assertEqual(wanted, [self.shown(film, moment) for moment in moments])
+        self.assertGreater(len(set(wanted)), 5)
+        short = self.filmed(0o100)
+        self.assertEqual([self.shown(film, moment) for moment in range(len(kinds) - 0o101, len(kinds))],
+                         [self.shown(short, moment) for moment in range(0o101)])
+
+    def test_without_a_picture(self):
+        self.assertEqual({}, film_pictures.Pictures([PaperTape()]).table())
 
 
 class Options(Case):

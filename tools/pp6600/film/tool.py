@@ -1,6 +1,5 @@
 """The tool that films a script."""
 
-from ..attached import names_of
 from ..command_line import Failure, add_script, arguments, bytes_of, count, octal, simulator
 from ..device_options import add_devices, devices_of, script_with
 from ..sources import add_symbols, symbols_of
@@ -33,9 +32,8 @@ def main():
     if devices:
         script, refusals = script_with(words, devices, script)
     transcript = Transcript(words, lines_of(script.decode("latin-1")))
-    film = Film(words, transcript, int(asked.reader or "12", 8), int(asked.printer or "13", 8), symbols.sources())
+    film = Film(words, transcript, int(asked.reader or "12", 8), int(asked.printer or "13", 8), symbols.sources(), devices)
     skipped, filmed = to_film(transcript, asked.last, asked.around)
-    film.attached = names_of(devices)
     film.shoot(skipped, filmed)
     if asked.around is not None:
         film.opens = transcript.moment_of_turn(asked.around) - skipped
