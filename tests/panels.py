@@ -4,9 +4,9 @@ import re
 
 from tests.support import Case, program
 
-from pp6600.listing import AllSymbols
 from pp6600.panel.app import Panel
 from pp6600.panel.session import Session
+from pp6600.sources import symbols_from
 
 PROGRAM = program()
 
@@ -26,12 +26,14 @@ def bottom(panel, *keys):
 class PanelCase(Case):
     """A test of panels without a terminal."""
 
-    def panel(self, script="", *options, size=(80, 24), turn=None, symbols=()):
-        """Returns a panel that has performed a script, up to a turn if there is one."""
-        panel = Panel(Session([PROGRAM, *options]), AllSymbols(symbols))
+    def panel(self, script="", *options, size=(80, 24), turn=None, symbols=(), sources=()):
+        """Returns a panel that has performed a script, up to a turn if there is one. Symbols and sources are pairs of a processor and
+        a path."""
+        names = symbols_from(*([(f"{number:o}", path) for number, path in pairs] for pairs in (symbols, sources)))
+        panel = Panel(Session([PROGRAM, *options]), names)
         self.addCleanup(panel.session.close)
         panel.resize(*size)
-        panel.perform_script(script.splitlines(), turn)
+        panel.perform_script(names.loading(script.splitlines()), turn)
         return panel
 
     def wide_panel(self, script, *options, **how):

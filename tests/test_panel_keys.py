@@ -6,14 +6,10 @@ import re
 import sys
 
 from tests.fixtures import DECK, FIRST_PROGRAM, OVERWRITTEN
-from tests.panels import PROGRAM, PanelCase, bottom, press
-from tests.support import EXAMPLES, TOP, Case, read, run
+from tests.panels import PanelCase, bottom, press
+from tests.support import EXAMPLES, TOP, read, run
 
 from pp6600 import Failure
-from pp6600.listing import AllSymbols
-from pp6600.panel.app import Panel
-from pp6600.panel.session import Session
-from pp6600.sources import Source
 
 CULPRIT = "the next turn, PP 00 in the block of IAM 12 at 0104, changes M 0 106 from 7512"
 
@@ -123,6 +119,20 @@ class Culprits(PanelCase):
         self.assertEqual(["FORWARD 12", "STEP 2"], panel.session.sent[-2:])
         press(panel, "6b:SET A 0 7<Enter>y")
         self.assertEqual(("SET A 0 7", ["OK"], 0), (*panel.session.log[-1], panel.session.history.to_redo))
+
+    def test_refused_at_once(self):
+        """A line that will be refused discards nothing, so the panel does not ask, and what is ahead stays ahead. docs/CONSOLE.md has
+        the refusals."""
+        panel = self.wide_panel(FIRST_PROGRAM + "WATCH A 1\nSTEP 24\n")
+        press(panel, "12b")
+        ahead = panel.session.history.to_redo
+        self.assertEqual(0o12, ahead)
+        self.check_rows(lambda line: bottom(panel, f":{line}<Enter>")[:6], ("SET A 0 9", "ERR 03"), ("SET A 12 0", "ERR 04"), ("SET A 0", "ERR 02"),
+                        ("WATCH A 1", "ERR 12"), ("UNWATCH A 0", "ERR 13"), ("DEADSTART", "ERR 14"), ("STEP 0", "ERR 04"))
+        self.assertEqual((ahead, []), (panel.session.history.to_redo, panel.asked))
+        self.assertIn("discards the 12 actions ahead", bottom(panel, ":SET A 0 7<Enter>"))
+        press(panel, "n<End>")
+        self.assertEqual(0, panel.session.history.to_redo)
 
     def test_instructions(self):
         for script, wanted in (
@@ -345,12 +355,8 @@ class Program(PanelCase):
 
     def test_source(self):
         """The lines of a source that is loaded before the script, as far as they are in the cells."""
-        symbols = AllSymbols()
-        symbols.of[0] = Source.of_file(self.file(" COUNT EQU 20B\n  ORG 100B\n START LDN 5\n  STD COUNT\n  UJN *\n  END START\n"))
-        panel = Panel(Session([PROGRAM]), symbols)
-        self.addCleanup(panel.session.close)
-        panel.resize(160, 24)
-        panel.perform_script(symbols.loading(["STEP 13", "SET M 0 100 1406"]), None)
+        path = self.file(" COUNT EQU 20B\n  ORG 100B\n START LDN 5\n  STD COUNT\n  UJN *\n  END START\n")
+        panel = self.wide_panel("STEP 13\nSET M 0 100 1406\n", sources=[(0, path)])
         rows, _ = self.rows(panel, "i")
         self.assertEqual("PP 00  INSTRUCTIONS   P is START+2", rows[0])
         self.assertEqual([" 0100 1406*      LDN 06          START", " 0101 3420       STD 20          STD COUNT",
@@ -358,12 +364,8 @@ class Program(PanelCase):
 
     def test_wrong_return(self):
         """A return is wrong by a call before the present turn, forward and back. It is to 0033; the call is in turn 1."""
-        symbols = AllSymbols()
         source = ("  BASE OCTAL", "  ORG 100", " START RJM SUB", "  UJN *", " SUB SUBR", "  LDN 33", "  STM SUB", "  UJN SUBX", "  END START")
-        symbols.of[0] = Source.of_file(self.file("\n".join(source)))
-        panel = Panel(Session([PROGRAM]), symbols)
-        self.addCleanup(panel.session.close)
-        panel.perform_script(symbols.loading(["STEP 100"]), None)
+        panel = self.panel("STEP 100\n", sources=[(0, self.file("\n".join(source)))])
         found = "TURN 51 PP 00 P 0103 SUBX LJM WAS 0103 NOW 0033"
         self.assertIn(found, bottom(panel, "30GuPP 0 returns wrongly<Enter>"))
         self.assertIn(found, bottom(panel, "70GUPP 0 returns wrongly<Enter>"))
@@ -395,6 +397,16 @@ class Typed(PanelCase):
         self.assertEqual("STEP", panel.session.log[-1][0])
         press(panel, "12<Escape>b")
         self.assertEqual("BACK", panel.session.log[-1][0], "a count forgotten")
+
+    def test_what_is_no_digit(self):
+        """Superscripts are numbers of a kind, and no count; a terminal of Latin 1 sends them."""
+        panel = self.panel(FIRST_PROGRAM)
+        for digit in "\u00b2", "\u00b3", "\u00b9", "\u0663", "\uff13":
+            with self.subTest(digit):
+                self.assertEqual("no key ?; ? shows all keys", bottom(panel, digit))
+                press(panel, "12", digit, "s")
+                self.assertEqual("STEP", panel.session.log[-1][0], "the count is forgotten")
+        self.assertIn("is no turn", bottom(panel, "G\u00b2<Enter>"))
 
     def test_lines(self):
         panel = self.panel(FIRST_PROGRAM)

@@ -77,6 +77,7 @@ class Attached(Simulator):
 
     most_ahead = 1000  # actions that are sent before an answer is read
     exact_states, every_state = 20000, 1000
+    turns_for_zeros = CELLS  # a STEP of so many is worth a look whether memories have zeros alone
 
     def __init__(self, words: Sequence[str] = (), devices: Sequence[Device] = ()) -> None:
         """Begins a session with devices, no two of them on one channel."""
@@ -212,11 +213,14 @@ class Attached(Simulator):
 
     def _added(self, line: str) -> None:
         """Notes a new action. One that sets a channel is the reply of the device there."""
-        if line.startswith(REPLY):
-            if line not in self.reply_lines:
-                self.reply_lines[line] = ReplyLine(line, self.names[int(line.split()[2], 8)])
-            line = self.reply_lines[line]
-        self.history.added(line)
+        self.history.added(self.reply_lines.get(line) or self._named(line))
+
+    def _named(self, line: str) -> str:
+        """Returns a line, as the reply of a device if it is one."""
+        if not line.startswith(REPLY):
+            return line
+        self.reply_lines[line] = ReplyLine(line, self.names[int(line.split()[2], 8)])
+        return self.reply_lines[line]
 
     def _note(self, values: Values, replies: Replies) -> None:
         """Notes what the devices are after the present unit, and their replies, which come next."""
@@ -324,7 +328,7 @@ class Attached(Simulator):
         words = self.ask_all([*(cells_dump(n, place, place).line for n, place in enumerate(places)), MARK])
         for number, (one, row) in enumerate(zip(registers, words)):
             processor = Processor(one, row.split()[1:])
-            is_zero = not processor.phase and processor.words == ["0000"] and turns >= CELLS and self._is_zero(number)
+            is_zero = not processor.phase and processor.words == ["0000"] and turns >= self.turns_for_zeros and self._is_zero(number)
             found.add(number, processor, states, is_zero)
         return found
 

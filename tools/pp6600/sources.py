@@ -60,7 +60,14 @@ class CellLine(NamedTuple):
     text: str
     at: int  # which of the words of its row it is, from 0
     is_there: bool
-    second: Optional[str] = None
+    second: Optional[str]
+    row: Row
+
+    @property
+    def note(self) -> str:
+        """What is to be said after the text: which word it is, if not the first, and a second word that has changed."""
+        at = f"  word {self.at + 1}" if self.at else ""
+        return at if self.second is None else f"{at}  m is {self.second}"
 
 
 class Source(AddressNames):
@@ -140,9 +147,7 @@ class Source(AddressNames):
             return ""
         if not line.is_there:
             return f"was {self.path}:{line.number}"
-        at = f"  word {line.at + 1}" if line.at else ""
-        second = f"  m is {line.second}" if line.second is not None else ""
-        return f"{self.path}:{line.number}: {line.text}{at}{second}"
+        return f"{self.path}:{line.number}: {line.text}{line.note}"
 
     def texts(self) -> Dict[int, Tuple[int, str]]:
         """Returns the texts of the lines by the addresses at which they begin, each with its first word."""
@@ -177,7 +182,7 @@ def text_of(row: Row) -> str:
 
 
 def cell_line(word: Word, is_there: bool, second: Optional[str] = None) -> CellLine:
-    return CellLine(word.row.line.number, text_of(word.row), word.at, is_there, second)
+    return CellLine(word.row.line.number, text_of(word.row), word.at, is_there, second, word.row)
 
 
 def is_end(row: Row) -> bool:

@@ -92,8 +92,17 @@ class PlainScript:
         """The simulator keeps so many actions."""
         self.history = History(room, tape)
         self.stops: List[int] = []  # the positions after turns with a HIT, where a STEP of the script ends
-        self.lines: List[str] = []
         self.times_anew = 0
+        self.written: List[str] = []
+        self.end = 0  # the position up to which lines are written
+
+    @property
+    def lines(self) -> List[str]:
+        """The lines so far. Those of new actions are written when they are asked for."""
+        if self.end < self.history.position:
+            self.written += self.part(self.end, self.history.position)
+            self.end = self.history.position
+        return self.written
 
     def part(self, first: int, last: int) -> Iterator[str]:
         """Yields the lines for the actions between two positions."""
@@ -107,16 +116,16 @@ class PlainScript:
         del self.stops[bisect.bisect_right(self.stops, position):]
 
     def go(self, position: int) -> None:
-        """Adds the lines that lead to a position."""
+        """Leads to a position."""
         history = self.history
         if position < history.oldest:
             self.times_anew += 1
-            self.lines = []
+            self.written, self.end = [], 0
             history.restarted()
         count = min(position - history.position, history.ahead)
         if count:
             self.lines.append(f"{'BACK' if count < 0 else 'FORWARD'} {abs(count):o}")
             history.moved(count)
+            self.end = history.position
         if position > history.position:
-            self.lines += self.part(history.position, position)
             history.performed(position - history.position)

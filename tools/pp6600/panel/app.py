@@ -11,7 +11,8 @@ from ..keyboard import FIRST_WORDS, card
 from ..timeline import REPLAYED
 from ..listing import AllSymbols
 from ..moments import text_of
-from .keys import LINES, Facts, help_lines
+from .keys import LINES, Facts, help_lines, to_turn
+from .line_search import turn_of_line_before, turn_of_next_line
 from .origins import Origin, OriginPage
 from .page import Page
 from .prompt import Prompt
@@ -47,7 +48,7 @@ class Panel:
     def __init__(self, session, symbols=AllSymbols()):
         """The symbols are the labels and the texts of listings, for each processor."""
         self.session, self.symbols = session, symbols
-        self.view = View()
+        self.view = View(processor=next((number for number, _ in symbols.sources()), 0))
         self.columns, self.rows = LEAST_COLUMNS, LEAST_ROWS
         self.count = self.message = ""
         self.prompt = self.page = None
@@ -91,13 +92,20 @@ class Panel:
         self.see()
 
     def memory_rows(self):
-        return layout(self.columns, self.rows, self.view.as_program).memory
+        return layout(self.columns, self.rows, self.view.is_by_rows).memory
+
+    def source(self):
+        """Returns the source of the chosen processor; None if it has none."""
+        symbols = self.symbols.of.get(self.view.processor)
+        return symbols if symbols and symbols.is_source else None
 
     def see(self):
         """Moves the windows to their cursors, and sees that what they show is read."""
         if is_too_small(self.columns, self.rows):
             return
-        session, view, rows = self.session, self.view, self.memory_rows()
+        session, view = self.session, self.view
+        view.source = self.source() if view.as_source else None
+        rows = self.memory_rows()
         view.scroll(session.state, rows, session.size)
         if self.fault is None:
             self.guard(session.look_at_central, view.central_top, rows)
@@ -147,6 +155,8 @@ class Panel:
             self.take_line("G", count)
         elif key in ("f", "F"):
             self.take_line("u" if key == "f" else "U", "")
+        elif key in ("N", "P"):
+            self.take_line(key, count or "1")
         elif key in ("]", "["):
             self.take_line("u" if key == "]" else "U", f"{self.view.place()} changes")
         else:
@@ -176,10 +186,11 @@ class Panel:
         elif key == "o":
             view.following = True
         elif key == "i":
-            view.as_program = not view.as_program
+            view.toggle_program()
         elif key == "d":
-            view.has_display_code = not view.has_display_code
-            view.as_program = True
+            view.toggle_display_code()
+        elif key in ("m", "C"):
+            self.press_about_source(key)
         elif key in PROMPTS:
             self.prompt = Prompt(key, PROMPTS[key], self.typed[key])
         elif key == "c":
@@ -190,6 +201,21 @@ class Panel:
             self.page = Page("The keys of the panel", [Line(text) for text in help_lines()])
         elif key not in ("Ctrl-L", "Enter"):
             self.message = f"no key {key}; ? shows all keys"
+
+    def press_about_source(self, key):
+        """Shows the source or the cells; or central memory beside the source, or no longer."""
+        if self.source() is None:
+            self.message = self.no_source()
+        elif key == "m":
+            self.view.as_source = not self.view.as_source
+        elif self.view.source is None:
+            self.message = "central memory is beside the cells; m shows the source"
+        else:
+            self.view.toggle_central()
+
+    def no_source(self):
+        number = self.view.processor
+        return f"PP {number:02o} has no source: the option --source {number:o} FILE loads one"
 
     def quit(self, is_asked):
         """Ends the panel, at the second time if something that was sent is in no file."""
@@ -260,7 +286,7 @@ class Panel:
         """Does what a typed line asks for."""
         try:
             {":": self.take_console_line, "g": self.go_to, "G": self.go_to_turn, "u": self.go_until, "U": self.go_back_until,
-             "/": self.search, "w": self.save}[kind](text)
+             "/": self.search, "w": self.save, "N": self.go_on_by_lines, "P": self.go_back_by_lines}[kind](text)
         except Failure as failure:
             self.message = str(failure)
 
@@ -310,15 +336,27 @@ class Panel:
         if not text:
             raise Failure("give a condition, as P 0 = 105 or M 0 106 changes")
         self.shown_at = time.monotonic()
-        try:
-            found = find(self.session, text, self.symbols, self.report_search)
-        except Stopped:
-            self.message = "the search was stopped"
-            return
+        found = find(self.session, text, self.symbols, self.report_search)
         if found is None:
             self.message = f"NONE: {text}, {where}"
         else:
             self.show_turn(found.turn, [text_of(found, self.symbols)])
+
+    def go_on_by_lines(self, count):
+        """Goes on to where the chosen processor begins another line of its source."""
+        self.go_by_lines(turn_of_next_line, count)
+
+    def go_back_by_lines(self, count):
+        """Goes back to where it began the line that it is in, or the one before."""
+        self.go_by_lines(turn_of_line_before, count)
+
+    def go_by_lines(self, find, count):
+        source = self.source()
+        if source is None:
+            raise Failure(self.no_source())
+        self.shown_at = time.monotonic()
+        turn = find(self.session, self.view.processor, source, int(count, 8), self.report_search)
+        self.send(to_turn(self.session.history, turn))
 
     def report_search(self, turn):
         """Shows now and then how far a search is, and ends it if the operator stops it."""
@@ -332,10 +370,8 @@ class Panel:
         """Opens the page of where the number at the cursor came from."""
         self.shown_at = time.monotonic()
         try:
-            self.page = OriginPage(Origin(self.session, self.view.place(), self.searched))
-        except Stopped:
-            self.message = "the search was stopped"
-        except Failure as failure:  # of the search's own simulator
+            self.page = OriginPage(Origin(self.session, self.view.place(), self.searched, self.symbols))
+        except Failure as failure:  # the operator's, or that of the search's own simulator
             self.message = str(failure)
 
     def searched(self, turn, turns):

@@ -48,6 +48,14 @@ def on_to(facts, count):
     return on(facts, turns_to(facts.slot, facts.processor, count))
 
 
+def to_turn(history, turn):
+    """Returns the lines that go to before the turn that comes after so many: back, or over what is ahead and then over new turns."""
+    again = history.tape.after_turn(min(turn, history.last_turn)) - history.position
+    if again < 0:
+        return [counted("BACK", -again)]
+    return ([counted("FORWARD", again)] if again else []) + step_lines(max(turn - history.last_turn, 0))
+
+
 def back(facts, count):
     return [counted("BACK", count)]
 
@@ -103,12 +111,14 @@ OTHER_KEYS = (
     (("u", "U"), "on until a condition comes to hold, as P 0 = 105; and back"),
     (("f", "F"), "on, and back, until the same condition again"),
     (("]", "["), "on, and back, to a change of the number at the cursor"),
+    (("N", "P"), "on to the next line of the processor's source; back by a line"),
     (("Tab", "Shift-Tab"), "to the next part of the screen; to the one before"),
     (("arrows", "h j k l"), "move the cursor; Page Up and Page Down too"),
     (("(", ")"), "choose the processor before; the next one"),
     (("x",), "choose the processor whose turn comes next"),
     (("o",), "memory around P again, after the cursor was moved"),
     (("i", "d"), "memory as instructions, or as numbers again; with display code"),
+    (("m", "C"), "memory as the source, or as cells; central memory beside it"),
     (("g",), "go to an address, a label or a place: 106, M 3 106, C 1000, A 0"),
     (("/",), "search words from the cursor on; / and Enter: the next ones"),
     (("c",), "where the cursor's number came from; Enter: to before a step"),
@@ -138,6 +148,7 @@ def help_lines():
         "processor that only passed through words 0000. > is before the processor whose",
         "turn comes next, and before the cell at P; w is before a watched cell. WAITS FOR",
         "has a channel, and the state in which the processor would go on. Among the",
-        "instructions r is before the cell at which a block transfer goes on.",
+        "instructions r is before the cell at which a block transfer goes on. In a source",
+        "> before a line number, decimal, is the present line; a + after it, a macro's.",
         "TURN: how many turns are in effect. KEPT: how many actions the simulator can",
         "undo; a step back over more is a replay. AHEAD: how many can be performed again."]

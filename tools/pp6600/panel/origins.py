@@ -13,7 +13,7 @@ MOST_STEPS = 0o40
 class Origin:
     """The steps of the origin of a number as it is now: a line each, and the actions after which it was written."""
 
-    def __init__(self, session, place, progress):
+    def __init__(self, session, place, progress, symbols):
         """The place is named as on a console line. The function `progress` is called with the turn that is reached, and the
         number of turns; it may raise an exception to end the search."""
         history = session.history
@@ -21,7 +21,8 @@ class Origin:
         run = Replay(session.simulator.words, history.in_effect())
         self.tape = tape = run.tape
         try:
-            self.rows = origin_rows(run, self.place, tape.end, MOST_STEPS, False, lambda position: progress(tape.turn(position), tape.turns))
+            self.rows = origin_rows(run, self.place, tape.end, MOST_STEPS, False, lambda position: progress(tape.turn(position), tape.turns),
+                                    symbols=symbols)
         finally:
             run.close()
 

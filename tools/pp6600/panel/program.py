@@ -48,37 +48,43 @@ def sign_of(row, here, back, watched):
     return "w" if any(row.has(address) for address in watched) else " "
 
 
-def row_line(shown, row, sign):
-    """Returns the line of a row: its address, its words, the instruction, and its label."""
+def cells_line(shown, row):
+    """Returns the beginning of the line of a row: what is before it, its address and its words."""
     view = shown.view
     memory, was = shown.state.memories[view.processor], shown.before.memories[view.processor]
-    watched = shown.state.watched_cells(view.processor)
+    watched, processor = shown.state.watched_cells(view.processor), shown.state.processors[view.processor]
+    sign = sign_of(row, processor.p, back_at(processor, cell_of(memory)), watched)
     line = Line(sign, HERE if sign in ">r" else None).add(f"{row.address:04o} ")
     for at, word in enumerate(row.words):
         address = (row.address + at) % CELLS
         cursor = CURSOR if view.pane == "memory" and address == view.cell else None
         line.add_number(word, was.word(address), cursor, WATCHED if address in watched else None)
-    line.fit(TEXT_FROM)
-    if view.has_display_code:
-        line.add(text_of([memory.word(row.address + at) for at in range(len(row.words))]).ljust(DISPLAY_WIDTH))
+    return line.fit(TEXT_FROM)
+
+
+def row_line(shown, row, named="", *marks):
+    """Returns the line of a row: its address, its words, the instruction, and beside it a text, or else its label."""
+    line, symbols, number, address = cells_line(shown, row), shown.symbols, shown.view.processor, f"{row.address:04o}"
+    if shown.view.has_display_code:
+        line.add(text_of(row.words).ljust(DISPLAY_WIDTH))
     line.add(row.text)
-    symbols, address = shown.symbols, f"{row.address:04o}"
-    named = symbols.text(view.processor, address, row.words[0]) or symbols.name(view.processor, address)
-    return line.fit(max(LABEL_FROM, len(line.text) + 1)).add(named) if named else line
+    named = named or symbols.text(number, address, row.words[0]) or symbols.name(number, address)
+    return line.fit(max(LABEL_FROM, len(line.text) + 1)).add(named, *marks) if named else line
+
+
+def head_line(shown, title):
+    """Returns the line above the rows: what they are, and where the processor is."""
+    number = shown.view.processor
+    processor = shown.state.processors[number]
+    back, at = back_at(processor, cell_of(shown.state.memories[number])), shown.symbols.name(number, processor.registers["P"])
+    head = Line(f"PP {number:02o}  {title}", HEAD).add(f"   P is {at}" if at and back is None else "")
+    return head.add("" if back is None else f"   in a block; returns to {back:04o}")
 
 
 def program_lines(shown, count):
     """Returns so many rows of instructions around P or the cursor, below a head."""
-    view, state = shown.view, shown.state
-    processor, memory = state.processors[view.processor], state.memories[view.processor]
-    here, back = processor.p, back_at(processor, cell_of(memory))
-    watched = state.watched_cells(view.processor)
-    head = Line(f"PP {view.processor:02o}  INSTRUCTIONS", HEAD)
-    at = shown.symbols.name(view.processor, processor.registers["P"])
-    head.add(f"   P is {at}" if at and back is None else "")
-    head.add("" if back is None else f"   in a block; returns to {back:04o}")
-    rows = [(row, sign_of(row, here, back, watched)) for row in rows_of(state, view, count)]
-    return [head] + [row_line(shown, row, sign).fit(WIDTH) for row, sign in rows]
+    rows = [row_line(shown, row).fit(WIDTH) for row in rows_of(shown.state, shown.view, count)]
+    return [head_line(shown, "INSTRUCTIONS"), *rows]
 
 
 def sentence_line(shown):

@@ -6,7 +6,8 @@ from typing import Optional
 from ..core.forms import CELLS, ROW
 from ..listing import AllSymbols
 from ..core.state import State
-from .program import program_lines, sentence_line
+from .program import WIDTH, program_lines, sentence_line
+from .source_pane import source_lines
 from .text import (
     CHANGED, CHOSEN, CURSOR, HEAD, HERE, REFUSED, SLOT, TITLE, WATCHED, Line, beside, in_height, last_in)
 from .view import View, central_top, memory_top
@@ -17,7 +18,9 @@ LEFT = 80  # columns of the machine
 CHANNELS_FROM, CENTRAL_FROM = 54, 53  # the columns
 COLUMN_FROM = 15  # the column of the device's column
 MACHINE_ROWS = 12  # the ten processors, their head and that of the memory
+MOST_LEFT, LEAST_RIGHT = 100, 40  # of the machine with a source, and of what is beside it
 HINTS = "s step  b back  G turn  g cursor  W who changed it  i program  ? help  q quit"
+HINTS_OF_SOURCE = "N next line  P line before  s step  b back  m cells  C central  ? help  q quit"
 
 
 @dataclass
@@ -60,9 +63,9 @@ class Layout:
     log: int
 
 
-def layout(columns, rows, as_program=False):
-    """Returns how a screen is divided. If memory is shown as a program, a line is below it."""
-    spare, line = rows - LEAST_ROWS, int(as_program)
+def layout(columns, rows, is_by_rows=False):
+    """Returns how a screen is divided. If memory is shown as instructions or a source, a line is below it."""
+    spare, line = rows - LEAST_ROWS, int(is_by_rows)
     if columns >= WIDE:
         return Layout(True, rows - 2 - MACHINE_ROWS - line, 0, 4 + spare // 3, 0)
     memory, log = spare // 2, spare // 3
@@ -195,12 +198,19 @@ def central_lines(shown, rows):
     return [Line("CENTRAL MEMORY", HEAD)] + [central_line(shown, top + row) for row in range(rows)]
 
 
-def machine_lines(shown, rows):
+def memory_part(shown, rows, width):
+    """Returns the memory of the chosen processor, with central memory beside it, or a source in the whole width."""
+    view = shown.view
+    if view.source is not None and not view.shows_central:
+        return source_lines(shown, rows, width)
+    memory = source_lines(shown, rows, WIDTH) if view.source is not None else (program_lines if view.as_program else memory_lines)(shown, rows)
+    return beside(memory, central_lines(shown, rows), CENTRAL_FROM)
+
+
+def machine_lines(shown, rows, width):
     """Returns processors, channels, devices and memories, with so many rows of memory."""
     upper = beside(processor_lines(shown), channel_lines(shown), CHANNELS_FROM)
-    as_program = shown.view.as_program
-    memory = (program_lines if as_program else memory_lines)(shown, rows)
-    return upper + beside(memory, central_lines(shown, rows), CENTRAL_FROM) + ([sentence_line(shown)] if as_program else [])
+    return upper + memory_part(shown, rows, width) + ([sentence_line(shown)] if shown.view.is_by_rows else [])
 
 
 # ---- watches, paper and the lines typed
@@ -281,24 +291,25 @@ def bottom_line(shown):
         return Line(asked, HEAD).add(text), len(asked) + place
     if shown.message:
         return Line(shown.message, REFUSED if shown.message.startswith("ERR ") else None), None
-    return Line(HINTS), None
+    return Line(HINTS if shown.view.source is None else HINTS_OF_SOURCE), None
 
 
 def narrow_lines(shown, columns, parts):
     """Returns the lines between top and bottom, one part below the other."""
     watches = watch_rows(shown, columns, parts.watches)
     log = log_rows(shown.log, parts.log + parts.watches - len(watches))
-    return machine_lines(shown, parts.memory) + watches + paper_lines(shown, parts.paper) + log
+    return machine_lines(shown, parts.memory, columns) + watches + paper_lines(shown, parts.paper) + log
 
 
-def wide_lines(shown, parts):
+def wide_lines(shown, columns, parts):
     """Returns the lines between top and bottom, with watches, paper and the lines typed at the right."""
+    left = LEFT if shown.view.shows_central else max(LEFT, min(MOST_LEFT, columns - LEAST_RIGHT))
     watches = [watch_part(shown, watch) for watch in shown.state.watches] or [Line("none")]
     paper = [Line(text) for text in shown.state.printer.paper[-parts.paper:]] or [Line("none")]
     right = [Line("WATCHES", HEAD)] + watches + [Line(), paper_head(shown)] + in_height(paper, parts.paper)
-    height = parts.memory + MACHINE_ROWS + int(shown.view.as_program) - len(right) - 1
+    height = parts.memory + MACHINE_ROWS + int(shown.view.is_by_rows) - len(right) - 1
     right += [Line("LINES", HEAD)] + in_height(log_lines(shown.log, height), height)
-    return beside(machine_lines(shown, parts.memory), right, LEFT + 2)
+    return beside(machine_lines(shown, parts.memory, left), right, left + 2)
 
 
 def cursor_of(lines):
@@ -314,8 +325,8 @@ def screen(shown, columns, rows):
     """Returns the screen of a machine's state on a terminal of so many columns and rows."""
     if is_too_small(columns, rows):
         return small_screen(columns, rows)
-    parts = layout(columns, rows, shown.view.as_program)
-    middle = wide_lines(shown, parts) if parts.wide else narrow_lines(shown, columns, parts)
+    parts = layout(columns, rows, shown.view.is_by_rows)
+    middle = wide_lines(shown, columns, parts) if parts.wide else narrow_lines(shown, columns, parts)
     bottom, column = bottom_line(shown)
     lines = [line.fit(columns) for line in [title_line(shown, columns)] + middle + [bottom]]
     return Screen(lines, (rows - 1, min(column, columns - 1)) if column is not None else cursor_of(lines))

@@ -4,12 +4,16 @@ from ..conditions import Condition
 from ..core.seek import Search, last_moments
 from ..core.simulator import Replay
 from ..core.tape import STEP, Tape
+from ..failure import Failure
 
 MOST_NEW = 0o10000000  # turns that are searched after those that were made
 
 
-class Stopped(Exception):
+class Stopped(Failure):
     """The operator stopped a search."""
+
+    def __init__(self):
+        super().__init__("the search was stopped")
 
 
 def next_found(session, text, symbols, progress):

@@ -7,7 +7,7 @@ from ..core.forms import MOST_TURNS, is_refusal
 from ..core.simulator import Console, has_no_answer
 from ..failure import Failure
 from ..core.state import state_of
-from ..core.tape import ScriptLine
+from ..core.tape import ScriptLine, SourceLine
 from ..timeline import Timeline
 
 NEW = ("OK", "TURNS")  # the first words of answers to lines that discard what is ahead
@@ -104,8 +104,10 @@ class Session:
 
     def send(self, line):
         """Sends a line, and returns its answer."""
-        self.lines_sent += 1
-        answer = self.simulator.act_by_move(ScriptLine(line, self.lines_sent))
+        if not isinstance(line, SourceLine):
+            self.lines_sent += 1
+            line = ScriptLine(line, self.lines_sent)
+        answer = self.simulator.act_by_move(line)
         if line.strip():
             self.log_line(line, answer)
         return answer

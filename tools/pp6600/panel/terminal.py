@@ -9,7 +9,7 @@ import sys
 import time
 
 from ..failure import Failure
-from .text import CHANGED, CHOSEN, CURSOR, CUT, CUT_IN_ASCII, HEAD, HERE, REFUSED, SLOT, TITLE, WATCHED
+from .text import CHANGED, CHOSEN, CURSOR, CUT, CUT_IN_ASCII, HEAD, HERE, OVERWRITTEN, REFUSED, SLOT, TITLE, WATCHED
 
 ESCAPE_DELAY = 20  # milliseconds in which the rest of a key's sequence comes
 BETWEEN_DRAWINGS = 0.03  # seconds, while more keys are waiting
@@ -190,14 +190,14 @@ def attributes():
     """Returns how each mark looks: with colours, if the terminal has them and NO_COLOR is not set."""
     plain = {TITLE: curses.A_REVERSE, HEAD: curses.A_BOLD, SLOT: curses.A_BOLD, CHOSEN: curses.A_REVERSE,
              CURSOR: curses.A_REVERSE, CHANGED: curses.A_BOLD, WATCHED: curses.A_UNDERLINE, HERE: curses.A_BOLD,
-             REFUSED: curses.A_BOLD}
+             REFUSED: curses.A_BOLD, OVERWRITTEN: curses.A_BOLD}
     if not has_colours():
         return plain
-    for number, colour in enumerate((curses.COLOR_GREEN, curses.COLOR_RED, curses.COLOR_CYAN), 1):
+    for number, colour in enumerate((curses.COLOR_GREEN, curses.COLOR_RED, curses.COLOR_CYAN, curses.COLOR_YELLOW), 1):
         curses.init_pair(number, colour, -1)
-    green, red, cyan = (curses.color_pair(number) for number in (1, 2, 3))
+    green, red, cyan, yellow = (curses.color_pair(number) for number in (1, 2, 3, 4))
     return {**plain, SLOT: green | curses.A_BOLD, HERE: green | curses.A_BOLD, CHANGED: red | curses.A_BOLD,
-            REFUSED: red | curses.A_BOLD, HEAD: cyan | curses.A_BOLD}
+            REFUSED: red | curses.A_BOLD, HEAD: cyan | curses.A_BOLD, OVERWRITTEN: yellow}
 
 
 def has_utf8():

@@ -12,7 +12,8 @@ CHOSEN = "chosen"
 CURSOR = "cursor"
 CHANGED = "changed"  # by the last action
 WATCHED = "watched"
-HERE = "here"  # the cell at P
+HERE = "here"  # the cell at P, and the present line of a source
+OVERWRITTEN = "overwritten"  # what is said of a cell that has no longer the word of its line
 REFUSED = "refused"
 
 CUT, CUT_IN_ASCII = "\u2026", ">"  # the last character of a text that is cut

@@ -2,11 +2,14 @@
 
 import re
 from dataclasses import dataclass
+from typing import Optional
 
 from ..core.forms import CELLS, CLOCK, KINDS, PROCESSORS, ROW
 from ..disassembly import moved
 from ..failure import Failure
+from ..sources import Source
 from .program import present, program_of, rows_of
+from .source_pane import Cells, window_of
 
 PANES = ("processors", "channels", "memory", "central")
 REGISTERS = ("P", "A", "Q")  # those that can be watched
@@ -25,6 +28,10 @@ class View:
     top: int = 0  # the first cell shown
     as_program: bool = False  # the cells are shown as instructions
     has_display_code: bool = False  # and beside them as two symbols each
+    as_source: bool = True  # they are shown as the source of their processor, if it has one
+    source: Optional[Source] = None  # that is shown
+    top_of_source: tuple = (0, 0)  # the address of the first row of it, and how many of its lines are above
+    has_central: bool = False  # central memory is beside it
     program: tuple = ()  # the cells, and the addresses at which an instruction begins
     word: int = 0  # the central address
     central_top: int = 0
@@ -34,8 +41,39 @@ class View:
         return {"processors": f"{self.register} {self.processor:o}", "channels": f"H {self.channel:o}",
                 "memory": f"M {self.processor:o} {self.cell:o}", "central": f"C {self.word:o}"}[self.pane]
 
+    @property
+    def is_by_rows(self):
+        """Whether the cells are shown as instructions or as a source, and not as numbers."""
+        return self.as_program or self.source is not None
+
+    @property
+    def shows_central(self):
+        return self.source is None or self.has_central or self.pane == "central"
+
     def next_pane(self, steps):
-        self.pane = PANES[(PANES.index(self.pane) + steps) % len(PANES)]
+        panes = PANES if self.shows_central else PANES[:-1]
+        self.pane = panes[(panes.index(self.pane) + steps) % len(panes)]
+
+    def toggle_program(self):
+        """Shows the cells as instructions, or as numbers again."""
+        self.as_program = self.source is not None or not self.as_program
+        self.leave_source()
+
+    def toggle_display_code(self):
+        """Shows the cells as instructions, with display code or without."""
+        self.has_display_code = not self.has_display_code
+        self.as_program = True
+        self.leave_source()
+
+    def leave_source(self):
+        if self.source is not None:
+            self.as_source, self.source = False, None
+
+    def toggle_central(self):
+        """Shows central memory beside the source, or the source alone."""
+        self.has_central = not self.shows_central
+        if self.pane == "central" and not self.has_central:
+            self.pane = "memory"
 
     def choose_processor(self, number):
         self.processor = number % PROCESSORS
@@ -44,7 +82,7 @@ class View:
         """Moves the cursor by an arrow; a page has so many rows, and central memory so many words."""
         steps = -count if key in ("Up", "Left", "Page Up") else count
         is_across, is_page = key in ("Left", "Right"), key in ("Page Up", "Page Down")
-        if self.pane == "memory" and self.as_program and not is_across:
+        if self.pane == "memory" and self.is_by_rows and not is_across:
             self.move_rows(steps * (rows if is_page else 1))
         elif self.pane == "memory":
             self.go_to_cell(self.cell + steps * (1 if is_across else ROW * rows if is_page else ROW))
@@ -104,8 +142,12 @@ class View:
     def scroll(self, state, rows, size):
         """Moves the windows to their cursors; each has so many rows, and central memory so many words."""
         if self.following:
-            self.cell = present(state, self.processor) if self.as_program else state.processors[self.processor].p
-        if self.as_program:
+            self.cell = present(state, self.processor) if self.is_by_rows else state.processors[self.processor].p
+        if self.source is not None:
+            cells = Cells(self.source, state, self.processor)
+            self.program = cells.word, cells.heads
+            _, self.top_of_source = window_of(state, self, rows)
+        elif self.as_program:
             self.program = program_of(state, self.processor)
             self.top = rows_of(state, self, rows)[0].address
         else:
