@@ -103,6 +103,20 @@ class Tapes(DeviceCase):
     def test_a_record_that_is_not_read_to_its_end_is_passed(self):
         self.check(MagneticTape(self.TAPE), ("read 1", 0o1), ("read", 0o1, 4, 5))
 
+    def test_a_code_is_for_one_record(self):
+        """FNC 1400, ACN, LDC 100, IAM, ACN, IAN: the last one waits for a word that does not come. FNC 1600, ACN, OAN, FJM *, DCN, ACN,
+        OAN, DCN: the second word stays on the channel, and is in no record."""
+        session = self.begun(MagneticTape(self.TAPE), "7705 1400 7405 2000 100 7105 2000 7405 7005")
+        self.ask(session, "STEP 1000")
+        self.assertEqual(("0110", "E"), (session.registers(0)["P"], session.channel(5)[0]))
+        tape = MagneticTape(ring="ring")
+        session = self.begun(tape, "7705 1600 7405 1407 7205 6605 * 7505 7405 7205 7505")
+        self.ask(session, "STEP 1000")
+        self.assertEqual([(7,)], tape.blocks(session.state()))
+
+    def test_a_tape_that_begins_with_a_mark(self):
+        self.check(MagneticTape([MARK, (1,)]), ("13", 0o11), ("10", 0o21), ("read", 0o11), ("read", 0o1, 1), ("14", 0o31))
+
     def test_writing(self):
         tape = MagneticTape(ring="ring")
         session = self.check(tape, ("write 7 70", 0o5), ("write 700", 0o5), ("15", 0o5), ("10", 0o25), ("read", 0o5, 7, 0o70),

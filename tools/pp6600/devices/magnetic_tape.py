@@ -109,7 +109,7 @@ class MagneticTape(Device):
     def activated(self, state: State, event: Event) -> Answer:
         """Gives the status word, or begins to read a record."""
         if state.code == STATUS:
-            return state._replace(code=0), full(self.status(state))
+            return state, full(self.status(state))
         return self.taken(forward(state) if state.code == READ else state, event)
 
     def taken(self, state: State, event: Event) -> Answer:

@@ -15,6 +15,7 @@ from .keys import LINES, Facts, help_lines, to_turn
 from .line_search import turn_of_line_before, turn_of_next_line
 from .origins import Origin, OriginPage
 from .page import Page
+from .pictures import PicturePage, devices_that
 from .prompt import Prompt
 from .remarks import in_width, remarks
 from .search import MOST_NEW, Stopped, last_before, next_found
@@ -27,7 +28,7 @@ LONG_ANSWER = 2  # lines; a longer answer is shown on a page
 BETWEEN_REPORTS = 0.2  # seconds
 CANCEL = ("Escape", "Ctrl-C")
 LETTERS = {"h": "Left", "j": "Down", "k": "Up", "l": "Right"}
-PROMPTS = {":": "> ", "g": "go to ", "G": "turn ", "u": "until ", "U": "back until ", "/": "search ", "w": "w "}
+PROMPTS = {":": "> ", "g": "go to ", "G": "turn ", "u": "until ", "U": "back until ", "/": "search ", "w": "w ", "K": "keys "}
 NEW_ACTIONS = ("SET", "STEP", "WATCH", "UNWATCH", "DEADSTART")
 AFTER_FAULT = ("w", "L", "?", "Tab", "Shift-Tab", *ARROWS)  # keys that need no simulator
 
@@ -124,7 +125,7 @@ class Panel:
 
     def press(self, key):
         """Performs a key, by its name."""
-        if self.page:
+        if self.page and not (isinstance(self.page, PicturePage) and self.page.runs(key)):
             page, self.page = self.page, self.page if self.page.press(key, self.rows) else None
             if self.page is None and isinstance(page, OriginPage) and page.is_asked_to_go:
                 self.go_before(page)
@@ -197,6 +198,8 @@ class Panel:
             self.show_origin()
         elif key == "L":
             self.show_log()
+        elif key == "v":
+            self.show_pictures()
         elif key == "?":
             self.page = Page("The keys of the panel", [Line(text) for text in help_lines()])
         elif key not in ("Ctrl-L", "Enter"):
@@ -286,7 +289,7 @@ class Panel:
         """Does what a typed line asks for."""
         try:
             {":": self.take_console_line, "g": self.go_to, "G": self.go_to_turn, "u": self.go_until, "U": self.go_back_until,
-             "/": self.search, "w": self.save, "N": self.go_on_by_lines, "P": self.go_back_by_lines}[kind](text)
+             "/": self.search, "w": self.save, "N": self.go_on_by_lines, "P": self.go_back_by_lines, "K": self.press_keys}[kind](text)
         except Failure as failure:
             self.message = str(failure)
 
@@ -373,6 +376,22 @@ class Panel:
             self.page = OriginPage(Origin(self.session, self.view.place(), self.searched, self.symbols))
         except Failure as failure:  # the operator's, or that of the search's own simulator
             self.message = str(failure)
+
+    def show_pictures(self):
+        page = PicturePage(self)
+        if page.devices:
+            self.page = page
+        else:
+            self.message = "no device shows a picture: --device console_display@10 puts one that does on channel 10"
+
+    def press_keys(self, text):
+        """Presses keys of the first device that has some."""
+        session, devices = self.session, devices_that(self.session, "told")
+        if not devices:
+            raise Failure("no device has keys: --device console_display@10 puts one that has on channel 10")
+        if session.history.to_redo:
+            raise Failure(f"a key would discard the {session.history.to_redo:o} actions ahead: > goes to the newest")
+        self.guard(session.tell, devices[0][0], text.replace("\\r", "\r"))
 
     def searched(self, turn, turns):
         """Shows now and then how far back a search is, and ends it if the operator stops it."""

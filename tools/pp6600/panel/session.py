@@ -137,6 +137,12 @@ class Session:
             self.state, self.before = self.read(), old
         return Outcome(answer, discarded, watched)
 
+    def tell(self, number, what):
+        """Tells a device something, as which keys are pressed."""
+        self.simulator.tell(number, what)
+        self.log_line(f"* {what!a} to device {number + 1} (decimal)", [])
+        self.state, self.before = self.read(), self.state
+
     def to_turn(self, turn):
         """Goes to where so many turns are in effect. What the last of them changed is marked."""
         if turn:
