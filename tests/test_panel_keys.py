@@ -451,7 +451,8 @@ class Typed(PanelCase):
         rows = re.findall(r"^\| (`.*?`) \| (.*) \|$", read("docs", "PANEL.md"), flags=re.M)
         wanted = [f"{'  '.join(re.findall('`(.*?)`', names)):17}{text}" for names, text in rows]
         got = [line.rstrip() for line in press(self.panel(size=(80, 60)), "?")]
-        self.assertEqual(wanted, [line for line in got if line in wanted])
+        first, last = got.index("makes ten turns.") + 1, next(at for at, line in enumerate(got) if line.startswith("A star is"))
+        self.assertEqual(wanted, [line for line in got[first:last] if line])
 
     def test_quit(self):
         panel = self.panel(FIRST_PROGRAM)
