@@ -285,6 +285,16 @@ class Displays(DeviceCase):
         self.assertLess(few_kept, 17)
         self.assertLess(1000, kept)
 
+    def test_the_newest_are_kept(self):
+        """Of dots at 0 to 15 and again at 0, the 17th is one more than twice 8."""
+        display = ConsoleDisplay()
+        with mock.patch.object(console_display, "MOST_MARKS", 8):
+            state, _ = display.function(display.start, Event("function", 0o7010, 1))
+            for x in [*range(16), 0]:
+                for word in (0o6000 + x, 0o7000):
+                    state, _ = display.word(state, Event("word", word, 1))
+        self.assertEqual({Mark(0, x) for x in (0, *range(9, 16))}, display.picture(state).screens[0])
+
     def test_keyboard(self):
         """The keys are those of display code; 60 is the carriage return, 61 the backspace, 62 the blank, and 0 none."""
         ask_for_key = "7710 7020 7410 7010 7510 5400 {:o}"
@@ -334,7 +344,7 @@ class Pictures(Case):
         """The example: the bytes of a picture are those that it had when the run first came there."""
         session = Attached([program()], [ConsoleDisplay()])
         self.addCleanup(session.close)
-        for line in read("examples", "console-display", "stdin").splitlines():
+        for line in read("examples", "console-display", "script").splitlines():
             if line.startswith("SET"):
                 session.act(line)
 
@@ -434,7 +444,7 @@ class Examples(Case):
     def test_picture(self):
         """The picture is that of the end: CDC 6600, PERIPHERAL PROCESSORS, KEY, three small lines, eight names and PP."""
         left, right = 7 + 20 + 3 + 33 + 33 + 13, 8 * 4 + 2
-        self.assertEqual(left + right, self.written("console-display", "show.py").count(b"<path"))
+        self.assertEqual(left + right, self.written("console-display", "show.py", "script").count(b"<path"))
 
     def test_tape(self):
         """The first words of the records of the copy are TH, TH and AN."""

@@ -1,10 +1,10 @@
 #!/usr/bin/env python3
 """A session with the console display on channel 10.
 
-    examples/console-display/show.py ./pp6600 [PICTURE.svg] <SCRIPT
+    examples/console-display/show.py ./pp6600 SCRIPT [PICTURE.svg] <LINES
 
-Beside the lines of the console, a line PICTURE shows the screens, and KEYS with a text presses keys. At the end the picture is
-written into a file, if one is named.
+After the script come the lines of the input. Beside those of the console, a line PICTURE shows the screens, and KEYS with a text
+presses keys. At the end the picture is written into a file, if one is named.
 """
 
 import os
@@ -19,7 +19,9 @@ WIDTH = 129  # decimal: 64 cells a screen, so that each small symbol has its own
 
 session = Attached(sys.argv[1:2], [ConsoleDisplay()])
 display = session.devices[0]
-for line in sys.stdin.read().splitlines():
+with open(sys.argv[2], encoding="ascii") as file:
+    lines = file.read().splitlines()
+for line in [*lines, *sys.stdin.read().splitlines()]:
     shown = []
     if line == "PICTURE":
         shown = [row.rstrip() for row in braille(display.picture(session.state()), WIDTH)]
@@ -28,7 +30,7 @@ for line in sys.stdin.read().splitlines():
     else:
         shown = session.act(line)
     print(f"> {line}", *shown, sep="\n")
-for path in sys.argv[2:]:
+for path in sys.argv[3:]:
     with open(path, "w", encoding="ascii") as file:
         file.write(svg(display.picture(session.state())))
 sys.exit(session.end())
