@@ -407,6 +407,13 @@ class Films(Case):
         self.assertEqual([self.shown(film, moment) for moment in range(len(kinds) - 0o101, len(kinds))],
                          [self.shown(short, moment) for moment in range(0o101)])
 
+    def test_a_picture_that_fails(self):
+        path = write(self.path("own.py"), "from pp6600 import Device\nfrom pp6600.pictures import Mark, Picture\nclass Own(Device):\n"
+                                          "    start = 0\n    def picture(self, state):\n        return Picture((Mark(0, 0, 8, '!'),),)\n")
+        done = tool("film", "--device", f"{path}:Own@5", "-o", self.path("film.html"), script="STEP\n")
+        self.assertRegex(done.err, r"^film: picture of Own fails: [A-Z]\w+: .*\n$")
+        self.assertEqual((2, False), (done.status, os.path.exists(self.path("film.html"))))
+
     def test_without_a_picture(self):
         self.assertEqual({}, film_pictures.Pictures([PaperTape()]).table())
 

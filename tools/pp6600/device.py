@@ -8,7 +8,7 @@ of these. So a session keeps each state by reference, and goes back to it."""
 from __future__ import annotations
 
 import enum
-from typing import Any, Iterable, List, NamedTuple, Optional, Tuple
+from typing import Any, Callable, Iterable, List, NamedTuple, Optional, Tuple
 
 from .failure import Failure
 from .pictures import Picture
@@ -144,6 +144,15 @@ def is_value(state: Any) -> bool:
     if type(state) in PLAIN or isinstance(state, enum.Enum):
         return True
     return isinstance(state, (tuple, frozenset)) and not hasattr(state, "__dict__") and all(map(is_value, state))
+
+
+def drawn(device: Device, state: Any, draw: Callable[[Picture], Any]) -> Any:
+    """Returns what a function makes of the picture of a device in a state; None if it shows nothing."""
+    try:
+        picture = device.picture(state)
+        return None if picture is None else draw(picture)
+    except Exception as error:
+        raise DeviceFailure(f"picture of {type(device).__name__} fails: {type(error).__name__}: {error}") from error
 
 
 class Value(NamedTuple):

@@ -58,7 +58,8 @@ WIDTHS = {0: 3, 8: 1, 16: 1.4, 32: 2}  # of the strokes, by the size of the symb
 def svg(picture: Picture) -> str:
     """Returns a picture as SVG, a mark a line."""
     width, height = 2 * FRAME * len(picture.screens), 2 * FRAME
-    lines = [f'<svg xmlns="http://www.w3.org/2000/svg" viewBox="0 0 {width} {height}"><rect width="{width}" height="{height}" fill="#3a3f42"/>']
+    lines = [f'<svg xmlns="http://www.w3.org/2000/svg" viewBox="0 0 {width} {height}">'
+             f'<rect width="{width}" height="{height}" fill="#3a3f42"/>']
     for number, marks in enumerate(picture.screens):
         middle, left = FRAME * (2 * number + 1), FRAME * (2 * number + 1) - SIDE // 2
         lines.append(f'<circle cx="{middle}" cy="{FRAME}" r="{FRAME - 6}" fill="#1c2421" stroke="#15181a" stroke-width="10"/>')

@@ -3,7 +3,7 @@
 The script that is filmed has the replies of the devices. So a device looks at its channel here, and what it would reply is there."""
 
 from ..core.forms import CHANNELS
-from ..device import Device, looked, value_at_start
+from ..device import Device, drawn, looked, value_at_start
 from ..pictures import svg
 from .machine import Table
 from .places import LAYOUT
@@ -44,8 +44,8 @@ class Pictures:
             if value.state is self.drawn[number]:
                 continue
             self.drawn[number] = value.state
-            picture, shown = device.picture(value.state), self.shown[number]
-            lines = [self.lines.number(line) for line in svg(picture).splitlines()] if picture else []
+            text, shown = drawn(device, value.state, svg) or "", self.shown[number]
+            lines = [self.lines.number(line) for line in text.splitlines()]
             if not shown or shown[-1][1] != lines:
                 shown.append((moment, lines))
 
@@ -53,5 +53,6 @@ class Pictures:
         """Returns what the page has to know; nothing without pictures."""
         if not self.devices:
             return {}
-        devices = [{"name": type(device).__name__, "channel": device.channel, "shown": shown} for device, shown in zip(self.devices, self.shown)]
+        devices = [{"name": type(device).__name__, "channel": device.channel, "shown": shown}
+                   for device, shown in zip(self.devices, self.shown)]
         return {"pictures": {"devices": devices, "lines": list(self.lines)}}

@@ -382,13 +382,13 @@ class Panel:
         if page.devices:
             self.page = page
         else:
-            self.message = "no device shows a picture: --device console_display@10 puts one that does on channel 10"
+            self.message = "no device shows a picture; --device console_display@10 is one that does"
 
     def press_keys(self, text):
         """Presses keys of the first device that has some."""
         session, devices = self.session, devices_that(self.session, "told")
         if not devices:
-            raise Failure("no device has keys: --device console_display@10 puts one that has on channel 10")
+            raise Failure("no device has keys; --device console_display@10 is one that has some")
         if session.history.to_redo:
             raise Failure(f"a key would discard the {session.history.to_redo:o} actions ahead: > goes to the newest")
         self.guard(session.tell, devices[0][0], text.replace("\\r", "\r"))

@@ -1,6 +1,6 @@
 """The page of what devices of one's own show. The keys that send lines do so here too: the pictures go with the run."""
 
-from ..device import Device
+from ..device import Device, DeviceFailure, drawn
 from ..pictures import braille
 from .keys import LINES
 from .page import Page
@@ -38,11 +38,15 @@ class PicturePage(Page):
 
     def rows(self, columns, rows):
         """Yields the lines of all pictures, each as large as it can be seen whole."""
+        def draw(picture):
+            return braille(picture, min(columns, (2 * (rows - 3) + 1) * len(picture.screens) - 1))
+
         for number, device in self.devices:
             yield f"{type(device).__name__} on channel {device.channel:02o}"
-            picture = device.picture(self.panel.session.simulator.state(number))
-            if picture:
-                yield from braille(picture, min(columns, (2 * (rows - 3) + 1) * len(picture.screens) - 1))
+            try:
+                yield from drawn(device, self.panel.session.simulator.state(number), draw) or ()
+            except DeviceFailure as failure:
+                yield str(failure)
 
     def screen(self, columns, rows):
         if not is_too_small(columns, rows):
