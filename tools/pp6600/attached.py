@@ -90,7 +90,8 @@ class Attached(Simulator):
             self.close()
             raise
         self.units, self.states = Units(), States(self.values, self.exact_states, self.every_state)
-        self.counts, self.plain = UnitHistory(self.history, self.units), PlainScript(self.history.room, self.tape)
+        self.plain = PlainScript(self.history.room, self.tape)
+        self.counts = UnitHistory(self.history, self.units, self.plain)
         self.names = names_of(self.devices)
         self.reply_lines: Dict[str, ReplyLine] = {}
         self.told: Dict[int, Tuple[int, Any]] = {}  # the number of a device and what it was told, by the position after it

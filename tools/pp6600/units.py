@@ -42,8 +42,8 @@ class Units:
 class UnitHistory:
     """A history that counts units. What is no count is that of the history itself: turns, the slot, the tape."""
 
-    def __init__(self, history: History, units: Units) -> None:
-        self.history, self.units = history, units
+    def __init__(self, history: History, units: Units, plain: PlainScript) -> None:
+        self.history, self.units, self.plain = history, units, plain
 
     def __getattr__(self, name: str) -> Any:
         return getattr(self.history, name)
@@ -70,8 +70,12 @@ class UnitHistory:
 
     @property
     def ahead(self) -> int:
-        """How many units the simulator itself can perform again."""
-        return self.units.count(self.history.position + self.history.ahead) - self.position
+        """How many units are ahead in the plain script too."""
+        return self.units.count(self.history.position + self.plain.history.ahead) - self.position
+
+    def over(self, actions: int) -> int:
+        """As that of a history, in units."""
+        return self.position - self.units.whole(self.history.position - actions)
 
     def back_over(self, turns: int) -> int:
         """As that of a history, in units."""

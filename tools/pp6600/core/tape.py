@@ -299,6 +299,10 @@ class History:
         """Returns how many actions ahead have the first so many turns."""
         return self.tape.at_turn(self.turns + turns) - self.position if turns else 0
 
+    def over(self, actions: int) -> int:
+        """Returns how many actions, as BACK counts them, have so many of the tape."""
+        return actions
+
     # ---- what the simulator did
 
     def restarted(self) -> None:

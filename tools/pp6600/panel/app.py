@@ -6,6 +6,7 @@ import re
 import time
 
 from ..core.forms import KINDS
+from ..device import DeviceFailure
 from ..failure import Failure
 from ..keyboard import FIRST_WORDS, card
 from ..timeline import REPLAYED
@@ -18,7 +19,7 @@ from .page import Page
 from .pictures import PicturePage, devices_that
 from .prompt import Prompt
 from .remarks import in_width, remarks
-from .search import MOST_NEW, Stopped, last_before, next_found
+from .search import Stopped, last_before, next_found
 from .screen import LEAST_COLUMNS, LEAST_ROWS, Shown, is_too_small, layout, log_lines, screen
 from .text import Line
 from .view import ARROWS, View
@@ -68,7 +69,7 @@ class Panel:
         whole = self.guard(self.session.perform_script, lines, self.stops)
         if whole and turn is not None:
             self.go_to_turn(f"{turn:o}")
-        elif self.fault is None:
+        elif whole is not None and self.fault is None:
             self.message = "" if whole else f"the script was stopped after {len(self.session.sent)} (decimal) lines"
         self.see()
 
@@ -229,13 +230,16 @@ class Panel:
     # ---- lines
 
     def guard(self, function, *words):
-        """Calls a function that needs the simulator, and returns what it returns, or None if the simulator fails."""
+        """Calls a function that needs the simulator, and returns what it returns, or None if the simulator or a device fails."""
         try:
             return function(*words)
+        except DeviceFailure as failure:
+            self.guard(self.session.look_again)
+            self.message = self.message if self.fault else str(failure)
         except Failure as failure:
             self.fault = str(failure)
             self.message = self.last_words()
-            return None
+        return None
 
     def last_words(self):
         """Returns what can still be done after the simulator failed, and why it did."""
@@ -327,7 +331,7 @@ class Panel:
 
     def go_until(self, text):
         """Goes on to the next turn at which a condition comes to hold."""
-        self.go_to_found(next_found, text, f"in turns {self.session.history.turns + 1:o} to {self.session.history.last_turn + MOST_NEW:o}")
+        self.go_to_found(next_found, text, f"in turns {self.session.history.turns + 1:o} to {self.session.history.last_turn + self.session.most_new:o}")
 
     def go_back_until(self, text):
         """Goes back to the last such turn before the present one."""
