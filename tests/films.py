@@ -25,6 +25,8 @@ LOADER, CARDS = "examples/overwritten-loader", "exercises/dead-start-from-cards"
 # The films of docs/films, each with the options and the files of its script.
 SHOWN = {
     "handshake": ((), ("examples/handshake/script",)),
+    "console-display": (("--device", "console_display@10", "--source", "0", "examples/console-display/display.pp"),
+                        ("examples/console-display/script",)),
     "overwritten-loader": (("--source", "0", f"{LOADER}/loader.pp", "--deck", f"{LOADER}/deck"), (f"{LOADER}/script",)),
     "dead-start-from-cards": (("--panel", f"{CARDS}/solution/panel", "--deck", f"{CARDS}/deck"),
                               (f"{CARDS}/script", f"{CARDS}/check")),

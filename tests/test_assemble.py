@@ -296,7 +296,8 @@ class Programs(Case):
 
 # Each source beside a script: the processor, and the file with its words.
 SOURCES = {
-    "examples/clock/clock.pp": (0, "script"), "examples/dead-start/panel.pp": (None, "panel"),
+    "examples/clock/clock.pp": (0, "script"), "examples/console-display/display.pp": (0, "script"),
+    "examples/dead-start/panel.pp": (None, "panel"), "examples/magnetic-tape/copy.pp": (0, "stdin"),
     "examples/first-steps/first-steps.pp": (0, "script"), "examples/handshake/answers.pp": (1, "script"),
     "examples/handshake/asks.pp": (0, "script"),
     "examples/loop/loop.pp": (0, "script"), "examples/overwritten-loader/loader.pp": (0, "script"),

@@ -1,282 +1,21 @@
-"""Devices of one's own. A session with devices is compared with a definition of what it is: `Definition`.
+"""Devices of one's own.
 
     PP6600_DEVICES=SEED:COUNT   makes COUNT random sessions from seed SEED on. The default is 0:4
 """
 
 import os
-import random
 import unittest
 from unittest import mock
 
+from tests.device_law import DUMPS, PANEL, FewStates, first_difference
 from tests.support import Case, add_tests, program
 
-from pp6600 import EMPTY, INACTIVE, NOTHING, Attached, Console, Device, Failure, full
+from pp6600 import INACTIVE, NOTHING, Attached, Device, Failure, full
 from pp6600 import attached, looks
-from pp6600.cells import set_lines
+from pp6600.core.tape import ReplyLine
 from pp6600.device import Chain, Event, Reply, chain_of, is_value, looked
 from pp6600.devices.paper_tape import PaperTape
-
-STEP = "STEP"
-OTHER_CHANNEL = 7  # without a device
-PANEL = "100 100" + 10 * " 0"  # a jump to cell 0100
-DUMPS = [f"DUMP {what}" for n in range(10) for what in (f"PP {n:o}", f"M {n:o} 0 777")]
-DUMPS += ["DUMP H", "DUMP C 0 77", "DUMP LP", "DUMP W"]
-METHODS = {"X": "function", "F": "word", "I": "disconnected"}
-
-
-class Definition:
-    """What a session with devices is. A fresh simulator performs the units in effect, one after the other. After each turn each
-    device, in its order, looks at its channel. A unit is the line of an action, or a pair: the number of a device and what it is
-    told."""
-
-    def __init__(self, words, devices, units=()):
-        self.console, self.devices = Console(words), devices
-        self.states = [device.start for device in devices]
-        self.seen, self.due = ["I 0000"] * len(devices), [None] * len(devices)
-        self.turn, self.hits, self.script, self.positions = 0, [], [], [0]
-        for unit in units:
-            self.perform(unit)
-
-    def perform(self, unit):
-        """Performs a unit, and notes its HIT."""
-        self.hits.append(None)
-        if unit == STEP:
-            self.make_turn()
-        elif isinstance(unit, tuple):
-            number, what = unit
-            self.act(f"SET Q 0 {self.console.registers(0)['Q']}")
-            self.call(number, "told", what)
-        else:
-            self.act(unit)
-        self.positions.append(len(self.script))
-
-    def act(self, line):
-        """Performs an action that is no turn."""
-        assert self.console.ask(line) == ["OK"], line
-        self.script.append(line)
-
-    def make_turn(self):
-        watches, turn, rows = self.console.ask_each(["DUMP W", STEP, "DUMP H"])
-        watched = [line[2:] for line in watches]
-        hits = {place: hit for hit in turn[1:] for place in watched if hit.startswith(f"HIT {place} ")}
-        self.script.append(STEP)
-        self.turn += 1
-        for number, device in enumerate(self.devices):
-            now, place = rows[device.channel][5:], rows[device.channel][:4]
-            if now != self.seen[number]:
-                kind = METHODS.get(now[0]) or ("activated" if self.seen[number][0] == "I" else "taken")
-                self.seen[number] = now
-                self.call(number, kind, int(now[2:], 8))
-            elif self.due[number] is not None and self.due[number] <= self.turn:
-                self.due[number] = None
-                self.call(number, "due", int(now[2:], 8))
-            new = self.seen[number][2:]
-            if new != now[2:] and place in watched:
-                hits[place] = f"HIT {place} {now[2:]} {new}"
-        self.hits[-1] = next((hits[place] for place in watched if place in hits), None)
-
-    def call(self, number, kind, word):
-        """Calls a method of a device, and performs its reply."""
-        device = self.devices[number]
-        self.states[number], reply = getattr(device, kind)(self.states[number], Event(kind, word, self.turn))
-        if reply.wake is not None:
-            self.due[number] = self.turn + reply.wake
-        if reply.state is not None:
-            self.act(f"SET H {device.channel:o} {reply.state}" + ("" if reply.word is None else f" {reply.word:o}"))
-            self.seen[number] = self.console.channel(device.channel)
-
-
-class RandomDevice(Device):
-    """A device whose replies are chosen by its state and the event, the likely one most often. If it does nothing, it does
-    something later, so it does not hang."""
-
-    def __init__(self, seed, channel):
-        self.seed, self.channel, self.start = seed, channel, (seed, 0)
-
-    def react(self, state, event):
-        number, count = state
-        number = (number * 5 + (event.word or 0) + event.turn + len(event.kind)) % 8191
-        words = full(number % 4096), full(event.turn % 4096)
-        likely = {"function": INACTIVE, "word": EMPTY, "activated": words[0], "taken": words[1], "due": words[0], "told": NOTHING}
-        reply = likely.get(event.kind, NOTHING)
-        choice = (number // 3 + self.seed) % 16
-        if choice == 0:
-            reply = (INACTIVE, EMPTY, NOTHING, words[1])[number % 4]
-        if choice in (1, 2) and event.kind != "due":
-            reply = NOTHING
-        return (number, count + 1), reply.waking(number % 40 + 1) if reply.state is None or choice in (3, 4) else reply
-
-    function = word = activated = taken = disconnected = due = told = react
-
-
-def random_program(choose, channels, is_rescue):
-    """Returns the words of a loop from cell 0100 on. It looks at a channel before it uses it, so it seldom waits; one that rescues
-    disconnects channels, so that others do not wait for ever."""
-    words = []
-    for at in range(choose.randint(3, 8)):
-        c, here = channels[at % len(channels)], 0o100 + len(words)
-        code = [0o7700 + c, choose.randint(0, 3)] if c != OTHER_CHANNEL else []
-        begin = [0o6400 + c, here + len(code) + 3, *code, 0o7400 + c]
-        use = begin if at < len(channels) else choose.choice((
-            begin,
-            [0o6500 + c, here + 5, 0o6700 + c, here + 5, 0o7000 + c], [0o6500 + c, here + 5, 0o6600 + c, here + 5, 0o7200 + c],
-            [0o6500 + c, here + 5, 0o1400 + choose.randint(1, 9), 0o7100 + c, 0o300],
-            [0o6500 + c, here + 5, 0o1400 + choose.randint(1, 9), 0o7300 + c, 0o100], [0o3420, 0o3620]))
-        words += [0o6500 + c, here + 3, 0o7500 + c] if is_rescue else use
-        words += [0o1400 + choose.randint(1, 8), 0o1701, 0o0576] if is_rescue or choose.random() < 0.1 else []
-    return [*words, 0o0100, 0o100]
-
-
-class FewStates(Attached):
-    """A session that keeps few states, and works out the others anew."""
-
-    exact_states, every_state = 5, 4
-
-
-class Session:
-    """A random session beside the units that are in effect by the words of the page."""
-
-    def __init__(self, seed, panel):
-        self.choose = choose = random.Random(seed)
-        channels = choose.sample([0, 1, 5, 0o11, 0o10], choose.randint(1, 3))
-        self.devices = [RandomDevice(choose.randrange(4000), channel) for channel in channels]
-        self.channels = [*channels, OTHER_CHANNEL]
-        self.words = [program(), "--panel", panel, "--history", str(choose.choice((1, 2, 7, 40, 300, 10000)))]
-        self.session = choose.choice((Attached, FewStates))(self.words, self.devices)
-        if choose.random() < 0.3:
-            self.session.most_lines = 12000  # so it goes on in fresh simulators
-        self.units, self.position = [], 0  # in effect and ahead
-        for at, number in enumerate(choose.sample(range(10), choose.choice((2, 4, 10)))):
-            for line in set_lines(number, 0o100, [f"{word:04o}" for word in random_program(choose, self.channels, at == 0)]):
-                self.act(line)
-            self.act(f"SET P {number:o} 100")
-
-    def act(self, line):
-        """Performs an action in the session. A watch may be refused."""
-        answer = self.session.act(line)
-        assert answer == ["OK"] or "WATCH" in line, (line, answer)
-        if answer == ["OK"]:
-            self.add(line)
-
-    def add(self, unit, times=1):
-        self.units[self.position:] = [unit] * times
-        self.position += times
-
-    def move(self):
-        """Makes one random move. Returns what it did, to be compared."""
-        choose, most = self.choose, self.choose.choice((3, 30, 300, 600))
-        moves = {"step": 40, "back": 15, "forward": 12, "back w": 6, "set": 12, "watch": 8, "dead start": 1, "tell": 6}
-        name = choose.choices(list(moves), list(moves.values()))[0]
-        return name, getattr(self, name.replace(" ", "_"))(most)
-
-    def step(self, most):
-        answer = self.session.act(f"STEP {self.choose.randint(1, most):o}")
-        turns = int(answer[0].split()[1], 8)
-        self.add(STEP, turns)
-        return turns, answer[1:]
-
-    def back(self, most):
-        count = self.choose.randint(1, max(min(most, self.position), 1))
-        answer = self.session.act(f"BACK {count:o}")
-        self.position -= count if answer[0].startswith("BACK") else 0
-        return count, answer
-
-    def forward(self, most):
-        count = self.choose.randint(1, max(min(most, len(self.units) - self.position), 1))
-        answer = self.session.act(f"FORWARD {count:o}")
-        self.position += count if answer[0].startswith("FORWARD") else 0
-        return count, answer
-
-    def back_w(self, _):
-        before, kept, oldest = self.position, self.units[:self.position], self.session.history.oldest
-        answer = self.session.act("BACK W")
-        count = int(answer[0].split()[1], 8) if answer[0].startswith("BACK") else 0
-        self.position -= count
-        return before, kept, oldest, answer, count
-
-    def set(self, _):
-        n, channel = self.choose.randrange(10), self.choose.choice(self.channels)
-        state, word = self.choose.choice("IEF"), self.choose.randrange(4096)
-        lines = f"SET H {channel:o} {state} {word:o}", f"SET A {n:o} 3", f"SET P {n:o} 100", f"SET M {n:o} 300 {word:o}"
-        self.act(self.choose.choice(lines))
-
-    def watch(self, _):
-        places = [*(f"H {channel:o}" for channel in self.channels), "H 14", "A 0", f"P {self.choose.randrange(10):o}"]
-        place = self.choose.choice(places)
-        self.act(f"{self.choose.choice(('WATCH', 'UNWATCH'))} {place}")
-
-    def dead_start(self, _):
-        self.act("DEADSTART")
-
-    def tell(self, _):
-        what = self.choose.randrange(4000)
-        number = self.choose.randrange(len(self.devices))
-        self.session.tell(number, what)
-        self.add((number, what))
-
-
-def difference(session, move):
-    """Returns how a session differs from its definition after a move; None if it does not."""
-    defined = Definition(session.words[:3], session.devices, session.units[:session.position])
-    name, result = move
-    try:
-        if name == "step":
-            turns, hit = result
-            hits = defined.hits[session.position - turns:session.position]
-            if any(hits[:-1]) or [hits[-1]] * bool(hits[-1]) != hit:
-                return f"HIT {hits}, and not {hit}"
-        if name == "back w" and (fault := fault_of_back_w(session, *result)):
-            return fault
-        states = [session.session.state(number) for number in range(len(session.devices))]
-        if states != defined.states or session.session.turn != defined.turn or session.session.unit != session.position:
-            return f"the states are {states}, and not {defined.states}; turn {session.session.turn:o}, {defined.turn:o}"
-        for line in DUMPS:
-            if session.session.act(line) != defined.console.ask(line):
-                return f"{line}: {session.session.act(line)}, and not {defined.console.ask(line)}"
-        return fault_of_script(session, defined)
-    finally:
-        defined.console.close()
-
-
-def fault_of_back_w(session, before, units, oldest, answer, count):
-    """Returns what is wrong in the answer to BACK W before which these units were in effect."""
-    defined = Definition(session.words[:3], session.devices, units)
-    wanted = defined.console.ask("BACK W")
-    defined.console.close()
-    if not wanted[0].startswith("BACK"):
-        return None if answer == wanted else f"BACK W: {answer}, and not {wanted}"
-    place = defined.positions[-1] - int(wanted[0].split()[1], 8)
-    if answer == ["ERR 10 NO CHANGE KEPT"]:
-        return None if place < oldest else f"BACK W: {answer}, and the change is kept"
-    goal = max(unit for unit, position in enumerate(defined.positions) if position <= place)
-    return None if before - count == goal else f"BACK W: to {before - count}, and not {goal}"
-
-
-def fault_of_script(session, defined):
-    """Returns what is wrong in the saved script: alone it must make the same machine in as many turns."""
-    console = Console(session.words[:3])
-    answers = list(console.ask_each(session.session.save()))
-    turns = sum(int(answer[0].split()[1], 8) for answer in answers if answer[0].startswith("TURNS "))
-    try:
-        if turns != defined.turn:
-            return f"the script has {turns} turns, and not {defined.turn}"
-        return next((f"the script: {line}" for line in DUMPS if console.ask(line) != defined.console.ask(line)), None)
-    finally:
-        console.close()
-
-
-def first_difference(seed, panel, moves=40):
-    """Returns the first difference of a random session; None if there is none."""
-    session = Session(seed, panel)
-    try:
-        for number in range(moves):
-            move = session.move()
-            if session.choose.random() < 0.2 or number == moves - 1:
-                if fault := difference(session, move):
-                    return f"seed {seed}, move {number}, {move[0]}: {fault}"[:2000]
-        return None
-    finally:
-        session.session.close()
+from pp6600.units import Units
 
 
 class Law(Case):
@@ -287,9 +26,19 @@ class Law(Case):
             self.assertIsNone(first_difference(number, panel))
 
 
+# Parts of the right session, which wrong ones call.
+ENDS, REACT, AFTER, PLAN = looks.ends_of_looks, looks.Planner.react, looks.Planner.after, looks.Planner.plan
+PERFORM, PERFORM_LINE, TOLD, ANEW, IS_ZERO = (
+    Attached._perform, Attached._perform_line, Attached._told, Attached._values_anew, Attached._is_zero)
+
+
 def without_dues(device, value, now, turn):
     """Looks as `looked`, but nothing is due."""
     return looked(device, value._replace(due=None), now, turn)
+
+
+def one_turn_late(slot, awake):
+    return tuple(turn + 1 for turn in ENDS(slot, awake))
 
 
 def after_without_quiet_replies(planner, moment, seen, looks, turns):
@@ -298,30 +47,125 @@ def after_without_quiet_replies(planner, moment, seen, looks, turns):
     return AFTER(planner, moment, rows if turns > 3 else seen, looks, turns)
 
 
-AFTER = looks.Planner.after
-# Wrong sessions, each by what it does instead of a part of the right one: it must differ from the definition.
+def last_device_first(planner, values, seen, turn):
+    new, replies = REACT(planner, values, seen, turn)
+    return new, replies[::-1]
+
+
+def with_the_same_states(session, word, count, position):
+    """Goes to a position, as `_arrive`, but the devices stay as they are."""
+    session.goto(position)
+    return [f"{word} {count:o} SLOT {session.next_slot:02o}"]
+
+
+def back_to_inside(session, answer):
+    """Goes back by BACK W to where the simulator is then."""
+    if answer[0].startswith("BACK "):
+        here = session.unit
+        session.history.moved(-int(answer[0].split()[1], 8))
+        return session._arrive("BACK", here - session.unit, session.position)
+    return answer
+
+
+def back_within_history(session, count):
+    """Goes back as the simulator alone, by what it keeps."""
+    if count > session.counts.kept:
+        return [attached.TOO_FEW_KEPT]
+    return session._arrive("BACK", count, session.units.position(session.unit - count))
+
+
+def nearest_that_is_kept(session, entry):
+    return session.states.values[session.states.kept_before(entry)]
+
+
+def anew_without_told(session, entry):
+    session.told.clear()
+    return ANEW(session, entry)
+
+
+def told_with_a_look(session, number, what, values):
+    """Tells a device something, which then knows its channel as it is."""
+    new, replies = TOLD(session, number, what, values)
+    rows = session._rows_of_devices()
+    return tuple(one if replies else one._replace(seen=row) for one, row in zip(new, rows)), replies
+
+
+def refused_is_performed(session, line):
+    """Takes a SET H as performed, whatever the answer is."""
+    answer = PERFORM_LINE(session, line)
+    if answer[0].startswith("ERR") and line.startswith("SET H"):
+        session._begin_action()
+        session.history.added(line)
+    return answer
+
+
+def unseen(word):
+    """Returns what performs a line as `_perform_line`, but no device sees what a line with this word did."""
+    def perform(session, line):
+        answer = PERFORM_LINE(session, line)
+        if answer == ["OK"] and line.startswith(word):
+            rows = session._rows_of_devices()
+            session._note(tuple(value._replace(seen=row) for value, row in zip(session.values, rows)), ())
+        return answer
+    return perform
+
+
+def without_replies(session, actions):
+    """Performs actions of the tape anew, but for the replies."""
+    kept = [action for action in actions if not isinstance(action.line, ReplyLine)]
+    lines = PERFORM(session, kept)
+    session.history.performed(sum(action.times for action in actions) - sum(action.times for action in kept))
+    return lines
+
+
+def zeros_for_ever(session, number):
+    """Returns whether a memory has zeros alone, or had once."""
+    known = vars(session).setdefault("known", {})
+    return known.setdefault(number, IS_ZERO(session, number))
+
+
+def plan_beyond_history(planner, moment, left, most_looks, ahead, most):
+    return PLAN(planner, moment, left, most_looks, 1000, most)
+
+
+# Wrong sessions, each by what it does instead of a part of the right one: it must differ from the definition. The number is the first
+# seed with a session that does.
 WRONG = {
-    "replies are units": (attached.Units, "position", lambda self, units: units),
-    "replies ahead are remembered": (attached.Units, "cut", lambda self, units: None),
-    "states ahead are remembered": (attached.States, "cut", lambda self, position: None),
-    "the first state is that of every position": (attached.States, "entry", lambda self, position: 0),
-    "nothing is due": (looks, "looked", without_dues),
-    "no sleeper wakes": (looks.Sleepers, "woken", lambda self, *rows: 0),
-    "a change is seen at the end of a leg": (attached.Check, "first_change", lambda self, channel, row, count: count),
-    "a device does not look again": (looks.Planner, "after", after_without_quiet_replies),
-    "what was wrong is not taken back": (attached.Check, "take_back", lambda self: None),
+    "replies are units": (0, Units, "position", lambda self, units: units),
+    "replies ahead are remembered": (0, Units, "cut", lambda self, units: None),
+    "states ahead are remembered": (0, attached.States, "cut", lambda self, position: None),
+    "the first state is that of every position": (0, attached.States, "entry", lambda self, position: 0),
+    "a device keeps its state when all goes back": (0, Attached, "_arrive", with_the_same_states),
+    "a state that was not kept is that before it": (0, Attached, "_values_anew", nearest_that_is_kept),
+    "what a device was told is lost in a replay": (0, Attached, "_values_anew", anew_without_told),
+    "a device that is told something looks at its channel": (0, Attached, "_told", told_with_a_look),
+    "BACK W goes to inside a unit": (0, Attached, "_back_to_unit", back_to_inside),
+    "BACK goes back over what is kept alone": (0, Attached, "_back", back_within_history),
+    "a SET H that is refused is an action": (0, Attached, "_perform_line", refused_is_performed),
+    "a SET of a channel is not looked at": (0, Attached, "_perform_line", unseen("SET H")),
+    "a DEADSTART is not looked at": (0, Attached, "_perform_line", unseen("DEADSTART")),
+    "a fresh simulator gets no replies": (0, Attached, "_perform", without_replies),
+    "looks ahead push out what is kept": (0, looks.Planner, "plan", plan_beyond_history),
+    "memories of zeros stay so": (0, Attached, "_is_zero", zeros_for_ever),
+    "nothing is due": (0, looks, "looked", without_dues),
+    "no sleeper wakes": (0, looks.Sleepers, "woken", lambda self, *rows: 0),
+    "looks are one turn late": (0, looks, "ends_of_looks", one_turn_late),
+    "the last device looks first": (0, looks.Planner, "react", last_device_first),
+    "a change is seen at the end of a leg": (0, attached.Check, "first_change", lambda self, channel, row, count: count),
+    "a device does not look again": (0, looks.Planner, "after", after_without_quiet_replies),
+    "what was wrong is not taken back": (0, attached.Check, "take_back", lambda self: None),
+    "the HIT of a reply is no HIT": (0, attached.Check, "hit_of", lambda self, seen, after: self.hit),
 }
-FIRST_SEEDS = {"states ahead are remembered": 16}  # where many sessions do not differ
 
 
 class WrongSessions(Case):
-    """Sessions that are wrong differ from the definition within some seeds."""
+    """Sessions that are wrong differ from the definition."""
 
 
-def check_wrong(case, named):
-    name, wrong = named
-    panel, first = case.file(PANEL), FIRST_SEEDS.get(name, 0)
-    with mock.patch.object(*wrong):
+def check_wrong(case, wrong):
+    first, *patch = wrong
+    panel = case.file(PANEL)
+    with mock.patch.object(*patch):
         for seed in range(first, first + 40):
             try:
                 if first_difference(seed, panel, moves=20):
@@ -331,7 +175,7 @@ def check_wrong(case, named):
     case.fail("it is as defined")
 
 
-add_tests(WrongSessions, check_wrong, ((name, (name, wrong)) for name, wrong in WRONG.items()))
+add_tests(WrongSessions, check_wrong, WRONG.items())
 
 
 class Echo(Device):
@@ -394,6 +238,68 @@ class Refusals(Case):
             self.assertIn(message, str(caught.exception))
             self.assertEqual((before, 2, ()), ([session.act(line) for line in DUMPS], session.unit, session.state()))
             self.assertEqual(["BACK 2 SLOT 00"], session.act("BACK 2"))
+
+    def test_what_is_ahead_stays_when_a_device_fails(self):
+        session = self.begun(Echo(), code=0)
+        # The second instruction becomes an FNC too, whose code makes the device fail in the second turn of PP 00.
+        for line in "SET M 0 102 7711 77", "STEP 3", "SET A 0 5", "WATCH H 11", "STEP 1":
+            session.act(line)
+        before = session.save(), session.sent[:]
+        session.act("BACK 3")
+        with self.assertRaises(Failure):
+            session.act("STEP 20")
+        self.assertEqual((["FORWARD 3 SLOT 04"], before[0]), (session.act("FORWARD 3"), session.save()))
+        self.assertEqual([*before[1], "BACK 3", "FORWARD 3"], session.sent)
+
+
+class Notes(Device):
+    """A device whose state has each event."""
+
+    start = ()
+
+    def note(self, state, event):
+        return (*state, event), INACTIVE if event.kind == "function" else NOTHING
+
+    function = word = activated = taken = disconnected = told = note
+
+
+class Sleepers(Case):
+    """Processors whose memory has zeros alone pass for ever, and need no look."""
+
+    LINES = ("STEP 10000", "SET M 1 1000 7411", "STEP 10000", "STEP 200", "BACK 10200", "STEP 10200")
+
+    def events(self, lines, kind=Attached):
+        session = kind([program()], [Notes()])
+        self.addCleanup(session.close)
+        session.act("SET M 0 0 300")
+        for line in lines:
+            session.act(line)
+        return session.state()
+
+    def test_zeros(self):
+        # At 1000 (octal) PP 01 activates channel 11, in its 1001st turn. That is turn 12 * 1000 + 2 (octal).
+        self.assertEqual((Event("activated", 0, 0o12 * 0o1000 + 2),), self.events(("SET M 1 1000 7411", "STEP 20000")))
+        # The memory is looked at again after a SET, though it had zeros once. Then the turn is the same after 10000 (octal) turns.
+        self.assertEqual((Event("activated", 0, 0o12002),), self.events(("STEP 10000", "SET M 1 1000 7411", "STEP 10000")))
+        self.assertEqual((Event("activated", 0, 0o12002),), self.events(self.LINES))
+
+    def test_zeros_are_not_looked_at(self):
+        with mock.patch.object(looks, "ends_of_looks", wraps=looks.ends_of_looks) as ends:
+            self.assertEqual((), self.events(("STEP 20000",)))
+        self.assertEqual({0}, {awake for _, awake in (call.args for call in ends.call_args_list)})
+
+
+class Told(Case):
+    def test_replay(self):
+        """What a device was told is told again when a state is worked out anew."""
+        session = FewStates([program()], [Notes()])
+        self.addCleanup(session.close)
+        for what in range(0o50):
+            session.tell(0, what)
+        for count in range(1, 0o50):
+            session.act("BACK 1")
+            self.assertEqual(list(range(0o50 - count)), [event.word for event in session.state()])
+        self.assertEqual(["ERR 07 TOO FEW KEPT"], session.act("BACK 2"))
 
 
 class Paper(Case):

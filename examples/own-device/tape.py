@@ -2,6 +2,7 @@
 """A paper tape reader on channel 11, a device of one's own.
 
     examples/own-device/tape.py ./pp6600 TAPE <SCRIPT
+    tools/talk --device examples/own-device/tape.py:TapeReader:TAPE@11 SCRIPT
 
 Function code 0001 starts it: the channel becomes inactive. Then each byte of TAPE is put on the channel when that is empty, and
 at the end of the tape the channel becomes inactive. The script may go back and forward: the tape goes with it.
@@ -25,8 +26,9 @@ class State(NamedTuple):
 class TapeReader(Device):
     channel, start = 0o11, State()
 
-    def __init__(self, tape):
-        self.tape = tape
+    def __init__(self, path):
+        with open(path, "rb") as file:
+            self.tape = file.read()
 
     def function(self, state, event):
         return (state._replace(is_reading=True), INACTIVE) if event.word == START else (state, NOTHING)
@@ -41,8 +43,8 @@ class TapeReader(Device):
     taken = activated
 
 
-with open(sys.argv[2], "rb") as file:
-    session = Attached(sys.argv[1:2], [TapeReader(file.read())])
-for line in sys.stdin.read().splitlines():
-    print(*[f"> {line}", *session.act(line)], sep="\n")
-sys.exit(session.end())
+if __name__ == "__main__":  # not if a tool reads this file
+    session = Attached(sys.argv[1:2], [TapeReader(sys.argv[2])])
+    for line in sys.stdin.read().splitlines():
+        print(*[f"> {line}", *session.act(line)], sep="\n")
+    sys.exit(session.end())

@@ -13,47 +13,22 @@ import bisect
 import re
 from typing import Any, Dict, List, Optional, Sequence, Tuple
 
-from .core.forms import CELLS, CHANNELS, MOST_TURNS, PROCESSORS, cells_dump, registers_dump, registers_of
+from .core.forms import CELLS, CHANNELS, MOST_TURNS, PROCESSORS, cells_dump, is_refusal, registers_dump, registers_of
 from .core.simulator import LONGEST_LINE, MARK, Simulator
-from .core.tape import STEP
+from .core.tape import REPLY, STEP, ReplyLine
 from .core.turn import Processor, states_of
 from .device import Device, DeviceFailure, Event, called, is_value, value_at_start
 from .failure import Failure
 from .looks import MOST_LOOKS, Leg, Moment, Planner, Rows, Sleepers, Values, lines_of_looks
+from .timeline import REPLAYED
+from .units import PlainScript, UnitHistory, Units
 
 COUNTED = re.compile(r"[ \t]*(STEP|BACK|FORWARD)(?:[ \t]+0*([1-7][0-7]{0,6}))?[ \t\r]*", re.I)
 BACK_W = re.compile(r"[ \t]*BACK[ \t]+W[ \t\r]*", re.I)
 TOO_FEW_KEPT, TOO_FEW_AHEAD = "ERR 07 TOO FEW KEPT", "ERR 16 TOO FEW AHEAD"
+MOST_NAME = 60  # letters
 LINES_OF_LOOK = 1 + CHANNELS + 1  # TURNS, and the channels with the clock
 Replies = Tuple[str, ...]
-
-
-class Units:
-    """Which actions of a tape are replies, and so no units of their own."""
-
-    def __init__(self) -> None:
-        self.of_replies: List[int] = []  # of each reply the number of units up to it
-
-    def position(self, units: int) -> int:
-        """Returns the position after so many units, with their replies."""
-        return units + bisect.bisect_right(self.of_replies, units)
-
-    def count(self, position: int) -> int:
-        """Returns how many units are whole at a position, or begun: those whose own action is before it."""
-        low, high = 0, len(self.of_replies)  # how many replies are before the position
-        while low < high:
-            middle = (low + high) // 2
-            low, high = (middle + 1, high) if self.of_replies[middle] + middle + 1 <= position else (low, middle)
-        return position - low
-
-    def whole(self, position: int) -> int:
-        """Returns how many units are whole at a position."""
-        units = self.count(position)
-        return units if self.position(units) == position else units - 1
-
-    def cut(self, units: int) -> None:
-        """Forgets the replies after so many units."""
-        del self.of_replies[bisect.bisect_right(self.of_replies, units):]
 
 
 class States:
@@ -92,11 +67,17 @@ class States:
         self.folded = min(self.folded, end)
 
 
+def names_of(devices: Sequence[Device]) -> Dict[int, str]:
+    """Returns the names of devices by their channels: those of their classes, as a note of the console may have them."""
+    return {device.channel: type(device).__name__.encode("ascii", "replace").decode()[:MOST_NAME] for device in devices}
+
+
 class Attached(Simulator):
-    """A simulator with devices."""
+    """A simulator with devices. A front end can take it in the place of a Timeline."""
 
     most_ahead = 1000  # actions that are sent before an answer is read
     exact_states, every_state = 20000, 1000
+    turns_for_zeros = CELLS  # a STEP of so many is worth a look whether memories have zeros alone
 
     def __init__(self, words: Sequence[str] = (), devices: Sequence[Device] = ()) -> None:
         """Begins a session with devices, no two of them on one channel."""
@@ -109,7 +90,10 @@ class Attached(Simulator):
             self.close()
             raise
         self.units, self.states = Units(), States(self.values, self.exact_states, self.every_state)
-        self.stops: List[int] = []  # the positions after turns with a HIT, where the STEP of a script ends
+        self.plain = PlainScript(self.history.room, self.tape)
+        self.counts = UnitHistory(self.history, self.units, self.plain)
+        self.names = names_of(self.devices)
+        self.reply_lines: Dict[str, ReplyLine] = {}
         self.told: Dict[int, Tuple[int, Any]] = {}  # the number of a device and what it was told, by the position after it
         self.planner = Planner(self.devices)
         self.zeros: Dict[int, bool] = {}  # whether a processor has zeros alone, as far as is known
@@ -138,17 +122,42 @@ class Attached(Simulator):
         """How many units are in effect."""
         return self.units.count(self.position)
 
+    @property
+    def sent(self) -> List[str]:
+        """A script for the simulator alone that gives the session again, with what was taken back and the dumps. Lines that were refused
+        are left out. After `replays` it begins anew."""
+        return self.plain.lines
+
+    @property
+    def replays(self) -> int:
+        """How often `sent` has begun anew."""
+        return self.plain.times_anew
+
     def save(self) -> List[str]:
         """Returns a script for the simulator alone that makes the present machine. Its turns are those of the session."""
-        ends = [0, *self.stops[:bisect.bisect_left(self.stops, self.position)], self.position]
-        return [line for first, last in zip(ends, ends[1:]) for line in self.tape.lines(first, last)]
+        return list(self.plain.part(0, self.position))
 
     # ---- lines of the user
 
     def act(self, line: str, dumps: Sequence[str] = ()) -> List[str]:
         """Performs a line of any kind. Returns the lines of its answer, and of the answers to dumps as `Simulator.act`."""
-        answer = self._perform_line(line)
+        before = self.position
+        try:
+            answer = self._perform_line(line)
+        except DeviceFailure:
+            self.goto(before)
+            raise
+        if self.position != before:
+            self.plain.go(self.position)
+        elif not is_refusal(answer):
+            self.plain.lines.append(line)
         return answer + self.ask_all([*dumps, MARK]) if dumps else answer
+
+    def act_by_move(self, line: str) -> List[str]:
+        """As `act`, in which BACK and FORWARD have no limit anyway. Says also whether `sent` has begun anew."""
+        replays = self.replays
+        answer = self.act(line)
+        return [*answer, REPLAYED] if self.replays > replays else answer
 
     def _perform_line(self, line: str) -> List[str]:
         asked = COUNTED.fullmatch(line) if len(line) <= LONGEST_LINE else None
@@ -162,7 +171,7 @@ class Attached(Simulator):
             return self._back_to_unit(answer)
         if answer == ["OK"]:
             self._begin_action()
-            self.history.added(line.strip())
+            self.history.added(line)
         return answer
 
     def tell(self, number: int, what: Any) -> None:
@@ -176,6 +185,7 @@ class Attached(Simulator):
         self.told[self.position] = number, what
         self._note(values, replies)
         self._perform_new(replies)
+        self.plain.go(self.position)
 
     def _told(self, number: int, what: Any, values: Values) -> Tuple[Values, Replies]:
         """Returns the values of the devices after one was told something, and its reply. It does not look at its channel."""
@@ -192,7 +202,7 @@ class Attached(Simulator):
             self.history.ahead = 0
             self.units.cut(self.unit)
             self.states.cut(self.position)
-            del self.stops[bisect.bisect_right(self.stops, self.position):]
+            self.plain.cut(self.position)
             self.told = {position: told for position, told in self.told.items() if position <= self.position}
 
     def _perform_new(self, lines: Sequence[str]) -> None:
@@ -200,7 +210,18 @@ class Attached(Simulator):
         if lines and self.ask_all([*lines, MARK])[:-1] != ["OK"] * len(lines):
             raise Failure(f"the simulator refuses {lines[0]}")
         for line in lines:
-            self.history.added(line)
+            self._added(line)
+
+    def _added(self, line: str) -> None:
+        """Notes a new action. One that sets a channel is the reply of the device there."""
+        self.history.added(self.reply_lines.get(line) or self._named(line))
+
+    def _named(self, line: str) -> str:
+        """Returns a line, as the reply of a device if it is one."""
+        if not line.startswith(REPLY):
+            return line
+        self.reply_lines[line] = ReplyLine(line, self.names[int(line.split()[2], 8)])
+        return self.reply_lines[line]
 
     def _note(self, values: Values, replies: Replies) -> None:
         """Notes what the devices are after the present unit, and their replies, which come next."""
@@ -261,13 +282,14 @@ class Attached(Simulator):
     # ---- turns
 
     def _step(self, turns: int) -> List[str]:
+        begin, ahead = self.position, Ahead(self)
         self._begin_action()
-        begin = self.position
         try:
             watched = [line[2:] for line in self.demand("DUMP W")] if self.may_watch else []
             made, hit = self._turns(turns, [] if watched == ["NONE"] else watched)
         except DeviceFailure:
             self._take_back(begin)
+            ahead.put_back(self)
             raise
         return [f"TURNS {made:o} SLOT {self.next_slot:02o}", *([hit] if hit else [])]
 
@@ -307,7 +329,7 @@ class Attached(Simulator):
         words = self.ask_all([*(cells_dump(n, place, place).line for n, place in enumerate(places)), MARK])
         for number, (one, row) in enumerate(zip(registers, words)):
             processor = Processor(one, row.split()[1:])
-            is_zero = not processor.phase and processor.words == ["0000"] and turns >= CELLS and self._is_zero(number)
+            is_zero = not processor.phase and processor.words == ["0000"] and turns >= self.turns_for_zeros and self._is_zero(number)
             found.add(number, processor, states, is_zero)
         return found
 
@@ -328,6 +350,31 @@ class Attached(Simulator):
         self.renew(len(lines) + 10)
         answers = self.ask_all([*lines, MARK])
         return Check(self, plan, answers, watched).run(moment)
+
+
+class Ahead:
+    """What is ahead in a session. If a device fails in a new action, it is put back."""
+
+    def __init__(self, session: Attached) -> None:
+        position, tape, states, plain = session.position, session.tape, session.states, session.plain
+        first = states.entry(position) + 1
+        self.actions = list(tape.actions(position, tape.end))
+        self.replies = session.units.of_replies[position - session.unit:]
+        self.at, self.values = states.at[first:], states.values[first:]
+        self.stops = plain.stops[bisect.bisect_right(plain.stops, position):]
+        self.told = {at: told for at, told in session.told.items() if at > position} if self.actions else {}
+        self.kept = plain.history.ahead
+
+    def put_back(self, session: Attached) -> None:
+        """Puts it back where it was. The session is at the position where it was then."""
+        for line, times in self.actions:
+            session.tape.append(line, times)
+        session.units.of_replies += self.replies
+        session.states.at += self.at
+        session.states.values += self.values
+        session.plain.stops += self.stops
+        session.plain.history.ahead = self.kept
+        session.told.update(self.told)
 
 
 class Check:
@@ -365,7 +412,7 @@ class Check:
             after, replies = self.planner.after(moment, seen, looks, turns)
         self.history.added(STEP, turns)
         if self.hit:
-            self.session.stops.append(self.session.position)
+            self.session.plain.stops.append(self.session.position)
         self.hit = self.hit_of(seen, after) if self.watched else None
         self.session._note(after.values, replies)
         return after, replies, not self.hit and turns == leg.ends[-1] and replies == leg.replies and after.looks_as(leg.after)
@@ -407,7 +454,7 @@ class Check:
     def take_replies(self, replies: Replies) -> None:
         """Notes replies that were sent after a leg."""
         for reply in replies:
-            self.history.added(reply)
+            self.session._added(reply)
         self.at += len(replies)
 
     def take_back(self) -> None:

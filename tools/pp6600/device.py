@@ -8,9 +8,10 @@ of these. So a session keeps each state by reference, and goes back to it."""
 from __future__ import annotations
 
 import enum
-from typing import Any, Iterable, List, NamedTuple, Optional, Tuple
+from typing import Any, Callable, Iterable, List, NamedTuple, Optional, Tuple
 
 from .failure import Failure
+from .pictures import Picture
 
 MOST_WORD = 0o7777
 
@@ -52,7 +53,9 @@ def full(word: int) -> Reply:
 
 class Device:
     """A device on a channel. A subclass overrides the methods for what it reacts to. A method may be called for a turn that is
-    then taken back, or with a word that does not come: it must depend on its arguments alone, and change nothing."""
+    then taken back, or with a word that does not come: it must depend on its arguments alone, and change nothing.
+
+    The option `--device NAME:WORD,..@CHANNEL` calls the constructor with the words, as texts, and then sets `channel`."""
 
     channel = 0o11
     start: Any = None  # its state at first
@@ -84,6 +87,10 @@ class Device:
     def told(self, state: Any, event: Event) -> Answer:
         """The user has done something to the device, as to press a key: event.word is what."""
         return state, NOTHING
+
+    def picture(self, state: Any) -> Optional[Picture]:
+        """Returns what the device shows in a state; None if it shows nothing."""
+        return None
 
 
 class Chain(NamedTuple):
@@ -137,6 +144,15 @@ def is_value(state: Any) -> bool:
     if type(state) in PLAIN or isinstance(state, enum.Enum):
         return True
     return isinstance(state, (tuple, frozenset)) and not hasattr(state, "__dict__") and all(map(is_value, state))
+
+
+def drawn(device: Device, state: Any, draw: Callable[[Picture], Any]) -> Any:
+    """Returns what a function makes of the picture of a device in a state; None if it shows nothing."""
+    try:
+        picture = device.picture(state)
+        return None if picture is None else draw(picture)
+    except Exception as error:
+        raise DeviceFailure(f"picture of {type(device).__name__} fails: {type(error).__name__}: {error}") from error
 
 
 class Value(NamedTuple):

@@ -6,9 +6,10 @@ import shutil
 import signal
 import sys
 
-from .ending import flush, write
-from .failure import Failure
 from .choice import ABOVE
+from .device import DeviceFailure
+from .ending import complain, flush, write
+from .failure import Failure
 from .script import Refusals
 from .shown import answer, show_answer
 from .text_files import input_lines, shown
@@ -87,25 +88,32 @@ def converse_at_terminal(run, transcript):
 
 
 def perform_typed(run, line, transcript):
-    """Performs a line that was typed, and shows what came of it. Returns whether it was refused."""
-    ahead, replays, sent = run.history.to_redo, run.replays, len(run.sent)
+    """Performs a line that was typed, and shows what came of it. Returns whether it was refused, or a device failed."""
+    ahead, place = run.counts.to_redo, place_of(run)
     asked = UNDO.fullmatch(line)
-    lines = run.act_by_move(f"{'BACK' if asked[1].lower() == 'undo' else 'FORWARD'} {asked[2] or 1}") if asked else run.act(line)
+    try:
+        lines = run.act_by_move(f"{'BACK' if asked[1].lower() == 'undo' else 'FORWARD'} {asked[2] or 1}") if asked else run.act(line)
+    except DeviceFailure as failure:
+        complain(failure)
+        return True
     show_answer(run, line, lines)
     kind = lines[0].split()[0] if lines else ""
-    if run.replays > replays:
-        transcript.replace(*run.sent)
-    elif kind != "ERR":
-        transcript.add(*run.sent[sent:])
+    if kind != "ERR":
+        transcript.add_since(run, place)
     note = note_on(run, lines[0][:6], ahead) if lines else ""
     if note:
         write(f"  {note}")
     return kind == "ERR"
 
 
+def place_of(run):
+    """Returns how often the script of a run has begun anew, and how many lines were sent since."""
+    return run.replays, len(run.sent)
+
+
 def note_on(run, answer, ahead):
     """Returns what may not be expected after an answer, of which these are the first letters."""
-    history = run.history
+    history = run.counts
     if ahead and not history.to_redo and answer[:2] in ("OK", "TU"):
         return f"the {ahead:o} actions ahead are discarded"
     if answer == "ERR 07":
@@ -117,7 +125,8 @@ def perform_input(run, transcript):
     refusals = Refusals()
     for number, line in enumerate(input_lines(), 1):
         write(f"> {shown(line)}".rstrip())
+        place = place_of(run)
         if not answer(run, line, number, refusals):
-            transcript.add(line)
+            transcript.add_since(run, place)
         flush()
     return refusals.status()

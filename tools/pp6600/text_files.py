@@ -1,12 +1,13 @@
 """The files that a tool reads."""
 
 import sys
+from typing import Optional
 
 from .ending import shown_text
 from .failure import Failure
 
 
-def bytes_of(path):
+def bytes_of(path: Optional[str]) -> bytes:
     """Returns the bytes of a file, or of standard input if there is no path."""
     if path is None and sys.stdin is None:
         raise Failure("standard input is closed or a folder: name a file, or give the text over a pipe")

@@ -1,5 +1,6 @@
 """A session that goes back without a limit: what the simulator no longer keeps is performed anew in a fresh one, up to the place
-that is asked for, and the history goes on from there. What comes after the place stays ahead."""
+that is asked for, and the history goes on from there. What comes after the place stays ahead. A session with devices, `Attached`, has
+what a front end needs of it: `act_by_move`, `counts`, `sent` and `replays`."""
 
 import re
 
@@ -16,6 +17,11 @@ class Timeline(Simulator):
         self.sent = []
         self.replays = 0
         super().__init__(words)
+
+    @property
+    def counts(self):
+        """The history as BACK and FORWARD count it."""
+        return self.history
 
     def act(self, line, dumps=()):
         answer = super().act(line, dumps)

@@ -1,10 +1,10 @@
 """A script, then lines of the keyboard."""
 
 from ..command_line import Failure, arguments, script_lines, simulator, words_after
+from ..device_options import add_devices, devices_of, timeline
 from ..keyboard import converse, edit_lines
 from ..shown import show_lines
 from ..sources import add_sources, symbols_of
-from ..timeline import Timeline
 
 DESCRIPTION = """Shows a script with its answers, then goes on with the lines that are typed. At a terminal it has a
 prompt, with the number of turns that are in effect, octal, and a history of lines, through rlwrap if it is there; Ctrl-D ends
@@ -25,12 +25,14 @@ class Transcript:
         except OSError as error:
             raise Failure(f"can't write {path}: {error.strerror}") from error
 
-    def replace(self, *lines):
-        """Begins the file anew, after a replay."""
-        if self.path:
+    def add_since(self, run, place):
+        """Adds what a run was sent since a place; or all if its script has begun anew, after a replay."""
+        replays, sent = place
+        if self.path and run.replays > replays:
             self.file.seek(0)
             self.file.truncate()
-        self.add(*lines)
+            sent = 0
+        self.add(*run.sent[sent:])
 
     def add(self, *lines):
         if not self.path:
@@ -45,14 +47,15 @@ def main():
     parser = arguments(DESCRIPTION, "[OPTION ..] [SCRIPT]")
     parser.add_argument("--save", metavar="FILE", help="write the session into a new file, as a script")
     add_sources(parser)
+    add_devices(parser)
     parser.add_argument("script", metavar="SCRIPT", nargs="*", help="without it, only what is typed")
     asked = parser.parse()
     (script,) = words_after(asked.script, 1, "give one script")
     edit_lines()
     lines = symbols_of(asked).loading([] if script is None else script_lines(script))
-    run, transcript, status = Timeline(simulator(asked)), Transcript(asked.save), 0
+    run, transcript, status = timeline(simulator(asked), devices_of(asked)), Transcript(asked.save), 0
     if script is not None or lines:
         status = show_lines(run, lines)
-        transcript.add(*lines)
+        transcript.add(*run.sent)
     status |= converse(run, transcript)
     return max(run.end(), status)

@@ -12,6 +12,7 @@ and forward without a limit."""
 from __future__ import annotations
 
 import bisect
+import re
 from typing import Container, Dict, Iterable, Iterator, List, NamedTuple, Sequence, Tuple
 
 from ..failure import Failure
@@ -19,6 +20,8 @@ from .forms import MOST_TURNS, PROCESSORS
 
 MOST_KEPT = 10000  # decimal, without --history
 STEP = "STEP"
+NOTE_OF_DEVICE = re.compile(r"\* DEVICE (\S+)\r?")  # the line after it is a reply of this device
+REPLY = "SET H "
 
 
 def room_of(words: Sequence[str]) -> int:
@@ -34,6 +37,18 @@ class ScriptLine(str):
     def __new__(cls, text: str, number: int) -> ScriptLine:
         line = super().__new__(cls, text)
         line.number = number
+        return line
+
+
+class ReplyLine(str):
+    """A SET H that is the reply of a device of one's own, with the name of this."""
+
+    __slots__ = ("device",)
+    device: str
+
+    def __new__(cls, text: str, device: str) -> ReplyLine:
+        line = super().__new__(cls, text)
+        line.device = device
         return line
 
 
@@ -58,8 +73,24 @@ def counted(lines: Iterable[str]) -> Iterator[Tuple[int, str]]:
 
 
 def numbered(lines: Iterable[str]) -> List[str]:
-    """Returns the lines of a script, each with its number."""
-    return [line if isinstance(line, SourceLine) else ScriptLine(line, number) for number, line in counted(lines)]
+    """Returns the lines of a script, each with its number, or with the device whose reply it is by the note before it."""
+    found: List[str] = []
+    note = None
+    for number, line in counted(lines):
+        if isinstance(line, SourceLine):
+            found.append(line)
+        else:
+            found.append(ReplyLine(line, note[1]) if note and line.startswith(REPLY) else ScriptLine(line, number))
+        note = NOTE_OF_DEVICE.fullmatch(line)
+    return found
+
+
+def with_notes(lines: Iterable[str]) -> Iterator[str]:
+    """Yields lines, and before each reply the note that names its device."""
+    for line in lines:
+        if isinstance(line, ReplyLine):
+            yield f"* DEVICE {line.device}"
+        yield line
 
 
 class Action(NamedTuple):
@@ -267,6 +298,10 @@ class History:
     def forward_over(self, turns: int) -> int:
         """Returns how many actions ahead have the first so many turns."""
         return self.tape.at_turn(self.turns + turns) - self.position if turns else 0
+
+    def over(self, actions: int) -> int:
+        """Returns how many actions, as BACK counts them, have so many of the tape."""
+        return actions
 
     # ---- what the simulator did
 

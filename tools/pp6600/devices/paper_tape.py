@@ -6,9 +6,10 @@ The codes are this project's choice; a real station had others."""
 
 from __future__ import annotations
 
-from typing import NamedTuple
+from typing import NamedTuple, Union
 
 from ..device import EMPTY, INACTIVE, NOTHING, Answer, Chain, Device, Event, full
+from ..text_files import bytes_of
 
 READ, PUNCH, REWIND = 0o1, 0o2, 0o3  # function codes
 BYTE = 0o377
@@ -27,8 +28,10 @@ class PaperTape(Device):
 
     start = Tape()
 
-    def __init__(self, tape: bytes = b"", channel: int = 0o11) -> None:
-        self.tape, self.channel = bytes(tape), channel
+    def __init__(self, tape: Union[bytes, str] = b"", channel: int = 0o11) -> None:
+        """The tape is its bytes, or the name of a file that has them."""
+        self.tape: bytes = bytes_of(tape) if isinstance(tape, str) else bytes(tape)
+        self.channel = channel
 
     def function(self, state: Tape, event: Event) -> Answer:
         if event.word == REWIND:

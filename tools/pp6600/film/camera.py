@@ -3,6 +3,7 @@
 What a turn may change is dumped after it. At intervals and at the end all numbers are dumped and compared: a change that was
 not dumped ends the tool."""
 
+from ..attached import names_of
 from ..core.forms import CELLS, PROCESSORS, dumps_from
 from ..core.simulator import MARK, Console, Simulator
 from ..core.state import central_of, questions
@@ -13,6 +14,7 @@ from ..script import Script
 from .footprint import dumps_of_turns
 from .lines import Lines
 from .machine import Machine, Table
+from .pictures import Pictures, rows_of
 from .places import LAYOUT
 from .sources import InEffect, Written, written_by
 from .upcoming import upcoming
@@ -99,10 +101,12 @@ def kind_of(turn):
 class Film:
     """A run, filmed: its moments, each with its kind and the places that it changed."""
 
-    def __init__(self, words, transcript, reader, printer, sources=()):
-        """The channels of the devices, and pairs of a processor and its source."""
+    def __init__(self, words, transcript, reader, printer, sources=(), devices=()):
+        """The channels of the reader and the printer, pairs of a processor and its source, and devices of one's own."""
         self.transcript = transcript
         self.size, self.reader, self.printer = transcript.size, reader, printer
+        self.attached = names_of(devices)
+        self.pictures = Pictures(devices)
         self.run = Simulator(words)
         self.machine = Machine()
         self.upcoming = Table()  # what processors do next, by numbers
@@ -157,9 +161,15 @@ class Film:
         line = self.transcript.lines[number][0]
         if kind != TURNS:
             self.run.act(f"{line.split()[0]} {count:o}" if kind == JUMP else line)
-            return
-        for step in lines_of(Action(STEP, passed)):
-            self.run.act(step)
+            if kind == LINE:
+                self.pictures.acted(self.run.position)
+        elif self.pictures.devices:
+            for _ in range(passed):
+                rows = [row for row in self.run.act("STEP 1", ["DUMP H"]) if row.startswith("H ")]
+                self.pictures.turned(self.run.position, rows, self.run.turn)
+        else:
+            for step in lines_of(Action(STEP, passed)):
+                self.run.act(step)
 
     def _open(self):
         """The opening: all numbers before the first action that is filmed. Those of a new machine are zero."""
@@ -181,6 +191,7 @@ class Film:
         """Ends a moment."""
         if self.source_lines.lines:
             self.source_lines.renew(self.machine, list(self.machine.changes))
+        self.pictures.show(len(self.moments), self.run.position)
         self.moments.append((kind, self.machine.take_changes()))
         self.writes.append(written or Written())
         self.unchecked += 1
@@ -233,6 +244,8 @@ class Film:
         processor, states = self.machine.processor(number), self.machine.states()
         pointer = self.machine.word(number, processor.channel)  # which the turn may overwrite
         self.machine.read(answer)
+        if self.pictures.devices:
+            self.pictures.turned(self.run.position, rows_of(self.machine), self.run.turn)
         turn = Turn(number, processor, self.machine.processor(number).registers, lambda address: pointer, self.size)
         self._done(kind_of(turn), written_by(self, turn, states), {number, *self._on_channels(states)})
 
@@ -250,6 +263,7 @@ class Film:
         self.machine.read(answer)
         written = Written()
         written.add_line(line)
+        self.pictures.acted(self.run.position)
         self._done(LINE, written, range(PROCESSORS))
 
     @staticmethod

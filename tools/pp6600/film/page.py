@@ -16,7 +16,7 @@ from .places import LAYOUT, MODES
 from .sources import CENTRAL, COLUMNS, DECK
 
 WEB = os.path.join(os.path.dirname(os.path.abspath(__file__)), "web")
-SCRIPTS = ("state", "places", "machine", "program", "source", "origin", "lanes", "controls")  # the page's script, in the order in which it is joined
+SCRIPTS = ("state", "places", "machine", "program", "source", "pictures", "origin", "lanes", "controls")  # the page's script, in the order in which it is joined
 LONGEST_ANSWER = 40  # lines of one that a page keeps
 
 
@@ -77,7 +77,7 @@ def text_of(film, asked, script, symbols):
     given = carried(asked, script)
     named = {"labels": symbols.tables()}
     about = {**tables(), **named, **given, **setup(given["files"]), **of_machine(film), **of_script(film)}
-    return encode({**about, **of_sources(film.source_lines)}, film.moments, film.writes)
+    return encode({**about, **of_sources(film.source_lines), **film.pictures.table()}, film.moments, film.writes)
 
 
 def tables():
@@ -122,7 +122,7 @@ def setup(files):
 def of_machine(film):
     return {"central_size": film.size, "central": list(film.machine.central), "papers": list(film.machine.papers),
             "watches": list(film.machine.watches), "next": list(film.upcoming), "constants": list(film.constants), "reader": film.reader, "printer": film.printer,
-            "devices": {film.reader: "card reader", film.printer: "printer"}}
+            "devices": {film.reader: "card reader", film.printer: "printer", **film.attached}}
 
 
 def of_sources(source_lines):

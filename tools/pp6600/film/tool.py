@@ -1,6 +1,7 @@
 """The tool that films a script."""
 
 from ..command_line import Failure, add_script, arguments, bytes_of, count, octal, simulator
+from ..device_options import add_devices, devices_of, script_with
 from ..sources import add_symbols, symbols_of
 from ..text_files import lines_of
 from .camera import Film, Transcript, to_film
@@ -19,6 +20,7 @@ def main():
     parser.add_argument("--around", metavar="N", type=octal, help="film the moments around turn N, octal, and open there")
     parser.add_argument("--title", metavar="TEXT", help="the heading of the page (else the name of the script's file or folder)")
     add_symbols(parser)
+    add_devices(parser)
     add_script(parser)
     asked = parser.parse()
     if asked.last is not None and asked.around is not None:
@@ -26,11 +28,14 @@ def main():
     symbols = symbols_of(asked)
     loading = "".join(f"{line}\n" for line in symbols.loading(()))
     words, script = simulator(asked), loading.encode() + bytes_of(asked.script)
+    devices, refusals = devices_of(asked), None
+    if devices:
+        script, refusals = script_with(words, devices, script)
     transcript = Transcript(words, lines_of(script.decode("latin-1")))
-    film = Film(words, transcript, int(asked.reader or "12", 8), int(asked.printer or "13", 8), symbols.sources())
+    film = Film(words, transcript, int(asked.reader or "12", 8), int(asked.printer or "13", 8), symbols.sources(), devices)
     skipped, filmed = to_film(transcript, asked.last, asked.around)
     film.shoot(skipped, filmed)
     if asked.around is not None:
         film.opens = transcript.moment_of_turn(asked.around) - skipped
     write_page(asked.output, page(heading(asked.title, asked.script), text_of(film, asked, script, symbols)))
-    return transcript.script.status()
+    return (refusals or transcript.script).status()

@@ -3,7 +3,7 @@ place goes on at that depth, after the others and the addresses, which are set i
 
 import re
 
-from ..core.tape import SourceLine
+from ..core.tape import ReplyLine, SourceLine
 from ..core.turn import AT_END_OF_BLOCK, AT_END_OF_INPUT, IN_BLOCK, NO_WORD, RETURN, TWO_WORDS, ZERO
 from ..listing import AllSymbols
 from ..text_files import bytes_of
@@ -100,6 +100,8 @@ class Writer:
         line, word = step.detail
         if isinstance(line, SourceLine):
             return [f"FROM {line.places[word]}"]
+        if isinstance(line, ReplyLine):
+            return [f"DEVICE {line.device}"]
         return [f"SET LINE {line.number} WORD {word} (decimal)"]
 
     def by_dead_start(self, step):

@@ -6,6 +6,7 @@ import re
 import time
 
 from ..core.forms import KINDS
+from ..device import DeviceFailure
 from ..failure import Failure
 from ..keyboard import FIRST_WORDS, card
 from ..timeline import REPLAYED
@@ -15,9 +16,10 @@ from .keys import LINES, Facts, help_lines, to_turn
 from .line_search import turn_of_line_before, turn_of_next_line
 from .origins import Origin, OriginPage
 from .page import Page
+from .pictures import PicturePage, devices_that
 from .prompt import Prompt
 from .remarks import in_width, remarks
-from .search import MOST_NEW, Stopped, last_before, next_found
+from .search import Stopped, last_before, next_found
 from .screen import LEAST_COLUMNS, LEAST_ROWS, Shown, is_too_small, layout, log_lines, screen
 from .text import Line
 from .view import ARROWS, View
@@ -27,7 +29,7 @@ LONG_ANSWER = 2  # lines; a longer answer is shown on a page
 BETWEEN_REPORTS = 0.2  # seconds
 CANCEL = ("Escape", "Ctrl-C")
 LETTERS = {"h": "Left", "j": "Down", "k": "Up", "l": "Right"}
-PROMPTS = {":": "> ", "g": "go to ", "G": "turn ", "u": "until ", "U": "back until ", "/": "search ", "w": "w "}
+PROMPTS = {":": "> ", "g": "go to ", "G": "turn ", "u": "until ", "U": "back until ", "/": "search ", "w": "w ", "K": "keys "}
 NEW_ACTIONS = ("SET", "STEP", "WATCH", "UNWATCH", "DEADSTART")
 AFTER_FAULT = ("w", "L", "?", "Tab", "Shift-Tab", *ARROWS)  # keys that need no simulator
 
@@ -67,7 +69,7 @@ class Panel:
         whole = self.guard(self.session.perform_script, lines, self.stops)
         if whole and turn is not None:
             self.go_to_turn(f"{turn:o}")
-        elif self.fault is None:
+        elif whole is not None and self.fault is None:
             self.message = "" if whole else f"the script was stopped after {len(self.session.sent)} (decimal) lines"
         self.see()
 
@@ -124,7 +126,7 @@ class Panel:
 
     def press(self, key):
         """Performs a key, by its name."""
-        if self.page:
+        if self.page and not (isinstance(self.page, PicturePage) and self.page.runs(key)):
             page, self.page = self.page, self.page if self.page.press(key, self.rows) else None
             if self.page is None and isinstance(page, OriginPage) and page.is_asked_to_go:
                 self.go_before(page)
@@ -197,6 +199,8 @@ class Panel:
             self.show_origin()
         elif key == "L":
             self.show_log()
+        elif key == "v":
+            self.show_pictures()
         elif key == "?":
             self.page = Page("The keys of the panel", [Line(text) for text in help_lines()])
         elif key not in ("Ctrl-L", "Enter"):
@@ -226,13 +230,16 @@ class Panel:
     # ---- lines
 
     def guard(self, function, *words):
-        """Calls a function that needs the simulator, and returns what it returns, or None if the simulator fails."""
+        """Calls a function that needs the simulator, and returns what it returns, or None if the simulator or a device fails."""
         try:
             return function(*words)
+        except DeviceFailure as failure:
+            self.guard(self.session.look_again)
+            self.message = self.message if self.fault else str(failure)
         except Failure as failure:
             self.fault = str(failure)
             self.message = self.last_words()
-            return None
+        return None
 
     def last_words(self):
         """Returns what can still be done after the simulator failed, and why it did."""
@@ -286,7 +293,7 @@ class Panel:
         """Does what a typed line asks for."""
         try:
             {":": self.take_console_line, "g": self.go_to, "G": self.go_to_turn, "u": self.go_until, "U": self.go_back_until,
-             "/": self.search, "w": self.save, "N": self.go_on_by_lines, "P": self.go_back_by_lines}[kind](text)
+             "/": self.search, "w": self.save, "N": self.go_on_by_lines, "P": self.go_back_by_lines, "K": self.press_keys}[kind](text)
         except Failure as failure:
             self.message = str(failure)
 
@@ -324,7 +331,7 @@ class Panel:
 
     def go_until(self, text):
         """Goes on to the next turn at which a condition comes to hold."""
-        self.go_to_found(next_found, text, f"in turns {self.session.history.turns + 1:o} to {self.session.history.last_turn + MOST_NEW:o}")
+        self.go_to_found(next_found, text, f"in turns {self.session.history.turns + 1:o} to {self.session.history.last_turn + self.session.most_new:o}")
 
     def go_back_until(self, text):
         """Goes back to the last such turn before the present one."""
@@ -373,6 +380,22 @@ class Panel:
             self.page = OriginPage(Origin(self.session, self.view.place(), self.searched, self.symbols))
         except Failure as failure:  # the operator's, or that of the search's own simulator
             self.message = str(failure)
+
+    def show_pictures(self):
+        page = PicturePage(self)
+        if page.devices:
+            self.page = page
+        else:
+            self.message = "no device shows a picture; --device console_display@10 is one that does"
+
+    def press_keys(self, text):
+        """Presses keys of the first device that has some."""
+        session, devices = self.session, devices_that(self.session, "told")
+        if not devices:
+            raise Failure("no device has keys; --device console_display@10 is one that has some")
+        if session.history.to_redo:
+            raise Failure(f"a key would discard the {session.history.to_redo:o} actions ahead: > goes to the newest")
+        self.guard(session.tell, devices[0][0], text.replace("\\r", "\r"))
 
     def searched(self, turn, turns):
         """Shows now and then how far back a search is, and ends it if the operator stops it."""

@@ -124,6 +124,7 @@ OTHER_KEYS = (
     (("c",), "where the cursor's number came from; Enter: to before a step"),
     ((":",), "a line of the console; Up and Down: lines typed before"),
     (("w",), "w FILE saves what was sent as a script; w! FILE writes over it"),
+    (("v", "K"), "what devices show; keys of a device, \\r is the carriage return"),
     (("L",), "all lines and answers"),
     (("?",), "all keys"),
     (("q",), "quit"),

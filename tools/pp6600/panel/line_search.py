@@ -13,7 +13,6 @@ from ..core.simulator import Replay
 from ..core.tape import STEP, Tape
 from ..core.turn import states_of
 from ..failure import Failure
-from .search import MOST_NEW
 
 NO_BLOCK = "0000"  # the phase outside a block transfer
 WATCHED_AT_ONCE = 0o4000000  # turns, while a processor is where it was
@@ -114,7 +113,7 @@ class Lines:
 def turn_of_next_line(session, number, source, count, progress):
     """Returns after how many turns a processor begins the line that comes so many lines later, by a turn that was made or a new one."""
     tape, here = Tape(session.history.tape.runs), session.history.in_effect().without_watches().end
-    tape.append(STEP, MOST_NEW)
+    tape.append(STEP, session.most_new)
     run = Replay(session.simulator.words, tape)
     try:
         lines = Lines(run, number, source, progress)

@@ -1,6 +1,7 @@
 """Shows the live machine on a full screen, and steps it forward and back by keys."""
 
 from ..command_line import Failure, arguments, octal, script_lines, simulator, words_after
+from ..device_options import add_devices, devices_of
 from ..sources import add_symbols, symbols_of
 from .app import Panel
 from .session import Session
@@ -14,6 +15,7 @@ def main():
     parser = arguments(DESCRIPTION, "[OPTION ..] [SCRIPT]")
     parser.add_argument("--turn", metavar="N", type=octal, help="go to this turn of the script, counted in octal from 1")
     add_symbols(parser)
+    add_devices(parser)
     parser.add_argument("script", metavar="SCRIPT", nargs="*", help="lines of the console to begin with")
     asked = parser.parse()
     (script,) = words_after(asked.script, 1, "give one script")
@@ -24,7 +26,7 @@ def main():
     terminal.check()
     symbols = symbols_of(asked)
     lines = symbols.loading([] if script is None else script_lines(script))
-    panel = Panel(Session(simulator(asked)), symbols)
+    panel = Panel(Session(simulator(asked), devices_of(asked)), symbols)
     ended_by = terminal.run(panel, lines, asked.turn)
     if panel.fault:
         raise Failure(panel.fault)

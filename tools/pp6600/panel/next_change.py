@@ -12,8 +12,8 @@ TURNS_AT_ONCE = 0o100  # of one processor
 
 def next_change(session, places):
     """Returns in words the next action of the redo list, with the first of the places that it changes."""
-    simulator, history = session.simulator, session.history
-    line = history.tape.runs[history.tape.run_after(history.position)].line
+    simulator = session.simulator
+    line = simulator.tape.runs[simulator.tape.run_after(simulator.position)].line
     if line != STEP:
         return f"the change is the next action, {line.strip()}"
     change = changed_place(simulator, places)

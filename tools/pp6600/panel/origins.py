@@ -36,7 +36,7 @@ class Origin:
                 break
             count += action.times if action.is_watch else min(action.times, left)
             left -= 0 if action.is_watch else min(action.times, left)
-        return count
+        return self.history.over(count)
 
 
 class OriginPage(Page):

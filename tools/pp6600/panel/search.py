@@ -6,8 +6,6 @@ from ..core.simulator import Replay
 from ..core.tape import STEP, Tape
 from ..failure import Failure
 
-MOST_NEW = 0o10000000  # turns that are searched after those that were made
-
 
 class Stopped(Failure):
     """The operator stopped a search."""
@@ -20,7 +18,7 @@ def next_found(session, text, symbols, progress):
     """Returns the first turn after the present one at whose end the condition holds, and at whose beginning it did not: one
     that was made, or a new one. Returns None if there is none."""
     tape = Tape(session.history.tape.runs)
-    tape.append(STEP, MOST_NEW)
+    tape.append(STEP, session.most_new)
     run = Replay(session.simulator.words, tape)
     try:
         return next(Search(run, Condition.parse(text, symbols), progress).moments(session.history.turns), None)

@@ -5,12 +5,13 @@ from typing import NamedTuple
 
 from ..core.forms import MOST_TURNS, is_refusal
 from ..core.simulator import Console, has_no_answer
+from ..device_options import timeline
 from ..failure import Failure
 from ..core.state import state_of
 from ..core.tape import ScriptLine, SourceLine
-from ..timeline import Timeline
 
 NEW = ("OK", "TURNS")  # the first words of answers to lines that discard what is ahead
+MOST_NEW = 0o10000000  # turns
 LOG_LENGTH = 10000  # decimal, lines and answers
 SEARCHED_AT_ONCE = 0o10000  # central words
 ALLOWANCE = 0o100  # central words asked for on either side of those that are shown
@@ -46,8 +47,9 @@ def never(done, total):
 class Session:
     """A simulator, all lines that it was sent, and its state. The lines that ask for the state are not among them."""
 
-    def __init__(self, words):
-        self.simulator = Timeline(words)
+    def __init__(self, words, devices=()):
+        self.simulator = timeline(words, devices)
+        self.most_new = 0 if devices else MOST_NEW  # that are searched after those that were made; a search has no devices
         self.size = self.simulator.size_of_central()
         self.lines_sent = 0
         self.saved = (0, 0)  # the lines that are in a file
@@ -58,7 +60,7 @@ class Session:
 
     @property
     def history(self):
-        return self.simulator.history
+        return self.simulator.counts
 
     @property
     def sent(self):
@@ -137,6 +139,12 @@ class Session:
             self.state, self.before = self.read(), old
         return Outcome(answer, discarded, watched)
 
+    def tell(self, number, what):
+        """Tells a device something, as which keys are pressed."""
+        self.simulator.tell(number, what)
+        self.log_line(f"* {what!a} to device {number + 1} (decimal)", [])
+        self.state, self.before = self.read(), self.state
+
     def to_turn(self, turn):
         """Goes to where so many turns are in effect. What the last of them changed is marked."""
         if turn:
@@ -175,6 +183,10 @@ class Session:
             return True
         self.state = self.before = self.read()
         return False
+
+    def look_again(self):
+        """Reads the state, in which nothing is marked."""
+        self.state = self.before = self.read()
 
     def close(self):
         self.simulator.close()

@@ -9,9 +9,11 @@ import sys
 import time
 
 from ..failure import Failure
+from ..pictures import BRAILLE
 from .text import CHANGED, CHOSEN, CURSOR, CUT, CUT_IN_ASCII, HEAD, HERE, OVERWRITTEN, REFUSED, SLOT, TITLE, WATCHED
 
 ESCAPE_DELAY = 20  # milliseconds in which the rest of a key's sequence comes
+IN_ASCII = {ord(CUT): CUT_IN_ASCII, **dict.fromkeys(range(BRAILLE, BRAILLE + 0o400), ".")}
 BETWEEN_DRAWINGS = 0.03  # seconds, while more keys are waiting
 CODES = {
     curses.KEY_UP: "Up", curses.KEY_DOWN: "Down", curses.KEY_LEFT: "Left", curses.KEY_RIGHT: "Right",
@@ -66,7 +68,7 @@ class Terminal:
         self.window.keypad(True)
         self.window.nodelay(True)
         self.attributes = attributes()
-        self.cut = CUT if has_utf8() else CUT_IN_ASCII
+        self.in_ascii = {} if has_utf8() else IN_ASCII
         return self
 
     def __exit__(self, *what):
@@ -129,7 +131,7 @@ class Terminal:
 
     def draw_line(self, row, line):
         try:
-            self.window.addstr(row, 0, line.text.replace(CUT, self.cut))
+            self.window.addstr(row, 0, line.text.translate(self.in_ascii))
         except curses.error:  # after the last character of a screen the cursor has no place
             pass
         for start, end, mark in line.marks:

@@ -64,6 +64,7 @@ function show() {
   showChannels();
   showMemory();
   showSource();
+  showPictures();
   showCentral();
   showReader();
   showPrinter();
@@ -271,7 +272,7 @@ function chooseTyped() {
 }
 
 function build() {
-  for (const part of [buildControls, buildProcessors, buildChannels, buildMemory, buildProgram, buildSource, buildCentral, buildFrame, buildReader,
+  for (const part of [buildControls, buildProcessors, buildChannels, buildMemory, buildProgram, buildSource, buildPictures, buildCentral, buildFrame, buildReader,
     buildPrinter, buildScript, buildFiles, buildLanes, buildSigns]) part();
   byId("panel").hidden = !film.panel.length;
   document.querySelector("#panel p").textContent = film.panel.map(four).join(" ");

@@ -1,0 +1,333 @@
+"""What a session with devices is, `Definition`, and random sessions that are compared with it."""
+
+import itertools
+import random
+
+from tests.support import program
+
+from pp6600 import EMPTY, INACTIVE, NOTHING, Attached, Console, Device, full
+from pp6600.cells import set_lines
+from pp6600.device import Event
+from pp6600.simulation.program import console_of, read_words
+
+STEP = "STEP"
+OTHER_CHANNEL = 7  # without a device
+PANEL = "100 100" + 10 * " 0"  # a jump to cell 0100
+DUMPS = [f"DUMP {what}" for n in range(10) for what in (f"PP {n:o}", f"M {n:o} 0 777")]
+DUMPS += ["DUMP H", "DUMP C 0 77", "DUMP LP", "DUMP W"]
+METHODS = {"X": "function", "F": "word", "I": "disconnected"}
+
+
+class InPython(Console):
+    """The simulator in Python, in this process: it answers as the program, and sooner."""
+
+    def start(self):
+        self.console, self.lines = console_of(read_words(self.words[1:])), 0
+
+    def ask_each(self, lines):
+        return (self.console.answer(line.encode()) for line in lines)
+
+    def question(self, line, beginnings):
+        return self.ask(line)
+
+    def end(self):
+        return 0
+
+
+class Definition:
+    """What a session with devices is. A fresh machine performs the units in effect, one after the other. After each turn each
+    device, in its order, looks at its channel. A unit is the line of an action, or a pair: the number of a device and what it is
+    told."""
+
+    def __init__(self, words, devices, units=()):
+        self.console, self.devices = InPython(words), devices
+        self.states = [device.start for device in devices]
+        self.seen, self.due = ["I 0000"] * len(devices), [None] * len(devices)
+        self.turn, self.units, self.hits, self.script, self.positions = 0, [], [], [], [0]
+        for unit in units:
+            self.perform(unit)
+
+    def perform(self, unit):
+        """Performs a unit, and notes its HIT."""
+        self.units.append(unit)
+        self.hits.append(None)
+        if unit == STEP:
+            self.make_turn()
+        elif isinstance(unit, tuple):
+            number, what = unit
+            self.act(f"SET Q 0 {self.console.registers(0)['Q']}")
+            self.call(number, "told", what)
+        else:
+            self.act(unit)
+        self.positions.append(len(self.script))
+
+    def act(self, line):
+        """Performs an action that is no turn."""
+        assert self.console.ask(line) == ["OK"], line
+        self.script.append(line)
+
+    def make_turn(self):
+        watches, turn, rows = self.console.ask_each(["DUMP W", STEP, "DUMP H"])
+        watched = [line[2:] for line in watches]
+        hits = {place: hit for hit in turn[1:] for place in watched if hit.startswith(f"HIT {place} ")}
+        self.script.append(STEP)
+        self.turn += 1
+        for number, device in enumerate(self.devices):
+            now, place = rows[device.channel][5:], rows[device.channel][:4]
+            if now != self.seen[number]:
+                kind = METHODS.get(now[0]) or ("activated" if self.seen[number][0] == "I" else "taken")
+                self.seen[number] = now
+                self.call(number, kind, int(now[2:], 8))
+            elif self.due[number] is not None and self.due[number] <= self.turn:
+                self.due[number] = None
+                self.call(number, "due", int(now[2:], 8))
+            new = self.seen[number][2:]
+            if new != now[2:] and place in watched:
+                hits[place] = f"HIT {place} {now[2:]} {new}"
+        self.hits[-1] = next((hits[place] for place in watched if place in hits), None)
+
+    def call(self, number, kind, word):
+        """Calls a method of a device, and performs its reply."""
+        device = self.devices[number]
+        self.states[number], reply = getattr(device, kind)(self.states[number], Event(kind, word, self.turn))
+        if reply.wake is not None:
+            self.due[number] = self.turn + reply.wake
+        if reply.state is not None:
+            self.act(f"SET H {device.channel:02o} {reply.state}" + ("" if reply.word is None else f" {reply.word:o}"))
+            self.seen[number] = self.console.channel(device.channel)
+
+
+class RandomDevice(Device):
+    """A device whose replies are chosen by its state and the event, the likely one most often. If it does nothing, it does
+    something later, so it does not hang."""
+
+    def __init__(self, seed, channel):
+        self.seed, self.channel, self.start = seed, channel, (seed, 0)
+
+    def react(self, state, event):
+        number, count = state
+        number = (number * 5 + (event.word or 0) + event.turn + len(event.kind)) % 8191
+        words = full(number % 4096), full(event.turn % 4096)
+        likely = {"function": INACTIVE, "word": EMPTY, "activated": words[0], "taken": words[1], "due": words[0], "told": NOTHING}
+        reply = likely.get(event.kind, NOTHING)
+        choice = (number // 3 + self.seed) % 16
+        if choice == 0:
+            reply = (INACTIVE, EMPTY, NOTHING, words[1])[number % 4]
+        if choice in (1, 2) and event.kind != "due":
+            reply = NOTHING
+        return (number, count + 1), reply.waking(number % 40 + 1) if reply.state is None or choice in (3, 4) else reply
+
+    function = word = activated = taken = disconnected = due = told = react
+
+
+def random_program(choose, channels, is_rescue):
+    """Returns the words of a loop from cell 0100 on. It looks at a channel before it uses it, so it seldom waits; one that rescues
+    disconnects channels, so that others do not wait for ever."""
+    words = []
+    for at in range(choose.randint(3, 8)):
+        c, here = channels[at % len(channels)], 0o100 + len(words)
+        code = [0o7700 + c, choose.randint(0, 3)] if c != OTHER_CHANNEL else []
+        begin = [0o6400 + c, here + len(code) + 3, *code, 0o7400 + c]
+        use = begin if at < len(channels) else choose.choice((
+            begin,
+            [0o6500 + c, here + 5, 0o6700 + c, here + 5, 0o7000 + c], [0o6500 + c, here + 5, 0o6600 + c, here + 5, 0o7200 + c],
+            [0o6500 + c, here + 5, 0o1400 + choose.randint(1, 9), 0o7100 + c, 0o300],
+            [0o6500 + c, here + 5, 0o1400 + choose.randint(1, 9), 0o7300 + c, 0o100], [0o3420, 0o3620]))
+        words += [0o6500 + c, here + 3, 0o7500 + c] if is_rescue else use
+        words += [0o1400 + choose.randint(1, 8), 0o1701, 0o0576] if is_rescue or choose.random() < 0.1 else []
+    return [*words, 0o0100, 0o100]
+
+
+class FewStates(Attached):
+    """A session that keeps few states, and works out the others anew."""
+
+    exact_states, every_state = 5, 4
+
+
+class Session:
+    """A random session beside the units that are in effect by the words of the page."""
+
+    def __init__(self, seed, panel):
+        self.choose = choose = random.Random(seed)
+        channels = choose.sample([0, 1, 5, 0o11, 0o10], choose.randint(1, 3))
+        self.devices = [RandomDevice(choose.randrange(4000), channel) for channel in channels]
+        self.channels = [*channels, OTHER_CHANNEL]
+        self.words = [program(), "--panel", panel, "--history", str(choose.choice((1, 2, 7, 40, 300, 10000)))]
+        self.session = choose.choice((Attached, FewStates))(self.words, self.devices)
+        if choose.random() < 0.3:
+            self.session.most_lines = 12000  # so it goes on in fresh simulators
+        self.session.turns_for_zeros = choose.choice((0o100, self.session.turns_for_zeros))
+        self.units, self.position = [], 0  # in effect and ahead
+        self.definition = Definition(self.words[:3], self.devices)
+        for at, number in enumerate(choose.sample(range(10), choose.choice((2, 4, 10)))):
+            for line in set_lines(number, 0o100, [f"{word:04o}" for word in random_program(choose, self.channels, at == 0)]):
+                self.act(line)
+            self.act(f"SET P {number:o} 100")
+
+    def close(self):
+        self.session.close()
+        self.definition.console.close()
+
+    def defined(self, units):
+        """Returns the definition of the session with these units in effect. It goes on from the last one if that has the first of them."""
+        if units[:len(self.definition.units)] != self.definition.units:
+            self.definition.console.close()
+            self.definition = Definition(self.words[:3], self.devices)
+        for unit in units[len(self.definition.units):]:
+            self.definition.perform(unit)
+        return self.definition
+
+    def act(self, line):
+        """Performs an action in the session. A watch may be refused."""
+        answer = self.session.act(line)
+        assert answer == ["OK"] or "WATCH" in line, (line, answer)
+        if answer == ["OK"]:
+            self.add(line)
+
+    def add(self, unit, times=1):
+        self.units[self.position:] = [unit] * times
+        self.position += times
+
+    def move(self):
+        """Makes one random move. Returns what it did, to be compared."""
+        choose, most = self.choose, self.choose.choice((3, 30, 300, 600))
+        moves = {"step": 40, "back": 15, "forward": 12, "back w": 6, "set": 16, "watch": 8, "dead start": 2, "tell": 10, "refused": 3}
+        name = choose.choices(list(moves), list(moves.values()))[0]
+        return name, getattr(self, name.replace(" ", "_"))(most)
+
+    def step(self, most):
+        answer = self.session.act(f"STEP {self.choose.randint(1, most):o}")
+        turns = int(answer[0].split()[1], 8)
+        self.add(STEP, turns)
+        return turns, answer[1:]
+
+    def back(self, most):
+        count = self.choose.randint(1, max(min(most, self.position), 1))
+        return self.go("BACK", count, -count, f"BACK {count:o} SLOT" if count <= self.position else "ERR 07 TOO FEW KEPT")
+
+    def forward(self, most):
+        ahead = len(self.units) - self.position
+        count = self.choose.randint(1, max(min(most, ahead), 1))
+        return self.go("FORWARD", count, count, f"FORWARD {count:o} SLOT" if count <= ahead else "ERR 16 TOO FEW AHEAD")
+
+    def go(self, word, count, move, wanted):
+        """Goes back or forward by so many units, if the answer begins as it should."""
+        answer = self.session.act(f"{word} {count:o}")
+        assert answer[0].startswith(wanted) and len(answer) == 1, (answer, wanted)
+        self.position += 0 if wanted.startswith("ERR") else move
+        return answer[0].split()[3] if answer[0].startswith(word) else None
+
+    def back_w(self, _):
+        before, oldest = self.units[:self.position], self.session.history.oldest
+        answer = self.session.act("BACK W")
+        count = int(answer[0].split()[1], 8) if answer[0].startswith("BACK") else 0
+        self.position -= count
+        return before, oldest, answer, count
+
+    def set(self, _):
+        choose, n, channel = self.choose, self.choose.randrange(10), self.choose.choice(self.channels)
+        word, place = choose.randrange(4096), int(self.session.registers(n)["P"], 8) + choose.randint(1, 4)
+        self.act(choose.choice((
+            f"SET H {channel:o} {choose.choice('IEF')} {word:o}", f"SET A {n:o} 3", f"SET P {n:o} 100", f"SET M {n:o} 300 {word:o}",
+            f"SET M {n:o} {place % 4096:o} {choose.choice((0o74, 0o75, 0o76)):o}{channel:02o}")))
+
+    def refused(self, _):
+        channel = self.choose.choice(self.channels)
+        answer = self.session.act(self.choose.choice((f"SET H {channel:o} F 10000", "SET H 14 I", "GO", "BACK X", f"SET H {channel:o}")))
+        assert answer[0].startswith("ERR "), answer
+
+    def watch(self, _):
+        places = [*(f"H {channel:o}" for channel in self.channels), "H 14", "A 0", f"P {self.choose.randrange(10):o}"]
+        place = self.choose.choice(places)
+        self.act(f"{self.choose.choice(('WATCH', 'UNWATCH'))} {place}")
+
+    def dead_start(self, _):
+        self.act("DEADSTART")
+
+    def tell(self, _):
+        for _ in range(self.choose.randint(1, 6)):
+            number, what = self.choose.randrange(len(self.devices)), self.choose.randrange(4000)
+            self.session.tell(number, what)
+            self.add((number, what))
+
+
+def difference(session, move):
+    """Returns how a session differs from its definition after a move; None if it does not."""
+    name, result = move
+    if name == "back w" and (fault := fault_of_back_w(session, *result)):
+        return fault
+    defined, now = session.defined(session.units[:session.position]), session.session
+    if name == "step":
+        turns, hit = result
+        hits = defined.hits[session.position - turns:session.position]
+        if any(hits[:-1]) or [hits[-1]] * bool(hits[-1]) != hit:
+            return f"HIT {hits}, and not {hit}"
+    if name in ("back", "forward") and result not in (None, f"{defined.console.slot():02o}"):
+        return f"slot {result}, and not {defined.console.slot():02o}"
+    states = [now.state(number) for number in range(len(session.devices))]
+    if (states, now.turn, now.unit) != (defined.states, defined.turn, session.position):
+        return f"the states are {states}, and not {defined.states}; turn {now.turn:o}, {defined.turn:o}"
+    if [action.line for action in now.tape.actions(0, now.position) for _ in range(action.times)] != defined.script:
+        return "the tape has other actions"
+    for line, answer, wanted in zip(DUMPS, now.ask_each(DUMPS), defined.console.ask_each(DUMPS)):
+        if answer != wanted:
+            return f"{line}: {answer}, and not {wanted}"
+    return fault_of_counts(session) or fault_of_scripts(session, defined)
+
+
+def fault_of_back_w(session, units, oldest, answer, count):
+    """Returns what is wrong in the answer to BACK W before which these units were in effect."""
+    defined = session.defined(units)
+    wanted = defined.console.ask("BACK W")
+    if not wanted[0].startswith("BACK"):
+        return None if answer == wanted else f"BACK W: {answer}, and not {wanted}"
+    back = wanted[0].split()[1]
+    defined.console.demand(f"FORWARD {back}")
+    place = defined.positions[-1] - int(back, 8)
+    if answer == ["ERR 10 NO CHANGE KEPT"]:
+        return None if place < oldest else f"BACK W: {answer}, and the change is kept"
+    goal = max(unit for unit, position in enumerate(defined.positions) if position <= place)
+    return None if len(units) - count == goal else f"BACK W: to {len(units) - count}, and not {goal}"
+
+
+def fault_of_scripts(session, defined):
+    """Returns what is wrong in the saved script, or in what was sent: alone each must make the same machine, the first one in as many
+    turns."""
+    saved, sent = session.session.save(), session.session.sent
+    for words, lines in ((session.words[:3], saved), (session.words, sent)):
+        console = Console(words)
+        answers = list(itertools.chain.from_iterable(console.ask_each(lines)))
+        wrong = next((line for line in DUMPS if console.ask(line) != defined.console.ask(line)), None)
+        console.close()
+        turns = sum(int(answer.split()[1], 8) for answer in answers if answer.startswith("TURNS "))
+        refused = [answer for answer in answers if answer.startswith("ERR ")]
+        if wrong or refused or lines is saved and turns != defined.turn:
+            return f"the script has {wrong or refused}, and {turns} turns"
+    return None
+
+
+def fault_of_counts(session):
+    """Returns what is wrong in the counts of units."""
+    counts, units, here = session.session.counts, session.units, session.position
+    if (counts.position, counts.to_redo) != (here, len(units) - here):
+        return f"{counts.position} units and {counts.to_redo} ahead, and not {here} and {len(units) - here}"
+    for name, some in (("back_over", units[:here][::-1]), ("forward_over", units[here:])):
+        ends = [0, *(number for number, unit in enumerate(some, 1) if unit == STEP)]
+        for turns in {0, 1, len(ends) // 2, len(ends) - 1} & set(range(len(ends))):
+            if getattr(counts, name)(turns) != ends[turns]:
+                return f"{name} {turns}: {getattr(counts, name)(turns)}, and not {ends[turns]}"
+    return None
+
+
+def first_difference(seed, panel, moves=40):
+    """Returns the first difference of a random session; None if there is none."""
+    session = Session(seed, panel)
+    try:
+        for number in range(moves):
+            move = session.move()
+            if session.choose.random() < 0.2 or number == moves - 1:
+                if fault := difference(session, move):
+                    return f"seed {seed}, move {number}, {move[0]}: {fault}"[:2000]
+        return None
+    finally:
+        session.close()

@@ -1,0 +1,464 @@
+"""The devices of the package, each by short runs, and their files and pictures. Expected values are those of docs/DEVICES.md."""
+
+import os
+import random
+import re
+import unittest
+from unittest import mock
+
+from tests.support import EXAMPLES, PYTHON, Case, program, read, run, tool, write
+
+from pp6600 import Attached, Failure
+from pp6600.device import Event
+from pp6600.device_options import device_of, script_with
+from pp6600.devices import console_display
+from pp6600.devices.console_display import ConsoleDisplay
+from pp6600.devices.magnetic_tape import MagneticTape
+from pp6600.devices.paper_tape import PaperTape
+from pp6600.film import pictures as film_pictures
+from pp6600.film.camera import LINE, Film, Transcript, to_film
+from pp6600.pictures import Mark, Picture, braille, svg
+from pp6600.tape_file import read_tape, write_tape
+
+MARK = ()
+STATUSES, LEFTS, BUFFER = 0o1000, 0o1100, 0o2000  # cells
+ROOM = 0o100  # words of a record that is read
+
+
+class DeviceCase(Case):
+    def begun(self, device, words):
+        """Returns a session with a device, whose PP 00 performs these octal words from 0100 on, then stays. A * is the cell before
+        it: FJM * jumps to itself."""
+        session = Attached([program()], [device])
+        self.addCleanup(session.close)
+        words = [f"{0o77 + at:o}" if word == "*" else word for at, word in enumerate(words.split())] + ["300"]
+        for at in range(0, len(words), 8):
+            self.ask(session, f"SET M 0 {0o100 + at:o} {' '.join(words[at:at + 8])}")
+        self.ask(session, "SET P 0 100")
+        return session
+
+    def ask(self, session, line):
+        answer = session.act(line)
+        self.assertFalse(answer[0].startswith("ERR"), (line, answer))
+        return answer
+
+    def cells(self, session, first, count):
+        return [int(word, 8) for word in session.cells(0, first, first + count - 1)]
+
+
+# ---- magnetic tape
+
+
+def tape_program(*steps):
+    """Returns the words that do this with a tape on channel 5, each followed by a status: "read" or "read 1" (so many words, then
+    disconnect), "write 1 2 3", or a function code. The words read, what IAM left of its count, and the statuses are kept."""
+    words, data, writes = [], 0o3000, []
+    for number, step in enumerate(steps):
+        kind, *given = step.split()
+        if kind == "read":
+            end = "7505" if given else ""
+            words += [f"7705 1400 7405 2000 {given[0] if given else f'{ROOM:o}'} 7105 {BUFFER + ROOM * number:o} {end}"]
+            words += [f"5400 {LEFTS + number:o}"]
+        elif kind == "write":
+            words += [f"7705 1600 7405 14{len(given):02o} 7305 {data:o} 6605 * 7505"]
+            writes += given
+            data += len(given)
+        else:
+            words += [f"7705 {kind}"]
+        words += [f"7705 1300 7405 7005 7505 5400 {STATUSES + number:o}"]
+    return " ".join(words), [f"SET M 0 {0o3000 + at:o} {word}" for at, word in enumerate(writes)]
+
+
+class Tapes(DeviceCase):
+    """Function codes and statuses: 1 ready, 4 can be written, 10 file mark, 20 load point, 40 end."""
+
+    TAPE = [(0o1, 0o2, 0o3), (0o4, 0o5), MARK, (0o6,)]
+
+    def performed(self, tape, *steps):
+        """Returns a session in which a program has done these steps, each with a status."""
+        words, lines = tape_program(*steps)
+        session = self.begun(tape, words)
+        for line in lines:
+            self.ask(session, line)
+        self.ask(session, "STEP 20000")
+        return session
+
+    def check(self, tape, *rows):
+        """Checks the status after each step, and the words that were read and how many of 100 IAM left."""
+        session = self.performed(tape, *(row[0] for row in rows))
+        for number, (step, status, *given) in enumerate(rows):
+            with self.subTest(number=number, step=step):
+                self.assertEqual([status], self.cells(session, STATUSES + number, 1))
+                if step == "read":
+                    self.assertEqual([ROOM - len(given)], self.cells(session, LEFTS + number, 1))
+                    self.assertEqual([*given, 0], self.cells(session, BUFFER + ROOM * number, len(given) + 1))
+        return session
+
+    def test_reading_and_moving(self):
+        self.check(MagneticTape(self.TAPE),
+                   ("1", 0o21), ("read", 0o1, 1, 2, 3), ("12", 0o21), ("13", 0o11), ("read", 0o1, 6), ("read", 0o41), ("read", 0o41),
+                   ("14", 0o11), ("read", 0o11), ("12", 0o11), ("12", 0o1), ("read", 0o1, 4, 5), ("10", 0o21), ("12", 0o21), ("14", 0o21),
+                   ("13", 0o11), ("13", 0o41), ("3", 0o41), ("4", 0o41), ("5", 0o41), ("6", 0o41), ("12", 0o1))
+
+    def test_a_record_that_is_not_read_to_its_end_is_passed(self):
+        self.check(MagneticTape(self.TAPE), ("read 1", 0o1), ("read", 0o1, 4, 5))
+
+    def test_a_code_is_for_one_record(self):
+        """FNC 1400, ACN, LDC 100, IAM, ACN, IAN: the last one waits for a word that does not come. FNC 1600, ACN, OAN, FJM *, DCN, ACN,
+        OAN, DCN: the second word stays on the channel, and is in no record."""
+        session = self.begun(MagneticTape(self.TAPE), "7705 1400 7405 2000 100 7105 2000 7405 7005")
+        self.ask(session, "STEP 1000")
+        self.assertEqual(("0110", "E"), (session.registers(0)["P"], session.channel(5)[0]))
+        tape = MagneticTape(ring="ring")
+        session = self.begun(tape, "7705 1600 7405 1407 7205 6605 * 7505 7405 7205 7505")
+        self.ask(session, "STEP 1000")
+        self.assertEqual([(7,)], tape.blocks(session.state()))
+
+    def test_a_tape_that_begins_with_a_mark(self):
+        self.check(MagneticTape([MARK, (1,)]), ("13", 0o11), ("10", 0o21), ("read", 0o11), ("read", 0o1, 1), ("14", 0o31))
+
+    def test_writing(self):
+        tape = MagneticTape(ring="ring")
+        session = self.check(tape, ("write 7 70", 0o5), ("write 700", 0o5), ("15", 0o5), ("10", 0o25), ("read", 0o5, 7, 0o70),
+                             ("read", 0o5, 0o700), ("read", 0o15), ("read", 0o45))
+        self.assertEqual([(7, 0o70), (0o700,), MARK], tape.blocks(session.state()))
+
+    def test_writing_loses_what_is_after_it(self):
+        for step, block in (("write 7", (7,)), ("15", MARK)):
+            tape = MagneticTape(self.TAPE, "ring")
+            session = self.performed(tape, "read", step)
+            self.assertEqual([self.TAPE[0], block], tape.blocks(session.state()))
+
+    def test_codes_that_are_not_taken(self):
+        """The code stays on the channel, and so a processor waits that would give the next one."""
+        for tape, code in ((MagneticTape(self.TAPE), "1600"), (MagneticTape(self.TAPE), "15"), (MagneticTape(ring="ring"), "2")):
+            session = self.begun(tape, f"7705 {code} 7705 10")
+            self.ask(session, "STEP 1000")
+            self.assertEqual(("X", int(code, 8)), (session.channel(5)[0], int(session.channel(5)[2:], 8)))
+            self.assertEqual("0102", session.registers(0)["P"])
+
+    def test_all_goes_back(self):
+        """At random turns the tape is what it was when the run first came there."""
+        words, lines = tape_program("read", "write 7 70", "12", "read", "write 3", "15", "10", "read", "13", "14")
+        session = self.begun(MagneticTape(self.TAPE, "ring"), words)
+        for line in lines:
+            self.ask(session, line)
+        states, choose = [session.state()], random.Random(1)
+        for _ in range(900):
+            self.ask(session, "STEP")
+            states.append(session.state())
+        turn = 900
+        for goal in choose.sample(range(901), 40):
+            self.ask(session, f"{'BACK' if goal < turn else 'FORWARD'} {abs(goal - turn):o}") if goal != turn else None
+            turn = goal
+            self.assertEqual(states[goal], session.state(), f"turn {goal}")
+        self.assertGreater(len(set(map(repr, states))), 20)
+
+
+class TapeFiles(Case):
+    """A word of 1234 and one of 5670 are 29c and bb8 in hexadecimal."""
+
+    BLOCKS = [(0o1234, 0o5670), (0o7777,), MARK]
+    BYTES = bytes.fromhex("03000000 29cbb8 00 03000000  02000000 fff0 02000000  00000000")
+
+    def test_read_and_written(self):
+        path = self.path("tape")
+        write_tape(path, self.BLOCKS)
+        with open(path, "rb") as file:
+            self.assertEqual(self.BYTES, file.read())
+        self.assertEqual(self.BLOCKS, read_tape(path))
+
+    def test_gaps_and_an_end_before_that_of_the_file(self):
+        data = bytes.fromhex("feffffff") + self.BYTES + bytes.fromhex("feffffff ffffffff 12")
+        self.assertEqual(self.BLOCKS, read_tape(self.file(data)))
+        self.assertEqual([], read_tape(self.file(b"")))
+
+    def test_wrong_files(self):
+        for data, message in (
+                ("03", "it is cut off, for it has 1 bytes, and a number at byte 0"),
+                ("03000000 29cbb8 00 03", "it is cut off, for it has 9 bytes, and a number at byte 8"),
+                ("03000000 29", "it is cut off, for it has 5 bytes, and a number at byte 8"),
+                ("00000000 03000000 29cbb8 00 02000000", "the record at byte 4 has 3 bytes, and after them another number"),
+                ("03000080 29cbb8 00 03000080", "at byte 0 it has 80000003 (hexadecimal), which begins no record that can be read"),
+                ("01000000 2900 01000000", "the record at byte 0 has 1 bytes, which are no words of 12 bits, two in three bytes"),
+                ("02000000 29c1 02000000", "the record at byte 0 has 2 bytes, which are no words of 12 bits, two in three bytes")):
+            path = self.file(bytes.fromhex(data))
+            with self.subTest(data), self.assertRaises(Failure) as caught:
+                MagneticTape(path)
+            self.assertEqual(f"{path} is no tape file: {message}", str(caught.exception))
+
+    def test_files_that_are_not_there_and_words(self):
+        for words, message in ((("/no/tape",), "can't read /no/tape: No such file or directory"),
+                               (((), "rong"), "the word after a tape is ring, and not rong")):
+            with self.assertRaises(Failure) as caught:
+                MagneticTape(*words)
+            self.assertEqual(message, str(caught.exception))
+
+    def test_a_tape_is_saved_into_a_new_file_and_its_own_is_only_read(self):
+        first, second = self.file(self.BYTES), self.path("new")
+        tape = MagneticTape(first, "ring")
+        state, _ = tape.function(tape.start, Event("function", 0o15, 1))
+        tape.save(state, second)
+        self.assertEqual([[MARK], self.BLOCKS], [read_tape(second), read_tape(first)])
+        for path, reason in ((first, "File exists"), ("/no/tape", "No such file or directory")):
+            with self.assertRaises(Failure) as caught:
+                tape.save(state, path)
+            self.assertEqual(f"can't write {path}: {reason}", str(caught.exception))
+        self.assertEqual(self.BLOCKS, read_tape(first))
+
+
+# ---- console display
+
+SHOW = "7710 {} 7410 14{:02o} 7310 200 6610 * 7510"  # function code, ACN, LDN count, OAM 0200, FJM *, DCN
+
+
+class Displays(DeviceCase):
+    def drawn(self, code, *words, display=None):
+        """Returns a session in which these words were given after a function code."""
+        display = display or ConsoleDisplay()
+        session = self.begun(display, SHOW.format(code, len(words)))
+        for at, word in enumerate(words):
+            self.ask(session, f"SET M 0 {0o200 + at:o} {word}")
+        self.ask(session, "STEP 1000")
+        return session
+
+    @staticmethod
+    def picture(session):
+        return session.devices[0].picture(session.state())
+
+    def test_screens_and_sizes(self):
+        for screen, codes in enumerate((("7000", "7001", "7002"), ("7100", "7101", "7102"))):
+            for code, size in zip(codes, (8, 16, 32)):
+                screens = [frozenset(), frozenset()]
+                screens[screen] = frozenset((Mark(0o200, 0o100, size, "L"), Mark(0o200, 0o100 + size, size, "I")))
+                self.assertEqual(Picture(tuple(screens)), self.picture(self.drawn(code, "6100", "7200", "1411")), code)
+
+    def test_dots(self):
+        """Each Y makes a dot, and other words none."""
+        for screen, code in enumerate(("7010", "7110")):
+            picture = self.picture(self.drawn(code, "7000", "6100", "7200", "1411", "7777", "6777"))
+            self.assertEqual({Mark(0, 0), Mark(0o200, 0o100), Mark(0o777, 0o100)}, picture.screens[screen])
+            self.assertEqual(frozenset(), picture.screens[1 - screen])
+
+    def test_all_symbols(self):
+        codes = "".join(f"{code:02o}" for code in range(0o100))
+        picture = self.picture(self.drawn("7000", "6000", "7000", *re.findall("....", codes)))
+        symbols = {mark.x // 8: mark.symbol for mark in picture.screens[0]}
+        wanted = dict(enumerate("ABCDEFGHIJKLMNOPQRSTUVWXYZ0123456789+-*/()", 1))
+        self.assertEqual({**wanted, 0o54: "=", 0o56: ",", 0o57: "."}, symbols)
+
+    def test_a_line_goes_on_at_the_left(self):
+        picture = self.picture(self.drawn("7002", "6740", "7000", "1411"))
+        self.assertEqual({Mark(0, 0o740, 32, "L"), Mark(0, 0, 32, "I")}, picture.screens[0])
+
+    def test_what_is_seen_at_a_place_is_what_was_put_there_last(self):
+        picture = self.picture(self.drawn("7000", "6100", "7200", "1411", "6100", "1155"))
+        self.assertEqual({Mark(0o200, 0o100, 8, "I")}, picture.screens[0])
+
+    def test_codes_that_are_not_taken(self):
+        for code in ("7003", "7021", "7200", "6000", "0000"):
+            self.assertEqual(f"X {code}", self.drawn(code, "6100").channel(0o10))
+
+    def test_fading(self):
+        """What is drawn is dark after so many turns."""
+        session = self.drawn("7000", "1411", display=ConsoleDisplay("100"))
+        self.assertEqual(Picture((frozenset(), frozenset())), self.picture(session))
+        self.ask(session, "BACK 700")
+        self.assertEqual(2, len(self.picture(session).screens[0]))
+        for fading in (0, "0"):
+            self.assertRaises(Failure, ConsoleDisplay, fading)
+
+    def test_what_is_drawn_again_and_again(self):
+        """It is kept once: nothing that is seen is lost."""
+        display, chooser = ConsoleDisplay(), random.Random(2)
+        words = [chooser.choice((0o6000, 0o6010, 0o7000, 0o7020, 0o1411, 0o1455)) for _ in range(2000)]
+        pictures = []
+        for most in (8, 10000):
+            with mock.patch.object(console_display, "MOST_MARKS", most):
+                state, _ = display.function(display.start, Event("function", 0o7001, 1))
+                for turn, word in enumerate(words):
+                    state, _ = display.word(state, Event("word", word & (0o7037 if word >= 0o6000 else 0o7777), turn))
+                    state = state._replace(x=state.x % 32)
+                pictures.append((display.picture(state), state.screens[0].length))
+        (few, few_kept), (all_of_them, kept) = pictures
+        self.assertEqual(few, all_of_them)
+        self.assertLess(few_kept, 17)
+        self.assertLess(1000, kept)
+
+    def test_the_newest_are_kept(self):
+        """Of dots at 0 to 15 and again at 0, the 17th is one more than twice 8."""
+        display = ConsoleDisplay()
+        with mock.patch.object(console_display, "MOST_MARKS", 8):
+            state, _ = display.function(display.start, Event("function", 0o7010, 1))
+            for x in [*range(16), 0]:
+                for word in (0o6000 + x, 0o7000):
+                    state, _ = display.word(state, Event("word", word, 1))
+        self.assertEqual({Mark(0, x) for x in (0, *range(9, 16))}, display.picture(state).screens[0])
+
+    def test_keyboard(self):
+        """The keys are those of display code; 60 is the carriage return, 61 the backspace, 62 the blank, and 0 none."""
+        ask_for_key = "7710 7020 7410 7010 7510 5400 {:o}"
+        session = self.begun(ConsoleDisplay(), " ".join(ask_for_key.format(0o1000 + number) for number in range(9)))
+        for keys in ("aZ9", "/ \b\n."):
+            session.tell(0, keys)
+        with self.assertRaises(Failure) as caught:
+            session.tell(0, "A!")
+        self.assertIn("the keyboard has no '!'", str(caught.exception))
+        self.ask(session, "STEP 1500")
+        self.assertEqual([0o1, 0o32, 0o44, 0o50, 0o62, 0o61, 0o60, 0o57, 0], self.cells(session, 0o1000, 9))
+        self.ask(session, "BACK 1501")
+        self.assertEqual("aZ9".upper(), session.state().keys)
+        self.ask(session, "STEP 1500")
+        self.assertEqual([0o1, 0o32, 0o44, 0, 0], self.cells(session, 0o1000, 5))
+
+
+class Pictures(Case):
+    L_AND_DOT = Picture((frozenset((Mark(128, 64, 8, "L"),)), frozenset((Mark(0, 511),))))
+
+    def test_svg(self):
+        """L goes down 6, then 4 to the right. A screen is upside down in SVG, and its square is in the middle of a circle of 744."""
+        lines = svg(self.L_AND_DOT).splitlines()
+        self.assertEqual('<path stroke-width="1" d="M64 134L64 128L68 128"/>', lines[3])
+        self.assertEqual('<path stroke-width="3" d="M511 0h0"/>', lines[7])
+        self.assertEqual(['matrix(1 0 0 -1 116 628)', 'matrix(1 0 0 -1 860 628)'], re.findall("matrix[^\"]*", "".join(lines)))
+        self.assertEqual(["</g>", "</svg>"], lines[-2:])
+        self.assertEqual(10, len(lines))
+
+    def test_braille(self):
+        """In 64 cells a dot has 4 units. A large L goes down 6 of them, then 4 to the right."""
+        screen = frozenset((Mark(0, 0, 32, "L"), Mark(256, 256, 16, "M"), Mark(256, 272, 16, "N"), Mark(511, 511)))
+        rows = braille(Picture((screen,)), 64)
+        self.assertEqual((32, {64}), (len(rows), set(map(len, rows))))
+        self.assertEqual({0: 63 * " " + "\u2808", 15: 32 * " " + "M N", 30: "\u2846", 31: "\u28c7\u28c0\u2840"},
+                         {at: row.rstrip() for at, row in enumerate(rows) if row.strip()})
+
+    def test_widths(self):
+        self.check_rows(lambda count, width: [len(braille(Picture((frozenset(),) * count), width)[0])],
+                        (1, 1, [16]), (1, 31, [16]), (1, 32, [32]), (1, 80, [64]), (2, 80, [65]), (2, 128, [65]), (2, 129, [129]))
+
+    def test_devices_that_show_nothing(self):
+        for device in (PaperTape(), MagneticTape()):
+            self.assertIsNone(device.picture(device.start))
+
+    def test_drawn_undone_and_drawn_again(self):
+        """The example: the bytes of a picture are those that it had when the run first came there."""
+        session = Attached([program()], [ConsoleDisplay()])
+        self.addCleanup(session.close)
+        for line in read("examples", "console-display", "script").splitlines():
+            if line.startswith("SET"):
+                session.act(line)
+
+        def shown(line):
+            self.assertNotIn("ERR", session.act(line)[0])
+            picture = session.devices[0].picture(session.state())
+            return svg(picture), braille(picture, 129)
+
+        half, whole = shown("STEP 2700"), shown("STEP 14000")
+        self.assertNotEqual(half, whole)
+        for line, wanted in (("BACK 14000", half), ("FORWARD 14000", whole), ("BACK 14000", half), ("STEP 14000", whole)):
+            self.assertEqual(wanted, shown(line))
+        self.assertNotIn("<path", shown("BACK 16700")[0])
+        self.assertEqual(whole, shown("STEP 16700"))
+
+
+class Films(Case):
+    """The pictures of a film are those of the session."""
+
+    # FNC 7001, ACN, LDN 7, OAM 0112, FJM *, DCN, UJN 0100, and seven words
+    SCRIPT = ("SET M 0 100 7710 7001 7410 1407 7310 112 6610 106\nSET M 0 110 7510 366 6100 7200 1411 2425 102 304\n"
+              "SET M 0 120 506\nSET P 0 100\nSTEP 300\nBACK 60\nSTEP 20\nSET M 0 114 555\nSTEP 400\nBACK 150\nFORWARD 30\n")
+
+    def filmed(self, last=None):
+        """Returns a film of the script with a console display, and the turn of each moment."""
+        words, display = [program()], ConsoleDisplay()
+        script, _ = script_with(words, [display], self.SCRIPT.encode())
+        transcript = Transcript(words, script.decode().splitlines())
+        film = Film(words, transcript, 0o12, 0o13, (), [display])
+        film.shoot(*to_film(transcript, last, None))
+        return film
+
+    def shown(self, film, moment):
+        """Returns the picture that a film shows at a moment."""
+        (shown,) = film.pictures.shown
+        lines = list(film.pictures.lines)
+        return "".join(f"{lines[number]}\n" for number in next(one for first, one in reversed(shown) if first <= moment))
+
+    def pictures(self):
+        """Returns the picture of the session after each of its lines, turn by turn."""
+        session = Attached([program()], [ConsoleDisplay()])
+        self.addCleanup(session.close)
+        found = []
+        for line in self.SCRIPT.splitlines():
+            is_step = line.startswith("STEP")
+            for one in ["STEP"] * int(line.split()[1], 8) if is_step else [line]:
+                session.act(one)
+                picture = svg(session.devices[0].picture(session.state()))
+                found += [picture] if is_step or line.startswith(("BACK", "FORWARD")) else []
+        return found
+
+    def test_pictures(self):
+        """Each turn and each step back is a moment, and so is each reply, which changes no picture."""
+        film, wanted = self.filmed(), self.pictures()
+        kinds = [kind for kind, _ in film.moments]
+        moments = [moment for moment, kind in enumerate(kinds) if moment and kind != LINE]
+        self.assertEqual(wanted, [self.shown(film, moment) for moment in moments])
+        self.assertGreater(len(set(wanted)), 5)
+        short = self.filmed(0o100)
+        self.assertEqual([self.shown(film, moment) for moment in range(len(kinds) - 0o101, len(kinds))],
+                         [self.shown(short, moment) for moment in range(0o101)])
+
+    def test_a_picture_that_fails(self):
+        path = write(self.path("own.py"), "from pp6600 import Device\nfrom pp6600.pictures import Mark, Picture\nclass Own(Device):\n"
+                                          "    start = 0\n    def picture(self, state):\n        return Picture((Mark(0, 0, 8, '!'),),)\n")
+        done = tool("film", "--device", f"{path}:Own@5", "-o", self.path("film.html"), script="STEP\n")
+        self.assertRegex(done.err, r"^film: picture of Own fails: [A-Z]\w+: .*\n$")
+        self.assertEqual((2, False), (done.status, os.path.exists(self.path("film.html"))))
+
+    def test_without_a_picture(self):
+        self.assertEqual({}, film_pictures.Pictures([PaperTape()]).table())
+
+
+class Options(Case):
+    """The words after --device."""
+
+    def test_names(self):
+        tape = write(self.path("tape"), TapeFiles.BYTES)
+        for name, words, kind in (("paper_tape", f":{tape}", PaperTape), ("magnetic_tape", f":{tape},ring", MagneticTape),
+                                  ("magnetic_tape", ":,ring", MagneticTape), ("console_display", "", ConsoleDisplay),
+                                  ("console_display", ":100000", ConsoleDisplay)):
+            device = device_of(f"{name}{words}@13")
+            self.assertEqual((kind, 0o13), (type(device), device.channel))
+        self.assertEqual(0o100000, device.fading)
+
+    def test_wrong_words(self):
+        for words, reason in (("magnetic_tape:,rong@5", "the word after a tape is ring, and not rong"),
+                              ("magnetic_tape:/no/tape@5", "can't read /no/tape: No such file or directory"),
+                              ("console_display:0@10", "what is drawn can't fade in less than a turn")):
+            self.assertEqual(("", f"talk: --device {words}: {reason}\n", 2), tool("talk", "--device", words))
+
+
+class Examples(Case):
+    """The files that the examples write, if one is named."""
+
+    def written(self, name, script, *words):
+        """Returns the bytes of the file that an example writes after these words."""
+        folder = os.path.join(EXAMPLES, name)
+        done = run(*PYTHON, os.path.join(folder, script), program(), *words, self.path(name), script=read(folder, "stdin"), cwd=folder)
+        self.assertEqual((read(folder, "stdout"), "", 0), done)
+        with open(self.path(name), "rb") as file:
+            return file.read()
+
+    def test_picture(self):
+        """The picture is that of the end: CDC 6600, PERIPHERAL PROCESSORS, KEY, three small lines, eight names and PP."""
+        left, right = 7 + 20 + 3 + 33 + 33 + 13, 8 * 4 + 2
+        self.assertEqual(left + right, self.written("console-display", "show.py", "script").count(b"<path"))
+
+    def test_tape(self):
+        """The first words of the records of the copy are TH, TH and AN."""
+        self.written("magnetic-tape", "copy.py", "tape")
+        found = [(len(block), *block[:1]) for block in read_tape(self.path("magnetic-tape"))]
+        self.assertEqual([(14, 0o2410), (5, 0o2410), (13, 0o0116), (0,)], found)
+
+
+if __name__ == "__main__":
+    unittest.main()

@@ -1,0 +1,58 @@
+"""What devices of one's own show at the moments of a film, as SVG. Each line of all pictures is kept once.
+
+The script that is filmed has the replies of the devices. So a device looks at its channel here, and what it would reply is there."""
+
+from ..core.forms import CHANNELS
+from ..device import Device, drawn, looked, value_at_start
+from ..pictures import svg
+from .machine import Table
+from .places import LAYOUT
+
+
+def has_picture(device):
+    return type(device).picture is not Device.picture
+
+
+def rows_of(machine):
+    """Returns the lines of DUMP H."""
+    words = LAYOUT["words"]
+    return [f"H {channel:02o} {machine.state(channel)} {machine.numbers[words + channel]:04o}" for channel in range(CHANNELS)]
+
+
+class Pictures:
+    """The pictures of the devices that have some."""
+
+    def __init__(self, devices=()):
+        self.devices = list(filter(has_picture, devices))
+        self.values = [tuple(map(value_at_start, self.devices))]  # of the devices, by how many actions are in effect
+        self.lines = Table()
+        self.shown = [[] for _ in self.devices]  # of each device the moments from which on a picture is seen, each with its lines
+        self.drawn = [None] * len(self.devices)  # the states of the last pictures
+
+    def turned(self, position, rows, turn):
+        """Lets the devices look after a turn; after it so many actions are in effect."""
+        values = [looked(device, value, rows[device.channel], turn)[0] for device, value in zip(self.devices, self.values[position - 1])]
+        self.values[position:] = [tuple(values)]
+
+    def acted(self, position):
+        """After an action that is no turn the devices are as before."""
+        self.values[position:] = [self.values[position - 1]]
+
+    def show(self, moment, position):
+        """Notes what is seen from a moment on, if it is something else."""
+        for number, (device, value) in enumerate(zip(self.devices, self.values[position])):
+            if value.state is self.drawn[number]:
+                continue
+            self.drawn[number] = value.state
+            text, shown = drawn(device, value.state, svg) or "", self.shown[number]
+            lines = [self.lines.number(line) for line in text.splitlines()]
+            if not shown or shown[-1][1] != lines:
+                shown.append((moment, lines))
+
+    def table(self):
+        """Returns what the page has to know; nothing without pictures."""
+        if not self.devices:
+            return {}
+        devices = [{"name": type(device).__name__, "channel": device.channel, "shown": shown}
+                   for device, shown in zip(self.devices, self.shown)]
+        return {"pictures": {"devices": devices, "lines": list(self.lines)}}
