@@ -13,6 +13,8 @@ release:
 	@share/release
 wheel: # packages for pip
 	@share/wheel
+deb: # a package for Debian
+	@share/deb
 check: # all that needs only a program
 	@./check --program
-.PHONY: all install uninstall release wheel check
+.PHONY: all install uninstall release wheel deb check

@@ -4,7 +4,7 @@ import os
 import re
 import subprocess
 
-from .choice import handed_out, or_in_python
+from .choice import HOME, handed_out, or_in_python
 from .failure import Failure
 
 TOP = os.path.dirname(os.path.dirname(os.path.dirname(os.path.realpath(__file__))))  # the checkout, or OWN below a prefix
@@ -43,6 +43,6 @@ def which_build(*words):
 
 
 def chosen_program():
-    """Returns the words that run the simulator: of a checkout the build that ./pp6600 runs, or else the program of the class or of the
-    installation; or the one in Python, where that one does not start."""
-    return or_in_python(lambda: which_build() if IS_CHECKOUT else handed_out(TOP))
+    """Returns the words that run the simulator: of a checkout the build that ./pp6600 runs, or else the program of the class, the
+    installation or the package; or the one in Python, where that one does not start."""
+    return or_in_python(lambda: which_build() if IS_CHECKOUT else handed_out(HOME))

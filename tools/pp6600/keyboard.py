@@ -8,7 +8,7 @@ import sys
 
 from .ending import flush, write
 from .failure import Failure
-from .choice import ABOVE
+from .choice import ABOVE, HOME, PACKAGE
 from .script import Refusals
 from .shown import answer, show_answer
 from .text_files import input_lines, shown
@@ -24,8 +24,11 @@ def is_terminal():
 
 
 def card():
-    """Returns where the lines of the console are described: in a checkout or a release, and in an installation."""
-    return "docs/CARD.md" if os.path.exists(os.path.join(ABOVE, "docs", "CARD.md")) else "man pp6600"
+    """Returns where the lines of the console are described: in a checkout, a release or a class, in a package of pip, and elsewhere."""
+    if os.path.exists(os.path.join(ABOVE, "docs", "CARD.md")):
+        return "docs/CARD.md"
+    page = os.path.join(sys.prefix, "share", "pp6600", "docs", "CARD.md")
+    return page if HOME == PACKAGE and os.path.exists(page) else "man pp6600"
 
 
 def completions():
