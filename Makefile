@@ -15,6 +15,8 @@ wheel: # packages for pip
 	@share/wheel
 vsix: # VS Code's extension
 	@share/vsix
+deb: # a package for Debian
+	@share/deb
 check: # all that needs only a program
 	@./check --program
-.PHONY: all install uninstall release wheel vsix check
+.PHONY: all install uninstall release wheel vsix deb check

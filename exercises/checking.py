@@ -20,28 +20,53 @@ HERE = os.path.dirname(os.path.realpath(__file__))
 sys.path.insert(0, os.path.realpath(os.path.join(HERE, os.pardir, "tools")))  # in an installation this is a link
 
 from pp6600 import Console, Failure
+from pp6600.command_line import complain
 from pp6600.files import checked_program
 from pp6600.installation import chosen_program
 from pp6600.options import BadWord
 
 ANSWERS = ("script", "panel")  # the files of an exercise that a student changes
-OWN_PARTS = ("task", "script", "check", "expected")  # what an exercise of a lecturer's own has
+OWN_PARTS = ["task", "script", "check", "expected"]  # what an exercise of a lecturer's own has
 SECONDS = 60  # for an answer, unless --seconds says another number
 MOST_WRITTEN = 1 << 24
 LONGEST_ANSWER = 1 << 20
 MOST_SHOWN = 8
 
 
-def names():
-    """Returns the exercises: those of docs/EXERCISES.md, in the order of its table, then those of a lecturer's own."""
+def listed_names():
+    """Returns the names of docs/EXERCISES.md, in the order of its table."""
     with open(os.path.join(HERE, os.pardir, "docs", "EXERCISES.md"), encoding="utf-8") as page:
-        return re.findall(r"^\| \d+ \| `([a-z-]+)` \|", page.read(), flags=re.M) + own_names()
+        return re.findall(r"^\| \d+ \| `([a-z-]+)` \|", page.read(), flags=re.M)
 
 
-def own_names():
-    """Returns the exercises of a lecturer's own: folders with a text for students, in `task`, and a check."""
-    folders = sorted(entry.name for entry in os.scandir(HERE) if entry.is_dir())
-    return [name for name in folders if all(os.path.isfile(os.path.join(HERE, name, part)) for part in OWN_PARTS)]
+class Exercises:
+    """The exercises by their names, each with its folder: those that are listed, then a lecturer's own, which are beside them or in
+    another folder."""
+
+    def __init__(self, folder=None):
+        listed = listed_names()
+        self.own = {name: path for above in filter(None, (HERE, folder)) for name, path in own_folders(above, listed)}
+        self.folders = {**{name: os.path.join(HERE, name) for name in listed}, **self.own}
+
+    def folder(self, name):
+        if name not in self.folders:
+            raise Failure(f"there is no exercise {name}; they are {', '.join(self.folders)}")
+        return self.folders[name]
+
+
+def own_folders(above, listed):
+    """Yields the names and the folders of the exercises that are not listed. Says which folder lacks a file."""
+    for entry in sorted(os.scandir(above), key=lambda entry: entry.name):
+        there = [part for part in OWN_PARTS if os.path.isfile(os.path.join(entry.path, part))]
+        if there == OWN_PARTS and entry.name not in listed:
+            yield entry.name, entry.path
+        elif {"task", "check"} & set(there) and entry.name not in listed:
+            missing = ", ".join(part for part in OWN_PARTS if part not in there)
+            complain(f"{entry.path} is no exercise, for it has no {missing}; exercises/new makes what is missing")
+
+
+def add_folder(parser):
+    parser.add_argument("--exercises", metavar="DIR", help="a folder with exercises of your own, beside those that are here")
 
 
 @functools.lru_cache(maxsize=None)
@@ -56,9 +81,8 @@ def read(folder, name):
         return file.read()
 
 
-def answer(name, folder):
-    """Returns the files of a student's answer, or None if it is not there or as it was handed out."""
-    own = os.path.join(HERE, name)
+def answer(own, folder):
+    """Returns the files of a student's answer to the exercise in a folder, or None if it is not there or as it was handed out."""
     wanted = [part for part in ANSWERS if os.path.exists(os.path.join(own, part))]
     found = {}
     for part in wanted:
@@ -71,9 +95,8 @@ def answer(name, folder):
     return found if any(found.get(part, read(own, part)) != read(own, part) for part in wanted) else None
 
 
-def prepared(name, found, room):
+def prepared(own, found, room):
     """Puts the files of the exercise and of the answer into the room, and returns the words of the simulator."""
-    own = os.path.join(HERE, name)
     for part in os.listdir(own):
         if os.path.isfile(os.path.join(own, part)):
             shutil.copyfile(os.path.join(own, part), os.path.join(room, part))
@@ -94,12 +117,12 @@ def limited():
     resource.setrlimit(resource.RLIMIT_FSIZE, (MOST_WRITTEN, MOST_WRITTEN))
 
 
-def performed(words, room, seconds):
-    """Runs the script and the check, and returns the status and the lines that were written."""
+def performed(words, room, given, seconds):
+    """Performs lines, given as bytes, and returns the status and the lines that were written."""
     with open(os.path.join(room, "written"), "wb") as out:
         process = subprocess.Popen(words, stdin=subprocess.PIPE, stdout=out, stderr=subprocess.PIPE, preexec_fn=limited if resource else None)
         try:
-            _, error = process.communicate(script_of(room) + read(room, "check"), timeout=seconds)
+            _, error = process.communicate(given, timeout=seconds)
         except subprocess.TimeoutExpired:
             process.kill()
             process.communicate()
@@ -140,10 +163,10 @@ def steps(text):
     return [(number, line.strip()) for number, line in enumerate(lines, 1) if line.upper().split()[:1] == ["STEP"]]
 
 
-def step_left(name, room):
+def step_left(own, room):
     """Returns what says which STEP the script has, if there is none in that which was handed out; or None."""
     left = steps(read(room, "script"))
-    if not left or steps(read(os.path.join(HERE, name), "script")):
+    if not left or steps(read(own, "script")):
         return None
     number, line = left[0]
     return f"line {number} (decimal) of the script is {line}: leave it out, for the check makes the turns itself and expects their slots"
@@ -161,25 +184,28 @@ def add_limit(parser):
                         help=f"how long the simulator may take for an answer, decimal ({SECONDS})")
 
 
-def check(name, folder, limit):
-    """Checks the answer to an exercise in a folder, within so many seconds. Returns whether it is there, and what is wrong
-    with it, if anything."""
+def check(own, folder, limit):
+    """Checks the answer in a folder to the exercise in another one, within so many seconds. Returns whether it is there, and what is
+    wrong with it, if anything."""
     try:
-        found = answer(name, folder)
+        found = answer(own, folder)
     except Failure as failure:
         return True, [str(failure)]
-    if found is None:
-        return False, ["it is as it was handed out"]
+    return (False, ["it is as it was handed out"]) if found is None else (True, faults_of(own, found, limit))
+
+
+def faults_of(own, found, limit):
+    """Returns what is wrong with an answer, given as its files."""
     with tempfile.TemporaryDirectory() as room:
-        words = prepared(name, found, room)
-        status, written = performed(words, room, limit)
+        words = prepared(own, found, room)
+        status, written = performed(words, room, script_of(room) + read(room, "check"), limit)
         if status not in (0, 1):
-            return True, written
-        is_hidden = os.path.exists(os.path.join(HERE, name, "hidden"))
+            return written
+        is_hidden = os.path.exists(os.path.join(own, "hidden"))
         faults = list(differences(read(room, "expected").decode().splitlines(), written, is_hidden))
-        left = step_left(name, room)
+        left = step_left(own, room)
         if faults and left:
             faults.insert(0, left)
         if status == 1:
             faults.insert(0, rejected_line(words, room) or "a line of the check is rejected")
-        return True, faults
+        return faults

@@ -49,9 +49,9 @@ class Refusal(Exception):
 class Client:
     """An adapter at the other end of pipes."""
 
-    def __init__(self, *words, environment=None, lines=None):
-        """Starts an adapter, whose simulators are told at most so many lines."""
-        begin = ["-c", WITH_FEW_LINES, str(lines)] if lines else []
+    def __init__(self, *words, environment=None, lines=None, before=()):
+        """Starts an adapter, whose simulators are told at most so many lines; other words may come before its name."""
+        begin = ["-c", WITH_FEW_LINES, str(lines)] if lines else before
         self.process = subprocess.Popen([*PYTHON, *begin, ADAPTER, *words], stdin=subprocess.PIPE, cwd=TOP,
                                         stdout=subprocess.PIPE, stderr=subprocess.PIPE,
                                         env={**os.environ, "PP6600": program(), **(environment or {})})

@@ -3,17 +3,19 @@
 import atexit
 import functools
 import os
+import re
 import shutil
 import subprocess
 import sys
 import tempfile
 
-from tests.support import TOP, Case, Done, program, run, write
+from tests.support import TOP, Case, Done, program, read, run, write
 
 INSTALL = os.path.join(TOP, "share", "install")
-OWN, PAGES = "libexec/pp6600", "share/doc/pp6600"  # below the prefix of an installation
+OWN, PAGES = "libexec/pp6600", "share/pp6600"  # below the prefix of an installation
 PATH = f"{os.path.dirname(sys.executable)}:/usr/sbin:/usr/bin:/sbin:/bin"  # where the Rattle kit is not
 ALONE = {"PATH": PATH, "PP6600": "", "DESTDIR": "", "PYTHONDONTWRITEBYTECODE": "1"}
+LINKS = {".md": r"\]\(([^)#:\s]+)[^)]*\)", ".html": r' href="([^"#:]+)'}
 ANSWERED = Done("TURNS 12 SLOT 00\n", "", 0)  # by the simulator, to STEP 12
 
 
@@ -31,6 +33,24 @@ def below(folder):
             is_link = os.path.islink(path)
             found[os.path.relpath(path, folder)] = os.readlink(path) if is_link else oct(os.stat(path).st_mode & 0o7777)
     return found
+
+
+def lost_links(top):
+    """Returns the links of all pages below a folder that lead to no file, and the links in it that lead out of it or nowhere."""
+    lost = []
+    for folder, folders, names in os.walk(top):
+        for name in names:
+            link = LINKS.get(os.path.splitext(name)[1])
+            found = re.findall(link, read(folder, name)) if link else []
+            lost += [(name, target) for target in found if not os.path.exists(os.path.join(folder, target))]
+        lost += [path for path in (os.path.join(folder, name) for name in folders + names) if os.path.islink(path) and not leads_inside(path, top)]
+    return lost
+
+
+def leads_inside(path, top):
+    """Returns whether a link is relative and leads to what is in a folder."""
+    return not os.readlink(path).startswith("/") and os.path.exists(path) and \
+        os.path.commonpath([os.path.realpath(path), os.path.realpath(top)]) == os.path.realpath(top)
 
 
 def commit(folder):

@@ -6,11 +6,10 @@ import re
 import shutil
 import unittest
 
-from tests.installing import ANSWERED, INSTALL, OWN, PAGES, InstallCase, alone, below, checkout, commit, installation, lasting_room
+from tests.installing import ANSWERED, INSTALL, OWN, PAGES, InstallCase, alone, below, checkout, commit, installation, lasting_room, lost_links
 from tests.support import TOOLS, Done, program, read, write
 
 ARCHIVE = f"pp6600-{read('VERSION').strip()}-x86_64-linux.tar.gz"
-LINKS = {".md": r"\]\(([^)#:\s]+)[^)]*\)", ".html": r' href="([^"#:]+)'}
 ADVICE = ": put this folder on the path; see man pp6600\n"
 
 
@@ -25,17 +24,6 @@ def archive():
     """Returns its release."""
     alone("share/release", cwd=original())
     return os.path.join(original(), "out", ARCHIVE)
-
-
-def lost_links(top):
-    """Returns the links of all pages below a folder that lead to no file."""
-    lost = []
-    for folder, _, names in os.walk(top):
-        for name in names:
-            link = LINKS.get(os.path.splitext(name)[1])
-            found = re.findall(link, read(folder, name)) if link else []
-            lost += [(name, target) for target in found if not os.path.exists(os.path.join(folder, target))]
-    return lost
 
 
 class Installed(InstallCase):
@@ -61,7 +49,7 @@ class Installed(InstallCase):
         for path in ("docs/CONSOLE.md", "docs/card.html", "docs/drawings/session.svg", "examples/clock/script", "exercises/grade",
                      "share/editors/kate/dap.json", "share/editors/vscode/package.json"):
             self.assertIn(f"{PAGES}/{path}", there)
-        self.assertEqual(read("CHANGELOG.md"), alone("gunzip", "-c", f"{self.prefix}/{PAGES}/changelog.gz").out)
+        self.assertEqual(read("CHANGELOG.md"), alone("gunzip", "-c", f"{self.prefix}/share/doc/pp6600/changelog.gz").out)
         self.assertEqual([], lost_links(self.prefix))
 
     def test_completion(self):

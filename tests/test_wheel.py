@@ -6,8 +6,9 @@ import shutil
 import subprocess
 import sys
 import unittest
+import zipfile
 
-from tests.installing import InstallCase, alone, checkout, lasting_room
+from tests.installing import InstallCase, alone, checkout, lasting_room, lost_links
 from tests.support import EXAMPLES, TOOLS, Done, blocks, read
 
 VERSION = read("VERSION").strip()
@@ -53,12 +54,26 @@ class Wheel(InstallCase):
     def test_refused(self):
         top = self.path("another")
         alone("git", "clone", "-q", original(), top)
-        self.check_stopped(alone("share/wheel", "--bogus", cwd=top), "give FOLDER")
+        self.check_refused(alone("share/wheel", "--bogus", cwd=top), "give FOLDER")
         with open(os.path.join(top, "tools", "pp6600", "more.py"), "w", encoding="ascii"):
-            self.check_stopped(alone("share/wheel", cwd=top), "tools/pp6600/more.py; commit or take it away first")
+            self.check_refused(alone("share/wheel", cwd=top), "tools/pp6600/more.py; commit or take it away first")
 
-    def check_stopped(self, done, said):
-        self.assertEqual((1, 1, True, ""), (done.status, len(done.err.splitlines()), said in done.err, done.out), done.err)
+    def test_pages(self):
+        """They are in the folder share of the environment, with no link that leads elsewhere; the exercises check themselves there."""
+        for package, said in ((PLATFORM, ""), (ANY, SAID)):
+            own = os.path.dirname(environment(package))
+            self.assertEqual([], lost_links(f"{own}/share"))
+            for path in ("pp6600/docs/CONSOLE.md", "pp6600/docs/films/handshake.html", "man/man1/pp6600-python.1.gz"):
+                self.assertTrue(os.path.exists(f"{own}/share/{path}"), path)
+            exercises = f"{own}/share/pp6600/exercises"
+            done = alone(f"{own}/bin/python", f"{exercises}/check-exercise", "exchange", f"{exercises}/exchange/solution")
+            self.assertEqual(("exchange: solved\n", said, 0), done)
+            self.check_refused(alone(f"{own}/bin/python", f"{exercises}/hand-out", self.path("class")), "can't be handed out")
+
+    def test_licence(self):
+        for package in (PLATFORM, ANY):
+            with zipfile.ZipFile(f"{original()}/out/{package}") as archive:
+                self.assertIn("No licence has been chosen yet.\n", archive.read(f"pp6600-{VERSION}.dist-info/METADATA").decode())
 
     def test_entry_points(self):
         """Each tool has its command."""

@@ -27,13 +27,21 @@ def default_program() -> str:
 
 @functools.lru_cache(maxsize=None)
 def words_to_run(program: str) -> Tuple[str, ...]:
-    """Returns the words that run a simulator. The launcher of a checkout stands for the build that it would choose. Where the program of
-    a checkout, an installation or a package does not start, it is the one in Python, and standard error says so."""
-    top, name = os.path.split(os.path.realpath(program))
-    is_checkout = name == "pp6600" and os.path.exists(os.path.join(top, "crates.txt"))
-    if os.path.dirname(program) == "" or not is_checkout and os.path.join(top, name) != os.path.realpath(os.path.join(HOME, "pp6600")):
+    """Returns the words that run a simulator. The launcher of a checkout or of a class stands for the program that it would choose. Where
+    the program of one of these, an installation or a package does not start, it is the one in Python, and standard error says so."""
+    if os.path.dirname(program) == "":
         return (program,)
-    return or_in_python(lambda: built(program, top) if is_checkout else program)
+    whole = os.path.realpath(program)
+    top, name = os.path.split(whole)
+    if name == "pp6600" and os.path.exists(os.path.join(top, "crates.txt")):
+        return or_in_python(lambda: built(program, top))
+    return or_in_python(lambda: handed_out(HOME)) if whole == os.path.realpath(os.path.join(HOME, "pp6600")) else (program,)
+
+
+def handed_out(top: str) -> str:
+    """Returns the program of a class, whose folder has one in dist and a launcher; or else of an installation or a package."""
+    program = os.path.join(top, "dist", "pp6600")
+    return program if os.path.exists(program) else os.path.join(top, "pp6600")
 
 
 def or_in_python(choose: Callable[[], str]) -> Tuple[str, ...]:

@@ -1,9 +1,10 @@
 """Where the simulator's files are, in a checkout and in an installation, and which program is run."""
 
 import os
+import re
 import subprocess
 
-from .choice import or_in_python
+from .choice import HOME, handed_out, or_in_python
 from .failure import Failure
 
 TOP = os.path.dirname(os.path.dirname(os.path.dirname(os.path.realpath(__file__))))  # the checkout, or OWN below a prefix
@@ -13,9 +14,24 @@ INSTALL = os.path.join(TOP, "share" if IS_CHECKOUT else "", "install")
 
 # Below the prefix of an installation:
 OWN = "libexec/pp6600"
-PAGES = "share/doc/pp6600"
-# Names of the checkout, which a release and the folder of a class have too, and what they are links to.
-NAMES = {"pp6600": "bin/pp6600", "pp6600-python": f"{OWN}/pp6600-python", "tools": f"{OWN}/tools", "docs": f"{PAGES}/docs", "examples": f"{PAGES}/examples"}
+PAGES = "share/pp6600"
+# A link of a page, with its text; the file that it leads to is before a #.
+LINKS = {".md": re.compile(r"!?\[(?P<text>[^\[\]]*)\]\((?P<file>[^)#:\s]+)[^)]*\)"),
+         ".html": re.compile(r"""<a\b[^>]*? href="(?P<file>[^"#:]+)[^>]*>(?P<text>.*?)</a>""", re.S)}
+
+
+def without_lost_links(top):
+    """Of each link of the pages below a folder that leads to no file, leaves the text alone."""
+    for folder, _, names in os.walk(top):
+        for name in names:
+            link, path = LINKS.get(os.path.splitext(name)[1]), os.path.join(folder, name)
+            if link:
+                with open(path, encoding="utf-8", newline="") as file:
+                    page = file.read()
+                kept = link.sub(lambda found, folder=folder: found[0] if os.path.exists(os.path.join(folder, found["file"])) else found["text"], page)
+                if kept != page:
+                    with open(path, "w", encoding="utf-8", newline="") as file:
+                        file.write(kept)
 
 
 def which_build(*words):
@@ -27,6 +43,6 @@ def which_build(*words):
 
 
 def chosen_program():
-    """Returns the words that run the simulator: of a checkout the build that ./pp6600 runs, or else the program of the installation; or
-    the one in Python, where that one does not start."""
-    return or_in_python(lambda: which_build() if IS_CHECKOUT else os.path.join(TOP, "pp6600"))
+    """Returns the words that run the simulator: of a checkout the build that ./pp6600 runs, or else the program of the class, the
+    installation or the package; or the one in Python, where that one does not start."""
+    return or_in_python(lambda: which_build() if IS_CHECKOUT else handed_out(HOME))

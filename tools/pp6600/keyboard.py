@@ -6,7 +6,7 @@ import shutil
 import signal
 import sys
 
-from .choice import ABOVE
+from .choice import ABOVE, HOME, PACKAGE
 from .device import DeviceFailure
 from .ending import complain, flush, write
 from .failure import Failure
@@ -25,8 +25,11 @@ def is_terminal():
 
 
 def card():
-    """Returns where the lines of the console are described: in a checkout or a release, and in an installation."""
-    return "docs/CARD.md" if os.path.exists(os.path.join(ABOVE, "docs", "CARD.md")) else "man pp6600"
+    """Returns where the lines of the console are described: in a checkout, a release or a class, in a package of pip, and elsewhere."""
+    if os.path.exists(os.path.join(ABOVE, "docs", "CARD.md")):
+        return "docs/CARD.md"
+    page = os.path.join(sys.prefix, "share", "pp6600", "docs", "CARD.md")
+    return page if HOME == PACKAGE and os.path.exists(page) else "man pp6600"
 
 
 def completions():

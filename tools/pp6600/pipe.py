@@ -4,9 +4,7 @@ from __future__ import annotations
 
 import atexit
 import collections
-import contextlib
 import os
-import select
 import signal
 import subprocess
 import sys
@@ -14,11 +12,13 @@ from typing import Deque, List, Sequence, Set
 
 from .choice import words_to_run
 from .failure import Failure
+from .pipe_ends import ends_of
 
 PATIENCE = 30  # seconds without a byte
 LIVE: Set[Pipe] = set()  # the pipes whose programs have not ended
 LONGEST_LINE = 4096
 KEPT_OF_ERRORS = 4096
+NEW_GROUP = getattr(subprocess, "CREATE_NEW_PROCESS_GROUP", 0)  # Windows has it, and no sessions
 
 
 @atexit.register
@@ -58,43 +58,23 @@ class Pipe:
         try:
             # A group of its own: an interrupt ends the tool, and then the end of its input ends the program.
             self.process = subprocess.Popen([*words_to_run(words[0]), *words[1:]], bufsize=0, stdin=subprocess.PIPE, stdout=subprocess.PIPE,
-                                            stderr=subprocess.PIPE, start_new_session=True)
+                                            stderr=subprocess.PIPE, start_new_session=True, creationflags=NEW_GROUP)
         except OSError as error:
             raise Failure(f"can't run {words[0]}: {error.strerror}") from error
-        self.input, self.output, self.errors = (
-            stream.fileno() for stream in (self.process.stdin, self.process.stdout, self.process.stderr))
         LIVE.add(self)
-        self.poll = select.poll()
-        for number in (self.output, self.errors):
-            os.set_blocking(number, False)
-            self.poll.register(number, select.POLLIN)
-        os.set_blocking(self.input, False)
-        self.reading = {self.output, self.errors}
-        self.unsent, self.said = b"", b""
+        self.ends = ends_of(self.process)
+        self.reading, self.said = {"output", "errors"}, b""
         self.lines: Deque[str] = collections.deque()
         self.rest = ""
 
     def send(self, text: str) -> None:
         """Writes a text, as much of it as the pipe takes now, and the rest while answers are read."""
-        if not self.unsent:
-            self.poll.register(self.input, select.POLLOUT)
-        self.unsent += text.encode("latin-1")
-        self.write_more()
-
-    def write_more(self) -> None:
-        try:
-            self.unsent = self.unsent[os.write(self.input, self.unsent):]
-        except BlockingIOError:
-            return
-        except BrokenPipeError:  # the program has ended, as its output will say
-            self.unsent = b""
-        if not self.unsent:
-            self.poll.unregister(self.input)
+        self.ends.send(text.encode("latin-1"))
 
     def line(self) -> str:
         """Returns the next line that the program writes."""
         while not self.lines:
-            if self.output not in self.reading:
+            if "output" not in self.reading:
                 status = self.close()
                 raise Ended(self.words, status, (self.errors_text().splitlines() or [""])[-1])
             self.move()
@@ -108,21 +88,16 @@ class Pipe:
 
     def move(self) -> None:
         """Waits until a pipe can be read or written, and does so."""
-        ready = self.poll.poll(patience() * 1000)
-        if not ready:
+        came = self.ends.wait(patience())
+        if came is None:
             raise self.stopped(f"{self.program} has not answered for {patience()} (decimal) seconds")
-        for number, _ in ready:
-            if number == self.input:
-                self.write_more()
-            else:
-                self.read_more(number)
+        for name, data in came:
+            self.take(name, data)
 
-    def read_more(self, number: int) -> None:
-        data = os.read(number, 65536)
+    def take(self, name: str, data: bytes) -> None:
         if not data:
-            self.poll.unregister(number)
-            self.reading.discard(number)
-        elif number == self.errors:
+            self.reading.discard(name)
+        elif name == "errors":
             self.said = (self.said + data)[-KEPT_OF_ERRORS:]
         else:
             *lines, self.rest = (self.rest + data.decode("latin-1")).split("\n")
@@ -137,7 +112,10 @@ class Pipe:
 
     def kill(self) -> None:
         try:
-            os.killpg(self.process.pid, signal.SIGKILL)
+            if hasattr(os, "killpg"):
+                os.killpg(self.process.pid, signal.SIGKILL)
+            else:
+                self.process.kill()
         except OSError:  # it has ended
             pass
         self.process.wait()
@@ -148,11 +126,9 @@ class Pipe:
 
     def close(self) -> int:
         """Ends the input and returns the exit status. Every answer was read before, so no more output may come."""
-        while self.unsent and self.output in self.reading:
+        while self.ends.unsent and "output" in self.reading:
             self.move()
-        with contextlib.suppress(KeyError):  # it may wait to be written without a text, if a signal has come just then
-            self.poll.unregister(self.input)
-        self.process.stdin.close()
+        self.ends.end_input()
         while self.reading:
             if self.lines or self.rest:
                 raise self.stopped(f"{self.program} is not the simulator: it writes more than answers")

@@ -17,8 +17,9 @@ from ..failure import Failure
 from ..choice import default_program
 from ..pipe import Pipe
 from .forms import (
-    ANSWER, CHANNELS_DUMP, FRAME_DUMP, MOST_TURNS, Dump, Place, Registers, cells_dump, central_dump, fields, is_refusal, kind_of, refused,
+    ANSWER, CHANNELS_DUMP, FRAME_DUMP, MOST_TURNS, PROCESSORS, Dump, Place, Registers, cells_dump, central_dump, fields, is_refusal, kind_of, refused,
     registers_dump, registers_of)
+from .notebook import table_of
 from .tape import STEP, Action, History, Tape, lines_of, room_of
 from .turn import Processor
 
@@ -248,6 +249,12 @@ class Console:
         if kind == "XP":
             return fields("XP", self.frame()[numbers[0]])["word"]
         return self.channel(numbers[0])[2:] if kind == "H" else self.registers(numbers[0])[kind]
+
+    def _repr_html_(self) -> str:
+        """Returns the machine as a small table, which a notebook shows."""
+        if self.pipe.process.returncode is not None:
+            return "<p>This simulator has ended.</p>"
+        return table_of([self.processor(number) for number in range(PROCESSORS)], self.channels(), [self.reader(), self.printer()[0]])
 
     # ---- turns
 

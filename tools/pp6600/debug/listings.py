@@ -59,8 +59,9 @@ class Listings:
         self.folder = tempfile.mkdtemp(prefix="pp6600-")
         self.files, self.rows, self.beside = {}, {}, []
         for number in range(PROCESSORS):
-            self.files[number] = os.open(self.path(number), os.O_RDWR | os.O_CREAT | os.O_EXCL, 0o600)
-            os.fchmod(self.files[number], 0o444)  # editors then open it to be looked at
+            self.files[number] = open(self.path(number), "xb", buffering=0)
+            if hasattr(os, "fchmod"):  # on Windows a file that can't be written can't be removed
+                os.fchmod(self.files[number].fileno(), 0o444)  # editors then open it to be looked at
 
     def begin(self, symbols):
         """Begins a run with the symbols of some processors, by their numbers. Other symbols make lines of another length."""
@@ -68,7 +69,7 @@ class Listings:
         for number, file in self.files.items():
             self.rows[number] = [None] * ROWS
             if old and old[number].width != self.beside[number].width:
-                os.ftruncate(file, 0)
+                file.truncate(0)
 
     def path(self, number):
         return os.path.join(self.folder, f"PP{number:02o}.pplist")
@@ -107,10 +108,11 @@ class Listings:
 
     def write(self, number, memory, cells):
         """Writes the lines of some cells in their place."""
-        os.pwrite(self.files[number], self.lines(number, memory, cells), cells[0] * (WIDTH + self.beside[number].width + 1))
+        self.files[number].seek(cells[0] * (WIDTH + self.beside[number].width + 1))
+        self.files[number].write(self.lines(number, memory, cells))
 
     def remove(self):
         for file in self.files.values():
-            os.close(file)
+            file.close()
         self.files = {}
         shutil.rmtree(self.folder, ignore_errors=True)

@@ -22,8 +22,8 @@ def main():
     parser = Parser(DESCRIPTION)
     parser.add_argument("--log", metavar="FILE", help="add each message to this file: > before those of the editor, < before the answers")
     asked = parser.parse()
-    for number in (signal.SIGTERM, signal.SIGHUP):
-        signal.signal(number, end)  # so that the listings are removed
+    for name in {"SIGTERM", "SIGHUP"} & set(dir(signal)):  # Windows has one of them
+        signal.signal(getattr(signal, name), end)  # so that the listings are removed
     if signal.getsignal(signal.SIGINT) is end_by_interrupt:
         signal.signal(signal.SIGINT, signal.default_int_handler)
     try:

@@ -62,10 +62,10 @@ def write_page(path, text):
 def replace_file(path, data):
     """Puts a fresh file with these bytes in the place of a file."""
     fresh = f"{path}.{os.urandom(4).hex()}.part"
-    file = os.open(fresh, os.O_WRONLY | os.O_CREAT | os.O_EXCL, 0o666)
+    file = open(fresh, "xb")
     try:
-        with open(file, "wb") as opened:
-            opened.write(data)
+        with file:
+            file.write(data)
         os.replace(fresh, path)
     except BaseException:
         os.remove(fresh)

@@ -1,0 +1,29 @@
+"""The machine as a small table in HTML, which a notebook shows."""
+
+from __future__ import annotations
+
+from html import escape
+from typing import Iterable, Sequence
+
+from .forms import CHANNELS_DUMP, REGISTERS, fields
+from .turn import Processor, states_of
+
+HEADS = ("", "PP", *REGISTERS, "instruction", "waits for")
+MARK = ">"  # the processor whose turn comes next
+
+
+def row(cells: Iterable[str], kind: str = "td") -> str:
+    return f"<tr>{''.join(f'<{kind}>{escape(cell)}</{kind}>' for cell in cells)}</tr>"
+
+
+def table_of(processors: Sequence[Processor], channels: Sequence[str], devices: Sequence[str]) -> str:
+    """Returns the table of the ten processors, the lines of DUMP H, and the lines of the devices."""
+    states = states_of(channels)
+    slot = int(processors[0].registers["SLOT"], 8)
+    rows = [row((MARK if number == slot else "", f"{number:02o}", *(processor.registers[name] for name in REGISTERS),
+                 processor.text, processor.waits_for(states))) for number, processor in enumerate(processors)]
+    found = [fields(CHANNELS_DUMP.form, line) for line in channels]
+    beside = [row(("H", *(channel["number"] for channel in found)), "th"),
+              row(("", *(f"{channel['state']} {channel['register']}" for channel in found)))]
+    return (f"<table>{row(HEADS, 'th')}{''.join(rows)}</table><table>{''.join(beside)}</table>"
+            f"<p>{'<br>'.join(map(escape, devices))}</p>")
