@@ -75,7 +75,7 @@ def counted(lines: Iterable[str]) -> Iterator[Tuple[int, str]]:
 def numbered(lines: Iterable[str]) -> List[str]:
     """Returns the lines of a script, each with its number, or with the device whose reply it is by the note before it."""
     found: List[str] = []
-    note = None
+    note: Optional["re.Match[str]"] = None
     for number, line in counted(lines):
         if isinstance(line, SourceLine):
             found.append(line)
