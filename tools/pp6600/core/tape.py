@@ -13,7 +13,7 @@ from __future__ import annotations
 
 import bisect
 import re
-from typing import Container, Dict, Iterable, Iterator, List, NamedTuple, Sequence, Tuple
+from typing import Container, Dict, Iterable, Iterator, List, NamedTuple, Optional, Sequence, Tuple
 
 from ..failure import Failure
 from .forms import MOST_TURNS, PROCESSORS
