@@ -1,15 +1,23 @@
 // ---- the source of a processor: its lines, the one where the processor is, and those that have been overwritten
 
-// What is shown of each source by its processor; the processor whose source is seen and the moment; the line that was clicked last, and the
-// moment to which this led.
-const source = { of: new Map(), processor: -1, at: -1, line: 0, led: -1 };
+// What is shown of each source by its processor, with the line that was clicked last and the moment to which this led; and the processor
+// whose source is seen, and where it was scrolled.
+const source = { of: new Map(), processor: -1, scrolled: "" };
+
+// The line of a source where a processor is, as ", count.pp:8"; or "".
+function lineOfSource(n, { number, note }) {
+  if (!number) return "";
+  const text = `${film.sources[n].name}:${number}`;
+  return note === "was" ? `, was ${text}` : `, ${text} ${note}`.trimEnd();
+}
 
 function buildSource() {
   if (!film.sources) return;
   document.querySelector(".column").prepend(byId("lanes"));
   byId("source").hidden = false;
   for (const [text, { name, lines }] of Object.entries(film.sources)) {
-    const n = Number(text), one = { processor: n, name, times: lines.map(() => []), last: 0, body: tableOf("source").createTBody() };
+    const n = Number(text), body = tableOf("source").createTBody();
+    const one = { processor: n, name, body, times: lines.map(() => []), last: 0, line: 0, led: -1 };
     one.rows = lines.map((line, at) => addSourceRow(one, at + 1, ...line));
     source.of.set(n, one);
     byId("source-of").add(new Option(`PP ${two(n)}`, n));
@@ -18,8 +26,8 @@ function buildSource() {
   for (const one of source.of.values()) addTimes(one, 1);
   byId("source-of").hidden = source.of.size < 2;
   byId("source-of").onchange = () => chooseMemory(Number(byId("source-of").value));
-  byId("previous-time").onclick = () => moveToTime(source.line, -1);
-  byId("next-time").onclick = () => moveToTime(source.line, 1);
+  byId("previous-time").onclick = () => moveToTime(source.of.get(source.processor), -1);
+  byId("next-time").onclick = () => moveToTime(source.of.get(source.processor), 1);
 }
 
 // Notes for each line at which moments from the first one on it was begun: a line that waits, or that is in its block, only goes on. A line
@@ -43,7 +51,7 @@ function addSourceRow(one, number, text, address, place) {
   button.className = "line";
   words.textContent = text.trimStart();
   button.append(text ? blanks : " ", words);
-  button.onclick = (event) => moveToTime(number, event.shiftKey ? -1 : 1);
+  button.onclick = (event) => { one.line = number; moveToTime(one, event.shiftKey ? -1 : 1); };
   cells[4].append(button);
   cells[1].className = cells[2].className = "name";
   cells[3].className = "mark";
@@ -63,8 +71,8 @@ function showSource() {
   const performed = isTurn(film.at) && film.processor[film.at] === n && !turnOf(film.at).line.note ? turnOf(film.at).line.number : 0;
   one.rows.forEach((row, at) => showSourceRow(row, n, line.number === at + 1 ? line : null, performed === at + 1));
   showTimes(one);
-  if (source.at !== film.at) keepInView(one.rows[(film.at === source.led ? source.line : line.number) - 1]);
-  source.at = film.at;
+  if (source.scrolled !== `${n} ${film.at}`) keepInView(one.rows[(film.at === one.led ? one.line : line.number) - 1]);
+  source.scrolled = `${n} ${film.at}`;
 }
 
 function showSourceRow(row, n, here, performed) {
@@ -85,18 +93,17 @@ function showSourceRow(row, n, here, performed) {
 }
 
 function showTimes(one) {
-  const times = one.times[source.line - 1] || [], count = times.findIndex((moment) => moment > film.at);
+  const times = one.times[one.line - 1] || [], count = times.findIndex((moment) => moment > film.at);
   byId("times").hidden = !times.length;
-  setText(byId("times-text"), `line ${source.line} (decimal), time ${octal(count < 0 ? times.length : count)} of ${octal(times.length)}`);
+  setText(byId("times-text"), `line ${one.line} (decimal), time ${octal(count < 0 ? times.length : count)} of ${octal(times.length)}`);
 }
 
-// To the next time that a line was performed, or to the time before; after the last comes the first.
-function moveToTime(number, direction) {
-  const times = source.of.get(source.processor).times[number - 1];
+// To the next time that the line that was clicked was performed, or to the time before; after the last comes the first.
+function moveToTime(one, direction) {
+  const times = one.times[one.line - 1];
   const next = times.find((moment) => moment > film.at) ?? times[0], before = times.findLast((moment) => moment < film.at) ?? times.at(-1);
-  source.line = number;
-  source.led = direction > 0 ? next : before;
-  byHand(() => moveTo(source.led))();
+  one.led = direction > 0 ? next : before;
+  byHand(() => moveTo(one.led))();
 }
 
 // Scrolls the lines, not the page, so that a row is seen, and some rows around it.
