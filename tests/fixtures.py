@@ -5,7 +5,7 @@ import subprocess
 
 from tests.support import EXAMPLES, PYTHON, TOP, program
 
-DECK = os.path.join(EXAMPLES, "overwritten-loader", "deck")
+DECK, LOADER = (os.path.join(EXAMPLES, "overwritten-loader", name) for name in ("deck", "loader.pp"))
 # The loader of README.md up to its first question.
 OVERWRITTEN = """\
 SET M 0 100 7712 1 7412 1477 7112 60 7512 100

@@ -107,8 +107,8 @@ class Emulator:
         elif final == "r":
             self.top, self.bottom = (numbers[0] or 1) - 1, ((numbers + [0])[1] or self.rows) - 1
             self.row = self.column = 0
-        elif final in "LM":
-            self.scroll(self.row, (numbers[0] or 1) * (1 if final == "M" else -1))
+        elif final in "LMST":
+            self.scroll(self.row if final in "LM" else self.top, (numbers[0] or 1) * (1 if final in "MS" else -1))
         elif final in "Hfd`GABCD":
             self.move(final, *(number or 1 for number in (numbers + [0])[:2]))
         elif final in "JKXP@":

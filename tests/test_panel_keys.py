@@ -127,8 +127,8 @@ class Culprits(PanelCase):
         press(panel, "12b")
         ahead = panel.session.history.to_redo
         self.assertEqual(0o12, ahead)
-        self.check_rows(lambda line: bottom(panel, f":{line}<Enter>")[:6], ("SET A 0 9", "ERR 03"), ("SET A 12 0", "ERR 04"), ("SET A 0", "ERR 02"),
-                        ("WATCH A 1", "ERR 12"), ("UNWATCH A 0", "ERR 13"), ("DEADSTART", "ERR 14"), ("STEP 0", "ERR 04"))
+        self.check_rows(lambda line: bottom(panel, f":{line}<Enter>")[:6],
+                        ("SET A 0 9", "ERR 03"), ("SET A 12 0", "ERR 04"), ("SET A 0", "ERR 02"), ("WATCH A 1", "ERR 12"), ("UNWATCH A 0", "ERR 13"), ("DEADSTART", "ERR 14"), ("STEP 0", "ERR 04"))
         self.assertEqual((ahead, []), (panel.session.history.to_redo, panel.asked))
         self.assertIn("discards the 12 actions ahead", bottom(panel, ":SET A 0 7<Enter>"))
         press(panel, "n<End>")

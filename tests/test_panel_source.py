@@ -4,13 +4,12 @@ docs/TOOLS.md of whose line a cell is; the turns in which lines begin are counte
 import os
 import re
 
-from tests.fixtures import DECK, OVERWRITTEN
+from tests.fixtures import DECK, LOADER, OVERWRITTEN
 from tests.panels import PanelCase, bottom, press
 from tests.support import EXAMPLES, TOP, blocks, read, tool
 
 from pp6600.panel import text
 
-LOADER = os.path.join(EXAMPLES, "overwritten-loader", "loader.pp")
 LOOP = os.path.join(EXAMPLES, "loop", "loop.pp")
 MOVER, MONITOR = (os.path.join(TOP, "tests", "programs", f"{name}.pp") for name in ("mover", "monitor"))
 HEAD = "PP 00  SOURCE   "

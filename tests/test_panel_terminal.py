@@ -6,7 +6,7 @@ import signal
 import subprocess
 import sys
 
-from tests.fixtures import DECK, OVERWRITTEN
+from tests.fixtures import DECK, LOADER, OVERWRITTEN
 from tests.panels import PROGRAM, PanelCase, press
 from tests.support import PYTHON, TOP, read, run, write
 from tests.terminal import PATIENCE, Terminal
@@ -66,6 +66,27 @@ class Screens(TerminalCase):
                 terminal.type("q")
                 terminal.type("q")
                 self.assertEqual(0, terminal.status())
+
+    def test_source(self):
+        """A source, with colours: its present line and what has overwritten it; and steps by lines."""
+        words, pairs = ("--deck", DECK, "--source", "0", LOADER), [(0, LOADER)]
+        for columns, rows, kind in (80, 24, "xterm-256color"), (160, 50, "xterm"):
+            terminal = self.started(*words, self.file("STEP 1300\n"), columns=columns, rows=rows, kind=kind)
+            panel = self.panel("STEP 1300\n", "--deck", DECK, size=(columns, rows), sources=pairs)
+            for text, keys in {"C": "C", "CG405\r": "CG405<Enter>", "PN": "PN", "mi": "mi", "m1G": "m1G"}.items():
+                terminal.type(text)
+                with self.subTest(text, columns=columns):
+                    self.assert_same_screen(terminal, press(panel, keys))
+            self.assertEqual(set(), {32, 33, 36} - terminal.screen.colours)
+
+    def test_search_of_lines(self):
+        """A processor that counts in one line: a search that has no end soon. Ctrl-C stops it."""
+        source = self.file("COUNT MACRO\nMORE AOD 20B\n  UJN MORE\n  ENDM\n  ORG 100B\nSTART COUNT\n  END START\n")
+        terminal = self.started("--source", "0", source, self.file("STEP 1000\n"))
+        terminal.type("N")
+        self.assert_shows(terminal, "Ctrl-C stops")
+        terminal.type("\x03")
+        self.assert_shows(terminal, "the search was stopped")
 
     def test_resize(self):
         """A terminal that is made larger, too small, and large again."""

@@ -97,7 +97,8 @@ class Lines:
             if not is_in_block(registers) and registers[:4] + registers[-4:] != self.registers:
                 asked.append((position, address_of(registers)))
             self.registers = registers[:4] + registers[-4:]
-        answers = self.run.look_at([*((position, word_dumps(self.number, address)) for position, address in asked), (self.run.position, [])])
+        stops = [(position, word_dumps(self.number, address)) for position, address in asked]
+        answers = self.run.look_at([*stops, (self.run.position, [])])
         return {position: self.line_of(address, [word for line in answer for word in line.split()[1:]])
                 for (position, address), answer in zip(asked, answers)}
 

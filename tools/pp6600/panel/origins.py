@@ -20,9 +20,12 @@ class Origin:
         self.history, self.place = history, Place.parse(place)
         run = Replay(session.simulator.words, history.in_effect())
         self.tape = tape = run.tape
+
+        def reached(position):
+            progress(tape.turn(position), tape.turns)
+
         try:
-            self.rows = origin_rows(run, self.place, tape.end, MOST_STEPS, False, lambda position: progress(tape.turn(position), tape.turns),
-                                    symbols=symbols)
+            self.rows = origin_rows(run, self.place, tape.end, MOST_STEPS, False, reached, symbols=symbols)
         finally:
             run.close()
 

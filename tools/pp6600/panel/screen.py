@@ -201,9 +201,12 @@ def central_lines(shown, rows):
 def memory_part(shown, rows, width):
     """Returns the memory of the chosen processor, with central memory beside it, or a source in the whole width."""
     view = shown.view
-    if view.source is not None and not view.shows_central:
+    if not view.shows_central:
         return source_lines(shown, rows, width)
-    memory = source_lines(shown, rows, WIDTH) if view.source is not None else (program_lines if view.as_program else memory_lines)(shown, rows)
+    if view.source is not None:
+        memory = source_lines(shown, rows, WIDTH)
+    else:
+        memory = (program_lines if view.as_program else memory_lines)(shown, rows)
     return beside(memory, central_lines(shown, rows), CENTRAL_FROM)
 
 
