@@ -359,6 +359,29 @@ class DataBreakpoint(DebugCase):
         self.assertEqual("M 03 0021 was 0000 and is 0001", client.stop_after("continue", threadId=1)["text"])
         self.assertEqual("W M 03 0021", client.typed("DUMP W"))
 
+    def test_a_long_run_leaves_no_trace(self):
+        """All that is kept after it are its turns: lines that are typed go back over these, and further."""
+        client = self.session(LONG)
+        self.set_data(client, "M 0 21", "M 0 50")
+        client.stop_after("continue", threadId=1)
+        self.assertEqual((81901, "W NONE"), (self.turns(client), client.typed("DUMP W")))
+        self.assertEqual(["BACK 23420 SLOT 01", "BACK 1 SLOT 00", "FORWARD 23421 SLOT 01"],
+                         [client.typed(line) for line in ("BACK 23420", "BACK 1", "FORWARD 23421")])
+        client.typed("WATCH M 0 20")  # which PP 00 changed last in its turn 8189
+        self.assertEqual(("BACK 26 SLOT 00", 81880), (client.typed("BACK W"), self.turns(client)))
+
+    def test_runs_about_as_long_as_what_is_kept(self):
+        """PP 10 changes its cell 0021 in its turn 1000, decimal, which is the 9999th of all, and 10,000 actions are kept."""
+        lines = ["SET M 10 100 2400 3720 576 3621 300", "SET M 10 20 763", "SET P 10 100"]
+        for places in (["M 10 21"], ["M 10 21", "M 10 50", "M 10 51"]):
+            client = self.session(lines)
+            self.set_data(client, *places)
+            self.assertEqual("M 10 0021 was 0000 and is 0001", client.stop_after("continue", threadId=1)["text"])
+            self.assertEqual((9999, "W NONE", "ERR 15 NOTHING WATCHED"), (self.turns(client), client.typed("DUMP W"), client.typed("BACK W")))
+            self.assertEqual(["BACK 23417 SLOT 00", "BACK 1 SLOT 00", "FORWARD 23420 SLOT 11"],
+                             [client.typed(line) for line in ("BACK 23417", "BACK 1", "FORWARD 23420")])
+            self.assertEqual("0001", client.typed("M 10 21"))
+
     def test_own_watches_stay(self):
         client = self.session([*LOOPS, "WATCH M 0 20"])
         self.assertEqual({"M 0 20": "0000"}, self.values(client, WATCHES))

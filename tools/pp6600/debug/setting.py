@@ -123,7 +123,7 @@ class Setting:
     def do_setDataBreakpoints(self, breakpoints, **_):
         def terms_of(one, places):
             self.check(places)
-            return self.terms(one, [])
+            return self.terms({**one, "logMessage": None}, [])  # the protocol has no such log points
 
         faults = self.points.set_data(breakpoints, self.machine.state.watched, terms_of)
         return {"breakpoints": [{"id": DATA_ID | at, "verified": not fault, **({"message": fault} if fault else {})}

@@ -146,7 +146,7 @@ def call(state: "Pass", statement: Statement) -> None:
 def expanded(state: "Pass", body: Sequence[Line], values: Dict[str, str], name: Field) -> List[Line]:
     """Returns the lines that a macro's call makes. A name of LOCAL becomes another one in each call."""
     line, made = state.line, []
-    column, outer = (line.call.column, line.call.lines) if line.call else (name.column, ())
+    column, outer = line.call.column if line.call else name.column, line.call.lines if line.call else ()
     for one in body:
         local = locals_of(one)
         if local is not None:
