@@ -16,7 +16,7 @@ from .places import LAYOUT, MODES
 from .sources import CENTRAL, COLUMNS, DECK
 
 WEB = os.path.join(os.path.dirname(os.path.abspath(__file__)), "web")
-SCRIPTS = ("state", "places", "machine", "program", "source", "pictures", "origin", "lanes", "controls")  # the page's script, in the order in which it is joined
+SCRIPTS = ("state", "places", "machine", "program", "source", "pictures", "origin", "lanes", "controls")  # in the order in which they are joined
 LONGEST_ANSWER = 40  # lines of one that a page keeps
 
 
@@ -132,8 +132,10 @@ def of_sources(source_lines):
         return {}
     first = LAYOUT["central"]
     places = {(line.processor, line.number): (line.location, first + at) for at, line in enumerate(source_lines.lines)}
-    sources = {number: {"name": name_of(source.path, "source"), "lines": [
-        (text, *places.get((number, at), ())) for at, text in enumerate(texts_of(source), 1)]} for number, source in source_lines.sources.items()}
+    sources = {}
+    for number, source in source_lines.sources.items():
+        texts = enumerate(texts_of(source), 1)
+        sources[number] = {"name": name_of(source.path, "source"), "lines": [(text, *places.get((number, at), ())) for at, text in texts]}
     return {"sources": sources, "marks": list(source_lines.marks), "layout": {**LAYOUT, "lines": first, "central": first + len(places)}}
 
 
