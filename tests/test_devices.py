@@ -323,6 +323,8 @@ class Pictures(Case):
         self.assertEqual(['matrix(1 0 0 -1 116 628)', 'matrix(1 0 0 -1 860 628)'], re.findall("matrix[^\"]*", "".join(lines)))
         self.assertEqual(["</g>", "</svg>"], lines[-2:])
         self.assertEqual(10, len(lines))
+        dots = frozenset(Mark(y, x) for y in range(5) for x in range(5))
+        self.assertEqual([f"M{x} {y}h0" for y in range(5) for x in range(5)], re.findall("M[^\"]*", svg(Picture((dots,)))))
 
     def test_braille(self):
         """In 64 cells a dot has 4 units. A large L goes down 6 of them, then 4 to the right."""

@@ -20,7 +20,7 @@ def rows_of(machine):
 
 
 class Pictures:
-    """The pictures of the devices that have some."""
+    """The pictures of the devices that have some. Without one nothing is kept."""
 
     def __init__(self, devices=()):
         self.devices = list(filter(has_picture, devices))
@@ -36,11 +36,13 @@ class Pictures:
 
     def acted(self, position):
         """After an action that is no turn the devices are as before."""
-        self.values[position:] = [self.values[position - 1]]
+        if self.devices:
+            self.values[position:] = [self.values[position - 1]]
 
     def show(self, moment, position):
         """Notes what is seen from a moment on, if it is something else."""
-        for number, (device, value) in enumerate(zip(self.devices, self.values[position])):
+        for number, device in enumerate(self.devices):
+            value = self.values[position][number]
             if value.state is self.drawn[number]:
                 continue
             self.drawn[number] = value.state
