@@ -72,6 +72,7 @@ function show() {
   showChosen();
   showPosition();
   showSigns();
+  showBarrel();
   if (setView()) drawLanes();
   showHead();
 }
@@ -204,7 +205,7 @@ const KEYS = {
   ",": byHand(() => moveLine(-1)), ".": byHand(() => moveLine(1)),
   "[": byHand(() => moveToChange(-1)), "]": byHand(() => moveToChange(1)),
   o: () => findOrigin(), "/": () => byId("place").select(), g: () => byId("turn").select(), "?": () => showHelp(byId("help").hidden),
-  i: () => nextForm(), f: () => followTurns(), Escape: () => (byId("help").hidden ? chooseNone() : showHelp(false)),
+  i: () => nextForm(), f: () => followTurns(), b: () => foldBarrel(), Escape: () => (byId("help").hidden ? chooseNone() : showHelp(false)),
 };
 
 function showHelp(on) {
@@ -271,10 +272,10 @@ function chooseTyped() {
 
 function build() {
   for (const part of [buildControls, buildProcessors, buildChannels, buildMemory, buildProgram, buildCentral, buildFrame, buildReader,
-    buildPrinter, buildScript, buildFiles, buildLanes, buildSigns]) part();
+    buildPrinter, buildScript, buildFiles, buildLanes, buildBarrel, buildSigns]) part();
   byId("panel").hidden = !film.panel.length;
   document.querySelector("#panel p").textContent = film.panel.map(four).join(" ");
-  const redraw = () => { drawLegend(); drawLanes(); showHead(); showSigns(); };
+  const redraw = () => { drawLegend(); drawLanes(); showHead(); showSigns(); showBarrel(); };
   for (const query of ["(prefers-color-scheme: dark)", "print"]) matchMedia(query).addEventListener("change", redraw);
   window.addEventListener("resize", redraw);
   window.addEventListener("beforeprint", redraw);
@@ -293,6 +294,7 @@ async function openFilm() {
   makeTables();
   fillRows(heads, places, growths);
   fillWrites(writes);
+  findChannels();
   film.at = film.count - 1;
   film.lineAt = linesOfMoments();
   film.highestTurn = film.turn.reduce((one, other) => Math.max(one, other), 0);

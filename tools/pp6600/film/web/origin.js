@@ -23,7 +23,7 @@ function fillWrites(numbers) {
     }
     starts[moment + 1] = places.length;
   }
-  film.writes = { starts, places: Int32Array.from(places), whats: Int32Array.from(whats), firsts: Uint32Array.from(firsts),
+  film.writes = { starts, count: places.length, places: Int32Array.from(places), whats: Int32Array.from(whats), firsts: Uint32Array.from(firsts),
     sources: Int32Array.from(sources), parts: Uint8Array.from(parts) };
 }
 
