@@ -13,7 +13,7 @@ from pp6600.core.state import state_of
 from pp6600.core.turn import NAMES
 
 MOMENTS, EARLY = 15, 15  # compared of each run: of all its moments, and of the first 100
-ALWAYS = 31  # in the handshake the question goes out in it
+ALWAYS = 0o31  # in the handshake the question goes out in it
 WALKED = (((), "examples/handshake/script"), (("--deck", "examples/overwritten-loader/deck"), "examples/overwritten-loader/script"),
           ((), "examples/print-a-page/script"), (("--deck", "examples/read-a-deck/deck"), "examples/read-a-deck/script"))
 CLOCK_IS_READ = ("SET M 0 100 7014 3420 300", "SET P 0 100", "STEP 40")  # IAN 14, STD 20, UJN 0
@@ -109,7 +109,8 @@ class Barrel(PageCase):
         """Compares the picture at random moments of a run. Returns how many words moved at these."""
         words, choose = [program(), *options], random.Random(name)
         total = moments_in(words, lines)
-        wanted = {min(ALWAYS, total), *(choose.randrange(1, last + 1) for count, last in ((MOMENTS, total), (EARLY, min(total, 100))) for _ in range(count))}
+        ranges = (MOMENTS, total), (EARLY, min(total, 100))
+        wanted = {min(ALWAYS, total), *(choose.randrange(1, last + 1) for count, last in ranges for _ in range(count))}
         self.browser.open(self.film(*options, script="".join(f"{line}\n" for line in lines), status=None))
         moved = 0
         for moment, step in steps_of(words, lines, wanted):
