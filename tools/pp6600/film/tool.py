@@ -3,6 +3,7 @@
 from ..command_line import Failure, add_script, arguments, bytes_of, count, octal, simulator
 from ..sources import add_symbols, symbols_of
 from ..text_files import lines_of
+from ..core.simulator import Simulator
 from .camera import Film, Transcript, to_film
 from .page import heading, page, text_of, write_page
 
@@ -26,7 +27,7 @@ def main():
     sources = "".join(f"{line}\n" for line in symbols_of(asked).loading(()))
     words, script = simulator(asked), sources.encode() + bytes_of(asked.script)
     transcript = Transcript(words, lines_of(script.decode("latin-1")))
-    film = Film(words, transcript, int(asked.reader or "12", 8), int(asked.printer or "13", 8))
+    film = Film(Simulator(words), transcript, int(asked.reader or "12", 8), int(asked.printer or "13", 8))
     skipped, filmed = to_film(transcript, asked.last, asked.around)
     film.shoot(skipped, filmed)
     if asked.around is not None:

@@ -23,8 +23,8 @@ function findChannels() {
     else if (place >= words && place < clock) used.add(place - words);
     else if (place >= states && place < words) used.add(place - states);
   };
-  film.writes.sources.subarray(0, film.writes.firsts[film.writes.count]).forEach(note);
-  film.places.subarray(0, film.starts[film.count]).forEach((place) => place !== clock && note(place));
+  film.writes.sources.forEach(note);
+  film.places.forEach((place) => place !== clock && note(place));
   film.next.forEach(({ waits }) => used.add(channelOf(waits)));
   barrel.channels = [...used].filter((c) => c <= CLOCK).sort((one, other) => one - other);
 }
@@ -137,13 +137,14 @@ function drawMiddle(picture, { cx, cy }) {
 function middleLines() {
   const change = film.at && film.kinds[film.at] !== JUMP ? changesOf(film.at).find(({ name }) => /^(M|C|XP) /.test(name)) : null;
   const changed = change ? [change.name, change.name[0] === "M" ? change.text : "another word"] : [];
-  if (!isTurn(film.at)) return [...inShort(film.at ? lineOf(film.at).text.trim() : "the beginning", 17), ...changed];
+  if (film.kinds[film.at] === SKIP) return [`${octal(film.skips.get(film.at))} turns`, "not filmed"];
+  if (!isTurn(film.at)) return [inShort(film.at ? lineOf(film.at).text.trim() : "the beginning", 17), ...changed];
   const { name, block } = turnOf(film.at);
   const kind = [block ? "in its block" : "", film.kinds[film.at] === WAITING ? "waits" : ""].filter(Boolean).join(", ");
   return [`PP ${two(film.processor[film.at])} ${name}`, ...(kind ? [kind] : []), ...changed];
 }
 
-const inShort = (text, length) => [text.length > length ? `${text.slice(0, length - 2)} ..` : text];
+const inShort = (text, length) => (text.length > length ? `${text.slice(0, length - 3)} ..` : text);
 
 // The box of a channel: its state, or the word that is on it; below it its device, underlined if it did something in this turn.
 function drawChannel(picture, c, { x, y }) {

@@ -45,13 +45,21 @@ function channelLanes() {
   return lanesOfChannels.filter((lane) => lane.kinds.some((kind) => kind > 0));
 }
 
+// Makes the lanes anew, and offers to see parts of a longer run.
+function renewLanes() {
+  lanes.all = [...Array(PROCESSORS).keys()].map(processorLane).concat(channelLanes());
+  const zoom = byId("zoom");
+  for (const size of [0o10000, 0o1000, 0o100]) {
+    if (size >= film.count || [...zoom.options].some((one) => Number(one.value) === size)) continue;
+    zoom.add(new Option(`${octal(size)} turns`, size), [...zoom.options].find((one) => one.value && Number(one.value) < size) || null);
+  }
+}
+
 function buildLanes() {
-  for (let n = 0; n < PROCESSORS; n++) lanes.all.push(processorLane(n));
-  lanes.all.push(...channelLanes());
   byId("fold").onclick = () => { lanes.folded = !lanes.folded; drawLanes(); showHead(); };
   const zoom = byId("zoom");
-  zoom.add(new Option("the whole run", film.count));
-  for (const size of [0o10000, 0o1000, 0o100]) if (size < film.count) zoom.add(new Option(`${octal(size)} turns`, size));
+  zoom.add(new Option("the whole run", ""), 0);
+  zoom.value = "";
   zoom.onchange = () => { setView(); drawLanes(); showHead(); };
   const picture = byId("picture");
   picture.onpointerdown = (event) => { picture.setPointerCapture(event.pointerId); lanes.held = true; moveToPixel(event); };
@@ -62,7 +70,7 @@ function buildLanes() {
 
 // Chooses the part of the run that the lanes show, so that the present moment is in it.
 function setView() {
-  const size = Number(byId("zoom").value);
+  const size = Number(byId("zoom").value) || film.count;
   if (size >= film.count) [lanes.from, lanes.to] = [0, film.count];
   else if (lanes.to - lanes.from !== size || film.at < lanes.from || film.at >= lanes.to) {
     lanes.from = Math.max(0, Math.min(film.count - size, film.at - (size >> 1)));
@@ -143,6 +151,7 @@ function drawLanes() {
   context.textBaseline = "middle";
   drawn.forEach((lane, at) => drawLane(context, colours, lane, GAP + (at + 1) * (LANE + GAP), width));
   drawLines(context, colours, height);
+  drawSkips(context, colours, height);
   if (shown.chosen) drawChanges(context, colours, GAP + (rows - 1) * (LANE + GAP));
   if (shown.origin) drawOrigin(context, colours, drawn);
   showFold();
@@ -183,6 +192,24 @@ function drawLines(context, colours, height) {
     if (left >= free) context.fillText(film.jumps.get(line.first)[0] < line.first ? "<" : ">", left, GAP + LANE / 2);
     free = Math.max(left, x) + SIGN;
   });
+}
+
+// A dashed line where turns were skipped, with their number below the lanes' names.
+function drawSkips(context, colours, height) {
+  context.strokeStyle = context.fillStyle = colours.ink;
+  context.lineWidth = 3;
+  context.setLineDash([2, 3]);
+  for (const [moment, turns] of film.skips) {
+    if (moment < lanes.from || moment >= lanes.to) continue;
+    const x = LABEL + Math.floor(pixelOf(moment)), text = `${octal(turns)} turns`;
+    context.beginPath();
+    context.moveTo(x, GAP);
+    context.lineTo(x, height);
+    context.stroke();
+    const room = context.measureText(text).width + 4;
+    context.fillText(text, x - room > LABEL ? x - room : x + SIGN, GAP + LANE / 2);
+  }
+  context.setLineDash([]);
 }
 
 // A tick for each change of the chosen number.
