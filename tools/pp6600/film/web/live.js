@@ -78,7 +78,7 @@ live.do = async (address, body) => {
   live.isBusy = true;
   const slow = setTimeout(() => say("the machine runs ..", false), 300);
   try {
-    const [news, ...rows] = await unpack(await (await ask(address, { ...body, have: film.lines.length })).text());
+    const [news, ...rows] = await unpack(await (await ask(address, { ...body, have: 1 + film.lines.length })).text());
     take(news, rows);
     return !news.behind;
   } catch (error) {
