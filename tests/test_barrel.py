@@ -24,7 +24,7 @@ PICTURE = """(() => {
   return {
     circles: all("g.processor").map(texts),
     acted: all("g.processor").flatMap((one, n) => (one.classList.contains("acted") ? [n] : [])),
-    slot: all("g.processor").flatMap((one, n) => (one.querySelector(".slot") ? [n] : [])),
+    slot: all(".slot").map((one) => Number(one.dataset.processor)),
     channels: all("g.channel").map((one) => [Number(one.dataset.channel), ...texts(one).slice(0, 2)]),
     waits: all("path.waits").map((one) => one.dataset.waits),
     word: all("g.word").map((one) => [Number(one.dataset.channel), ...texts(one)]),

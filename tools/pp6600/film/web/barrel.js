@@ -53,10 +53,11 @@ function channelAt(place) {
 
 // If there is room the ring is flat: two rows of four, and one at each end.
 function sizesOfBarrel(svg) {
-  const unit = parseFloat(getComputedStyle(svg).fontSize), width = svg.clientWidth / unit, isFlat = width > 44;
-  const [rx, ry] = isFlat ? [13, 4.9] : [7.5, 7.5];
+  const letter = parseFloat(getComputedStyle(svg).fontSize), isFlat = svg.clientWidth > 44 * letter && !isProjected();
+  const [rx, ry] = isFlat ? [13, 4.9] : [7.3, 7.3];
   const boxes = barrel.channels.reduce((sum, c) => sum + heightOfChannel(c), 0), height = Math.max(2 * (ry + CIRCLE) + 0.4, boxes + 0.2);
-  return { unit, width, height, boxes, rx, ry, cx: rx + CIRCLE + 0.2, cy: height / 2, isFlat };
+  const unit = isProjected() ? Math.min(letter, (innerHeight - svg.getBoundingClientRect().top - scrollY - 4) / height) : letter;
+  return { unit, width: svg.clientWidth / unit, height, boxes, rx, ry, cx: rx + CIRCLE + 0.2, cy: height / 2, isFlat };
 }
 
 // The first is at the left end, and the others follow in the direction of a clock's hands.
@@ -90,8 +91,8 @@ function showBarrel() {
   const svg = byId("barrel-picture");
   byId("barrel-fold").setAttribute("aria-expanded", !barrel.folded);
   setText(byId("barrel-fold"), barrel.folded ? "▸ The barrel (B)" : "▾ The barrel (B)");
-  svg.toggleAttribute("hidden", barrel.folded);
-  if (barrel.folded) return;
+  svg.toggleAttribute("hidden", barrel.folded && !isProjected());
+  if (svg.hasAttribute("hidden")) return;
   const sizes = sizesOfBarrel(svg), { unit, width, height, rx, ry, cx, cy } = sizes;
   svg.textContent = "";
   svg.setAttribute("height", height * unit);
@@ -101,6 +102,7 @@ function showBarrel() {
   drawLinesOfBarrel(picture, sizes);
   for (let n = 0; n < PROCESSORS; n++) drawProcessor(picture, n, sizes);
   drawMiddle(picture, sizes);
+  drawSlot(picture, film.numbers[film.layout.slot], sizes);
   for (const c of barrel.channels) drawChannel(picture, c, boxOf(c, sizes));
   svg.setAttribute("aria-label", barrelText());
 }
@@ -115,13 +117,12 @@ function drawProcessor(picture, n, sizes) {
   drawn(group, "text", { y: -0.75 }, two(n));
   drawn(group, "text", { y: 0.4, class: "strong" }, (acted ? turnOf(film.at) : next).name.slice(0, 3));
   drawn(group, "text", { y: 1.5 }, four(acted ? film.p[film.at] : film.numbers[register(n, 0)]));
-  if (film.numbers[film.layout.slot] === n) drawSlot(group, sizes.isFlat && n % 5 ? 0 : x - sizes.cx, y - sizes.cy);
 }
 
 // The mark of the processor whose turn comes next, at the inner side of its circle.
-function drawSlot(group, x, y) {
-  const degrees = Math.atan2(-y, -x) * 180 / Math.PI;
-  drawn(group, "path", { class: "slot", d: `M ${CIRCLE + 0.15} 0 l 0.9 -0.6 v 1.2 Z`, transform: `rotate(${degrees})` });
+function drawSlot(picture, n, sizes) {
+  const { x, y } = processorAt(n, sizes), degrees = Math.atan2(sizes.cy - y, sizes.isFlat && n % 5 ? 0 : sizes.cx - x) * 180 / Math.PI;
+  drawn(picture, "path", { class: "slot", d: `M ${CIRCLE + 0.15} 0 l 0.9 -0.6 v 1.2 Z`, transform: `translate(${x} ${y}) rotate(${degrees})`, "data-processor": n });
 }
 
 // The middle of the ring: the action, what it was, and the first cell or word that it changed.

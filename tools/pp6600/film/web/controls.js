@@ -212,8 +212,18 @@ const KEYS = {
   ",": byHand(() => moveLine(-1)), ".": byHand(() => moveLine(1)),
   "[": byHand(() => moveToChange(-1)), "]": byHand(() => moveToChange(1)),
   o: () => findOrigin(), "/": () => byId("place").select(), g: () => byId("turn").select(), "?": () => showHelp(byId("help").hidden),
-  i: () => nextForm(), f: () => followTurns(), b: () => foldBarrel(), Enter: () => live.isOn && byId("typed").focus(), Escape: () => (byId("help").hidden ? chooseNone() : showHelp(false)),
+  i: () => nextForm(), f: () => followTurns(), b: () => foldBarrel(), z: () => project(), Enter: () => live.isOn && byId("typed").focus(), Escape: () => (byId("help").hidden ? chooseNone() : showHelp(false)),
 };
+
+// The look for a projector: large, and without what a whole class can't read.
+const isProjected = () => document.body.classList.contains("projector");
+
+function project() {
+  document.body.classList.toggle("projector");
+  if (isProjected() && memory.as === "numbers") memory.as = "instructions";
+  window.dispatchEvent(new Event("resize"));
+  show();
+}
 
 function showHelp(on) {
   byId("help").hidden = !on;

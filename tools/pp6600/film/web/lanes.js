@@ -1,6 +1,7 @@
 // ---- the lanes
 
-const LANE = 13, GAP = 3, LABEL = 46, SIGN = 9; // heights, and the widths of the names and of a sign, in pixels
+const GAP = 3;
+let LANE = 13, LABEL = 46, SIGN = 9, LETTERS = 11; // the height of a lane, the widths of the names and of a sign, and that of letters, in pixels
 const lanes = { all: [], from: 0, to: 0, folded: true }; // whether the quiet ones are one line
 
 // The stretches of a lane: at which moment each begins, and what it is.
@@ -87,7 +88,7 @@ function moveToPixel(event) {
   moveTo(lanes.from + Math.floor((x / pictureWidth()) * (lanes.to - lanes.from)));
 }
 
-const lanesShown = () => lanes.all.filter((lane) => !lane.quiet || !lanes.folded);
+const lanesShown = () => lanes.all.filter((lane) => !lane.quiet || !(lanes.folded || isProjected()));
 
 // The line that stands for the quiet lanes, and unfolds them.
 function showFold() {
@@ -139,15 +140,23 @@ function coloursOf(element) {
   return { tall: colour("tall"), half: colour("half"), ink: colour("ink"), soft: colour("soft"), line: colour("line") };
 }
 
+// On a projector the lanes have a ninth of the height for them all, and larger letters.
+function sizeLanes(rows) {
+  LANE = isProjected() ? Math.max(5, Math.floor(innerHeight / Math.max(45, 9 * rows)) - GAP) : 13;
+  LETTERS = isProjected() ? LANE + GAP : 11;
+  LABEL = isProjected() ? 4 * LETTERS : 46;
+}
+
 function drawLanes() {
-  const canvas = byId("canvas"), width = Math.floor(pictureWidth()), ratio = window.devicePixelRatio || 1;
-  const drawn = lanesShown(), rows = drawn.length + 1 + (shown.chosen ? 1 : 0), height = rows * (LANE + GAP) + GAP;
+  const drawn = lanesShown(), rows = drawn.length + 1 + (shown.chosen ? 1 : 0);
+  sizeLanes(rows);
+  const canvas = byId("canvas"), width = Math.floor(pictureWidth()), ratio = window.devicePixelRatio || 1, height = rows * (LANE + GAP) + GAP;
   canvas.width = (width + LABEL) * ratio;
   canvas.height = height * ratio;
   canvas.style.height = `${height}px`;
   const context = canvas.getContext("2d"), colours = coloursOf(document.body);
   context.scale(ratio, ratio);
-  context.font = "11px ui-monospace, Consolas, monospace";
+  context.font = `${LETTERS}px ui-monospace, Consolas, monospace`;
   context.textBaseline = "middle";
   drawn.forEach((lane, at) => drawLane(context, colours, lane, GAP + (at + 1) * (LANE + GAP), width));
   drawLines(context, colours, height);

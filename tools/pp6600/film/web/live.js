@@ -1,6 +1,6 @@
 // ---- a live session: what is typed goes to the server of this page, and what comes back is added to the film
 
-const live = { isOn: false, key: "", typed: [], at: 0, isBusy: false };
+const live = { isOn: false, key: "", typed: [], at: 0, isBusy: false, looking: null };
 const WATCHED = ["M", "A", "P", "Q", "C", "H"]; // the kinds of places whose changes the server finds
 
 // Asks the server for something, and returns the reply. The key is in a header, which no other page can send.
@@ -42,7 +42,12 @@ function buildLive() {
   byId("save-script").onclick = () => live.save("/script", "session");
   byId("save-film").onclick = () => live.save("/film", "session.html");
   window.addEventListener("hashchange", () => takeKey() && location.reload());
-  window.addEventListener("focus", () => live.do("/news", {})); // another tab may have acted
+  window.addEventListener("focus", look);
+}
+
+// Looks for what another tab has done, when this one is seen again. What is done here waits for that.
+function look() {
+  if (!live.isBusy) live.looking = live.do("/news", {}).finally(() => { live.looking = null; });
 }
 
 // Up and down bring back what was typed before.
@@ -72,8 +77,9 @@ live.findChange = (direction) => {
   else if (WATCHED.includes(kind)) live.until(`${name} changes`, direction < 0);
 };
 
-// Sends a request, and takes what comes back. Returns whether it was performed. One at a time.
+// Sends a request, and takes what comes back. Returns whether it was performed: not if another one is under way.
 live.do = async (address, body) => {
+  if (address !== "/news") await live.looking;
   if (live.isBusy) return false;
   live.isBusy = true;
   const slow = setTimeout(() => say("the machine runs ..", false), 300);

@@ -86,6 +86,7 @@ function showProcessors() {
     setText(wait, next.waits);
     row.classList.toggle("next", isNext);
     row.classList.toggle("acted", isTurn(film.at) && film.processor[film.at] === n);
+    row.classList.toggle("chosen", n === memory.processor);
   });
 }
 
