@@ -17,14 +17,15 @@ from tests.browser import Browser, found
 from tests.generator import BUSY, Maker
 from tests.support import TOP, Case, read, tool
 
+from pp6600 import Console
 from pp6600.film.data import decode
 
 FOLDER = os.path.join(TOP, "docs", "films")
-CARDS = "exercises/dead-start-from-cards"
+LOADER, CARDS = "examples/overwritten-loader", "exercises/dead-start-from-cards"
 # The films of docs/films, each with the options and the files of its script.
 SHOWN = {
     "handshake": ((), ("examples/handshake/script",)),
-    "overwritten-loader": (("--deck", "examples/overwritten-loader/deck"), ("examples/overwritten-loader/script",)),
+    "overwritten-loader": (("--source", "0", f"{LOADER}/loader.pp", "--deck", f"{LOADER}/deck"), (f"{LOADER}/script",)),
     "dead-start-from-cards": (("--panel", f"{CARDS}/solution/panel", "--deck", f"{CARDS}/deck"),
                               (f"{CARDS}/script", f"{CARDS}/check")),
 }
@@ -78,6 +79,23 @@ def numbers_at(page, moments):
         if moment in moments:
             states[moment] = list(numbers)
     return states, len(changes)
+
+
+def moments_of(words, lines):
+    """Yields a simulator as it is at each moment: before the first line, after each turn, and after each other action."""
+    plain, slow = Console(words), Console(words)
+    yield slow
+    for line in lines:
+        kind, *rest = (plain.ask(line) or ["NOTE"])[0].split()
+        if kind == "TURNS":
+            for _ in range(int(rest[0], 8)):
+                slow.demand("STEP")
+                yield slow
+        elif kind in ("OK", "BACK", "FORWARD"):
+            slow.demand(line)
+            yield slow
+    plain.end()
+    slow.end()
 
 
 class FilmCase(Case):

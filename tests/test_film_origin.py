@@ -21,7 +21,7 @@ class Origin(PageCase):
         self.browser.open(shown_film("overwritten-loader"), "#turn=405&place=M+0+106")
         self.assertEqual([False, True], self.value("[byId('came-from').hidden, byId('origin').hidden]"))
         self.browser.click("#came-from")
-        self.assertEqual(["M 00 0106 0027: turn 405, PP 00, in the block of IAM 12 at 0104, from H 12",
+        self.assertEqual(["M 00 0106 0027: turn 405, PP 00, in the block of IAM 12 at 0104 START+4, from H 12",
                           "H 12 0027: turn 373, the card reader, card 0000 column 026"], self.value(STEPS))
         self.assertEqual(["0027"], self.value(MARKED.format(".columns")))
         self.browser.click("#origin li:nth-child(2) button")

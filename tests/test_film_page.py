@@ -40,7 +40,7 @@ class Answers(PageCase):
         self.click_line("STEP 1300")
         self.browser.fill("/", "m 0 106")
         turn = 0o1301 - 0o675 + 1
-        self.assertIn(f"turn {turn:o}, by PP 00, in the block of IAM 12 at 0104.", self.value(CHOSEN))
+        self.assertIn(f"turn {turn:o}, by PP 00, in the block of IAM 12 at 0104 START+4.", self.value(CHOSEN))
         self.browser.key("[")
         self.assertEqual([turn, "M 00 0106"], self.value(
             "[film.turn[film.at], document.querySelector('#memory button.changed').place.name]"))
@@ -55,7 +55,7 @@ class Answers(PageCase):
     def test_who(self):
         """docs/TOOLS.md: the card reader put the word on channel 12 in turn 373; the first instruction is the FNC 12 of README.md."""
         for turn, wanted in (("373", "H 12 is 0027. Changed here, by the card reader."),
-                             ("1", "H 12 is 0001. Changed here, by PP 00, FNC 12 0001 at 0100.")):
+                             ("1", "H 12 is 0001. Changed here, by PP 00, FNC 12 0001 at 0100 START.")):
             self.browser.open(shown_film("overwritten-loader"), f"#turn={turn}&place=H+12")
             self.assertIn(wanted, self.value(CHOSEN))
 
@@ -309,7 +309,7 @@ class Opening(PageCase):
                         ("#place=A+0", [0o335, "A 00"]), ("#turn=405&place=nothing", [0o405, None]))
         self.assertEqual("no such place", self.value("byId('no-place').innerText"))
         self.value("moveTo(film.turn.indexOf(0o400)); choose(placeNamed('M 0 106'))")
-        self.browser.wait_for("location.hash === '#moment=403&place=M+00+0106'")
+        self.browser.wait_for("location.hash === '#moment=406&place=M+00+0106'")
 
 
 class Looks(PageCase):

@@ -8,7 +8,7 @@ moments of a film from its name. Other seeds: FILM_SEEDS="100 50" compares 50 se
 import os
 import random
 
-from tests.films import DEVICES, PageCase, about, numbers_at, random_session, text_of
+from tests.films import DEVICES, PageCase, about, moments_of, numbers_at, random_session, text_of
 from tests.fixtures import wait_text
 from tests.support import TOP, program
 
@@ -69,23 +69,6 @@ WAITED_WRONGLY = """() => {
 
 
 # ---- what the program answers at the moments of a film
-
-
-def moments_of(words, lines):
-    """Yields a simulator as it is at each moment: before the first line, after each turn, and after each other action."""
-    plain, slow = Console(words), Console(words)
-    yield slow
-    for line in lines:
-        kind, *rest = (plain.ask(line) or ["NOTE"])[0].split()
-        if kind == "TURNS":
-            for _ in range(int(rest[0], 8)):
-                slow.demand("STEP")
-                yield slow
-        elif kind in ("OK", "BACK", "FORWARD"):
-            slow.demand(line)
-            yield slow
-    plain.end()
-    slow.end()
 
 
 def waiting(registers, cells, states):

@@ -11,11 +11,11 @@ import signal
 import socket
 import subprocess
 import threading
-import time
-import urllib.parse
+import unittest
 from unittest import mock
 
-from tests.films import DEVICES, PageCase, about, decode, film_text, numbers_at, random_session
+from tests import firefox
+from tests.films import DEVICES, PageCase, about, decode, film_text, numbers_at, random_session, shown_film
 from tests.fixtures import DECK, OVERWRITTEN
 from tests.support import PYTHON, TOP, Case, program, read, run, tool
 
@@ -532,3 +532,75 @@ class Walked(PageCase):
         self.assertEqual([*COUNTER, "STEP 20"], read(saved, "session").splitlines())
         self.browser.open(os.path.join(saved, "session.html"))
         self.assertEqual([[0o22, 0o22, 0o20], True], self.value(f"[{WHERE}, byId('console').hidden]"))
+
+
+class Projector(PageCase):
+    """docs/PAGE.md: what is seen on a projector."""
+
+    SEEN = ["canvas", "barrel-picture", "processors", "program", "sentence"]
+
+    def test_one_screen(self):
+        """All is on one screen, with numbers of 24 pixels at least; sixteen instructions are whole."""
+        for name, address in (("handshake", "#turn=1000"), ("handshake", "#turn=25&place=H+5"), ("dead-start-from-cards", "#turn=551")):
+            for width, height, dark in ((1280, 720, False), (1920, 1080, True)):
+                self.browser.look(width, height, dark)
+                self.browser.open(shown_film(name), address)
+                self.browser.key("z")
+                with self.subTest(name, address=address, height=height):
+                    self.assertEqual([True, True], self.value("[document.documentElement.scrollHeight <= innerHeight, "
+                                                              "document.documentElement.scrollWidth <= innerWidth]"))
+                    ends = self.value(f"{self.SEEN}.map((id) => byId(id).getBoundingClientRect()).map((box) => box.height > 0 && box.bottom)")
+                    self.assertEqual([], [end for end in ends if not end or end > height])
+                    rows = "[...document.querySelectorAll('#program tbody tr')]"
+                    self.assertEqual([16, True], self.value(f"[{rows}.length, {rows}.every((row) => row.getBoundingClientRect().bottom <= innerHeight)]"))
+                    sizes = self.value("[...document.querySelectorAll('#program .number, #processors .chosen .number')].map("
+                                       "(one) => parseFloat(getComputedStyle(one).fontSize))")
+                    self.assertGreaterEqual(min(sizes), height / 30)
+                    if name == "handshake":  # with few channels the barrel's letters are as large
+                        self.assertGreaterEqual(self.value("sizesOfBarrel(byId('barrel-picture')).unit"), height / 30)
+
+    def test_lines_of_a_source(self):
+        """They are in the place of the instructions."""
+        self.browser.look(1280, 720)
+        self.browser.open(shown_film("overwritten-loader"), "#turn=405")
+        self.browser.key("z")
+        seen = "['program', 'source'].map((id) => byId(id).offsetHeight > 0)"
+        self.assertEqual([False, True], self.value(seen))
+        self.browser.key("1")
+        self.assertEqual([True, False], self.value(seen))
+        self.browser.key("z")
+        self.assertEqual([False, True], self.value("[document.body.classList.contains('projector'), byId('script').offsetHeight > 0]"))
+
+
+class InFirefox(Case):
+    """The page and a film in the other browser."""
+
+    @classmethod
+    def setUpClass(cls):
+        super().setUpClass()
+        if not firefox.found():
+            raise unittest.SkipTest("there is no Firefox, so the page is walked in chromium alone")
+        cls.browser = firefox.Firefox(firefox.found())
+        cls.addClassCleanup(cls.browser.end)
+
+    def type(self, text):
+        self.browser.evaluate(f"(document.getElementById('typed').value = {json.dumps(text)}, document.getElementById('console').requestSubmit())")
+        self.browser.wait_for("document.getElementById('typed').value === ''")
+
+    def test_a_session(self):
+        served = Served("--deck", DECK)
+        self.addCleanup(served.close)
+        self.browser.open(f"http://127.0.0.1:{served.port}/#key={served.key}")
+        self.browser.wait_for("document.body.dataset.open === 'yes'")
+        self.assertEqual("/", self.browser.evaluate("location.pathname + location.hash.replace(/moment=0/, '').replace('#', '')"))
+        for line in [*OVERWRITTEN.splitlines(), "WATCH M 0 106", "BACK W", "STEP"]:
+            self.type(line)
+        self.assertEqual(["TURNS 1 SLOT 01", ["←0027"]], self.browser.evaluate(
+            "[document.getElementById('said').textContent, [...document.querySelectorAll('g.word text')].map((one) => one.textContent)]"))
+        self.type("SET M 0 9 1")
+        self.assertIn("9 is not octal", self.browser.evaluate("document.getElementById('said').textContent"))
+
+    def test_a_film(self):
+        self.browser.open(f"file://{shown_film('handshake')}#turn=25&place=H+5")
+        self.browser.wait_for("document.body.dataset.open === 'yes'")
+        self.assertEqual(["0007→"], self.browser.evaluate("[...document.querySelectorAll('g.word text')].map((one) => one.textContent)"))

@@ -12,6 +12,7 @@ from ..failure import Failure
 from ..script import Script
 from .data import Rows
 from .footprint import dumps_of_turns
+from .lines import Lines
 from .machine import Machine, Table
 from .places import LAYOUT
 from .positions import Positions
@@ -112,13 +113,15 @@ class Film:
     # A line that makes a turn, and how its answer begins.
     turn_line, turn_answer = "STEP 1", "TURNS 1 "
 
-    def __init__(self, run, log, reader, printer):
-        """The simulator that is filmed, the lines with their answers, and the channels of the devices."""
+    def __init__(self, run, log, reader, printer, sources=()):
+        """The simulator that is filmed, the lines with their answers, the channels of the devices, and pairs of a processor and its source."""
         self.run, self.transcript = run, log
         self.size, self.reader, self.printer = log.size, reader, printer
         self.machine = Machine()
         self.upcoming = Table()  # what processors do next, by numbers
         self.constants = Table({"": 0})  # what the page says of constants, by numbers
+        self.source_lines = Lines(sources)
+        self.machine.numbers += [0] * len(self.source_lines.lines)
         self.in_effect = InEffect()
         self.rows = Rows()  # of the moments; the first is the opening
         self.made = []  # what each moment wrote that counts for later ones
@@ -175,17 +178,21 @@ class Film:
         self.positions = Positions(self.run.position)
         self._read_all(bool(self.run.position))
         self._renew(range(PROCESSORS))
+        self.source_lines.begin(self.machine, not self.run.position)
         self._add(LINE)
 
     def _renew(self, processors):
         """Renews what processors do next."""
         for number in processors:
             block = self.in_effect.block_of(number)
-            row = upcoming(self.machine, number, block and block.p)
-            self.machine.put(LAYOUT["next"] + number, self.upcoming.number(row))
+            issued = block and block.p
+            row, line = upcoming(self.machine, number, issued), self.source_lines.at(self.machine, number, issued)
+            self.machine.put(LAYOUT["next"] + number, self.upcoming.number((*row, line) if line else row))
 
     def _add(self, kind, written=None):
         """Ends a moment."""
+        if self.source_lines.lines:
+            self.source_lines.renew(self.machine, list(self.machine.changes))
         written = written or Written()
         self.rows.add(kind, self.machine.take_changes(), written)
         self.made.append(written.made)

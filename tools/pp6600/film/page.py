@@ -13,14 +13,15 @@ from ..core.forms import is_refusal
 from ..core.turn import NAMES, RELATIVE_JUMPS, STATE_LETTERS, TWO_WORDS
 from ..options import OPTIONS
 from ..reasons import reason
-from ..sources import symbols_of
+from ..source.statements import TAB
 from ..text_files import bytes_of, lines_of
 from .data import encode
 from .places import LAYOUT, MODES
 from .sources import CENTRAL, COLUMNS, DECK
 
 WEB = os.path.join(os.path.dirname(os.path.abspath(__file__)), "web")
-SCRIPTS = ("state", "places", "machine", "program", "origin", "lanes", "barrel", "live", "controls")  # the page's script, in the order in which it is joined
+# The page's script, in the order in which it is joined.
+SCRIPTS = ("state", "places", "machine", "program", "source", "origin", "lanes", "barrel", "live", "controls")
 LONGEST_ANSWER = 40  # lines of one that a page keeps
 
 
@@ -87,31 +88,32 @@ class Counts(NamedTuple):
     constants: int = 0
     central: int = 0
     unseen: int = 0
+    marks: int = 0
 
     @classmethod
     def of(cls, film):
         machine = film.machine
         return cls(len(film.rows), len(film.transcript.lines), len(machine.papers), len(machine.watches), len(film.upcoming),
-                   len(film.constants), len(machine.central), len(machine.unseen))
+                   len(film.constants), len(machine.central), len(machine.unseen), len(film.source_lines.marks))
 
 
-def text_of(film, asked, script):
-    """Returns the text of a film of the script, which is given as bytes, with the options that were asked for."""
-    return encode({**fixed(film, symbols_of(asked), carried(asked, script)), **growth(film, Counts())}, film.rows.since(0))
+def text_of(film, asked, script, symbols):
+    """Returns the text of a film of the script, which is given as bytes, with the options that were asked for and the symbols."""
+    return encode({**fixed(film, symbols, carried(asked, script)), **growth(film, Counts())}, film.rows.since(0))
 
 
 def fixed(film, symbols, given):
     """Returns what a page has to know that does not grow; `given` is what it carries of the run's files."""
     return {**tables(), "labels": symbols.tables(), **given, **setup(given["files"]), "opens": film.opens,
             "central_size": film.size, "reader": film.reader, "printer": film.printer,
-            "devices": {film.reader: "card reader", film.printer: "printer"}}
+            "devices": {film.reader: "card reader", film.printer: "printer"}, **of_sources(film.source_lines)}
 
 
 def growth(film, has):
     """Returns what a page lacks, beside the rows of the moments, that has so many of each thing."""
     machine = film.machine
     grown = {"papers": machine.papers, "watches": machine.watches, "next": film.upcoming, "constants": film.constants,
-             "central": machine.central, "unseen": machine.unseen}
+             "central": machine.central, "unseen": machine.unseen, "marks": film.source_lines.marks}
     return {"lines": list(lines(film, has.lines)), **of_moments(film, has.moments),
             **{name: list(islice(things, getattr(has, name), None)) for name, things in grown.items()}}
 
@@ -153,6 +155,24 @@ def setup(files):
     """The cards and the panel that the simulator was given."""
     rows = {file["kind"]: octal_rows(file["bytes"]) for file in files if file["kind"] != "script"}
     return {"deck": rows.get("deck", []), "panel": [word for row in rows.get("panel", []) for word in row]}
+
+
+def of_sources(source_lines):
+    """The lines of the sources, each with the address of its first word and the place of its mark if it has words; nothing without a
+    source."""
+    if not source_lines.sources:
+        return {}
+    first = LAYOUT["central"]
+    places = {(line.processor, line.number): (line.location, first + at) for at, line in enumerate(source_lines.lines)}
+    sources = {number: {"name": name_of(source.path, "source"), "lines": [
+        (text, *places.get((number, at), ())) for at, text in enumerate(texts_of(source), 1)]} for number, source in source_lines.sources.items()}
+    return {"sources": sources, "layout": {**LAYOUT, "lines": first, "central": first + len(places)}}
+
+
+def texts_of(source):
+    """Returns the texts of the lines of a source, without those that macros made."""
+    texts = {row.line.number: row.line.text for row in source.program.rows if row.line.call is None}
+    return [texts.get(number, "").expandtabs(TAB) for number in range(1, max(texts) + 1)]
 
 
 def of_moments(film, first):

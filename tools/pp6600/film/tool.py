@@ -24,13 +24,14 @@ def main():
     asked = parser.parse()
     if asked.last is not None and asked.around is not None:
         raise Failure("give --last or --around, not both")
-    sources = "".join(f"{line}\n" for line in symbols_of(asked).loading(()))
-    words, script = simulator(asked), sources.encode() + bytes_of(asked.script)
+    symbols = symbols_of(asked)
+    loading = "".join(f"{line}\n" for line in symbols.loading(()))
+    words, script = simulator(asked), loading.encode() + bytes_of(asked.script)
     transcript = Transcript(words, lines_of(script.decode("latin-1")))
-    film = Film(Simulator(words), transcript, int(asked.reader or "12", 8), int(asked.printer or "13", 8))
+    film = Film(Simulator(words), transcript, int(asked.reader or "12", 8), int(asked.printer or "13", 8), symbols.sources())
     skipped, filmed = to_film(transcript, asked.last, asked.around)
     film.shoot(skipped, filmed)
     if asked.around is not None:
         film.opens = transcript.moment_of_turn(asked.around) - skipped
-    write_page(asked.output, page(heading(asked.title, asked.script), text_of(film, asked, script)))
+    write_page(asked.output, page(heading(asked.title, asked.script), text_of(film, asked, script, symbols)))
     return transcript.script.status()

@@ -19,10 +19,10 @@ class LiveFilm(Film):
 
     turn_line, turn_answer = "FORWARD 1", "FORWARD 1 "
 
-    def __init__(self, words):
+    def __init__(self, words, sources=()):
         run, log = Timeline(words), Log()
         log.size = run.central_size
-        super().__init__(run, log, run.reader_channel, run.printer_channel)
+        super().__init__(run, log, run.reader_channel, run.printer_channel, sources)
         self._open()
 
     def perform(self, line):

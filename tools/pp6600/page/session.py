@@ -25,7 +25,7 @@ class Session:
     def __init__(self, words, title, given, symbols):
         """The simulator's words, the heading, what a page carries of the files with the script the first of them, and the symbols."""
         self.title, self.given, self.symbols = title, given, symbols
-        self.film = LiveFilm(words)
+        self.film = LiveFilm(words, symbols.sources())
         self.lock = threading.Lock()
         self.counts = [Counts(), Counts.of(self.film)]  # what the film had: nothing, with its opening, and after each line
 

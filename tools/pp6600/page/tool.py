@@ -9,9 +9,9 @@ from ..sources import add_symbols, symbols_of
 from .server import ADDRESS, Server
 from .session import Session
 
-DESCRIPTION = f"""Serves a film that is still being shot, as a page for the browsers of this machine: it is stepped on and back, and lines of
-the console are typed into it. It performs SCRIPT first, and prints the address of the page, which is at {ADDRESS}. An interrupt (Ctrl-C)
-ends it. The page can save the session as a script or as a film."""
+DESCRIPTION = f"""Serves a film that is still being shot, as a page for the browsers of this machine. The page steps it on and back, takes
+lines of the console, and saves the session as a script or as a film. It performs SCRIPT first, and prints the address of the page, which
+is at {ADDRESS}. An interrupt (Ctrl-C) ends it."""
 
 
 def port(text):

@@ -64,6 +64,7 @@ function show() {
   showProcessors();
   showChannels();
   showMemory();
+  showSource();
   showCentral();
   showReader();
   showPrinter();
@@ -287,7 +288,7 @@ function chooseTyped() {
 }
 
 function build() {
-  for (const part of [buildControls, buildProcessors, buildChannels, buildMemory, buildProgram, buildCentral, buildFrame, buildReader,
+  for (const part of [buildControls, buildProcessors, buildChannels, buildMemory, buildProgram, buildSource, buildCentral, buildFrame, buildReader,
     buildPrinter, buildFiles, buildLanes, buildBarrel, buildSigns, buildLive]) part();
   byId("panel").hidden = !film.panel.length;
   document.querySelector("#panel p").textContent = film.panel.map(four).join(" ");
@@ -299,12 +300,13 @@ function build() {
   window.addEventListener("hashchange", followAddress);
 }
 
-// Shows what has come to the film.
-function grew() {
+// Shows what has come to the film after so many moments.
+function grew(first) {
   byId("slider").max = film.count - 1;
   addLines();
   showParts();
   renewLanes();
+  growSource(first);
   for (const button of numberButtons) if (button.place.kind === "C") button.place = placeNamed(button.place.name);
   if (shown.chosen) shown.chosen = placeNamed(shown.chosen.name);
   if (shown.chosen) shown.marks = momentsThatChanged(shown.chosen.places);
@@ -317,7 +319,7 @@ async function openFilm() {
   film = { ...about, ...emptyRows() };
   grow(about, ...rows);
   build();
-  grew();
+  grew(0);
   setView();
   drawLegend();
   const [start, place] = opening();

@@ -100,7 +100,7 @@ function take(news, rows) {
   const before = film.count, here = film.at, isNew = news.lines.length > 0;
   if (isNew) {
     grow(news, ...rows);
-    grew();
+    grew(before);
     setView();
     drawLanes();
     goTo(here);

@@ -1,0 +1,214 @@
+"""Tests the lines of sources in a film and on its page.
+
+Expected values are those of docs/FILM.md, of `Source.line_of` for the numbers that the program dumps, and worked out by hand."""
+
+import os
+import random
+
+from tests.films import PageCase, about, moments_of, numbers_at, shown_film, text_of
+from tests.support import EXAMPLES, TOP, program, read, write
+
+from pp6600.film.lines import NOT_YET, WHOLE, Mark
+from pp6600.sources import Source
+
+CELLS = 0o10000
+PROGRAMS = os.path.join(TOP, "tests", "programs")
+# Runs with sources: options of the machine, the sources by their processors, and the lines of a script.
+RUNS = (
+    (("--deck", f"{EXAMPLES}/overwritten-loader/deck"), {0: f"{EXAMPLES}/overwritten-loader/loader.pp"},
+     ("STEP 1300", "BACK 675", "BACK 75", "FORWARD 20", "SET A 0 0", "STEP 25")),
+    ((), {0: f"{PROGRAMS}/monitor.pp"}, ("STEP 6000", "BACK 3000", "SET M 0 305 1000", "STEP 200")),
+    ((), {3: f"{PROGRAMS}/mover.pp"}, ("STEP 10000", "BACK 2000")),
+    ((), {0: f"{EXAMPLES}/handshake/asks.pp", 1: f"{EXAMPLES}/handshake/answers.pp"}, ("STEP 200", "SET M 1 103 0", "STEP 100")))
+# In the page: the rows of the source that is seen, each with its mark of the line that comes next, number, address, what is said of it,
+# and its text.
+ROWS = """[...document.querySelectorAll('#source tbody:not([hidden]) tr')].map((row) => [...row.cells].map((cell) =>
+  [...cell.childNodes].filter((one) => !one.hidden).map((one) => one.textContent).join('').trim()).join('|'))"""
+# A subroutine that counts down, as in docs/TOOLS.md.
+COUNT = """          BASE   OCTAL
+ COUNT    EQU    20
+          ORG    100
+ START    LDN    3           THREE TIMES
+          STD    COUNT
+ LOOP     RJM    DOWN
+          LDD    COUNT
+          NJN    LOOP
+          UJN    *
+ DOWN     SUBR
+          SOD    COUNT
+          UJN    DOWNX
+          END    START
+"""
+
+
+def sources_of(sources):
+    """Returns the options that load sources."""
+    return [word for number, path in sources.items() for word in ("--source", f"{number:o}", path)]
+
+
+def line_at_p(source, registers, cells):
+    """Returns the line where a processor is, and why it is not performed if it isn't; in a block transfer that of the instruction, before
+    whose second word the transfer goes on: cell 0000 has this address."""
+    at = (cells[0] - 1) % CELLS if int(registers["PHASE"], 8) else int(registers["P"], 8)
+    line = source.line_of(at, *(f"{cells[(at + more) % CELLS]:04o}" for more in (0, 1)))
+    return [] if line is None else [line.number, "was" if not line.is_there else f"word {line.at + 1}" if line.at else ""]
+
+
+def mark_of(source, row, cells):
+    """Returns what is said of a row of the listing: its words are where they run or where they were loaded, or all but a second word, or
+    not."""
+    mark = None
+    for base in (row.location, row.origin):
+        found = cells[base:base + len(row.words)]
+        if found == list(row.words):
+            return WHOLE
+        line = source.line_of(base, *(f"{word:04o}" for word in cells[base:base + 2]))
+        if line and line.number == row.line.number and line.second is not None:
+            mark = Mark("m is", base + 1)
+    return mark or Mark("now", next(row.origin + at for at, word in enumerate(row.words) if cells[row.origin + at] != word))
+
+
+def marks_of(source, cells):
+    """Returns what is said of each line with words."""
+    marks = {}
+    for row in source.program.rows:
+        if row.words:
+            marks.setdefault(row.line.number, []).append(mark_of(source, row, cells))
+    worst = ("now", "m is", "")
+    return {number: min(some, key=lambda mark: worst.index(mark.text)) for number, some in sorted(marks.items())}
+
+
+class Film(PageCase):
+    """What is kept in a film."""
+
+    needs_browser = False
+
+    def test_lines(self):
+        """At random moments the lines are those of the machine that was there then."""
+        for options, sources, script in RUNS:
+            page = read(self.film(*options, *sources_of(sources), script="".join(f"{line}\n" for line in script)))
+            loaded = {number: Source.of_file(path) for number, path in sources.items()}
+            loading = [line for number, source in loaded.items() for line in source.loading(number)]
+            machines = moments_of([program(), *options], [*loading, *script])
+            total = numbers_at(page, [])[1]
+            moments = sorted(random.Random(script[0]).sample(range(len(loading), total), 40))
+            numbers = numbers_at(page, moments)[0]
+            for moment, console in enumerate(machines):
+                if moment in moments:
+                    with self.subTest(script=script, moment=f"{moment:o}"):
+                        self.check(page, numbers[moment], console, loaded)
+
+    def check(self, page, numbers, console, sources):
+        """Compares the numbers of a moment with the dumps there."""
+        known, marks = about(page), []
+        for number, source in sources.items():
+            cells = [int(word, 8) for word in console.cells(number, 0, CELLS - 1)]
+            row = known["next"][numbers[known["layout"]["next"] + number]]
+            self.assertEqual(line_at_p(source, console.registers(number), cells), row[5] if len(row) > 5 else [])
+            marks += marks_of(source, cells).values()
+        first, last = known["layout"]["lines"], known["layout"]["central"]
+        self.assertEqual(marks, [Mark(*known["marks"][number]) for number in numbers[first:last]])
+
+    def test_loading(self):
+        """Before a line is loaded, nothing is said to be overwritten."""
+        page = read(self.film("--source", "0", write(self.path("count.pp"), COUNT), script="STEP\n"))
+        known, numbers = about(page), numbers_at(page, [0, 1])[0]
+        marks = [[known["marks"][one] for one in numbers[moment][known["layout"]["lines"]:known["layout"]["central"]]] for moment in (0, 1)]
+        self.assertEqual([[list(NOT_YET)] * 9, [list(WHOLE)] * 6 + [list(NOT_YET)] * 3], marks)
+
+    def test_without_a_source(self):
+        """A film without a source knows nothing of lines."""
+        known = about(read(shown_film("handshake")))
+        self.assertEqual((set(), {5}), ({"sources", "marks"} & set(known) | {"lines"} & set(known["layout"]), set(map(len, known["next"]))))
+
+    def test_late(self):
+        """In a film that begins late a line that is gone has been overwritten, and the line of a block that began before is not known."""
+        options, sources, script = RUNS[0]
+        page = read(self.film(*options, *sources_of(sources), "--last", "10", script=f"{script[0]}\n"))
+        known, numbers = about(page), numbers_at(page, [0])[0][0]
+        marks = [known["marks"][one] for one in numbers[known["layout"]["lines"]:known["layout"]["central"]]]
+        self.assertEqual({"now"}, {text for text, _ in marks})
+
+
+class Page(PageCase):
+    """What the page shows."""
+
+    def rows(self, first, last):
+        return self.value(ROWS)[first - 1:last]
+
+    def test_loader(self):
+        """In turn 405 the column 026 overwrites the word at 0106, after those before it; the word at 0107 is still there."""
+        self.browser.open(shown_film("overwritten-loader"), "#turn=405")
+        self.assertEqual(["|6|0100|now 0021|START    FNC    1,CR        BEGIN A CARD", "|7|0102|now 0023|ACN    CR",
+                          "|8|0103|now 0024|LDN    77          SHOULD BE 20", ">|9|0104|now 0025|IAM    PROGRAM,CR",
+                          "|10|0106|now 0027|DCN    CR", "|11|0107||LJM    PROGRAM", "|12|||END    START"], self.rows(6, 12))
+        self.browser.click("#source tr:nth-child(10) .number")
+        self.assertEqual("M 00 0106", self.value("shown.chosen.name"))
+        self.browser.key("ArrowLeft")
+        self.assertEqual("|10|0106||DCN    CR", self.rows(10, 10)[0])
+
+    def test_subroutine(self):
+        """RJM in turn 25 puts the return address 0104 into the second word of the line of SUBR: see docs/TOOLS.md."""
+        self.browser.open(self.film("--source", "0", write(self.path("count.pp"), COUNT), script="STEP 1000\n"), "#turn=24")
+        self.assertEqual("|10|0107||DOWN     SUBR", self.rows(10, 10)[0])
+        self.browser.key("ArrowRight")
+        self.assertEqual(["|10|0107|m is 0104|DOWN     SUBR", ">|11|0111||SOD    COUNT"], self.rows(10, 11))
+        self.assertEqual("6", self.value("document.querySelector('#source .acted .name').textContent"))
+
+    def test_times(self):
+        """A click on a line goes to the next time that it was performed, with Shift to the time before; the loop at 0102 runs three times."""
+        self.browser.open(self.film("--source", "0", write(self.path("count.pp"), COUNT), script="STEP 1000\n"), "#turn=0")
+        shown = "[film.turn[film.at], byId('times-text').innerText]"
+        calls = [0o25, 0o25 + 60, 0o25 + 120]  # RJM, SOD, UJN, LJM, LDD and NJN are 6 turns of the processor, and 60 (decimal) of all
+        for at in (0, 1, 2, 0):
+            self.browser.click("#source tr:nth-child(6) .line")
+            self.assertEqual([calls[at], f"line 6 (decimal), time {at + 1} of 3"], self.value(shown))
+        self.browser.click("#previous-time")
+        self.assertEqual([calls[2], "line 6 (decimal), time 3 of 3"], self.value(shown))
+        self.value("document.querySelector('#source tr:nth-child(6) .line').dispatchEvent(new MouseEvent('click', { shiftKey: true, bubbles: true }))")
+        self.assertEqual(calls[1], self.value(shown)[0])
+        self.browser.click("#next-time")
+        self.assertEqual(calls[2], self.value(shown)[0])
+        never = "[...document.querySelectorAll('#source .line')].flatMap((one, at) => (one.disabled ? [at + 1] : []))"
+        self.assertEqual([1, 2, 3, 13], self.value(never))
+
+    def test_waits(self):
+        """A line that waits is performed once; what is overwritten or begins at a second word is not performed."""
+        asks, answers = (f"{EXAMPLES}/handshake/{name}.pp" for name in ("asks", "answers"))
+        self.browser.open(self.film("--source", "0", asks, "--source", "1", answers, script="STEP 1000\n"))
+        times = "[...source.of.values()].map((one) => one.times.map((some) => some.length))"
+        self.assertEqual([[0] * 5 + [1, 1, 1, 1, 1, 1, 0, 0, 0], [0] * 5 + [1, 0o10, 0o10, 1, 0, 0, 0, 0]], self.value(times))
+        self.browser.open(shown_film("overwritten-loader"))
+        self.assertEqual([[0] * 5 + [1, 1, 1, 1, 1, 1, 0]], self.value(times))
+
+    def test_two_sources(self):
+        """The source is that of the chosen processor, if it has one."""
+        asks, answers = (f"{EXAMPLES}/handshake/{name}.pp" for name in ("asks", "answers"))
+        self.browser.open(self.film("--source", "0", asks, "--source", "1", answers, script="STEP 1000\n"))
+        shown = "[document.querySelector('#source h2').innerText, document.querySelector('#source tbody:not([hidden]) .present .name').textContent]"
+        self.assertEqual(["Source of PP 00: asks.pp", "11"], self.value(shown))
+        self.browser.key("1")
+        self.assertEqual(["Source of PP 01: answers.pp", "9"], self.value(shown))
+        self.browser.key("2")
+        self.assertEqual("Source of PP 01: answers.pp", self.value(shown)[0])
+        self.value("byId('source-of').value = 0; byId('source-of').onchange()")
+        self.assertEqual(["Source of PP 00: asks.pp", "PP 00"], [self.value(shown)[0], self.value("byId('memory-of').selectedOptions[0].text")])
+
+    def test_looks(self):
+        """The source is beside the lanes, or on a small screen below them; only its lines are scrolled, and on paper there are all."""
+        path = self.film("--source", "0", f"{PROGRAMS}/monitor.pp", script="STEP 3000\n")
+        box = "document.querySelector('#source .wide')"
+        beside = "['lanes', 'source', 'processors'].map((id) => byId(id).getBoundingClientRect()).map(({ x, y }) => [x, y])"
+        for width, height in ((1280, 720), (1920, 1080), (390, 844)):
+            self.browser.look(width, height)
+            self.browser.open(path)
+            (lanes_x, lanes_y), (x, y), (_, below) = self.value(beside)
+            with self.subTest(width=width):
+                self.assertEqual(width > 1000, x > lanes_x and abs(y - lanes_y) < 20)
+                self.assertEqual(width < 1000, lanes_y < y < below)
+                self.assertTrue(self.value("document.documentElement.scrollWidth <= innerWidth"))
+                self.assertTrue(self.value(f"{box}.scrollTop > 0 && scrollY === 0"))
+        self.browser.look(1280, 800, media="print")
+        self.assertTrue(self.value(f"{box}.scrollHeight <= {box}.clientHeight + 1"))
+        self.browser.open(shown_film("handshake"))
+        self.assertEqual([True, True], self.value("[byId('source').hidden, byId('lanes').nextElementSibling.matches('main')]"))
