@@ -85,8 +85,8 @@ class Handler(http.server.BaseHTTPRequestHandler):
 
     def answer(self, reply):
         """Sends the reply, or why there is none."""
-        self.close_connection = True
-        if not self.server.gate.acquire(blocking=False):
+        self.close_connection, gate = True, self.server.gate
+        if not gate.acquire(blocking=False):
             return self.put(503, TEXT, b"too many requests at once: wait until the others are answered")
         try:
             check_site(self.headers, self.server.hosts)
@@ -100,7 +100,7 @@ class Handler(http.server.BaseHTTPRequestHandler):
         except Exception as error:  # a fault of the page's own
             self.put(500, TEXT, f"this is a fault of the page; please report it: {type(error).__name__}: {error}".encode())
         finally:
-            self.server.gate.release()
+            gate.release()
 
     def reply_to_get(self):
         if self.path != "/":
