@@ -31,7 +31,7 @@ class Browser:
         self.log = []  # what the page complained about
         words = [path, "--headless=new", "--no-sandbox", "--disable-gpu", "--no-first-run", "--disable-dev-shm-usage",
                  "--hide-scrollbars", f"--user-data-dir={self.room.name}", "--remote-debugging-pipe", "about:blank"]
-        ends = f"exec 3<&{to_browser} 4>&{from_browser}; exec \"$@\""
+        ends = f"exec {{a}}<&{to_browser} {{b}}>&{from_browser}; exec 3<&$a 4>&$b; exec \"$@\""  # either end may have number 3 or 4
         self.process = subprocess.Popen(["bash", "-c", ends, "bash", *words], pass_fds=(to_browser, from_browser),
                                         stdout=subprocess.DEVNULL, stderr=subprocess.DEVNULL, start_new_session=True)
         os.close(to_browser)

@@ -4,6 +4,7 @@ what a front end needs of it: `act_by_move`, `counts`, `sent` and `replays`."""
 
 import re
 
+from .core.forms import MOST_TURNS
 from .core.simulator import Simulator
 
 MOVE = re.compile(r"[ \t]*(BACK|FORWARD)(?:[ \t]+([0-7]{1,10}))?[ \t\r]*", re.I)
@@ -42,6 +43,19 @@ class Timeline(Simulator):
             self.goto(history.position + count)
             return [f"FORWARD {count:o} SLOT {self.next_slot:02o}"]
         return self.act(line)
+
+    def lines_to(self, turn):
+        """Yields the lines that go back or on to where so many turns are in effect, after the settings that follow the last of them. Each
+        must be performed before the next one. New turns do not end where a watched number changes."""
+        history = self.history
+        if turn < history.turns:
+            yield f"BACK {history.back_over(history.turns - turn):o}"
+        elif turn >= history.last_turn and history.to_redo:
+            yield f"FORWARD {history.to_redo:o}"
+        elif history.turns < turn < history.last_turn:
+            yield f"FORWARD {history.forward_over(turn - history.turns + 1) - 1:o}"
+        while turn > history.turns:
+            yield f"STEP {min(turn - history.turns, MOST_TURNS):o}"
 
     def move(self, count):
         super().move(count)

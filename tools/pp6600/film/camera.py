@@ -11,29 +11,40 @@ from ..core.tape import STEP, Action, lines_of
 from ..core.turn import CHANNEL_CODES, IN_BLOCK, Turn, TurnKind
 from ..failure import Failure
 from ..script import Script
+from .data import Rows
 from .footprint import dumps_of_turns
 from .lines import Lines
 from .machine import Machine, Table
 from .pictures import Pictures, rows_of
 from .places import LAYOUT
+from .positions import Positions
 from .sources import InEffect, Written, written_by
 from .upcoming import upcoming
 
-# The kinds of a moment: what a turn was, another action, a BACK or FORWARD. TURNS is that of a line of the script.
-PASSES, WAITS, BUSY, BLOCK, LINE, JUMP, TURNS = range(7)
+# The kinds of a moment: what a turn was, another action, a BACK or FORWARD, turns that were skipped. TURNS is that of a line of the script.
+PASSES, WAITS, BUSY, BLOCK, LINE, JUMP, SKIP, TURNS = range(8)
 MOST_MOMENTS = 0o1000000
 AROUND = 0o4000  # moments before a turn, and after it
 BETWEEN_CHECKS = 0o10000
 AFTER_DEADSTART = [line for n in range(PROCESSORS) for line in (f"DUMP PP {n:o}", f"DUMP M {n:o} 0 15")] + ["DUMP H", "DUMP LP"]
 
 
-class Transcript:
+class Log:
+    """Lines with their answers."""
+
+    size = 0  # of central memory
+
+    def __init__(self):
+        self.lines = []
+        self.turns = {}  # of each line that did something: how many turns are in effect before and after it
+
+
+class Transcript(Log):
     """The lines of a script with their answers."""
 
     def __init__(self, words, lines):
+        super().__init__()
         console = Console(words)
-        self.lines = []
-        self.turns = {}  # of each line that did something: how many turns are in effect before and after it
         self.script = Script(console, lines, self._took)
         self.end = console.ask_all(questions())
         self.size = console.size_of_central()
@@ -101,27 +112,29 @@ def kind_of(turn):
 class Film:
     """A run, filmed: its moments, each with its kind and the places that it changed."""
 
-    def __init__(self, words, transcript, reader, printer, sources=(), devices=()):
-        """The channels of the reader and the printer, pairs of a processor and its source, and devices of one's own."""
-        self.transcript = transcript
-        self.size, self.reader, self.printer = transcript.size, reader, printer
+    # A line that makes a turn, and how its answer begins.
+    turn_line, turn_answer = "STEP 1", "TURNS 1 "
+
+    def __init__(self, run, log, reader, printer, sources=(), devices=()):
+        """The simulator that is filmed, the lines with their answers, the channels of the reader and the printer, pairs of a processor and
+        its source, and devices of one's own."""
+        self.run, self.transcript = run, log
+        self.size, self.reader, self.printer = log.size, reader, printer
         self.attached = names_of(devices)
         self.pictures = Pictures(devices)
-        self.run = Simulator(words)
         self.machine = Machine()
         self.upcoming = Table()  # what processors do next, by numbers
         self.constants = Table({"": 0})  # what the page says of constants, by numbers
         self.source_lines = Lines(sources)
         self.machine.numbers += [0] * len(self.source_lines.lines)
         self.in_effect = InEffect()
-        self.moments = []  # each a kind and its changes; the first is the opening
-        self.writes = []  # what each moment wrote
-        self.jumps = {}  # the moment that a BACK or FORWARD leads to, or None if it is before the film
+        self.rows = Rows()  # of the moments; the first is the opening
+        self.made = []  # what each moment wrote that counts for later ones
+        self.jumps = {}  # the moment that a BACK or FORWARD leads to, or None if it was not filmed
+        self.skips = {}  # of each moment of turns that were skipped: how many
         self.first_moments, self.lengths = {}, {}  # of each line that is filmed: its first moment, and how many it has
         self.turns_passed = 0  # of the first line that is filmed
         self.opens = None  # the moment at which the page opens, if it was asked for
-        self.actions = []  # the moments of the actions after position `start`, with those that were taken back
-        self.start = self.opening = 0
         self.unchecked = 0
         self.is_ended = False
 
@@ -135,10 +148,10 @@ class Film:
             if before:
                 self._pass_over(number, kind, count, before)
             if now:
-                if not self.moments:
+                if not self.rows:
                     self._open()
                     self.turns_passed = before
-                self.first_moments[number], self.lengths[number] = len(self.moments), now
+                self.first_moments[number], self.lengths[number] = len(self.rows), now
                 self._film(number, kind, now if kind == TURNS else count)
             if before + now < length:
                 self._end()
@@ -152,7 +165,7 @@ class Film:
         """Ends the film, unless it has ended: it has an opening, and all numbers are compared."""
         if not self.is_ended:
             self.is_ended = True
-            if not self.moments:
+            if not self.rows:
                 self._open()
             self._check(True)
 
@@ -173,7 +186,7 @@ class Film:
 
     def _open(self):
         """The opening: all numbers before the first action that is filmed. Those of a new machine are zero."""
-        self.start = self.opening = self.run.position
+        self.positions = Positions(self.run.position)
         self._read_all(bool(self.run.position))
         self._renew(range(PROCESSORS))
         self.source_lines.begin(self.machine, not self.run.position)
@@ -191,9 +204,10 @@ class Film:
         """Ends a moment."""
         if self.source_lines.lines:
             self.source_lines.renew(self.machine, list(self.machine.changes))
-        self.pictures.show(len(self.moments), self.run.position)
-        self.moments.append((kind, self.machine.take_changes()))
-        self.writes.append(written or Written())
+        self.pictures.show(len(self.rows), self.run.position)
+        written = written or Written()
+        self.rows.add(kind, self.machine.take_changes(), written)
+        self.made.append(written.made)
         self.unchecked += 1
 
     def _film(self, number, kind, count):
@@ -210,20 +224,17 @@ class Film:
 
     def _done(self, kind, written, processors):
         """Notes an action that can be taken back. What these processors do next may be something else."""
-        self.in_effect.add(written)
+        self.in_effect.add(written.made)
         self._renew(processors)
-        at = self.run.position - 1 - self.start
-        if at < 0:  # before the film, where the script had gone back to
-            self.start, at = self.run.position - 1, 0
-        self.actions[at:] = [len(self.moments)]
+        self.positions.add(self.run.position - 1, 1, len(self.rows))
         self._add(kind, written)
 
     def _round(self, count):
         """Makes so many turns at once, at most ten: what a turn may change follows from its own processor."""
         numbers = [(self.machine.numbers[LAYOUT["slot"]] + at) % PROCESSORS for at in range(count)]
         dumps = dumps_of_turns(self.machine, numbers, self.printer, self.size)
-        for number, answer in zip(numbers, self._asked([["STEP 1", *some, MARK] for some in dumps])):
-            self.run.history.take("STEP", answer)
+        for number, answer in zip(numbers, self._asked([[self.turn_line, *some, MARK] for some in dumps])):
+            self.run.history.take(STEP, answer)
             self._turn(number, answer)
 
     def _asked(self, groups):
@@ -239,8 +250,8 @@ class Film:
 
     def _turn(self, number, answer):
         """Films a turn of a processor by its answer and the dumps after it."""
-        if not answer[0].startswith("TURNS 1 "):
-            raise Failure(f"the simulator answers {answer[0]} to STEP 1")
+        if not answer[0].startswith(self.turn_answer):
+            raise Failure(f"the simulator answers {answer[0]} to {self.turn_line}")
         processor, states = self.machine.processor(number), self.machine.states()
         pointer = self.machine.word(number, processor.channel)  # which the turn may overwrite
         self.machine.read(answer)
@@ -260,6 +271,10 @@ class Film:
         answer = self.run.act(line, self._dumps_after(line.upper().split()))
         if answer[0] != "OK":
             raise Failure(f"the simulator answers {answer[0]} to {line}")
+        self._take_line(line, answer)
+
+    def _take_line(self, line, answer):
+        """Films such a line that was performed, by the answers to the dumps after it."""
         self.machine.read(answer)
         written = Written()
         written.add_line(line)
@@ -281,18 +296,24 @@ class Film:
 
     def _jump(self, line):
         """A BACK or a FORWARD."""
-        before = self.run.position - self.start
+        before = self.run.position
         self.run.act(line)
-        after = self.run.position - self.start
-        passed = self.actions[max(min(before, after), 0):max(before, after, 0)]
-        for moment in passed if after > before else passed[::-1]:
-            (self.in_effect.add if after > before else self.in_effect.take_back)(self.writes[moment])
-            self.machine.apply(self.moments[moment][1], after < before)
+        self._moved(before)
+
+    def _moved(self, before):
+        """Films that the run went from a position to the present one."""
+        after = self.run.position
+        moments, is_whole = self.positions.between(min(before, after), max(before, after))
+        for moment in moments if after > before else reversed(moments):
+            (self.in_effect.add if after > before else self.in_effect.take_back)(self.made[moment])
+            self.machine.apply(self.rows.changes(moment), after < before)
+        self.in_effect.floor = self.positions.last_skip(after)
         self.machine.after_jump()
-        if min(before, after) < 0:
+        if not is_whole:
             self._read_all(True)
+            self.machine.put(LAYOUT["unseen"], int(self.in_effect.floor is not None))
             self._renew(range(PROCESSORS))
-        self.jumps[len(self.moments)] = self.actions[after - 1] if after > 0 else 0 if self.run.position == self.opening else None
+        self.jumps[len(self.rows)] = self.positions.at(after)
         self._add(JUMP)
 
     # ---- all numbers at once
@@ -309,4 +330,4 @@ class Film:
         self._read_all(central)
         missed = self.machine.take_changes()
         if missed:
-            raise Failure(f"a change was overlooked before moment {len(self.moments):o}: this is a fault of film")
+            raise Failure(f"a change was overlooked before moment {len(self.rows):o}: this is a fault of film")

@@ -1,5 +1,6 @@
 """The text that a film is kept in, inside its page: variable-length numbers, deflated, in base64."""
 
+import array
 import base64
 import functools
 import json
@@ -18,42 +19,60 @@ def _signed(number):
     return _number(2 * number if number >= 0 else -2 * number - 1)
 
 
-def _streams(moments):
-    """The moments as three rows of bytes: of each its kind and how many places changed; of each change the distance of
-    its place from that of the change before; and by how much the number grew."""
-    kinds, places, growths = bytearray(), bytearray(), bytearray()
-    for kind, changes in moments:
+class Rows:
+    """The moments of a film as four rows of bytes: of each its kind and how many places changed; of each change the distance of its
+    place from that of the change before; and by how much the number grew; and of each what it wrote: how many writes; of each write the
+    distance of its place from that of the write before, what it is, and how many sources; of each source the distance of its place from
+    that of the write, and parts. So a moment takes some ten bytes."""
+
+    def __init__(self):
+        self.streams = [bytearray() for _ in range(4)]
+        self.starts = [array.array("L", [0]) for _ in range(4)]  # of each moment in each row, and the end
+
+    def __len__(self):
+        return len(self.starts[0]) - 1
+
+    def add(self, kind, changes, written):
+        """Adds a moment with its changes, each a place with its number before and after it, and what it wrote."""
+        kinds, places, growths, writes = self.streams
         kinds += _number(len(changes) << 3 | kind)
         last = 0
         for place, was, now in changes:
             places += _number(place - last)
             growths += _signed(now - was)
             last = place
-    return kinds, places, growths
+        _add_writes(writes, written)
+        for starts, stream in zip(self.starts, self.streams):
+            starts.append(len(stream))
+
+    def since(self, moment):
+        """Returns the rows from a moment on."""
+        return [bytes(stream[starts[moment]:]) for starts, stream in zip(self.starts, self.streams)]
+
+    def changes(self, moment):
+        """Returns the places that changed in a moment, with the growths of their numbers."""
+        kinds, places, growths = (_numbers(stream[starts[moment]:starts[moment + 1]])
+                                  for starts, stream in zip(self.starts[:3], self.streams))
+        return _changes(next(kinds) >> 3, places, growths)
 
 
-def _of_writes(writes):
-    """What the moments wrote as a row of bytes: of each how many writes; of each write the distance of its place from that of the
-    write before, what it is, and how many sources; of each source the distance of its place from that of the write, and parts."""
-    out = bytearray()
-    for written in writes:
-        out += _number(written.count)
-        numbers, last = iter(written.row), 0
-        for place in numbers:
-            out += _signed(place - last)
-            last = place
+def _add_writes(out, written):
+    """Appends what a moment wrote."""
+    out += _number(written.count)
+    numbers, last = iter(written.row), 0
+    for place in numbers:
+        out += _signed(place - last)
+        last = place
+        out += _number(next(numbers))
+        sources = next(numbers)
+        out += _number(sources)
+        for _ in range(sources):
+            out += _signed(next(numbers) - place)
             out += _number(next(numbers))
-            sources = next(numbers)
-            out += _number(sources)
-            for _ in range(sources):
-                out += _signed(next(numbers) - place)
-                out += _number(next(numbers))
-    return out
 
 
-def encode(about, moments, writes):
-    """The text of a film; `about` is what else the page needs, as JSON takes it."""
-    streams = [*_streams(moments), _of_writes(writes)]
+def encode(about, streams):
+    """The text of a film, or of a part of it, by its rows; `about` is what else the page needs, as JSON takes it."""
     head = json.dumps({**about, "streams": [len(stream) for stream in streams]}, separators=(",", ":")).encode("ascii")
     whole = len(head).to_bytes(4, "little") + head + b"".join(streams)
     text = base64.b64encode(zlib.compress(whole, 9)).decode("ascii")

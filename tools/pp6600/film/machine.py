@@ -7,6 +7,7 @@ from ..core.turn import Processor
 from .places import LAYOUT, MODES, cell, register
 
 ZERO = "0" * 20  # a central word
+UNKNOWN = -1  # half a central word that was not looked at
 M, PP, C = (FORMS[kind].columns for kind in ("M", "PP", "C"))
 kind_of_beginning = functools.lru_cache(maxsize=None)(kind_of)  # by two letters of a line
 
@@ -31,6 +32,7 @@ class Machine:
     def __init__(self):
         self.numbers = [0] * LAYOUT["central"]
         self.central = {}  # addresses and their first places
+        self.unseen = []  # those of them that began with numbers that are not known
         self.papers = Table({(0, ""): 0})  # each a paper and what is printed after it
         self.paper_text = ""
         self.watches = Table({(): 0})
@@ -49,9 +51,12 @@ class Machine:
         self.put(place + 1, int(text[10:], 8))
 
     def central_place(self, address):
+        """Returns the first place of a central word. One that is met after turns that were skipped is not known up to then."""
         if address not in self.central:
             self.central[address] = len(self.numbers)
-            self.numbers += [0, 0]
+            is_unseen = self.numbers[LAYOUT["unseen"]]
+            self.numbers += 2 * [UNKNOWN if is_unseen else 0]
+            self.unseen += [address] * is_unseen
         return self.central[address]
 
     def take_changes(self):
@@ -135,9 +140,9 @@ class Machine:
 
     def read_central(self, lines):
         """Takes central words; one that was always zero has no place."""
-        address_from, word_from = C["address"], C["word"]
+        address_from, word_from, is_unseen = C["address"], C["word"], self.numbers[LAYOUT["unseen"]]
         for line in lines:
-            if line[word_from] != ZERO or self.central and int(line[address_from], 8) in self.central:
+            if is_unseen or line[word_from] != ZERO or self.central and int(line[address_from], 8) in self.central:
                 self.put_word(self.central_place(int(line[address_from], 8)), line[word_from])
 
     def _read_frame(self, line):
@@ -161,9 +166,9 @@ class Machine:
     # ---- a BACK or a FORWARD
 
     def apply(self, changes, back):
-        """Takes back or performs again what an action changed."""
-        for place, was, now in changes:
-            self.put(place, was if back else now)
+        """Takes back or performs again what an action changed: places, with the growths of their numbers."""
+        for place, growth in changes:
+            self.put(place, self.numbers[place] + (-growth if back else growth))
 
     def after_jump(self):
         """Sets the paper right after changes were applied, and forgets the lines."""

@@ -4,11 +4,15 @@ import html
 import os
 import re
 import shlex
+from itertools import islice
+from typing import NamedTuple
 
 from ..display_code import SYMBOLS
 from ..failure import Failure
+from ..core.forms import is_refusal
 from ..core.turn import NAMES, RELATIVE_JUMPS, STATE_LETTERS, TWO_WORDS
 from ..options import OPTIONS
+from ..reasons import reason
 from ..source.statements import TAB
 from ..text_files import bytes_of, lines_of
 from .data import encode
@@ -16,7 +20,8 @@ from .places import LAYOUT, MODES
 from .sources import CENTRAL, COLUMNS, DECK
 
 WEB = os.path.join(os.path.dirname(os.path.abspath(__file__)), "web")
-SCRIPTS = ("state", "places", "machine", "program", "source", "pictures", "origin", "lanes", "controls")  # in the order in which they are joined
+# The page's script, in the order in which it is joined.
+SCRIPTS = ("state", "places", "machine", "program", "source", "pictures", "origin", "lanes", "barrel", "live", "controls")
 LONGEST_ANSWER = 40  # lines of one that a page keeps
 
 
@@ -72,12 +77,45 @@ def replace_file(path, data):
         raise
 
 
+class Counts(NamedTuple):
+    """How many a page has, or the film, of each thing that grows."""
+
+    moments: int = 0
+    lines: int = 0
+    papers: int = 0
+    watches: int = 0
+    next: int = 0
+    constants: int = 0
+    central: int = 0
+    unseen: int = 0
+    marks: int = 0
+
+    @classmethod
+    def of(cls, film):
+        machine = film.machine
+        return cls(len(film.rows), len(film.transcript.lines), len(machine.papers), len(machine.watches), len(film.upcoming),
+                   len(film.constants), len(machine.central), len(machine.unseen), len(film.source_lines.marks))
+
+
 def text_of(film, asked, script, symbols):
     """Returns the text of a film of the script, which is given as bytes, with the options that were asked for and the symbols."""
-    given = carried(asked, script)
-    named = {"labels": symbols.tables()}
-    about = {**tables(), **named, **given, **setup(given["files"]), **of_machine(film), **of_script(film)}
-    return encode({**about, **of_sources(film.source_lines), **film.pictures.table()}, film.moments, film.writes)
+    return encode({**fixed(film, symbols, carried(asked, script)), **growth(film, Counts()), **film.pictures.table()}, film.rows.since(0))
+
+
+def fixed(film, symbols, given):
+    """Returns what a page has to know that does not grow; `given` is what it carries of the run's files."""
+    return {**tables(), "labels": symbols.tables(), **given, **setup(given["files"]), "opens": film.opens,
+            "central_size": film.size, "reader": film.reader, "printer": film.printer,
+            "devices": {film.reader: "card reader", film.printer: "printer", **film.attached}, **of_sources(film.source_lines)}
+
+
+def growth(film, has):
+    """Returns what a page lacks, beside the rows of the moments, that has so many of each thing."""
+    machine = film.machine
+    grown = {"papers": machine.papers, "watches": machine.watches, "next": film.upcoming, "constants": film.constants,
+             "central": machine.central, "unseen": machine.unseen, "marks": film.source_lines.marks}
+    return {"lines": list(lines(film, has.lines)), **of_moments(film, has.moments),
+            **{name: list(islice(things, getattr(has, name), None)) for name, things in grown.items()}}
 
 
 def tables():
@@ -119,12 +157,6 @@ def setup(files):
     return {"deck": rows.get("deck", []), "panel": [word for row in rows.get("panel", []) for word in row]}
 
 
-def of_machine(film):
-    return {"central_size": film.size, "central": list(film.machine.central), "papers": list(film.machine.papers),
-            "watches": list(film.machine.watches), "next": list(film.upcoming), "constants": list(film.constants), "reader": film.reader, "printer": film.printer,
-            "devices": {film.reader: "card reader", film.printer: "printer", **film.attached}}
-
-
 def of_sources(source_lines):
     """The lines of the sources, each with the address of its first word and the place of its mark if it has words; nothing without a
     source."""
@@ -136,7 +168,7 @@ def of_sources(source_lines):
     for number, source in source_lines.sources.items():
         texts = enumerate(texts_of(source), 1)
         sources[number] = {"name": name_of(source.path, "source"), "lines": [(text, *places.get((number, at), ())) for at, text in texts]}
-    return {"sources": sources, "marks": list(source_lines.marks), "layout": {**LAYOUT, "lines": first, "central": first + len(places)}}
+    return {"sources": sources, "layout": {**LAYOUT, "lines": first, "central": first + len(places)}}
 
 
 def texts_of(source):
@@ -145,25 +177,33 @@ def texts_of(source):
     return [texts.get(number, "").expandtabs(TAB) for number in range(1, max(texts) + 1)]
 
 
-def of_script(film):
-    """The lines of the script with their answers and moments, and how many turns are in effect where the film begins and
-    where it jumps."""
+def of_moments(film, first):
+    """Returns how many turns are in effect where the film begins; and of the moments from a first one on where a BACK or FORWARD leads,
+    with its turns, and how many turns were skipped."""
     turns = film.transcript.turns
-    numbers = {first: number for number, first in film.first_moments.items()}
+    numbers = {moment: number for number, moment in film.first_moments.items()}
     begins = turns[min(film.first_moments)][0] + film.turns_passed if film.first_moments else 0
-    return {"lines": list(lines(film)), "turns_before": begins, "opens": film.opens,
+    return {"turns_before": begins, "skips": [(moment, count) for moment, count in film.skips.items() if moment >= first],
             "jumps": [(moment, -1 if target is None else target, turns[numbers[moment]][1])
-                      for moment, target in film.jumps.items()]}
+                      for moment, target in film.jumps.items() if moment >= first]}
 
 
-def lines(film):
-    """Yields for each line its text, its answer, whether it is filmed, and its first and last moment."""
-    last = 0
-    for number, (line, answer) in enumerate(film.transcript.lines):
+def shortened(answer):
+    """Returns the lines of an answer that a page keeps."""
+    left = len(answer) - LONGEST_ANSWER
+    return answer if left <= 1 else [*answer[:LONGEST_ANSWER], f".. {left:o} lines more"]
+
+
+def lines(film, first_line=0):
+    """Yields for each line from a first one on its text, its answer with the reason of a refusal, whether it is filmed, and its first and
+    last moment."""
+    before = next((number for number in range(first_line - 1, -1, -1) if number in film.first_moments), None)
+    last = 0 if before is None else film.first_moments[before] + film.lengths[before] - 1
+    for number, (line, answer) in enumerate(film.transcript.lines[first_line:], first_line):
         first = film.first_moments.get(number)
         if first is not None:
             last = first + film.lengths[number] - 1
-        more = [f".. {len(answer) - LONGEST_ANSWER:o} lines more"] if len(answer) > LONGEST_ANSWER else []
+        why = reason(line, answer[0], film.size) if is_refusal(answer) else ""
         yield {"text": line.encode("latin-1").decode("utf-8", "replace").rstrip("\r"),
-               "answer": answer[:LONGEST_ANSWER] + more, "acts": first is not None,
-               "first": last if first is None else first, "moment": last}
+               "answer": shortened(answer), "acts": first is not None, "first": last if first is None else first, "moment": last,
+               **({"why": why} if why else {})}

@@ -49,15 +49,18 @@ class Made(NamedTuple):
 class InEffect(dict):
     """Of each place the writes in effect, the last one at the end: each what made it, or None if it is another write."""
 
+    floor: Optional[int] = None  # the last moment in effect whose writes are not known
+
     def last(self, place) -> Optional[Made]:
-        return self[place][-1] if self.get(place) else None
+        made = self[place][-1] if self.get(place) else None
+        return None if made and self.floor is not None and made.moment < self.floor else made
 
-    def add(self, written):
-        for place, made in written.made:
-            self.setdefault(place, []).append(made)
+    def add(self, made):
+        for place, one in made:
+            self.setdefault(place, []).append(one)
 
-    def take_back(self, written):
-        for place, _ in written.made:
+    def take_back(self, made):
+        for place, _ in made:
             self[place].pop()
 
     def block_of(self, number):
@@ -104,7 +107,7 @@ def written_by(film, turn, states):
     for write in writes:
         constant = constant_text(write.constants[0], processor.text[4:6], processor.words[1]) if write.constants else ""
         what = film.constants.number(constant) << CONSTANT_FROM | (AT_END if is_end and write.place.kind == "P" else 0)
-        written.add_write(write, Made(write, instruction, len(film.moments), processor.p), film.in_effect, what)
+        written.add_write(write, Made(write, instruction, len(film.rows), processor.p), film.in_effect, what)
     for channel in (film.reader, film.printer):
         before, after = STATES[states[channel]], film.machine.state(channel)
         if device_put_a_word(channel, writes, before, after):

@@ -4,6 +4,7 @@ from ..command_line import Failure, add_script, arguments, bytes_of, count, octa
 from ..device_options import add_devices, devices_of, script_with
 from ..sources import add_symbols, symbols_of
 from ..text_files import lines_of
+from ..core.simulator import Simulator
 from .camera import Film, Transcript, to_film
 from .page import heading, page, text_of, write_page
 
@@ -32,7 +33,7 @@ def main():
     if devices:
         script, refusals = script_with(words, devices, script)
     transcript = Transcript(words, lines_of(script.decode("latin-1")))
-    film = Film(words, transcript, int(asked.reader or "12", 8), int(asked.printer or "13", 8), symbols.sources(), devices)
+    film = Film(Simulator(words), transcript, int(asked.reader or "12", 8), int(asked.printer or "13", 8), symbols.sources(), devices)
     skipped, filmed = to_film(transcript, asked.last, asked.around)
     film.shoot(skipped, filmed)
     if asked.around is not None:

@@ -3,7 +3,7 @@
 import os
 from typing import NamedTuple
 
-from ..core.forms import MOST_TURNS, is_refusal
+from ..core.forms import is_refusal
 from ..core.simulator import Console, has_no_answer
 from ..device_options import timeline
 from ..failure import Failure
@@ -157,15 +157,8 @@ class Session:
     def go(self, turn):
         """Goes back or on to where so many turns are in effect: after the settings that follow the last of them. New turns do
         not end where a watched number changes."""
-        history = self.history
-        if turn < history.turns:
-            self.send(f"BACK {history.back_over(history.turns - turn):o}")
-        elif turn >= history.last_turn and history.to_redo:
-            self.send(f"FORWARD {history.to_redo:o}")
-        elif history.turns < turn < history.last_turn:
-            self.send(f"FORWARD {history.forward_over(turn - history.turns + 1) - 1:o}")
-        while turn > self.history.turns:
-            self.send(f"STEP {min(turn - self.history.turns, MOST_TURNS):o}")
+        for line in self.simulator.lines_to(turn):
+            self.send(line)
 
     def perform_script(self, lines, stops=never):
         """Performs a script, whatever is refused; `stops` is asked before each line. Returns whether all was performed."""

@@ -43,9 +43,9 @@ function showChosen() {
   else if (cut) parts.push(`No change before the line ${lineOf(cut).text.trim()}, which goes back.`);
   else parts.push(`No change ${last ? "after this" : film.turns_before ? "in the film" : "in this run"}.`);
   setText(byId("chosen-text"), parts.join(" "));
-  byId("previous-change").disabled = !previous;
-  byId("previous-change").hidden = !last;
-  byId("next-change").disabled = next <= 0;
+  byId("previous-change").disabled = !previous && !live.isOn;
+  byId("previous-change").hidden = !last && !live.isOn;
+  byId("next-change").disabled = next <= 0 && !live.isOn;
   setText(byId("next-change"), `${first && next > 0 ? "first" : "next"} change ]`);
 }
 
@@ -55,6 +55,7 @@ function moveToChange(direction) {
   if (!shown.chosen) return;
   const [last, previous] = changesBack(), target = direction > 0 ? changeAhead(last).next : previous;
   if (target > 0) moveTo(target);
+  else if (live.isOn) live.findChange(direction);
 }
 
 // ---- the page as a whole
@@ -74,6 +75,7 @@ function show() {
   showChosen();
   showPosition();
   showSigns();
+  showBarrel();
   if (setView()) drawLanes();
   showHead();
 }
@@ -198,16 +200,32 @@ function changeRate(step) {
 
 const byHand = (move) => () => { play(false); move(); };
 
+// On a live page the keys that lead on make new turns at the end.
+function onwards(moment, turns) {
+  if (live.isOn && film.at === film.count - 1) live.act([`STEP ${octal(turns)}`]);
+  else moveTo(moment);
+}
+
 const KEYS = {
-  ArrowLeft: byHand(() => moveTo(film.at - 1)), ArrowRight: byHand(() => moveTo(film.at + 1)),
-  "Shift+ArrowLeft": byHand(() => moveTo(aRound(-1))), "Shift+ArrowRight": byHand(() => moveTo(aRound(1))),
+  ArrowLeft: byHand(() => moveTo(film.at - 1)), ArrowRight: byHand(() => onwards(film.at + 1, 1)),
+  "Shift+ArrowLeft": byHand(() => moveTo(aRound(-1))), "Shift+ArrowRight": byHand(() => onwards(aRound(1), ROUND)),
   Home: byHand(() => moveTo(0)), End: byHand(() => moveTo(film.count - 1)),
   " ": () => play(!shown.playing), "+": () => changeRate(1), "=": () => changeRate(1), "-": () => changeRate(-1),
   ",": byHand(() => moveLine(-1)), ".": byHand(() => moveLine(1)),
   "[": byHand(() => moveToChange(-1)), "]": byHand(() => moveToChange(1)),
   o: () => findOrigin(), "/": () => byId("place").select(), g: () => byId("turn").select(), "?": () => showHelp(byId("help").hidden),
-  i: () => nextForm(), f: () => followTurns(), Escape: () => (byId("help").hidden ? chooseNone() : showHelp(false)),
+  i: () => nextForm(), f: () => followTurns(), b: () => foldBarrel(), z: () => project(), Enter: () => live.isOn && byId("typed").focus(), Escape: () => (byId("help").hidden ? chooseNone() : showHelp(false)),
 };
+
+// The look for a projector: large, and without what a whole class can't read.
+const isProjected = () => document.body.classList.contains("projector");
+
+function project() {
+  document.body.classList.toggle("projector");
+  if (isProjected() && memory.as === "numbers") memory.as = "instructions";
+  window.dispatchEvent(new Event("resize"));
+  show();
+}
 
 function showHelp(on) {
   byId("help").hidden = !on;
@@ -220,7 +238,7 @@ function pressed(event) {
     if (event.key === "Escape") target.blur();
     return;
   }
-  if (event.key === " " && target.matches("button:not(.number)")) return;
+  if ((event.key === " " || event.key === "Enter") && target.matches("button:not(.number)")) return;
   const arrow = event.key.startsWith("Arrow") && event.shiftKey;
   const key = KEYS[arrow ? `Shift+${event.key}` : event.key.length === 1 ? event.key.toLowerCase() : event.key];
   if (!key && !/^[0-9]$/.test(event.key)) return;
@@ -231,7 +249,6 @@ function pressed(event) {
 
 function buildControls() {
   const slider = byId("slider");
-  slider.max = film.count - 1;
   slider.oninput = byHand(() => moveTo(Number(slider.value)));
   RATES.forEach((rate, at) => byId("rate").add(new Option(rate === 1 ? "1 turn a second" : `${octal(rate)} turns a second`, at)));
   byId("rate").value = 1;
@@ -273,10 +290,10 @@ function chooseTyped() {
 
 function build() {
   for (const part of [buildControls, buildProcessors, buildChannels, buildMemory, buildProgram, buildSource, buildPictures, buildCentral, buildFrame, buildReader,
-    buildPrinter, buildScript, buildFiles, buildLanes, buildSigns]) part();
+    buildPrinter, buildFiles, buildLanes, buildBarrel, buildSigns, buildLive]) part();
   byId("panel").hidden = !film.panel.length;
   document.querySelector("#panel p").textContent = film.panel.map(four).join(" ");
-  const redraw = () => { drawLegend(); drawLanes(); showHead(); showSigns(); };
+  const redraw = () => { drawLegend(); drawLanes(); showHead(); showSigns(); showBarrel(); };
   for (const query of ["(prefers-color-scheme: dark)", "print"]) matchMedia(query).addEventListener("change", redraw);
   window.addEventListener("resize", redraw);
   window.addEventListener("beforeprint", redraw);
@@ -284,22 +301,26 @@ function build() {
   window.addEventListener("hashchange", followAddress);
 }
 
+// Shows what has come to the film after so many moments.
+function grew(first) {
+  byId("slider").max = film.count - 1;
+  addLines();
+  showParts();
+  renewLanes();
+  growSource(first);
+  for (const button of numberButtons) if (button.place.kind === "C") button.place = placeNamed(button.place.name);
+  if (shown.chosen) shown.chosen = placeNamed(shown.chosen.name);
+  if (shown.chosen) shown.marks = momentsThatChanged(shown.chosen.places);
+}
+
 async function openFilm() {
-  const [about, heads, places, growths, writes] = await unpack(byId("film").textContent);
-  film = { ...about, at: 0 };
-  film.next = film.next.map(([name, second, block, waits, sentence, line]) => (
-    { name, second, block: block && { issued: block[0], address: block[1], back: block[2] }, waits, sentence,
-      line: line ? { number: line[0], note: line[1] } : { number: 0, note: "" } }));
-  film.jumps = new Map(about.jumps.map(([moment, target, turn]) => [moment, [target, turn]]));
-  film.centralIndex = new Map(film.central.map((address, at) => [address, at]));
-  film.count = heads.length;
-  makeTables();
-  fillRows(heads, places, growths);
-  fillWrites(writes);
-  film.at = film.count - 1;
-  film.lineAt = linesOfMoments();
-  film.highestTurn = film.turn.reduce((one, other) => Math.max(one, other), 0);
+  const text = byId("film").textContent;
+  live.isOn = text.trim() === "";
+  const [about, ...rows] = await unpack(live.isOn ? await live.open() : text);
+  film = { ...about, ...emptyRows() };
+  grow(about, ...rows);
   build();
+  grew(0);
   setView();
   drawLegend();
   const [start, place] = opening();
@@ -307,15 +328,6 @@ async function openFilm() {
   if (location.hash.length > 1) followAddress();
   else choose(placeNamed(place));
   document.body.dataset.open = "yes";
-}
-
-// The number of the script's line of each moment, -1 before the first.
-function linesOfMoments() {
-  const lineAt = new Int32Array(film.count).fill(-1);
-  film.lines.forEach((line, number) => {
-    if (line.acts) lineAt.fill(number, line.first, line.moment + 1);
-  });
-  return lineAt;
 }
 
 openFilm().catch((error) => {

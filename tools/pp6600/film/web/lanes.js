@@ -1,6 +1,7 @@
 // ---- the lanes
 
-const LANE = 13, GAP = 3, LABEL = 46, SIGN = 9; // heights, and the widths of the names and of a sign, in pixels
+const GAP = 3;
+let LANE = 13, LABEL = 46, SIGN = 9, LETTERS = 11; // the height of a lane, the widths of the names and of a sign, and that of letters, in pixels
 const lanes = { all: [], from: 0, to: 0, folded: true }; // whether the quiet ones are one line
 
 // The stretches of a lane: at which moment each begins, and what it is.
@@ -45,13 +46,21 @@ function channelLanes() {
   return lanesOfChannels.filter((lane) => lane.kinds.some((kind) => kind > 0));
 }
 
+// Makes the lanes anew, and offers to see parts of a longer run.
+function renewLanes() {
+  lanes.all = [...Array(PROCESSORS).keys()].map(processorLane).concat(channelLanes());
+  const zoom = byId("zoom");
+  for (const size of [0o10000, 0o1000, 0o100]) {
+    if (size >= film.count || [...zoom.options].some((one) => Number(one.value) === size)) continue;
+    zoom.add(new Option(`${octal(size)} turns`, size), [...zoom.options].find((one) => one.value && Number(one.value) < size) || null);
+  }
+}
+
 function buildLanes() {
-  for (let n = 0; n < PROCESSORS; n++) lanes.all.push(processorLane(n));
-  lanes.all.push(...channelLanes());
   byId("fold").onclick = () => { lanes.folded = !lanes.folded; drawLanes(); showHead(); };
   const zoom = byId("zoom");
-  zoom.add(new Option("the whole run", film.count));
-  for (const size of [0o10000, 0o1000, 0o100]) if (size < film.count) zoom.add(new Option(`${octal(size)} turns`, size));
+  zoom.add(new Option("the whole run", ""), 0);
+  zoom.value = "";
   zoom.onchange = () => { setView(); drawLanes(); showHead(); };
   const picture = byId("picture");
   picture.onpointerdown = (event) => { picture.setPointerCapture(event.pointerId); lanes.held = true; moveToPixel(event); };
@@ -62,7 +71,7 @@ function buildLanes() {
 
 // Chooses the part of the run that the lanes show, so that the present moment is in it.
 function setView() {
-  const size = Number(byId("zoom").value);
+  const size = Number(byId("zoom").value) || film.count;
   if (size >= film.count) [lanes.from, lanes.to] = [0, film.count];
   else if (lanes.to - lanes.from !== size || film.at < lanes.from || film.at >= lanes.to) {
     lanes.from = Math.max(0, Math.min(film.count - size, film.at - (size >> 1)));
@@ -79,7 +88,7 @@ function moveToPixel(event) {
   moveTo(lanes.from + Math.floor((x / pictureWidth()) * (lanes.to - lanes.from)));
 }
 
-const lanesShown = () => lanes.all.filter((lane) => !lane.quiet || !lanes.folded);
+const lanesShown = () => lanes.all.filter((lane) => !lane.quiet || !(lanes.folded || isProjected()));
 
 // The line that stands for the quiet lanes, and unfolds them.
 function showFold() {
@@ -131,18 +140,27 @@ function coloursOf(element) {
   return { tall: colour("tall"), half: colour("half"), ink: colour("ink"), soft: colour("soft"), line: colour("line") };
 }
 
+// On a projector the lanes have a ninth of the height for them all, and larger letters.
+function sizeLanes(rows) {
+  LANE = isProjected() ? Math.max(5, Math.floor(innerHeight / Math.max(45, 9 * rows)) - GAP) : 13;
+  LETTERS = isProjected() ? LANE + GAP : 11;
+  LABEL = isProjected() ? 4 * LETTERS : 46;
+}
+
 function drawLanes() {
-  const canvas = byId("canvas"), width = Math.floor(pictureWidth()), ratio = window.devicePixelRatio || 1;
-  const drawn = lanesShown(), rows = drawn.length + 1 + (shown.chosen ? 1 : 0), height = rows * (LANE + GAP) + GAP;
+  const drawn = lanesShown(), rows = drawn.length + 1 + (shown.chosen ? 1 : 0);
+  sizeLanes(rows);
+  const canvas = byId("canvas"), width = Math.floor(pictureWidth()), ratio = window.devicePixelRatio || 1, height = rows * (LANE + GAP) + GAP;
   canvas.width = (width + LABEL) * ratio;
   canvas.height = height * ratio;
   canvas.style.height = `${height}px`;
   const context = canvas.getContext("2d"), colours = coloursOf(document.body);
   context.scale(ratio, ratio);
-  context.font = "11px ui-monospace, Consolas, monospace";
+  context.font = `${LETTERS}px ui-monospace, Consolas, monospace`;
   context.textBaseline = "middle";
   drawn.forEach((lane, at) => drawLane(context, colours, lane, GAP + (at + 1) * (LANE + GAP), width));
   drawLines(context, colours, height);
+  drawSkips(context, colours, height);
   if (shown.chosen) drawChanges(context, colours, GAP + (rows - 1) * (LANE + GAP));
   if (shown.origin) drawOrigin(context, colours, drawn);
   showFold();
@@ -183,6 +201,24 @@ function drawLines(context, colours, height) {
     if (left >= free) context.fillText(film.jumps.get(line.first)[0] < line.first ? "<" : ">", left, GAP + LANE / 2);
     free = Math.max(left, x) + SIGN;
   });
+}
+
+// A dashed line where turns were skipped, with their number below the lanes' names.
+function drawSkips(context, colours, height) {
+  context.strokeStyle = context.fillStyle = colours.ink;
+  context.lineWidth = 3;
+  context.setLineDash([2, 3]);
+  for (const [moment, turns] of film.skips) {
+    if (moment < lanes.from || moment >= lanes.to) continue;
+    const x = LABEL + Math.floor(pixelOf(moment)), text = `${octal(turns)} turns`;
+    context.beginPath();
+    context.moveTo(x, GAP);
+    context.lineTo(x, height);
+    context.stroke();
+    const room = context.measureText(text).width + 4;
+    context.fillText(text, x - room > LABEL ? x - room : x + SIGN, GAP + LANE / 2);
+  }
+  context.setLineDash([]);
 }
 
 // A tick for each change of the chosen number.

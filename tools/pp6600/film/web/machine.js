@@ -86,6 +86,7 @@ function showProcessors() {
     setText(wait, next.waits);
     row.classList.toggle("next", isNext);
     row.classList.toggle("acted", isTurn(film.at) && film.processor[film.at] === n);
+    row.classList.toggle("chosen", n === memory.processor);
   });
 }
 
@@ -203,9 +204,6 @@ const central = { rows: [], first: 0 };
 const CENTRAL_ROWS = 8;
 
 function buildCentral() {
-  const used = film.central.length > 0;
-  byId("central").hidden = !used;
-  central.first = used ? Math.min(...film.central) & ~7 : 0;
   const body = tableOf("central").createTBody();
   for (let at = 0; at < CENTRAL_ROWS; at++) {
     const row = addRow(body, ["", ""]);
@@ -235,14 +233,24 @@ function showCentral() {
 }
 
 function buildFrame() {
-  const table = tableOf("frame"), first = film.layout.frame, last = first + 2 * FRAME_WORDS - 1;
-  byId("frame").hidden = !film.places.some((place) => place >= first && place <= last);
+  const table = tableOf("frame");
   for (let at = 0; at < FRAME_WORDS / 2; at++) {
     const row = addRow(table, [two(at), "", two(at + 8), ""]);
     row.cells[0].className = row.cells[2].className = "name";
     addNumber(row.cells[1], `XP ${two(at)}`);
     addNumber(row.cells[3], `XP ${two(at + 8)}`);
   }
+}
+
+// Shows the parts of the machine that the film uses.
+function showParts() {
+  const { frame, reader, printer, paper } = film.layout, changes = (first, last) => film.places.some((place) => place >= first && place <= last);
+  const isNew = byId("central").hidden && film.central.length > 0;
+  if (isNew) central.first = Math.min(...film.central) & ~7;
+  if (isNew) byId("central").hidden = false;
+  byId("frame").hidden = !changes(frame, reader - 1);
+  byId("reader").hidden = film.deck.length === 0 && !changes(reader, printer - 1);
+  byId("printer").hidden = !changes(printer, paper);
 }
 
 // ---- devices and watches
@@ -259,7 +267,6 @@ function addLine(parent, text) {
 const cardRows = [], columnCells = [];
 
 function buildReader() {
-  byId("reader").hidden = film.deck.length === 0 && !film.places.some((place) => nameOf(place).startsWith("CARD"));
   const line = document.querySelector("#reader .device");
   addLine(line, `H ${two(film.reader)} CARD @CARD OF ${four(film.deck.length)} COLUMN @CARD-COLUMN MODE @CARD-MODE`);
   const cards = document.querySelector("#reader .cards");
@@ -294,7 +301,6 @@ function showReader() {
 }
 
 function buildPrinter() {
-  byId("printer").hidden = !film.places.some((place) => place >= film.layout.printer && place <= film.layout.paper);
   const line = document.querySelector("#printer .device");
   addLine(line, `H ${two(film.printer)} SYMBOLS @SYMBOLS COLUMN @PAPER-COLUMN MODE @PAPER-MODE`);
 }
@@ -330,9 +336,10 @@ function showWatches() {
 
 const lineRows = [];
 
-function buildScript() {
+// Adds the lines that are not in the list yet.
+function addLines() {
   const list = document.querySelector("#script ol");
-  film.lines.forEach((line) => {
+  for (const line of film.lines.slice(lineRows.length)) {
     const item = document.createElement("li"), button = document.createElement("button");
     button.type = "button";
     button.textContent = line.text || " ";
@@ -342,12 +349,12 @@ function buildScript() {
     item.className = line.text.trim().startsWith("*") ? "note" : line.acts ? "acts" : "";
     if (line.answer.length) {
       const answer = document.createElement("pre");
-      answer.textContent = line.answer.join("\n");
+      answer.textContent = [...line.answer, ...(line.why ? [`  ${line.why}`] : [])].join("\n");
       item.append(answer);
     }
     list.append(item);
     lineRows.push(item);
-  });
+  }
 }
 
 // A button for each file of the run, which saves it; and how one runs them again.
@@ -359,13 +366,15 @@ function buildFiles() {
     button.onclick = () => saveFile(file);
     byId("files").append(button);
   }
-  setText(byId("again"), `To run it again: ${film.again}`);
+  setText(byId("again"), film.again && `To run it again: ${film.again}`);
 }
 
-function saveFile(file) {
-  const bytes = Uint8Array.from(file.bytes, (letter) => letter.charCodeAt(0)), link = document.createElement("a");
+const saveFile = (file) => saveBytes(Uint8Array.from(file.bytes, (letter) => letter.charCodeAt(0)), file.name);
+
+function saveBytes(bytes, name) {
+  const link = document.createElement("a");
   link.href = URL.createObjectURL(new Blob([bytes], { type: "application/octet-stream" }));
-  link.download = file.name;
+  link.download = name;
   link.click();
   setTimeout(() => URL.revokeObjectURL(link.href), 60000);
 }

@@ -5,11 +5,16 @@ const MOVED = 1, BY_DEVICE = 2, AGAIN = 4, AT_END = 8, CONSTANT_FROM = 4;
 const MOST_STEPS = 32;
 const HAVE_AN_ORIGIN = ["M", "A", "P", "Q", "H", "C", "XP"];
 
-// Fills the rows of what each moment wrote: of each write its place, what it is, and its sources.
-function fillWrites(numbers) {
-  const starts = new Uint32Array(film.count + 1), places = [], whats = [], firsts = [0], sources = [], parts = [];
-  let at = 0;
-  for (let moment = 0; moment < film.count; moment++) {
+function emptyWrites() {
+  return { starts: new Uint32Array(1), places: new Int32Array(0), whats: new Int32Array(0), firsts: new Uint32Array(1),
+    sources: new Int32Array(0), parts: new Uint8Array(0) };
+}
+
+// Adds what the last moments wrote: of each write its place, what it is, and its sources.
+function addWrites(numbers) {
+  const rows = film.writes, first = rows.starts.length - 1, places = [], whats = [], firsts = [], sources = [], parts = [];
+  rows.starts = longer(rows.starts, film.count + 1);
+  for (let moment = first, at = 0; moment < film.count; moment++) {
     let place = 0;
     for (let count = numbers[at++]; count > 0; count--) {
       places.push((place += signed(numbers[at])));
@@ -19,12 +24,15 @@ function fillWrites(numbers) {
         sources.push(place + signed(numbers[at]));
         parts.push(numbers[at + 1]);
       }
-      firsts.push(sources.length);
+      firsts.push(rows.sources.length + sources.length);
     }
-    starts[moment + 1] = places.length;
+    rows.starts[moment + 1] = rows.places.length + places.length;
   }
-  film.writes = { starts, places: Int32Array.from(places), whats: Int32Array.from(whats), firsts: Uint32Array.from(firsts),
-    sources: Int32Array.from(sources), parts: Uint8Array.from(parts) };
+  for (const [name, more] of Object.entries({ places, whats, firsts, sources, parts })) {
+    const before = rows[name].length;
+    rows[name] = longer(rows[name], before + more.length);
+    rows[name].set(more, before);
+  }
 }
 
 const nameOfWritten = (place) => (place >= film.first_central ? `C ${octal(place - film.first_central, 6)}` : nameOf(place));
@@ -33,11 +41,12 @@ const isFrame = (place) => place >= film.layout.frame && place < film.layout.rea
 const isWord = (place) => place >= film.first_central || isFrame(place);
 
 // The latest write of a place in effect at a moment: its moment and its number among the writes, -1 for the clock. The moment is 0
-// if nothing in the film wrote it, and -1 if what wrote it may be before the film.
+// if nothing in the film wrote it, and -1 if what wrote it may be before the film, or in turns that were skipped.
 function lastWrite(place, moment) {
   const { starts, places } = film.writes;
   let at = resolve(moment);
   for (; at > 0; at = resolve(at - 1)) {
+    if (film.kinds[at] === SKIP) return { moment: -1, write: -1 };
     if (place === film.layout.clock && isTurn(at) && changedIn(at, place, place)) return { moment: at, write: -1 };
     for (let write = starts[at + 1] - 1; write >= starts[at]; write--) if (places[write] === place) return { moment: at, write };
   }
@@ -118,6 +127,7 @@ function sourceText(link) {
 
 // What wrote a step's number, in words.
 function causeText(step) {
+  if (step.moment < 0 && film.skips.size) return "written in turns that were not filmed, or never";
   if (step.moment < 0 || (step.moment === 0 && film.turns_before)) return "written before the film begins, or never";
   if (step.moment === 0) return "never written";
   if (film.kinds[step.moment] === LINE) {

@@ -38,9 +38,12 @@ function placeNamed(text) {
 const MODES = { "CARD-MODE": "reader", "PAPER-MODE": "printer" };
 const DIGITS = { A: 6, SYMBOLS: 6, "CARD-COLUMN": 3, "PAPER-COLUMN": 3, SLOT: 2 };
 
-// The text of the number at a place, from the halves or the one number.
+// The text of the number at a place, from the halves or the one number. A central word that was not looked at after turns that were
+// skipped is not known.
 function textOf(kind, numbers) {
-  if (kind === "C" || kind === "XP") return octal(numbers[0] || 0, 10) + octal(numbers[1] || 0, 10);
+  const isUnseen = kind === "C" && (!numbers.length || numbers[0] === UNKNOWN);
+  if (isUnseen) return film.numbers[film.layout.unseen] ? "?" : "0".repeat(20);
+  if (kind === "C" || kind === "XP") return octal(numbers[0], 10) + octal(numbers[1], 10);
   if (kind === "STATE") return film.states[numbers[0]][0];
   if (kind in MODES) return film.modes[MODES[kind]][numbers[0]];
   if (kind === "PAPER") return `${paperText(numbers[0]).length} (decimal) symbols`;
@@ -54,7 +57,7 @@ const textAt = (place) => textOf(place.kind, place.places.map((at) => film.numbe
 function nameOf(place) {
   const layout = film.layout, at = (first) => place - layout[first];
   if (place >= layout.central) return `C ${octal(film.central[at("central") >> 1], 6)}`;
-  if (place >= layout.lines) return "";
+  if (place >= layout.unseen) return "";
   if (place >= layout.watches) return "WATCHES";
   if (place >= layout.next) return "";
   if (place >= layout.slot) return "SLOT";
@@ -82,6 +85,7 @@ function turnText(moment) {
 
 // Who changed a place.
 function makerText(moment, place) {
+  if (film.kinds[moment] === SKIP) return `${octal(film.skips.get(moment))} turns that were not filmed`;
   if (!isTurn(moment)) return `the line ${lineOf(moment).text.trim()}`;
   const name = nameOf(place), kind = name.split(" ")[0];
   if (kind === "SLOT" || name === "H 14") return `the barrel, after PP ${two(film.processor[moment])}`;
@@ -97,9 +101,10 @@ function actionText(moment) {
   const kind = film.kinds[moment];
   if (moment === 0) return film.turns_before ? "The film begins here" : "The beginning";
   if (isTurn(moment)) return `${turnText(moment)}${kind === WAITING ? ", waits" : ""}`;
+  if (kind === SKIP) return `${octal(film.skips.get(moment))} turns that were not filmed`;
   if (kind === LINE) return `The line ${lineOf(moment).text.trim()}`;
   const target = film.jumps.get(moment)[0];
-  const where = target < 0 ? "before the film begins" : "as it was then";
+  const where = target < 0 ? film.skips.size ? "as it was then, which was not filmed" : "before the film begins" : "as it was then";
   return `The line ${lineOf(moment).text.trim()}: the answer is ${lineOf(moment).answer[0]}, and the machine is ${where}`;
 }
 

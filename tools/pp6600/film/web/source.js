@@ -23,11 +23,15 @@ function buildSource() {
     byId("source-of").add(new Option(`PP ${two(n)}`, n));
   }
   source.processor = source.of.keys().next().value;
-  for (const one of source.of.values()) addTimes(one, 1);
   byId("source-of").hidden = source.of.size < 2;
   byId("source-of").onchange = () => chooseMemory(Number(byId("source-of").value));
   byId("previous-time").onclick = () => moveToTime(source.of.get(source.processor), -1);
   byId("next-time").onclick = () => moveToTime(source.of.get(source.processor), 1);
+}
+
+// Notes the times of the moments that came to the film after so many.
+function growSource(first) {
+  for (const one of source.of.values()) addTimes(one, Math.max(first, 1));
 }
 
 // Notes for each line at which moments from the first one on it was begun: a line that waits, or that is in its block, only goes on. A line
@@ -65,6 +69,7 @@ function showSource() {
   if (!film.sources) return;
   if (!memory.follows && source.of.has(memory.processor)) source.processor = memory.processor;
   const one = source.of.get(source.processor), n = one.processor, { line } = nextOf(n);
+  document.body.classList.toggle("sourced", n === memory.processor);
   for (const other of source.of.values()) other.body.hidden = other !== one;
   byId("source-of").value = n;
   setText(document.querySelector("#source h2"), `Source of PP ${two(n)}: ${one.name}`);

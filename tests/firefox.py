@@ -1,0 +1,106 @@
+"""A headless Firefox, driven by its protocol Marionette. What it evaluates sees the document, and not the names of the page's script."""
+
+import base64
+import itertools
+import json
+import os
+import shutil
+import socket
+import subprocess
+import tempfile
+import time
+
+NAMES = ("firefox-esr", "firefox")
+PATIENCE = 600  # seconds for one answer
+
+
+def found():
+    """Returns the path of Firefox, or None."""
+    return next(filter(None, map(shutil.which, NAMES)), None)
+
+
+def free_port():
+    with socket.create_server(("127.0.0.1", 0)) as one:
+        return one.getsockname()[1]
+
+
+class Firefox:
+    """A browser with one page."""
+
+    def __init__(self, path):
+        self.room, port = tempfile.TemporaryDirectory(), free_port()
+        with open(os.path.join(self.room.name, "user.js"), "w", encoding="ascii") as file:
+            file.write(f'user_pref("marionette.port", {port});\nuser_pref("app.update.enabled", false);\n'
+                       'user_pref("datareporting.policy.dataSubmissionEnabled", false);\nuser_pref("network.captive-portal-service.enabled", false);\n')
+        self.process = subprocess.Popen([path, "--headless", "--marionette", "--no-remote", "--profile", self.room.name, "about:blank"],
+                                        stdout=subprocess.DEVNULL, stderr=subprocess.DEVNULL, env={**os.environ, "HOME": self.room.name})
+        self.numbers, self.rest = itertools.count(1), b""
+        self.socket = self.connected(port)
+        self.message()
+        self.ask("WebDriver:NewSession")
+
+    def connected(self, port):
+        end = time.monotonic() + PATIENCE
+        while True:
+            try:
+                return socket.create_connection(("127.0.0.1", port), PATIENCE)
+            except OSError:
+                if time.monotonic() > end or self.process.poll() is not None:
+                    raise
+                time.sleep(0.1)
+
+    def message(self):
+        """Returns the next message of the browser."""
+        while b":" not in self.rest or len(self.rest) < sum(self.lengths()):
+            data = self.socket.recv(1 << 16)
+            if not data:
+                raise EOFError("the browser has ended")
+            self.rest += data
+        start, length = self.lengths()
+        text, self.rest = self.rest[start:start + length], self.rest[start + length:]
+        return json.loads(text)
+
+    def lengths(self):
+        """Returns the lengths of the head of a message, and of the message."""
+        head = self.rest.split(b":", 1)[0]
+        return len(head) + 1, int(head)
+
+    def ask(self, command, **parameters):
+        text = json.dumps([0, next(self.numbers), command, parameters])
+        self.socket.sendall(f"{len(text)}:{text}".encode())
+        _, _, error, result = self.message()
+        if error:
+            raise RuntimeError(f"{command}: {error['message']}")
+        return result
+
+    def open(self, address):
+        self.ask("WebDriver:Navigate", url="about:blank")
+        self.ask("WebDriver:Navigate", url=address)
+
+    def evaluate(self, text):
+        """Returns the value of an expression of the document."""
+        return self.ask("WebDriver:ExecuteScript", script=f"return {text};", args=[])["value"]
+
+    def wait_for(self, text):
+        end = time.monotonic() + PATIENCE
+        while not self.evaluate(text):
+            if time.monotonic() > end:
+                raise TimeoutError(f"{text} does not come to be so")
+            time.sleep(0.05)
+
+    def look(self, width, height):
+        self.ask("WebDriver:SetWindowRect", width=width, height=height)
+
+    def picture(self, path):
+        with open(path, "wb") as file:
+            file.write(base64.b64decode(self.ask("WebDriver:TakeScreenshot", full=False)["value"]))
+
+    def end(self):
+        self.socket.close()
+        self.process.terminate()
+        try:
+            self.process.wait(20)
+        except subprocess.TimeoutExpired:
+            self.process.kill()
+            self.process.wait()
+        self.room.cleanup()

@@ -1,0 +1,123 @@
+// ---- a live session: what is typed goes to the server of this page, and what comes back is added to the film
+
+const live = { isOn: false, key: "", typed: [], at: 0, isBusy: false, looking: null };
+const WATCHED = ["M", "A", "P", "Q", "C", "H"]; // the kinds of places whose changes the server finds
+
+// Asks the server for something, and returns the reply. The key is in a header, which no other page can send.
+async function ask(address, body) {
+  const headers = { "X-Key": live.key, "Content-Type": "application/json" };
+  let reply;
+  try {
+    reply = await fetch(address, { method: "POST", headers, body: JSON.stringify(body) });
+  } catch {
+    throw new Error("the server does not answer: it has stopped. What was filmed can still be looked at; try again when it runs");
+  }
+  if (!reply.ok) throw new Error(await reply.text());
+  return reply;
+}
+
+// The key comes in the part of the address after #, which browsers do not send. It is kept for this tab, and taken out of the address.
+function takeKey() {
+  const words = new URLSearchParams(location.hash.slice(1)), key = words.get("key");
+  if (key) sessionStorage.setItem("key", key);
+  words.delete("key");
+  if (key) history.replaceState(null, "", `${location.pathname}${words.size ? `#${words}` : ""}`);
+  live.key = sessionStorage.getItem("key") || "";
+  return Boolean(key);
+}
+
+live.open = async () => {
+  takeKey();
+  if (!live.key) throw new Error("this address has no key: open the one that tools/page has printed");
+  return (await ask("/news", { have: 0 })).text();
+};
+
+function buildLive() {
+  byId("console").hidden = !live.isOn;
+  for (const row of document.querySelectorAll(".of-live")) row.hidden = !live.isOn;
+  if (!live.isOn) return;
+  setText(document.querySelector("#script h2"), "The session");
+  byId("console").onsubmit = (event) => { event.preventDefault(); live.send(byId("typed").value); };
+  byId("typed").onkeydown = recall;
+  byId("save-script").onclick = () => live.save("/script", "session");
+  byId("save-film").onclick = () => live.save("/film", "session.html");
+  window.addEventListener("hashchange", () => takeKey() && location.reload());
+  window.addEventListener("focus", look);
+}
+
+// Looks for what another tab has done, when this one is seen again. What is done here waits for that.
+function look() {
+  if (!live.isBusy) live.looking = live.do("/news", {}).finally(() => { live.looking = null; });
+}
+
+// Up and down bring back what was typed before.
+function recall(event) {
+  const step = { ArrowUp: -1, ArrowDown: 1 }[event.key];
+  if (!step) return;
+  event.preventDefault();
+  live.at = Math.max(0, Math.min(live.typed.length, live.at + step));
+  byId("typed").value = live.typed[live.at] || "";
+}
+
+live.send = async (text) => {
+  const until = /^\s*(back\s+)?until\s+(.*)$/i.exec(text);
+  const isDone = await (until ? live.until(until[2], Boolean(until[1])) : live.act([text]));
+  if (!isDone) return;
+  live.at = live.typed.push(text);
+  byId("typed").value = "";
+};
+
+live.act = (lines) => live.do("/act", { lines, at: film.at });
+live.until = (text, back) => live.do("/until", { text, back, at: film.at });
+
+// To the change of the chosen number that the film does not have.
+live.findChange = (direction) => {
+  const { kind, name, numbers } = shown.chosen;
+  if (kind === "STATE") live.until(`H ${octal(numbers[0])} changes state`, direction < 0);
+  else if (WATCHED.includes(kind)) live.until(`${name} changes`, direction < 0);
+};
+
+// Sends a request, and takes what comes back. Returns whether it was performed: not if another one is under way.
+live.do = async (address, body) => {
+  if (address !== "/news") await live.looking;
+  if (live.isBusy) return false;
+  live.isBusy = true;
+  const slow = setTimeout(() => say("the machine runs ..", false), 300);
+  try {
+    const [news, ...rows] = await unpack(await (await ask(address, { ...body, have: 1 + film.lines.length })).text());
+    take(news, rows);
+    return !news.behind;
+  } catch (error) {
+    say(error.message, true);
+    return false;
+  } finally {
+    clearTimeout(slow);
+    live.isBusy = false;
+  }
+};
+
+function take(news, rows) {
+  const before = film.count, here = film.at, isNew = news.lines.length > 0;
+  if (isNew) {
+    grow(news, ...rows);
+    grew(before);
+    setView();
+    drawLanes();
+    goTo(here);
+    moveTo(film.count > before ? film.count - 1 : here);
+  }
+  if (news.said !== undefined) say(news.said, news.behind || news.is_refused);
+}
+
+function say(text, isWrong) {
+  setText(byId("said"), text);
+  byId("said").classList.toggle("wrong", Boolean(isWrong));
+}
+
+live.save = async (address, name) => {
+  try {
+    saveBytes(await (await ask(address, {})).arrayBuffer(), name);
+  } catch (error) {
+    say(error.message, true);
+  }
+};

@@ -1,0 +1,1 @@
+"""The live page: a film that is still being shot, in a browser."""
