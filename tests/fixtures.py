@@ -1,9 +1,11 @@
 """Scripts and tables of the pages that several tests use, and terminals for tools."""
 
+import glob
 import os
+import re
 import subprocess
 
-from tests.support import EXAMPLES, PYTHON, TOP, program
+from tests.support import EXAMPLES, PYTHON, TOP, blocks, program
 
 DECK, LOADER = (os.path.join(EXAMPLES, "overwritten-loader", name) for name in ("deck", "loader.pp"))
 # The loader of README.md up to its first question.
@@ -50,3 +52,20 @@ def at_terminal(name, *words):
     done = subprocess.run([*PYTHON, "-c", spawn, *PYTHON, os.path.join(TOP, "tools", name), *words], stdin=subprocess.DEVNULL,
                           stdout=subprocess.PIPE, env={**os.environ, "PP6600": program()}, cwd=TOP, check=False)
     return done.stdout.decode().replace("\r\n", "\n")
+
+
+# ---- the pages
+
+PAGES = ["README.md", *sorted(os.path.relpath(path, TOP) for path in glob.glob(os.path.join(TOP, "docs", "*.md")))]
+
+
+def sessions():
+    """Returns the place of each session, and a list of the program's words, the lines typed, and the answers."""
+    found = []
+    for page in PAGES:
+        for block in blocks(page, "session"):
+            if block.words[1:] != ["continued"]:
+                found.append((block.place, (block.words[1:], [], [])))
+            for line in block.text.splitlines(keepends=True):
+                found[-1][1][1 if line.startswith(">") else 2].append(re.sub("^> ?", "", line))
+    return found

@@ -2,6 +2,7 @@
 
 import dataclasses
 import random
+import shlex
 
 from tests import support as _  # it finds the package
 
@@ -316,3 +317,20 @@ class Maker:
             faults = '8', ' 10000 ', ' 77777777 ', '\f', '\r', '\xe9', ' 0' * 81, '*', ' ' * 1024, '\n0\n', ' 1 '
             text = text[:at] + self.choice(faults) + text[at:]
         return text.encode('latin-1')
+
+
+def commands(session):
+    """Returns commands for the shell that repeat a session."""
+    found = []
+    for name, data in session.all_files().items():
+        if name in session.words + ['script']:
+            lines = [f"    '{quoted(line)}' \\\n" for line in data.splitlines(keepends=True)]
+            found.append(f"printf '%b' \\\n{''.join(lines)}    >{name}")
+    words = shlex.join(['pp6600', *session.words])
+    return '\n'.join([*found, f'{words} <{session.standard_input}' + ' >/dev/full' * session.output_fails])
+
+
+def quoted(data):
+    """Returns bytes as %b of printf reads them between single quotes."""
+    return ''.join('\\n' if byte == 10 else chr(byte) if 32 <= byte < 127 and byte not in b"\\'" else f'\\0{byte:03o}'
+                   for byte in data)

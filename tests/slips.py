@@ -17,9 +17,9 @@ import tempfile
 import threading
 from typing import NamedTuple
 
+from tests.generator import Maker
 from tests.support import PATIENCE, TOP, program
-from tests.test_program import cases, part, words_of
-from tests.test_random import Maker
+from tests.ways import cases, part, words_of
 
 sys.path.insert(0, os.path.join(TOP, "docs"))
 from book.names import Unresolved  # noqa: E402

@@ -11,9 +11,9 @@ import shutil
 import sys
 
 from tests import slips
+from tests.generator import Maker
 from tests.support import EXAMPLES, PYTHON, TOP, Case, add_tests, names_of_codes, read, run
-from tests.test_program import PLAIN, cases, part, words_of
-from tests.test_random import Maker
+from tests.ways import PLAIN, cases, part, words_of
 
 sys.path.insert(0, os.path.join(TOP, "docs"))
 from evaluating.asking import Definitions  # noqa: E402

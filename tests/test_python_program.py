@@ -12,25 +12,25 @@ import shutil
 import subprocess
 import sys
 
-from tests import slips, test_program, test_sessions
-from tests.generator import Maker
+from tests import slips
+from tests.fixtures import sessions
+from tests.generator import Maker, commands
 from tests.support import EXAMPLES, PATIENCE, TOP, Case, add_tests, program, read, run
-from tests.test_program import cases
-from tests.test_random import commands
+from tests.ways import CaseFolders, cases
 
 PYTHON_PROGRAM = os.path.join(TOP, "pp6600-python")
 BY_PATH = os.path.join(TOP, "tools", "pp6600", "simulation", "__main__.py")
 
 
-class Cases(Case):
+class Cases(CaseFolders):
     """What the pages demand of the program."""
 
-    def check(self, case):
-        test_program.Cases.check(self, case, PYTHON_PROGRAM)
+    def check_python(self, case):
+        self.check(case, PYTHON_PROGRAM)
 
 
-add_tests(Cases, Cases.check, cases(os.path.join(TOP, "tests", "cases")))
-add_tests(Cases, Cases.check, [(f"example_{name}", case) for name, case in cases(EXAMPLES)])
+add_tests(Cases, Cases.check_python, cases(os.path.join(TOP, "tests", "cases")))
+add_tests(Cases, Cases.check_python, [(f"example_{name}", case) for name, case in cases(EXAMPLES)])
 
 
 class Compared(Case):
@@ -86,7 +86,7 @@ class Compared(Case):
         self.assertEqual(("".join(answers), "", int(any(line.startswith("ERR ") for line in answers))), done)
 
 
-add_tests(Compared, Compared.check, test_sessions.sessions())
+add_tests(Compared, Compared.check, sessions())
 
 
 class Said(Case):

@@ -9,35 +9,17 @@ Not tried here: the limit of a script in bytes, no memory, and a read that fails
 """
 import dataclasses
 import os
-import shlex
 import subprocess
 import sys
 import unittest
 
 from tests.counted import counted, seen
-from tests.generator import WORDS, Maker, Session
+from tests.generator import WORDS, Maker, Session, commands
 from tests.support import Case, program
 
 from pp6600.simulation.console import FORMS
 from pp6600.simulation.instructions import INSTRUCTIONS
 from pp6600.simulation.program import run as run_python
-
-
-def commands(session):
-    """Returns commands for the shell that repeat a session."""
-    found = []
-    for name, data in session.all_files().items():
-        if name in session.words + ['script']:
-            lines = [f"    '{quoted(line)}' \\\n" for line in data.splitlines(keepends=True)]
-            found.append(f"printf '%b' \\\n{''.join(lines)}    >{name}")
-    words = shlex.join(['pp6600', *session.words])
-    return '\n'.join([*found, f'{words} <{session.standard_input}' + ' >/dev/full' * session.output_fails])
-
-
-def quoted(data):
-    """Returns bytes as %b of printf reads them between single quotes."""
-    return ''.join('\\n' if byte == 10 else chr(byte) if 32 <= byte < 127 and byte not in b"\\'" else f'\\0{byte:03o}'
-                   for byte in data)
 
 
 def shrunk(session, differs):

@@ -17,22 +17,10 @@ import os
 import re
 import shutil
 
+from tests.fixtures import PAGES, sessions
 from tests.support import EXAMPLES, TOP, Case, add_tests, blocks, program, read, run, tool, write
 
-PAGES = ["README.md", *sorted(os.path.relpath(path, TOP) for path in glob.glob(os.path.join(TOP, "docs", "*.md")))]
 EXERCISES = [path for path in sorted(glob.glob(os.path.join(TOP, "exercises", "*"))) if os.path.isdir(os.path.join(path, "solution"))]
-
-
-def sessions():
-    """Returns the place of each session, and a list of the program's words, the lines typed, and the answers."""
-    found = []
-    for page in PAGES:
-        for block in blocks(page, "session"):
-            if block.words[1:] != ["continued"]:
-                found.append((block.place, (block.words[1:], [], [])))
-            for line in block.text.splitlines(keepends=True):
-                found[-1][1][1 if line.startswith(">") else 2].append(re.sub("^> ?", "", line))
-    return found
 
 
 def shell_blocks():
