@@ -75,6 +75,7 @@ class Pane(SourceCase):
                      " 0107 0100 0104   10+ DOWNX    LJM    *  m is 0104", ">0111 3720       >11           SOD    COUNT"):
             self.assertIn(line, got)
         self.assertIn(" 0107 0100 0104   10+ DOWNX    LJM    *  m is 0104", rows(press(panel, "C"), 52))
+        self.assertEqual(["  m is 0104"], [part for line in panel.screen().lines for part in line.marked(text.OVERWRITTEN)])
 
     def test_block(self):
         """In a block transfer the present line is that of the instruction, and r is where it goes on."""

@@ -110,13 +110,12 @@ def window_of(state, view, count):
 def text_line(line, entry, is_present, digits, width):
     """Appends to the beginning of a line the source line of an entry. The present one has > before its number; a + after it says that a
     macro made the text."""
-    source = entry.note or entry.line.row.line
-    text, note = source.text.expandtabs(TAB).rstrip(), entry.line.note if entry.line else ""
-    mark = HERE if is_present else None
+    source, cell = entry.note or entry.line.row.line, entry.line
+    text, note = "" if cell and cell.at else source.text.expandtabs(TAB).rstrip(), cell.note if cell else ""
+    mark, mark_of_note = HERE if is_present else None, OVERWRITTEN if cell and cell.second is not None else None
     line.fit(TEXT_FROM).add(f"{'>' if is_present else ' '}{source.number:{digits}}{'+' if source.call else ' '}", mark)
     room = width - len(line.text) - len(note)
-    shown = Line("" if entry.line and entry.line.at else text, mark)
-    return line.add_line(shown.fit(min(len(shown.text), room))).add(note, OVERWRITTEN)
+    return line.add_line(Line(text, mark).fit(min(len(text), room))).add(note, mark_of_note)
 
 
 def entry_line(shown, entry, here, width):
