@@ -12,6 +12,8 @@ from ..core.seek import Seen
 from .breakpoints import Cell, Point
 from .machine import latest_turn
 
+OF_A_TURN = (Changes, Waits)  # tests that are about the latest turn
+
 
 class Met(NamedTuple):
     """A breakpoint whose condition holds at a stop, and the text of a log point there."""
@@ -57,7 +59,7 @@ class Judge:
         for point in points:
             for cell in point.cells:
                 self.by_cell.setdefault(cell, []).append(point)
-        self.has_terms = any(point.places and point.terms.condition or point.terms.hits for point in points)
+        self.has_terms = any(point.places and (point.terms.condition or point.terms.hits) for point in points)
 
     def arrived(self, stops):
         """Yields those stops at cells that are for a breakpoint, or due without one."""
@@ -78,7 +80,7 @@ class Judge:
         cell = Cell(stop.number, stop.address)
         words = word_dumps(*cell) if point.cells and point.cells[cell] else []
         condition, log = point.terms.condition, point.terms.log
-        at_once = [test.column.dump for test in condition.tests if not isinstance(test, (Changes, Waits))] if condition else []
+        at_once = [test.column.dump for test in condition.tests if not isinstance(test, OF_A_TURN)] if condition else []
         return [*words, *at_once, *(column.dump for column in log.columns[stop.number])] if log else [*words, *at_once]
 
     def is_its_line(self, point, stop, sights):
@@ -101,7 +103,7 @@ class Judge:
         return not condition or all(self.test_holds(test, position, sights) for test in condition.tests)
 
     def test_holds(self, test, position, sights):
-        if not isinstance(test, (Changes, Waits)):
+        if not isinstance(test, OF_A_TURN):
             return test.verdicts([sights.value(position, test.column)], None)[0]
         if isinstance(test, Waits):
             at = latest_turn(self.tape, test.number, position)

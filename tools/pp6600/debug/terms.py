@@ -7,7 +7,7 @@ import operator
 import re
 from array import array
 from bisect import bisect_right
-from typing import Callable, Dict, NamedTuple, Optional, Tuple
+from typing import NamedTuple, Optional
 
 from ..conditions import Condition, first_place
 from ..core.forms import CLOCK

@@ -6,6 +6,7 @@ from ..core.forms import CLOCK, KINDS, PROCESSORS, REGISTERS, Place
 from ..failure import Failure
 from .breakpoints import Cell, checked
 from .protocol import Refused
+from .terms import of_processor
 
 SCOPES = ("Registers", "Channels and clock", "Devices", "Watches", "History")
 REGISTER_SCOPE, CHANNEL_SCOPE, DEVICE_SCOPE, WATCH_SCOPE, HISTORY_SCOPE = range(1, len(SCOPES) + 1)
@@ -76,9 +77,7 @@ def value_of(machine, place):
 
 def place_of(text, number=None):
     """Returns the place of a text. Of a processor that is given, A is its A, and M 106 its cell."""
-    words = text.upper().split()
-    if number is not None and words and (words[0] in ("A", "P", "Q") and len(words) == 1 or words[0] == "M" and len(words) == 2):
-        words.insert(1, f"{number:o}")
+    words = text.upper().split() if number is None else of_processor(text.upper().split(), number)
     try:
         return checked(Place.parse(" ".join(words)))
     except Failure as failure:
