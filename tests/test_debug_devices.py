@@ -4,7 +4,7 @@ import os
 import random
 import unittest
 
-from tests.debug_client import HISTORY, Client
+from tests.debug_client import HISTORY, Client, Refusal
 from tests.device_law import DUMPS, PANEL, Definition, RandomDevice, random_program
 from tests.support import Case, program
 
@@ -50,6 +50,16 @@ class Sessions(Case):
         self.assertEqual("BACK 3 SLOT 10", client.typed("BACK 3"))
         self.assertEqual("TURNS 40 SLOT 00", client.typed("STEP 40"))
         self.assertEqual(("106", "110", "0", "0102", "I 0102"), self.at(client))
+
+    def test_what_is_no_device(self):
+        client = Client()
+        self.addCleanup(client.end)
+        client.ask("initialize", adapterID="pp6600")
+        for devices, message in (("paper_tape@11", "devices is no list"), ([5], "--device 5 names no channel: it is NAME[:WORD,..]@CHANNEL"),
+                                 (["paper_tape@12"], "PaperTape can't be on channel 12: the card reader is on it")):
+            with self.subTest(message), self.assertRaises(Refusal) as caught:
+                client.ask("launch", devices=devices)
+            self.assertEqual(message, str(caught.exception))
 
     def test_a_device_fails(self):
         client = self.client("SET M 0 100 7711 1 7711 2 300\nSET P 0 100\n", f"{self.file(OWN, 'own.py')}:Counts@11")

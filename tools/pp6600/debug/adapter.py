@@ -172,7 +172,7 @@ class Adapter(Requests, Setting):
         script = arguments.get("script")
         lines = script_lines(str(script)) if script else []
         symbols = symbols_from(*(pairs(arguments.get(name), name) for name in ("symbols", "sources")))
-        devices = [device_of(str(text)) for text in arguments.get("devices") or ()]
+        devices = devices_from(arguments.get("devices"))
         own, machine = OwnSources(symbols), MachineWithDevices(words, devices) if devices else Machine(words)
         self.end_simulator()
         self.machine, self.arguments, self.own = machine, arguments, own
@@ -322,6 +322,13 @@ class Adapter(Requests, Setting):
             position = self.machine.position
         self.machine.goto(position or 0)
         self.stopped("step", self.paused, BEGINNING if position is None else "")
+
+
+def devices_from(asked):
+    """Returns the devices that an argument of a launch names."""
+    if asked is not None and not isinstance(asked, list):
+        raise Refused("devices is no list")
+    return [device_of(str(text)) for text in asked or ()]
 
 
 def pairs(asked, name):
