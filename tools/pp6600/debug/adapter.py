@@ -4,12 +4,15 @@ import itertools
 
 from ..core.forms import PROCESSORS
 from ..core.tape import counted
+from ..device import DeviceFailure
+from ..device_options import device_of
 from ..failure import Failure
 from ..options import OPTIONS, default_program, processor
 from ..sources import symbols_from
 from ..text_files import script_lines, shown
 from .breakpoints import DATA, Breakpoints
 from .listings import Listings
+from .attached import MachineWithDevices
 from .machine import Machine, latest_turn
 from .own import OwnSources
 from .protocol import Refused
@@ -94,9 +97,14 @@ class Adapter(Requests, Setting):
     def do(self, after):
         """Does what a request began. If a simulator ends, so does the session."""
         self.is_running, has_failed = True, False
+        position = self.machine.position if self.machine else 0
         try:
             if after:
                 after()
+        except DeviceFailure as failure:
+            self.machine.goto(position)
+            self.wire.say(failure, "stderr")
+            self.stopped("exception", self.shown, str(failure))
         except Failure as failure:
             self.wire.say(failure, "stderr")
             has_failed = True
@@ -164,7 +172,8 @@ class Adapter(Requests, Setting):
         script = arguments.get("script")
         lines = script_lines(str(script)) if script else []
         symbols = symbols_from(*(pairs(arguments.get(name), name) for name in ("symbols", "sources")))
-        own, machine = OwnSources(symbols), Machine(words)
+        devices = devices_from(arguments.get("devices"))
+        own, machine = OwnSources(symbols), MachineWithDevices(words, devices) if devices else Machine(words)
         self.end_simulator()
         self.machine, self.arguments, self.own = machine, arguments, own
         if self.listings is None:
@@ -313,6 +322,13 @@ class Adapter(Requests, Setting):
             position = self.machine.position
         self.machine.goto(position or 0)
         self.stopped("step", self.paused, BEGINNING if position is None else "")
+
+
+def devices_from(asked):
+    """Returns the devices that an argument of a launch names."""
+    if asked is not None and not isinstance(asked, list):
+        raise Refused("devices is no list")
+    return [device_of(str(text)) for text in asked or ()]
 
 
 def pairs(asked, name):

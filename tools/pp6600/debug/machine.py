@@ -93,6 +93,23 @@ class Machine(Simulator):
                 return [f"{word} {count:o} SLOT {self.next_slot:02o}"]
         return answer
 
+    @property
+    def counts(self):
+        """The history as BACK and FORWARD count it."""
+        return self.history
+
+    def settled(self, position):
+        """Returns the first position from a position on that the user can be at: with devices, that after the replies to an action."""
+        return position
+
+    def before(self, position):
+        """Returns the last position up to a position that the user can be at."""
+        return position
+
+    def next_turn(self, number):
+        """Returns the position before the next turn of a processor."""
+        return next_turn(self.tape, number, self.position)
+
     def tally(self, point):
         """Returns the hits of a breakpoint that are known."""
         return self.tallies.setdefault(point.key, Tally())

@@ -87,10 +87,10 @@ class Requests:
 
     def act(self, line):
         """Performs a line, and returns its answer. What was ahead may be lost by it: that is said."""
-        ahead, answer = self.machine.history.to_redo, self.machine.typed(line)
-        here = self.machine.position
+        ahead, answer = self.machine.counts.to_redo, self.machine.typed(line)
+        here = self.machine.counts.position
         if answer == [NO_CHANGE] and Runner(self.machine, self.points).back(is_typed=True):
-            answer = [f"BACK {here - self.machine.position:o} SLOT {self.machine.next_slot:02o}"]
+            answer = [f"BACK {here - self.machine.counts.position:o} SLOT {self.machine.next_slot:02o}"]
         if ahead and answer and answer[0].split()[0] in ("OK", "TURNS"):
             self.wire.say(f"{ahead:o} actions (octal) that were ahead are so no longer")
         return answer

@@ -7,7 +7,7 @@ import math
 
 from ..core.forms import MOST_TURNS, MOST_WATCHES
 from ..core.seek import spans
-from .machine import NEAR, next_turn
+from .machine import NEAR
 from .search import Search, Wanted, change
 
 
@@ -26,17 +26,17 @@ class Runner:
 
     def step(self, number):
         """Makes one turn of a processor, and the actions before it. Returns the stop at a change on the way, or None."""
-        last = next_turn(self.machine.tape, number, self.machine.position) + 1
-        return self.run(lambda: Wanted(self.points.in_a_step, tuple(self.watched)), None, last)
+        end, last = self.machine.tape.end, self.machine.next_turn(number) + 1
+        return self.run(lambda: Wanted(self.points.in_a_step, tuple(self.watched)), None, last, end)
 
     def to_turn(self, number):
         """Runs to where the turn of a processor is next. Returns the stop on the way, or None."""
-        last = next_turn(self.machine.tape, number, self.machine.position)
-        return self.run(lambda: Wanted(self.points.all, tuple(self.watched)), number, last) if last > self.machine.position else None
+        end, last = self.machine.tape.end, self.machine.next_turn(number)
+        return self.run(lambda: Wanted(self.points.all, tuple(self.watched)), number, last, end) if last > self.machine.position else None
 
-    def run(self, wanted, shown, last=math.inf):
-        """Runs to the next stop, or to a position. Returns the stop or None."""
-        machine, tape, end = self.machine, self.machine.tape, self.machine.tape.end
+    def run(self, wanted, shown, last=math.inf, end=None):
+        """Runs to the next stop, or to a position. What the tape has after an end is not ahead. Returns the stop or None."""
+        machine, tape, end = self.machine, self.machine.tape, self.machine.tape.end if end is None else end
         if not self.count_hits(wanted(), machine.position):
             return None
         search = Search(machine, wanted(), machine.goto)
@@ -48,6 +48,7 @@ class Runner:
                 break
             is_quick = machine.may_watch_itself and search.wanted.is_plain and len(search.places) <= MOST_WATCHES
             stop = self.watch(search, wanted, last) if is_quick else self.part(search, last)
+        machine.goto(machine.settled(machine.position))
         machine.withdraw(max(machine.position, end))
         tape.cut(max(machine.position, end))
         return stop
@@ -93,10 +94,14 @@ class Runner:
             return None
         stop, said = self.latest_stop(wanted)
         if stop or not is_typed and self.goes_on():
-            self.machine.goto(stop.position - bool(stop.place) if stop else 0)  # before the change
+            self.machine.goto(self.goal(stop) if stop else 0)
             for one, met in said:
                 self.say(one, met)
         return stop and stop._replace(is_next=True)
+
+    def goal(self, stop):
+        """Returns the position to which one goes back for a stop: before the change, if it is one."""
+        return self.machine.before(stop.position - 1) if stop.place else self.machine.settled(stop.position)
 
     def latest_stop(self, wanted):
         """Returns the latest stop before where the machine is, or None; and what log points write on the way there, the latest first."""
@@ -116,7 +121,7 @@ class Runner:
         stop, logs = None, []
         for one in self.stops(search, max(first - 1, 0), last):
             due = self.due(one, lambda *log: logs.append(log))
-            is_before = one.position > first and (one.place or one.position < here)
+            is_before = one.position > first and (one.place or self.machine.settled(one.position) < here)
             if due and is_before and not (one.place and stop and stop.position == one.position):
                 stop = due
         least = stop.position - bool(stop.place) if stop else first + 1
