@@ -13,6 +13,8 @@ release:
 	@share/release
 wheel: # packages for pip
 	@share/wheel
+vsix: # VS Code's extension
+	@share/vsix
 check: # all that needs only a program
 	@./check --program
-.PHONY: all install uninstall release wheel check
+.PHONY: all install uninstall release wheel vsix check

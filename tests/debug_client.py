@@ -1,15 +1,45 @@
-"""A client of the debug adapter for tests: requests over pipes, and what comes back."""
+"""A client of the debug adapter for tests: requests over pipes, and what comes back; and a test case whose messages are checked."""
 
+import glob
 import json
 import os
 import queue
+import shutil
 import subprocess
+import tempfile
 import threading
 
-from tests.fixtures import WITH_FEW_LINES
-from tests.support import PATIENCE, PYTHON, TOP, program
+from tests.fixtures import DECK, WITH_FEW_LINES
+from tests.support import PATIENCE, PYTHON, TOP, Case, program, read, write
 
 ADAPTER = os.path.join(TOP, "tools", "debug-adapter")
+
+
+LOADER = [line for line in read("examples", "overwritten-loader", "script").splitlines() if not line.startswith("*")][:4]
+REGISTERS, CHANNELS, DEVICES, WATCHES, HISTORY = (scope << 8 for scope in range(1, 6))
+GO = "/usr/share/gocode/src/github.com/google/go-dap"
+HAS_GO = os.path.isdir(GO) and shutil.which("go") is not None
+CHECKER = """package main
+import ("bufio"; "bytes"; "encoding/json"; "fmt"; "os"; "reflect"; "github.com/google/go-dap")
+func main() {
+	lines := bufio.NewScanner(os.Stdin)
+	lines.Buffer(make([]byte, 1<<20), 1<<26)
+	count := 0
+	for lines.Scan() {
+		line := lines.Bytes()
+		if line[0] != '<' { continue }
+		count++
+		message, err := dap.DecodeProtocolMessage(line[2:])
+		if err == nil {
+			strict := json.NewDecoder(bytes.NewReader(line[2:]))
+			strict.DisallowUnknownFields()
+			err = strict.Decode(reflect.New(reflect.TypeOf(message).Elem()).Interface())
+		}
+		if err != nil { fmt.Printf("%v in %s\\n", err, line) }
+	}
+	fmt.Println(count)
+}
+"""
 
 
 class Refusal(Exception):
@@ -117,3 +147,60 @@ class Client:
             stream.close()
         self.ended = status, said
         return self.ended
+
+
+class DebugCase(Case):
+    """Sessions, which end with the test. What is in them is written to a log, which go-dap reads where it is there."""
+
+    @classmethod
+    def setUpClass(cls):
+        folder = tempfile.TemporaryDirectory(prefix="pp6600-test-")
+        cls.addClassCleanup(folder.cleanup)
+        cls.logs = [os.path.join(folder.name, f"log{number}") for number in range(100)]
+
+    @classmethod
+    def tearDownClass(cls):
+        text = "".join(map(read, glob.glob(os.path.join(os.path.dirname(cls.logs[0]), "log*"))))
+        messages = [json.loads(line[2:]) for line in text.splitlines() if line.startswith("<")]
+        assert all(message["type"] in ("response", "event") for message in messages)
+        if HAS_GO:
+            check_by_go(text, len(messages))
+
+    def client(self, *words, **how):
+        client = Client("--log", self.logs.pop(0), *words, **how)
+        self.addCleanup(client.end)
+        return client
+
+    def script(self, lines):
+        return self.file("".join(f"{line}\n" for line in lines).encode("latin-1"))
+
+    def session(self, lines, **arguments):
+        """Returns a client that has stopped after a script."""
+        client = self.client()
+        self.entry = client.launch(script=self.script(lines), **arguments)
+        return client
+
+    def loader(self, **arguments):
+        return self.session(LOADER, deck=DECK, processor="0", **arguments)
+
+    def values(self, client, reference):
+        return {one["name"]: one["value"] for one in client.ask("variables", variablesReference=reference)["variables"]}
+
+    def path(self, client, number=0):
+        return client.ask("stackTrace", threadId=number + 1)["stackFrames"][0]["source"]["path"]
+
+    def set_lines(self, client, number, *cells):
+        source = {"path": self.path(client, number)}
+        return client.ask("setBreakpoints", source=source, breakpoints=[{"line": cell + 1} for cell in cells])["breakpoints"]
+
+    def turns(self, client):
+        return int(self.values(client, HISTORY)["turns"], 8)
+
+
+def check_by_go(text, count):
+    """Has go-dap decode each message, unknown fields refused."""
+    with tempfile.TemporaryDirectory() as room:
+        path = write(os.path.join(room, "check.go"), CHECKER)
+        env = {**os.environ, "GO111MODULE": "off", "GOPATH": "/usr/share/gocode", "GOCACHE": os.path.join(room, "cache"), "GOFLAGS": "-p=1"}
+        done = subprocess.run(["go", "run", path], input=text.encode(), env=env, stdout=subprocess.PIPE, stderr=subprocess.STDOUT, check=False)
+    assert done.stdout.decode() == f"{count}\n", done.stdout.decode()

@@ -4,49 +4,21 @@ import base64
 import glob
 import json
 import os
-import shutil
 import signal
 import stat
 import subprocess
 import tempfile
 import unittest
 
-from tests.debug_client import ADAPTER, Client, Refusal
-from tests.support import EXAMPLES, PATIENCE, PYTHON, Case, read, write
+from tests.debug_client import ADAPTER, CHANNELS, DECK, DEVICES, HAS_GO, HISTORY, LOADER, REGISTERS, WATCHES, Client, DebugCase, Refusal
+from tests.support import PATIENCE, PYTHON, read
 
-
-DECK = os.path.join(EXAMPLES, "overwritten-loader", "deck")
-LOADER = [line for line in read("examples", "overwritten-loader", "script").splitlines() if not line.startswith("*")][:4]
 # Two processors that count: PP 00 in cell 0020, PP 03 in cell 0021, in loops of three and two turns.
 LOOPS = ["SET M 0 100 1401 3520 300 375", "SET M 0 102 375", "SET M 3 100 3621 376", "SET P 0 100", "SET P 3 100"]
 # PP 00 counts cell 0021 down from 100, and for each of these counts cell 0020 down to 0 by 4095 (decimal) rounds of two turns. So it comes
 # to 0104 after 64 * 8192 turns of its own, decimal.
 LONG = ["SET M 0 100 3720 576 3721 574 300", "SET M 0 20 7777 100", "SET P 0 100"]
-REGISTERS, CHANNELS, DEVICES, WATCHES, HISTORY = (scope << 8 for scope in range(1, 6))
 DATA = 1 << 18
-GO = "/usr/share/gocode/src/github.com/google/go-dap"
-HAS_GO = os.path.isdir(GO) and shutil.which("go") is not None
-CHECKER = """package main
-import ("bufio"; "bytes"; "encoding/json"; "fmt"; "os"; "reflect"; "github.com/google/go-dap")
-func main() {
-	lines := bufio.NewScanner(os.Stdin)
-	lines.Buffer(make([]byte, 1<<20), 1<<26)
-	count := 0
-	for lines.Scan() {
-		line := lines.Bytes()
-		if line[0] != '<' { continue }
-		count++
-		message, err := dap.DecodeProtocolMessage(line[2:])
-		if err == nil {
-			strict := json.NewDecoder(bytes.NewReader(line[2:]))
-			strict.DisallowUnknownFields()
-			err = strict.Decode(reflect.New(reflect.TypeOf(message).Elem()).Interface())
-		}
-		if err != nil { fmt.Printf("%v in %s\\n", err, line) }
-	}
-	fmt.Println(count)
-}
-"""
 
 
 def child_of(parent):
@@ -58,63 +30,6 @@ def child_of(parent):
         except OSError:  # it has ended meanwhile
             pass
     raise AssertionError("it has started no process")
-
-
-class DebugCase(Case):
-    """Sessions, which end with the test. What is in them is written to a log, which go-dap reads where it is there."""
-
-    @classmethod
-    def setUpClass(cls):
-        folder = tempfile.TemporaryDirectory(prefix="pp6600-test-")
-        cls.addClassCleanup(folder.cleanup)
-        cls.logs = [os.path.join(folder.name, f"log{number}") for number in range(100)]
-
-    @classmethod
-    def tearDownClass(cls):
-        text = "".join(map(read, glob.glob(os.path.join(os.path.dirname(cls.logs[0]), "log*"))))
-        messages = [json.loads(line[2:]) for line in text.splitlines() if line.startswith("<")]
-        assert all(message["type"] in ("response", "event") for message in messages)
-        if HAS_GO:
-            check_by_go(text, len(messages))
-
-    def client(self, *words, **how):
-        client = Client("--log", self.logs.pop(0), *words, **how)
-        self.addCleanup(client.end)
-        return client
-
-    def script(self, lines):
-        return self.file("".join(f"{line}\n" for line in lines).encode("latin-1"))
-
-    def session(self, lines, **arguments):
-        """Returns a client that has stopped after a script."""
-        client = self.client()
-        self.entry = client.launch(script=self.script(lines), **arguments)
-        return client
-
-    def loader(self, **arguments):
-        return self.session(LOADER, deck=DECK, processor="0", **arguments)
-
-    def values(self, client, reference):
-        return {one["name"]: one["value"] for one in client.ask("variables", variablesReference=reference)["variables"]}
-
-    def path(self, client, number=0):
-        return client.ask("stackTrace", threadId=number + 1)["stackFrames"][0]["source"]["path"]
-
-    def set_lines(self, client, number, *cells):
-        source = {"path": self.path(client, number)}
-        return client.ask("setBreakpoints", source=source, breakpoints=[{"line": cell + 1} for cell in cells])["breakpoints"]
-
-    def turns(self, client):
-        return int(self.values(client, HISTORY)["turns"], 8)
-
-
-def check_by_go(text, count):
-    """Has go-dap decode each message, unknown fields refused."""
-    with tempfile.TemporaryDirectory() as room:
-        path = write(os.path.join(room, "check.go"), CHECKER)
-        env = {**os.environ, "GO111MODULE": "off", "GOPATH": "/usr/share/gocode", "GOCACHE": os.path.join(room, "cache"), "GOFLAGS": "-p=1"}
-        done = subprocess.run(["go", "run", path], input=text.encode(), env=env, stdout=subprocess.PIPE, stderr=subprocess.STDOUT, check=False)
-    assert done.stdout.decode() == f"{count}\n", done.stdout.decode()
 
 
 @unittest.skipUnless(HAS_GO, "there is no go or no go-dap: no message of a session is decoded by it")
@@ -443,6 +358,29 @@ class DataBreakpoint(DebugCase):
         self.set_data(client)
         self.assertEqual("M 03 0021 was 0000 and is 0001", client.stop_after("continue", threadId=1)["text"])
         self.assertEqual("W M 03 0021", client.typed("DUMP W"))
+
+    def test_a_long_run_leaves_no_trace(self):
+        """All that is kept after it are its turns: lines that are typed go back over these, and further."""
+        client = self.session(LONG)
+        self.set_data(client, "M 0 21", "M 0 50")
+        client.stop_after("continue", threadId=1)
+        self.assertEqual((81901, "W NONE"), (self.turns(client), client.typed("DUMP W")))
+        self.assertEqual(["BACK 23420 SLOT 01", "BACK 1 SLOT 00", "FORWARD 23421 SLOT 01"],
+                         [client.typed(line) for line in ("BACK 23420", "BACK 1", "FORWARD 23421")])
+        client.typed("WATCH M 0 20")  # which PP 00 changed last in its turn 8189
+        self.assertEqual(("BACK 26 SLOT 00", 81880), (client.typed("BACK W"), self.turns(client)))
+
+    def test_runs_about_as_long_as_what_is_kept(self):
+        """PP 10 changes its cell 0021 in its turn 1000, decimal, which is the 9999th of all, and 10,000 actions are kept."""
+        lines = ["SET M 10 100 2400 3720 576 3621 300", "SET M 10 20 763", "SET P 10 100"]
+        for places in (["M 10 21"], ["M 10 21", "M 10 50", "M 10 51"]):
+            client = self.session(lines)
+            self.set_data(client, *places)
+            self.assertEqual("M 10 0021 was 0000 and is 0001", client.stop_after("continue", threadId=1)["text"])
+            self.assertEqual((9999, "W NONE", "ERR 15 NOTHING WATCHED"), (self.turns(client), client.typed("DUMP W"), client.typed("BACK W")))
+            self.assertEqual(["BACK 23417 SLOT 00", "BACK 1 SLOT 00", "FORWARD 23420 SLOT 11"],
+                             [client.typed(line) for line in ("BACK 23417", "BACK 1", "FORWARD 23420")])
+            self.assertEqual("0001", client.typed("M 10 21"))
 
     def test_own_watches_stay(self):
         client = self.session([*LOOPS, "WATCH M 0 20"])

@@ -1,10 +1,11 @@
 """Random sessions with the debug adapter, against a search action by action: what the editor is told is what a simulator with an endless
-history would answer, in which nothing is watched but what the user watches."""
+history would answer, in which nothing is watched but what the user watches. Breakpoints have conditions, counts of hits and texts."""
 
 import os
 import random
 import sys
 import time
+from typing import Callable, NamedTuple
 
 from tests.debug_client import Client
 from tests.support import Case, program
@@ -36,6 +37,42 @@ def instruction(chance):
     if kind == 9:
         return [f"{chance.choice(('64', '66', '65', '67'))}{channel:02o}", f"{PROGRAM + chance.randrange(0o20):04o}"]
     return [f"{chance.choice(('54', '50', '55'))}00", f"{chance.choice((0o20, PROGRAM + chance.randrange(0o20))):04o}"]
+
+
+class Condition(NamedTuple):
+    """A condition by its text, and whether it holds at a position of an oracle."""
+
+    text: str
+    holds: Callable
+
+
+def condition(chance, numbers):
+    """Returns a condition, or none."""
+    number, bound = chance.choice(numbers), chance.randrange(0o60)
+    name = f"A {number:o}"
+    return chance.choice((
+        None, None, Condition(f"{name} < {bound:o}", lambda oracle, at: int(oracle.value(at, name), 8) < bound),
+        Condition("M 0 20 != 0 and H 1 is E", lambda oracle, at: oracle.value(at, "M 0 20") != "0000" and oracle.value(at, "S 1") == "E"),
+        Condition(f"P {number:o} inside 100 104", lambda oracle, at: "0100" <= oracle.where(at, number)[0] <= "0104"),
+        Condition(f"{name} changes", lambda oracle, at: at > 0 and oracle.is_turn(at - 1) and oracle.value(at, name) != oracle.value(at - 1, name))))
+
+
+HITS = {None: lambda count: True, "2": lambda count: count == 2, "= 3": lambda count: count == 3, ">=3": lambda count: count >= 3,
+        "< 4": lambda count: count < 4, "% 3": lambda count: count % 3 == 0}
+
+
+class Point(NamedTuple):
+    """A breakpoint on a cell, or on a place, with its terms. A log point writes what the accumulator of its processor is."""
+
+    at: object  # a pair of a processor and digits, or a place
+    condition: object
+    hits: object
+    is_log: bool
+
+    def asked(self, **where):
+        """Returns what an editor asks for."""
+        return {**where, **({"condition": self.condition.text} if self.condition else {}), **({"hitCondition": self.hits} if self.hits else {}),
+                **({"logMessage": f"L {self.at[0]:o} {self.at[1]} {{A}} {{M 0 20}}"} if self.is_log else {})}
 
 
 def setting(chance, numbers):
@@ -167,51 +204,92 @@ class Oracle:
                 found.remove(action[8:])
         return found
 
+    def value(self, at, place):
+        return self.states[at][2][place]
+
     def changed(self, at, some):
         """Returns the first place of some that the action after a position changes; or None."""
-        return next((place for place in some if self.states[at][2][place] != self.states[at + 1][2][place]), None)
+        return next((place for place in some if self.value(at, place) != self.value(at + 1, place)), None)
 
     # ---- where it stops
 
-    def comes(self, at, cells):
-        """Whether at a position the processor whose turn is next has come to a breakpoint."""
+    def comes(self, at, cell, is_here=False):
+        """Whether at a position the processor whose turn is next has come to a cell. Where the machine is, what was set last does not
+        matter."""
         number = self.slot(at)
         here = self.where(at, number)
-        if (number, here[0]) not in cells or here[1] != "0000":
+        if (number, here[0]) != cell or here[1] != "0000":
             return False
-        if at and at != self.now and not self.is_turn(at - 1) and self.slot(at - 1) == number and self.where(at - 1, number) == here:
+        if at and not is_here and not self.is_turn(at - 1) and self.slot(at - 1) == number and self.where(at - 1, number) == here:
             return False
         before = next((before for before in reversed(range(at)) if self.is_turn(before) and self.slot(before) == number), None)
         return before is None or self.where(before, number) != here
 
-    def forward(self, shown, cells, data):
-        if self.slot(self.now) != shown and self.comes(self.now, cells):
-            return self.now, "breakpoint", ""
-        watched = self.watched(self.now)
-        for at in range(self.now, ACTIONS - 1):
-            if place := self.changed(at, [*watched, *data]):
+    def is_hit(self, at, point):
+        """Whether a position is a hit of a breakpoint: it is on what has come, or has changed, and its condition holds."""
+        if isinstance(point.at, str):
+            comes = at > 0 and self.changed(at - 1, [point.at])
+        else:
+            comes = self.comes(at, point.at)
+        return bool(comes) and self.holds(at, point)
+
+    def holds(self, at, point):
+        return not point.condition or point.condition.holds(self, at)
+
+    def counts(self, at, point):
+        """Whether the hit at a position is one that counts, by its number from the beginning."""
+        return not point.hits or HITS[point.hits](sum(self.is_hit(one, point) for one in range(at + 1)))
+
+    def change(self, at, watched, points):
+        """Returns the first place that the action after a position changes and that ends a run; or None."""
+        for place in dict.fromkeys([*watched, *(point.at for point in points if isinstance(point.at, str))]):
+            if self.changed(at, [place]) and (place in watched or any(
+                    point.at == place and self.is_hit(at + 1, point) and self.counts(at + 1, point) for point in points)):
+                return place
+        return None
+
+    def stops(self, at, points):
+        """Returns whether a breakpoint ends a run at a position, for what has come there. Notes what log points write."""
+        met = [point for point in points if not isinstance(point.at, str) and self.is_hit(at, point) and self.counts(at, point)]
+        self.said += [f"L {point.at[0]:o} {point.at[1]} {self.value(at, f'A {point.at[0]:o}')} {self.value(at, 'M 0 20')}\n"
+                      for point in met if point.is_log]
+        return any(not point.is_log for point in met)
+
+    def forward(self, shown, points):
+        now, self.said = self.now, []
+        if self.slot(now) != shown and any(self.comes(now, point.at, True) and self.holds(now, point) and self.counts(now, point)
+                                           for point in points if not point.is_log and not isinstance(point.at, str)):
+            return now, "breakpoint", ""
+        watched = self.watched(now)
+        for at in range(now, ACTIONS - 1):
+            place, stops = self.change(at, watched, points), self.stops(at + 1, points)
+            if place:
                 return at + 1, "data breakpoint", self.text(place, at, "{} was {} and is {}")
-            if self.comes(at + 1, cells):
+            if stops:
                 return at + 1, "breakpoint", ""
             watched = self.watched(at + 1) if is_watch(self.actions[at]) else watched
         return None
 
-    def back(self, cells, data):
-        some = [*self.watched(self.now), *data]
+    def back(self, points):
+        self.said, watched = [], self.watched(self.now)
         for at in reversed(range(self.now)):
-            if place := self.changed(at, some):
+            place, stops = self.change(at, watched, points), self.stops(at, points)
+            if place:
                 return at, "data breakpoint", self.text(place, at, "{} is {}, and will be {}")
-            if self.comes(at, cells):
+            if stops:
                 return at, "breakpoint", ""
         return 0, "entry", ""
 
     def text(self, place, at, form):
-        return form.format(" ".join(place_text(place)), self.states[at][2][place], self.states[at + 1][2][place])
+        return form.format(" ".join(place_text(place)), self.value(at, place), self.value(at + 1, place))
 
-    def step(self, number, data):
-        watched = self.watched(self.now)
+    def step(self, number, points):
+        self.said, watched = [], self.watched(self.now)
+        points = [point for point in points if isinstance(point.at, str) or point.is_log]
         for at in range(self.now, ACTIONS - 1):
-            if place := self.changed(at, [*watched, *data]):
+            place = self.change(at, watched, points)
+            self.stops(at + 1, points)
+            if place:
                 return at + 1, "data breakpoint", self.text(place, at, "{} was {} and is {}")
             if self.is_turn(at) and self.slot(at) == number:
                 return at + 1, "step", ""
@@ -219,6 +297,7 @@ class Oracle:
         return None
 
     def step_back(self, number):
+        self.said = []
         for at in reversed(range(self.now)):
             if self.is_turn(at) and self.slot(at) == number:
                 return at, "step", ""
@@ -238,7 +317,8 @@ def place_text(place):
 def state(answers):
     """Returns the slot, P and phase of the processors, and the numbers at the places, from the answers to an action and looks."""
     words = [answer.split() for answer in answers[1:1 + PROCESSORS]]
-    values = {"M 0 20": answers[1 + PROCESSORS].split()[1], "H 1": answers[3 + PROCESSORS].split()[3],
+    channel = answers[3 + PROCESSORS].split()
+    values = {"M 0 20": answers[1 + PROCESSORS].split()[1], "H 1": channel[3], "S 1": channel[2],
               **{f"A {int(one[1], 8):o}": one[5] for one in words}}
     return int(words[0][-1], 8), [(one[3], one[9]) for one in words], values
 
@@ -268,12 +348,20 @@ class Session(Case):
 
     def set_breakpoints(self):
         chance = self.chance
-        self.cells = {(chance.choice(self.numbers), f"{PROGRAM + chance.randrange(0o20):04o}") for _ in range(chance.randrange(4))}
+        cells = {(chance.choice(self.numbers), f"{PROGRAM + chance.randrange(0o20):04o}") for _ in range(chance.randrange(5))}
+        lines = [self.point(cell, chance.random() < 0.3) for cell in sorted(cells)]
+        data = [self.point(place, False) for place in chance.sample(places(self.numbers), chance.randrange(3))]
         for number in range(PROCESSORS):
-            self.client.ask("setBreakpoints", source={"path": f"{self.folder}/PP{number:02o}.pplist"},
-                            breakpoints=[{"line": int(cell, 8) + 1} for one, cell in sorted(self.cells) if one == number])
-        self.data = chance.sample(places(self.numbers), chance.randrange(3))
-        self.client.ask("setDataBreakpoints", breakpoints=[{"dataId": place} for place in self.data])
+            asked = [point.asked(line=int(point.at[1], 8) + 1) for point in lines if point.at[0] == number]
+            points = self.client.ask("setBreakpoints", source={"path": f"{self.folder}/PP{number:02o}.pplist"}, breakpoints=asked)["breakpoints"]
+            self.assertTrue(all(point["verified"] for point in points), points)
+        self.client.ask("setDataBreakpoints", breakpoints=[point.asked(dataId=point.at) for point in data])
+        self.points = [*lines, *data]
+
+    def point(self, at, is_log):
+        """Returns a breakpoint, whose terms are by chance."""
+        chance = self.chance
+        return Point(at, condition(chance, self.numbers), chance.choice((None, None, None, *HITS)), is_log)
 
     def move(self, move):
         """Makes a random move, and compares what the editor is told."""
@@ -284,9 +372,8 @@ class Session(Case):
             self.type(what)
         else:
             oracle = self.oracle
-            expected = {"continue": lambda: oracle.forward(self.shown, self.cells, self.data),
-                        "reverseContinue": lambda: oracle.back(self.cells, self.data),
-                        "stepIn": lambda: oracle.step(number, self.data), "stepBack": lambda: oracle.step_back(number)}[kind]()
+            expected = {"continue": lambda: oracle.forward(self.shown, self.points), "reverseContinue": lambda: oracle.back(self.points),
+                        "stepIn": lambda: oracle.step(number, self.points), "stepBack": lambda: oracle.step_back(number)}[kind]()
             if expected is None:
                 return
             self.go(kind, number, expected, what)
@@ -306,7 +393,9 @@ class Session(Case):
 
     def go(self, kind, number, expected, what):
         """Runs the machine, and compares why it stops."""
+        self.client.shown.clear()
         stop = self.client.stop_after(kind, threadId=number + 1)
+        self.assertEqual(self.oracle.said, [text for text in self.client.shown if text.startswith("L ")], what)
         now, reason, text = expected
         before, self.oracle.now = self.oracle.now, now
         self.oracle.end = max(self.oracle.end, now)

@@ -100,8 +100,8 @@ class Terminals(Case):
         terminal.type("63G")
         self.assertIsNotNone(terminal.shows("TURN 63"), terminal.screen.text())
         terminal.type("q")
-        terminal.shows("y")
-        terminal.type("y")
+        self.assertIsNotNone(terminal.shows("q again quits"), terminal.screen.text())
+        terminal.type("q")
         self.assertEqual(0, terminal.status())
 
     def test_talk_goes_on(self):

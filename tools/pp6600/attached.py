@@ -233,6 +233,16 @@ class Attached(Simulator):
 
     # ---- back and forward
 
+    def go_to(self, position: int) -> None:
+        """Goes to a position of the tape, which the replies of no action come after."""
+        if position != self.position:
+            self._arrive("BACK", 0, position)
+            self.plain.go(position)
+
+    def forget_ahead(self) -> None:
+        """Discards what is ahead."""
+        self._begin_action()
+
     def _arrive(self, word: str, count: int, position: int) -> List[str]:
         """Goes to a position. Returns the answer."""
         self.zeros = {}

@@ -1,37 +1,45 @@
-"""The requests of an editor: those that begin, run and end a session, and those that set breakpoints."""
+"""The requests of an editor that begin, run and end a session."""
 
-from ..core.forms import CELLS, PROCESSORS
+import itertools
+
+from ..core.forms import PROCESSORS
+from ..core.tape import counted
+from ..device import DeviceFailure
+from ..device_options import device_of
 from ..failure import Failure
-from ..listing import Symbols
 from ..options import OPTIONS, default_program, processor
+from ..sources import symbols_from
 from ..text_files import script_lines, shown
-from .breakpoints import DATA_ID, INSTRUCTION_ID, LINE_ID, Breakpoints, Cell, places_of
+from .breakpoints import DATA, Breakpoints
 from .listings import Listings
+from .attached import MachineWithDevices
 from .machine import Machine, latest_turn
+from .own import OwnSources
 from .protocol import Refused
 from .requests import Requests
 from .running import Runner
-from .variables import place_of, scope_and_number, value_of
+from .setting import Setting
+from .stepping import Stepper
 
 CAPABILITIES = {f"supports{name}": True for name in (
     "ConfigurationDoneRequest", "StepBack", "SetVariable", "DataBreakpoints", "InstructionBreakpoints", "DisassembleRequest",
     "ReadMemoryRequest", "WriteMemoryRequest", "SteppingGranularity", "EvaluateForHovers", "GotoTargetsRequest",
-    "TerminateRequest", "RestartRequest")}
+    "TerminateRequest", "RestartRequest", "ConditionalBreakpoints", "HitConditionalBreakpoints", "LogPoints")}
 BEFORE_LAUNCH = ("initialize", "launch", "disconnect", "terminate")
 WHILE_RUNNING = ("pause", "disconnect", "terminate", "threads", "source", "setBreakpoints", "setInstructionBreakpoints",
                  "setDataBreakpoints", "setExceptionBreakpoints", "dataBreakpointInfo")
-OUTSIDE_BLOCKS = {f"{cell:04o}0000" for cell in range(CELLS)}
 MOST_SHOWN = 60  # characters of a line that was refused
+BY_TURNS = "instruction"  # the granularity of a step
 BEGINNING = "the beginning: no action comes before this"
 
 
-class Adapter(Requests):
+class Adapter(Requests, Setting):
     """A session with an editor."""
 
     def __init__(self, wire):
         self.wire = wire
-        self.machine = self.listings = None
-        self.points = Breakpoints()
+        self.machine = self.listings = self.own = None
+        self.points, self.own_asked, self.numbers = Breakpoints(), {}, itertools.count(1)  # of those in the user's own sources
         self.after = None  # what is done after the answer to a request
         self.restart = self.failure = None  # a request that ended a run, and why the editor can't be understood
         self.is_ended = self.is_paused = self.is_running = self.is_terminated = False
@@ -89,9 +97,14 @@ class Adapter(Requests):
     def do(self, after):
         """Does what a request began. If a simulator ends, so does the session."""
         self.is_running, has_failed = True, False
+        position = self.machine.position if self.machine else 0
         try:
             if after:
                 after()
+        except DeviceFailure as failure:
+            self.machine.goto(position)
+            self.wire.say(failure, "stderr")
+            self.stopped("exception", self.shown, str(failure))
         except Failure as failure:
             self.wire.say(failure, "stderr")
             has_failed = True
@@ -158,20 +171,22 @@ class Adapter(Requests):
         number = processor(str(number)) if number not in (None, "") else None
         script = arguments.get("script")
         lines = script_lines(str(script)) if script else []
-        symbols = {processor(str(one)): Symbols.of_file(str(path)) for one, path in (arguments.get("symbols") or {}).items()}
-        machine = Machine(words)
+        symbols = symbols_from(*(pairs(arguments.get(name), name) for name in ("symbols", "sources")))
+        devices = [device_of(str(text)) for text in arguments.get("devices") or ()]
+        own, machine = OwnSources(symbols), MachineWithDevices(words, devices) if devices else Machine(words)
         self.end_simulator()
-        self.machine, self.arguments = machine, arguments
+        self.machine, self.arguments, self.own = machine, arguments, own
         if self.listings is None:
-            self.listings = Listings(symbols)
-        self.perform_script(lines)
+            self.listings = Listings()
+        self.listings.begin(symbols.of)
+        self.perform_script(symbols.loading(lines))
         self.look()
         self.shown = self.machine.next_slot if number is None else number
         self.after = lambda: self.wire.event("initialized")
 
     def perform_script(self, lines):
-        """Performs a script, and says which lines are refused."""
-        for number, line in enumerate(lines, 1):
+        """Performs a script after the lines that load the sources, and says which lines are refused."""
+        for number, line in counted(lines):
             answer = self.machine.act(line)
             if answer and answer[0].startswith("ERR "):
                 self.wire.say(f"line {number} (decimal) of the script was refused, {answer[0]}: {shown(line[:MOST_SHOWN])}", "stderr")
@@ -189,6 +204,7 @@ class Adapter(Requests):
 
     def do_restart(self, arguments=None, **_):
         self.do_launch(**(arguments or self.arguments))
+        self.set_own_again()
         self.after = self.enter
 
     def do_terminate(self, **_):
@@ -237,15 +253,28 @@ class Adapter(Requests):
         self.begin(threadId, self.run_back)
 
     def do_stepIn(self, threadId, **_):
-        self.begin(threadId, lambda: self.step(self.paused))
+        self.begin(threadId, lambda: self.step(self.stepper().runner.step))
 
-    do_next = do_stepIn
+    def do_next(self, threadId, granularity="statement", **_):
+        def run():
+            stepper = self.stepper()
+            line = stepper.line() if granularity != BY_TURNS else None
+            self.step(lambda number: stepper.next_line(line) if line else stepper.runner.step(number))
+
+        self.begin(threadId, run)
 
     def do_stepOut(self, threadId, **_):
-        self.begin(threadId, lambda: self.step(self.paused, is_out=True))
+        self.begin(threadId, lambda: self.step(lambda _: self.stepper().out()))
 
-    def do_stepBack(self, threadId, **_):
-        self.begin(threadId, lambda: self.step_back(self.paused))
+    def do_stepBack(self, threadId, granularity="statement", **_):
+        self.begin(threadId, lambda: self.step_back(granularity))
+
+    def runner(self, goes_on=None):
+        return Runner(self.machine, self.points, goes_on or self.goes_on, self.write_log)
+
+    def stepper(self):
+        """Returns what steps the processor of a request."""
+        return Stepper(self.machine, self.own, self.runner(), self.paused)
 
     def run_on(self):
         self.run(lambda runner: runner.forward(self.shown), "pause", "")
@@ -255,7 +284,7 @@ class Adapter(Requests):
 
     def run(self, way, otherwise, text):
         """Runs, and reports the stop. If there is none, it is a pause, or another reason with a text."""
-        stop = way(Runner(self.machine, self.points, self.goes_on))
+        stop = way(self.runner())
         if self.is_over:
             return
         if stop:
@@ -267,86 +296,36 @@ class Adapter(Requests):
 
     def report(self, stop):
         """Says why a run has stopped."""
+        ids = dict.fromkeys(one.point.number for one in stop.met)
         if stop.place:
-            self.stopped("data breakpoint", stop.number, stop.text, self.points.ids_of(stop.place))
-            return
-        cell = Cell(stop.number, int(self.machine.registers(stop.number)["P"], 8))
-        ids = self.points.ids_at(cell)
-        reason = "step" if not ids else "breakpoint" if ids[0] & LINE_ID else "instruction breakpoint"
-        self.stopped(reason, stop.number, f"PP {cell.number:02o} is at {cell.address:04o}" if ids else "", ids)
-
-    def step(self, number, is_out=False):
-        """Makes one turn of a processor, and those before it. If it is to be outside a block transfer, it runs on to before the
-        turn that follows that."""
-        stop = Runner(self.machine, self.points).step(number)
-        if stop:
-            self.report(stop)
-        elif is_out and self.machine.registers(number)["PHASE"] != "0000":
-            self.run(lambda one: one.forward(None, {number: OUTSIDE_BLOCKS}), "pause", "")
+            self.stopped(DATA, stop.number, stop.text, ids)
+        elif ids:
+            self.stopped(stop.met[0].point.reason, stop.number, f"PP {stop.number:02o} is at {stop.address:04o}", ids)
         else:
-            self.stopped("step", number)
+            self.stopped("step", stop.number)
 
-    def step_back(self, number):
-        position = latest_turn(self.machine.tape, number, self.machine.position)
+    def write_log(self, stop, met):
+        """Writes the text of a log point."""
+        point = met.point
+        source, line = (point.file.source, point.line - 1) if point.file else (self.listings.source(stop.number), stop.address)
+        self.wire.event("output", category="console", output=f"{met.text}\n", source=source, line=line + self.base)
+
+    def step(self, way):
+        """Makes a step of the processor of a request. It ends with a stop, or at its end."""
+        self.run(lambda _: way(self.paused), "step", "")
+
+    def step_back(self, granularity):
+        stepper = self.stepper()
+        is_by_lines = granularity != BY_TURNS and stepper.line()
+        position = stepper.before_line() if is_by_lines else latest_turn(self.machine.tape, self.paused, self.machine.position)
+        if not self.goes_on():
+            position = self.machine.position
         self.machine.goto(position or 0)
-        self.stopped("step", number, BEGINNING if position is None else "")
+        self.stopped("step", self.paused, BEGINNING if position is None else "")
 
-    # ---- breakpoints
 
-    def do_setBreakpoints(self, source, breakpoints=(), **_):
-        number = self.listings.number_of(source)
-        lines = [self.line(one["line"]) for one in breakpoints or ()]
-        if number is None:
-            return {"breakpoints": [{"verified": False, "line": line, "message": "no listing of this session"} for line in lines]}
-        cells = [line - self.base for line in lines]
-        self.points.set_lines(number, [cell for cell in cells if 0 <= cell < CELLS])
-        return {"breakpoints": [self.line_breakpoint(number, cell) for cell in cells]}
-
-    def line(self, line):
-        if not isinstance(line, int):
-            raise Refused(f"{line} is no line")
-        return line
-
-    def line_breakpoint(self, number, address):
-        if not 0 <= address < CELLS:
-            return {"verified": False, "line": address + self.base, "message": "no line of the listing"}
-        cell = Cell(number, address)
-        return {"id": LINE_ID | cell.bits, "verified": True, "line": address + self.base, "source": self.listings.source(number),
-                "instructionReference": cell.reference}
-
-    def do_setInstructionBreakpoints(self, breakpoints, **_):
-        answers, cells = [], []
-        for one in breakpoints:
-            try:
-                cell = Cell.of(one.get("instructionReference"), one.get("offset", 0))
-                cells.append(cell)
-                answers.append({"id": INSTRUCTION_ID | cell.bits, "verified": True, "instructionReference": cell.reference})
-            except Refused as refused:
-                answers.append({"verified": False, "message": str(refused)})
-        self.points.set_instructions(cells)
-        return {"breakpoints": answers}
-
-    def do_setExceptionBreakpoints(self, **_):
-        return {"breakpoints": []}
-
-    def do_dataBreakpointInfo(self, name, variablesReference=None, **_):
-        try:
-            number = scope_and_number(variablesReference)[1] if variablesReference else None
-            words = name.upper().split()
-            text = name if words[:1] == ["M"] and len(words) == 4 else place_of(name, number).short
-            places = places_of(text)
-            self.check(places)
-        except Refused as refused:
-            return {"dataId": None, "description": str(refused)}
-        return {"dataId": text, "description": f"a change of {text}", "accessTypes": ["write"], "canPersist": True}
-
-    def check(self, places):
-        """Sees that central words are there."""
-        for place in places:
-            if place.kind == "C":
-                value_of(self.machine, place)
-
-    def do_setDataBreakpoints(self, breakpoints, **_):
-        faults = self.points.set_data(breakpoints, self.machine.state.watched, self.check)
-        return {"breakpoints": [{"id": DATA_ID | at, "verified": not fault, **({"message": fault} if fault else {})}
-                                for at, fault in enumerate(faults)]}
+def pairs(asked, name):
+    """Returns the processors and the files that an argument of a launch names."""
+    if asked is not None and not isinstance(asked, dict):
+        raise Refused(f"{name} is no object with a file for each processor")
+    return [(str(number), str(path)) for number, path in (asked or {}).items()]

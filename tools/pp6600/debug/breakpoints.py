@@ -1,13 +1,18 @@
 """The breakpoints that an editor has set."""
 
 import re
-from typing import NamedTuple
+from typing import TYPE_CHECKING, Dict, FrozenSet, NamedTuple, Optional, Tuple
 
 from ..core.forms import CELLS, MOST_WATCHES, PROCESSORS, Place
 from ..failure import Failure
 from .protocol import Refused
+from .terms import Terms
 
-LINE_ID, INSTRUCTION_ID, DATA_ID = 1 << 16, 1 << 17, 1 << 18  # of breakpoints; the lower bits say which one
+if TYPE_CHECKING:
+    from .own import File
+
+LINE_ID, INSTRUCTION_ID, DATA_ID, SOURCE_ID = 1 << 16, 1 << 17, 1 << 18, 1 << 19  # of breakpoints; the lower bits say which one
+LINE, INSTRUCTION, DATA = "breakpoint", "instruction breakpoint", "data breakpoint"  # why a run stops
 
 
 class Cell(NamedTuple):
@@ -59,45 +64,55 @@ def places_of(text):
     return [Place("M", (number, at)) for at in range(first, last + 1)]
 
 
+class Point(NamedTuple):
+    """A breakpoint: cells, or places of a data breakpoint, and its terms. A cell of a source has the numbers of the lines that it must
+    be of."""
+
+    number: int  # its identifier
+    reason: str
+    cells: Dict[Cell, Optional[FrozenSet[int]]] = {}
+    places: Tuple[Place, ...] = ()
+    terms: Terms = Terms()
+    file: Optional["File"] = None  # the source, and the line there
+    line: int = 0
+
+    @property
+    def key(self):
+        """What its hits depend on."""
+        return tuple(sorted((cell, lines and tuple(sorted(lines))) for cell, lines in self.cells.items())), self.places, self.terms.text
+
+
 class Breakpoints:
-    """Those on lines, by processor, those on addresses, and the places of data breakpoints."""
+    """Those on lines of listings, by processor, those on lines of sources, by file, those on addresses, and data breakpoints."""
 
     def __init__(self):
-        self.lines, self.instructions, self.data = {}, set(), []
+        self.lines, self.own, self.instructions, self.data = {}, {}, [], []
 
-    def set_lines(self, number, addresses):
-        """Sets those on the lines of a processor's listing, in the place of others."""
-        self.lines[number] = {Cell(number, address) for address in addresses}
+    @property
+    def all(self):
+        """All, those on lines first."""
+        on_lines = [point for points in (*self.lines.values(), *self.own.values()) for point in points]
+        return (*on_lines, *self.instructions, *self.data)
 
-    def set_instructions(self, cells):
-        self.instructions = set(cells)
-
-    def cells(self):
-        return self.instructions.union(*self.lines.values())
-
-    def targets(self):
-        """Returns for each processor that has breakpoints what its P and phase are at one, as their digits."""
-        found = {}
-        for number, address in self.cells():
-            found.setdefault(number, set()).add(f"{address:04o}0000")
-        return found
+    @property
+    def in_a_step(self):
+        """Those that count in a step: data breakpoints, and log points, which end nothing."""
+        return tuple(point for point in self.all if point.places or point.terms.log)
 
     def places(self):
         """Returns the places of all data breakpoints, each once."""
-        return list(dict.fromkeys(place for places in self.data for place in places))
+        return list(dict.fromkeys(place for point in self.data for place in point.places))
 
-    def set_data(self, asked, own, check):
-        """Sets data breakpoints, as they are asked for; the user watches places of their `own`. The function `check` refuses places.
-        Returns for each why it is not set, or nothing."""
+    def set_data(self, asked, own, terms_of):
+        """Sets data breakpoints, as they are asked for; the user watches places of their `own`. The function `terms_of` returns the terms
+        of one with its places, or refuses them. Returns for each why it is not set, or nothing."""
         self.data, faults = [], []
-        for one in asked:
+        for at, one in enumerate(asked):
             try:
                 places = self.watched_places(one, own)
-                check(places)
-                self.data.append(places)
+                self.data.append(Point(DATA_ID | at, DATA, places=tuple(places), terms=terms_of(one, places)))
                 faults.append("")
             except Refused as refused:
-                self.data.append([])
                 faults.append(str(refused))
         return faults
 
@@ -108,12 +123,3 @@ class Breakpoints:
         if len({*own, *self.places(), *places}) > MOST_WATCHES:
             raise Refused("at most eight places are watched, those of WATCH among them")
         return places
-
-    def ids_at(self, cell):
-        """Returns the identifiers of the breakpoints on a cell."""
-        lines = [LINE_ID | cell.bits] if cell in self.lines.get(cell.number, ()) else []
-        return lines + ([INSTRUCTION_ID | cell.bits] if cell in self.instructions else [])
-
-    def ids_of(self, place):
-        """Returns the identifiers of the data breakpoints on a place."""
-        return [DATA_ID | at for at, places in enumerate(self.data) if place in places]

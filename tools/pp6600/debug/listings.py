@@ -33,14 +33,14 @@ MOST_TEXT = 60  # bytes of the user's own listing beside an instruction
 
 
 class Beside:
-    """What is beside the instructions of a processor: the label of a cell, and the text of the user's own listing as long as the word
-    is the one that it lists. All are of one width, in bytes."""
+    """What is beside the instructions of a processor: the label of a cell, and the text of the user's own listing or source as long as
+    the word is the one that it lists. All are of one width, in bytes."""
 
     def __init__(self, symbols=None):
-        """The symbols are those of `pp6600.listing`."""
+        """The symbols are those of `pp6600.listing`, or a source."""
         self.symbols = symbols
         self.labels = symbols.labels if symbols else {}
-        texts = [line.text for _, line in symbols.listing.cells.values()] if symbols else []
+        texts = [text for _, text in symbols.texts().values()] if symbols else []
         self.label_width = max((len(label) for label in self.labels.values()), default=0)
         self.text_width = min(max((len(text.encode()) for text in texts), default=0), MOST_TEXT)
         self.width = sum(2 + width for width in (self.label_width, self.text_width) if width)
@@ -55,15 +55,20 @@ class Beside:
 class Listings:
     """The files of a session, in a folder of their own."""
 
-    def __init__(self, symbols):
-        """The symbols of some processors, by their numbers."""
-        self.beside = [Beside(symbols.get(number)) for number in range(PROCESSORS)]
+    def __init__(self):
         self.folder = tempfile.mkdtemp(prefix="pp6600-")
-        self.files, self.rows = {}, {}
+        self.files, self.rows, self.beside = {}, {}, []
         for number in range(PROCESSORS):
             self.files[number] = os.open(self.path(number), os.O_RDWR | os.O_CREAT | os.O_EXCL, 0o600)
             os.fchmod(self.files[number], 0o444)  # editors then open it to be looked at
+
+    def begin(self, symbols):
+        """Begins a run with the symbols of some processors, by their numbers. Other symbols make lines of another length."""
+        old, self.beside = self.beside, [Beside(symbols.get(number)) for number in range(PROCESSORS)]
+        for number, file in self.files.items():
             self.rows[number] = [None] * ROWS
+            if old and old[number].width != self.beside[number].width:
+                os.ftruncate(file, 0)
 
     def path(self, number):
         return os.path.join(self.folder, f"PP{number:02o}.pplist")
@@ -74,11 +79,6 @@ class Listings:
         found = isinstance(path, str) and os.path.dirname(path) in (self.folder, os.path.realpath(self.folder)) and \
             NAME.fullmatch(os.path.basename(path))
         return int(found[1], 8) if found else None
-
-    def address(self, number, label):
-        """Returns the address of a label; None if there is no such label."""
-        symbols = self.beside[number].symbols
-        return symbols.address(label) if symbols else None
 
     def source(self, number):
         return {"name": f"PP{number:02o}.pplist", "path": self.path(number)}

@@ -4,10 +4,13 @@ The session performs the lines of the user, and turns, and nothing else: it is w
 forward without a limit. A scout is another simulator on the same tape, at a position of its own. Watches, looks and turns that
 only a search needs are made by scouts alone. They stay between searches, so each goes on from where the last one ended."""
 
+import contextlib
+
 from ..core.forms import PROCESSORS
 from ..core.simulator import Simulator, without_history
 from ..core.state import state_of
-from ..core.tape import STEP
+from ..core.tape import MOST_KEPT, STEP
+from .terms import Tally
 
 TOO_FEW = ("ERR 07 TOO FEW KEPT", "ERR 16 TOO FEW AHEAD")
 NEAR = 200  # positions that are all looked at, at once
@@ -53,7 +56,7 @@ class Machine(Simulator):
     """A session of the simulator, and its state, as it was when it was last looked at."""
 
     def __init__(self, words):
-        self.scouts = {}
+        self.scouts, self.tallies = {}, {}
         super().__init__(words)
 
     def scout(self, name):
@@ -90,8 +93,74 @@ class Machine(Simulator):
                 return [f"{word} {count:o} SLOT {self.next_slot:02o}"]
         return answer
 
+    @property
+    def counts(self):
+        """The history as BACK and FORWARD count it."""
+        return self.history
+
+    def settled(self, position):
+        """Returns the first position from a position on that the user can be at: with devices, that after the replies to an action."""
+        return position
+
+    def before(self, position):
+        """Returns the last position up to a position that the user can be at."""
+        return position
+
+    def next_turn(self, number):
+        """Returns the position before the next turn of a processor."""
+        return next_turn(self.tape, number, self.position)
+
+    def tally(self, point):
+        """Returns the hits of a breakpoint that are known."""
+        return self.tallies.setdefault(point.key, Tally())
+
+    @property
+    def may_watch_itself(self):
+        """Whether it may watch over new turns, and then be as if it had watched nothing."""
+        return self.position == self.tape.end and self.history.room == MOST_KEPT
+
+    @contextlib.contextmanager
+    def watching(self, places):
+        """Watches places over new turns, beside those of the user. After that the history is that of these turns alone."""
+        self.renew()
+        begun, kept = self.position, self.history.kept
+        for place in places:
+            self.question(f"WATCH {place.short}", ["OK"])
+        yield
+        if places:
+            self.unwatch_since(begun, kept, places)
+
+    def unwatch_since(self, begun, kept, places):
+        """Takes back turns that were made since some places were watched, and makes them again without that. So many actions were kept
+        before."""
+        history, here = self.history, self.position
+        turns, watches = here - begun, len(places)
+        if turns + watches <= history.room:
+            back, history.kept = turns + watches, min(kept, history.room - turns - watches)
+        elif turns >= history.room:  # which then are all that it keeps
+            back, history.kept = history.room, 0
+        else:
+            self._go_anew(here, None)
+            return
+        self.question(f"BACK {back:o}", [f"BACK {back:o} "])
+        history.position = max(begun, here - back)
+        for place in places if back < turns + watches else ():
+            self.question(f"UNWATCH {place.short}", ["OK"])
+        history.ahead = 0
+        self.play(here)
+
+    def new_turns(self, most):
+        """Makes so many new turns, or up to a change of what is watched. Returns the line HIT, or None."""
+        made, *hit = self.ask(f"STEP {most:o}")
+        if not made.startswith("TURNS "):
+            raise self.nonsense(made)
+        self.history.added(STEP, int(made.split()[1], 8))
+        return hit[0] if hit else None
+
     def withdraw(self, position):
         """Sees that no scout is beyond a position, nor goes there by FORWARD, for the tape may be cut there."""
+        for tally in self.tallies.values():
+            tally.cut(position)
         for name, scout in list(self.scouts.items()):
             if scout.history.oldest > position:
                 self.scouts.pop(name).close()

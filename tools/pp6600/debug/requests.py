@@ -35,15 +35,24 @@ class Requests:
         processor, memory = state.processors[number], state.memories[number]
         waits = processor.waits_for(state.states())
         name = f"P {processor.registers['P']} {'in ' if processor.phase else ''}{processor.text}{f' waits for {waits}' if waits else ''}"
-        frames = [self.one_frame(threadId, name, Cell(number, int(processor.registers["P"], 8)))]
+        frames = [self.one_frame(threadId, name, Cell(number, processor.p), self.own.line_at_p(number, processor))]
         begun = (int(memory.word(0), 8) - 1) % CELLS  # cell 0000 has where the block goes on
         if processor.phase and memory.word(begun) == processor.registers["PHASE"]:
-            frames.append(self.one_frame(threadId + PROCESSORS, f"begun at {begun:04o}", Cell(number, begun)))
+            line = self.own.line(number, begun, [memory.word(begun), memory.word(begun + 1)])
+            frames.append(self.one_frame(threadId + PROCESSORS, f"begun at {begun:04o}", Cell(number, begun), line))
         return {"stackFrames": frames[startFrame:startFrame + levels if levels else None], "totalFrames": len(frames)}
 
-    def one_frame(self, frame, name, cell):
-        return {"id": frame, "name": name, "line": cell.address + self.base, "column": self.base,
-                "source": self.listings.source(cell.number), "instructionPointerReference": cell.reference}
+    def one_frame(self, frame, name, cell, line):
+        """Returns a frame at a cell, which is of a line of the user's own source or of none."""
+        if line:
+            self.notice(line.file)
+        return {"id": frame, "name": name, "column": self.base, "instructionPointerReference": cell.reference, **self.where(cell, line)}
+
+    def where(self, cell, line):
+        """Returns where a cell is shown: in the user's own source, or in the listing."""
+        if line:
+            return {"line": line.number - 1 + self.base, "source": line.file.source}
+        return {"line": cell.address + self.base, "source": self.listings.source(cell.number)}
 
     def do_source(self, source=None, sourceReference=0, **_):
         number = self.listings.number_of(source) if source else None
@@ -54,11 +63,10 @@ class Requests:
         return {"content": self.listings.text(number, self.machine.state.memories[number]), "mimeType": "text/plain"}
 
     def do_gotoTargets(self, source, line, **_):
-        number, address = self.listings.number_of(source), line - self.base
-        if number is None or not 0 <= address < CELLS:
-            return {"targets": []}
-        return {"targets": [{"id": Cell(number, address).bits, "label": f"P {address:04o}", "line": line,
-                             "instructionPointerReference": Cell(number, address).reference}]}
+        number, file, address = self.listings.number_of(source), self.own.file(source.get("path")), line - self.base
+        cells = [Cell(number, address)] if number is not None and 0 <= address < CELLS else sorted(file.cells(address + 1)) if file else []
+        return {"targets": [{"id": cell.bits, "label": f"P {cell.address:04o}", "line": line,
+                             "instructionPointerReference": cell.reference} for cell in cells]}
 
     def do_goto(self, threadId, targetId, **_):
         number, target = self.number(threadId), Cell(targetId >> 12, targetId & 0o7777)
@@ -79,10 +87,10 @@ class Requests:
 
     def act(self, line):
         """Performs a line, and returns its answer. What was ahead may be lost by it: that is said."""
-        ahead, answer = self.machine.history.to_redo, self.machine.typed(line)
-        here = self.machine.position
+        ahead, answer = self.machine.counts.to_redo, self.machine.typed(line)
+        here = self.machine.counts.position
         if answer == [NO_CHANGE] and Runner(self.machine, self.points).back(is_typed=True):
-            answer = [f"BACK {here - self.machine.position:o} SLOT {self.machine.next_slot:02o}"]
+            answer = [f"BACK {here - self.machine.counts.position:o} SLOT {self.machine.next_slot:02o}"]
         if ahead and answer and answer[0].split()[0] in ("OK", "TURNS"):
             self.wire.say(f"{ahead:o} actions (octal) that were ahead are so no longer")
         return answer
@@ -120,8 +128,8 @@ class Requests:
 
     def value(self, text, number):
         """Returns the number at a place, or the cell that a label of the processor's symbols names."""
-        address = self.listings.address(number, text)
-        if address is None:
+        address = self.own.symbols.address(number, text)
+        if address is None or address >= CELLS:
             return value_of(self.machine, place_of(text, number))
         return instruction(self.machine.state.memories[number], address)
 
@@ -175,5 +183,12 @@ class Requests:
     def instruction(self, number, address):
         """Returns a cell as an instruction, and where its line is."""
         memory = self.machine.state.memories[number]
-        return {"address": Cell(number, address).reference, "instructionBytes": memory.word(address),
-                "instruction": instruction(memory, address), "location": self.listings.source(number), "line": address + self.base}
+        cell = Cell(number, address)
+        return {"address": cell.reference, "instructionBytes": memory.word(address),
+                "instruction": instruction(memory, address), **self.place(cell, memory)}
+
+    def place(self, cell, memory):
+        """Returns where the line of a cell is."""
+        line = self.own.line(cell.number, cell.address, [memory.word(cell.address), memory.word(cell.address + 1)])
+        found = self.where(cell, line)
+        return {"location": found["source"], "line": found["line"]}

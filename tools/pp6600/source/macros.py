@@ -146,13 +146,13 @@ def call(state: "Pass", statement: Statement) -> None:
 def expanded(state: "Pass", body: Sequence[Line], values: Dict[str, str], name: Field) -> List[Line]:
     """Returns the lines that a macro's call makes. A name of LOCAL becomes another one in each call."""
     line, made = state.line, []
-    place = Call(line.call.column if line.call else name.column, name.text)
+    column, outer = line.call.column if line.call else name.column, line.call.lines if line.call else ()
     for one in body:
         local = locals_of(one)
         if local is not None:
             values.update({each: state.new_local() for each in local})
         else:
-            made.append(Line(line.number, replaced_line(state, one, values), place))
+            made.append(Line(line.number, replaced_line(state, one, values), Call(column, name.text, (*outer, one.number))))
             if len(made[-1].text) > LONGEST:
                 raise Fault(name.column, f"a line that {name.text} makes has more than {LONGEST} (decimal) symbols")
     return made

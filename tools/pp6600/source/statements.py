@@ -1,7 +1,7 @@
 """A line cut into the fields of a statement: location, operation and operand. The comment is left out."""
 
 import re
-from typing import Container, List, NamedTuple, Optional
+from typing import Container, List, NamedTuple, Optional, Tuple
 
 from .messages import Fault
 from .texts import is_blank, text_at
@@ -15,10 +15,12 @@ BEFORE_TEXT = "=,+-*/"  # after which a text may begin
 
 
 class Call(NamedTuple):
-    """The call of the macro that made a line: its column in the source, and the macro's name."""
+    """The call of the macro that made a line: its column in the source, the macro's name, and the numbers of the lines of macros that
+    it was made of, that of the innermost macro last."""
 
     column: int
     macro: str
+    lines: Tuple[int, ...]
 
 
 class Line(NamedTuple):

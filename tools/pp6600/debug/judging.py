@@ -1,0 +1,147 @@
+"""Which breakpoints a stop is for: those on its cell or place whose conditions hold there.
+
+What they need is read by a scout, for all stops of a part at once. A condition is judged where the processor has come to the breakpoint,
+and of a data breakpoint after the change. That a number changes, or that a processor waits, is judged after the latest turn."""
+
+from typing import Dict, NamedTuple
+
+from ..conditions import Changes, Waits
+from ..core.forms import Dump
+from ..core.probe import Column, Looks, word_dumps
+from ..core.seek import Seen
+from .breakpoints import Cell, Point
+from .machine import latest_turn
+
+
+class Met(NamedTuple):
+    """A breakpoint whose condition holds at a stop, and the text of a log point there."""
+
+    point: Point
+    text: str = ""
+
+
+class Sights:
+    """The answers to dumps at some positions that are near one another, read at once. The scout stays where it is."""
+
+    def __init__(self, scout, wanted: Dict[int, Dict[Dump, None]]):
+        self.answers = {}
+        if not wanted:
+            return
+        here, order = scout.position, sorted(wanted)
+        scout.goto(order[0])
+        scout.goto(order[-1])
+        for position, lines in zip(order, scout.look_at([(position, list(wanted[position])) for position in order])):
+            at = 0
+            for dump in wanted[position]:
+                self.answers[position, dump] = lines[at:at + dump.lines]
+                at += dump.lines
+        scout.goto(here)
+
+    def value(self, position, column):
+        return column.value(self.answers[position, column.dump])
+
+    def words(self, position, cell):
+        """Returns the words of a cell and the one after it."""
+        lines = [line for dump in word_dumps(*cell) for line in self.answers[position, dump]]
+        return [word for line in lines for word in line.split()[1:]]
+
+
+class Judge:
+    """Judges the stops of a search."""
+
+    def __init__(self, machine, points, own, places):
+        """The user watches places of their `own`. The places are all that are watched, in their order."""
+        self.scout = machine.scout("looks") if points else None
+        self.tape, self.points, self.own, self.places = machine.tape, points, own, places
+        self.by_cell = {}
+        for point in points:
+            for cell in point.cells:
+                self.by_cell.setdefault(cell, []).append(point)
+        self.has_terms = any(point.places and point.terms.condition or point.terms.hits for point in points)
+
+    def arrived(self, stops):
+        """Yields those stops at cells that are for a breakpoint, or due without one."""
+        pairs = [(stop, self.by_cell.get(Cell(stop.number, stop.address), ())) for stop in stops]
+        wanted = {}
+        for stop, points in pairs:
+            for point in points:
+                wanted.setdefault(stop.position, {}).update(dict.fromkeys(self.dumps(point, stop)))
+        sights = Sights(self.scout, {position: dumps for position, dumps in wanted.items() if dumps})
+        for stop, points in pairs:
+            met = tuple(Met(point, self.text(point, stop, sights)) for point in points
+                        if self.is_its_line(point, stop, sights) and self.holds(point, stop.position, sights))
+            if met or stop.is_due:
+                yield stop._replace(met=met)
+
+    def dumps(self, point, stop):
+        """Returns the dumps that are needed to judge a breakpoint at a stop."""
+        cell = Cell(stop.number, stop.address)
+        words = word_dumps(*cell) if point.cells and point.cells[cell] else []
+        condition, log = point.terms.condition, point.terms.log
+        at_once = [test.column.dump for test in condition.tests if not isinstance(test, (Changes, Waits))] if condition else []
+        return [*words, *at_once, *(column.dump for column in log.columns[stop.number])] if log else [*words, *at_once]
+
+    def is_its_line(self, point, stop, sights):
+        """Returns whether a cell is of a line of a breakpoint, or was."""
+        cell = Cell(stop.number, stop.address)
+        lines = point.cells[cell]
+        if lines is None:
+            return True
+        found = point.file.of[stop.number].source.line_of(stop.address, *sights.words(stop.position, cell))
+        return found is not None and found.number in lines
+
+    @staticmethod
+    def text(point, stop, sights):
+        log = point.terms.log
+        return log.said(stop.number, [sights.value(stop.position, column) for column in log.columns[stop.number]]) if log else ""
+
+    def holds(self, point, position, sights):
+        """Returns whether the condition of a breakpoint holds at a position."""
+        condition = point.terms.condition
+        return not condition or all(self.test_holds(test, position, sights) for test in condition.tests)
+
+    def test_holds(self, test, position, sights):
+        if not isinstance(test, (Changes, Waits)):
+            return test.verdicts([sights.value(position, test.column)], None)[0]
+        if isinstance(test, Waits):
+            at = latest_turn(self.tape, test.number, position)
+        else:
+            at = position - 1 if position and next(self.tape.actions(position - 1)).turns else None
+        return at is not None and self.after_turn(test, at)
+
+    def after_turn(self, test, at):
+        """Returns whether a test holds after the turn at a position."""
+        here, verdict = self.scout.position, False
+        for position in (at, at + 1):
+            self.scout.goto(position)
+            looks = Looks(at, [position - at], [[test.column.value(self.scout.dump(test.column.dump))]])
+            verdict = test.verdicts(looks.columns[0], Seen(self.scout, looks, position == at))[0]
+        self.scout.goto(here)
+        return verdict
+
+    # ---- data breakpoints
+
+    def changed(self, stops):
+        """Yields the stops at changes that are for a data breakpoint or a place of the user. If some have terms, each change is looked
+        at, and not only the first one of an action."""
+        for stop in self.all_changes(stops) if self.has_terms else stops:
+            points = [point for point in self.points if stop.place in point.places]
+            wanted = {dump: None for point in points for dump in self.dumps(point, stop)}
+            sights = Sights(self.scout, {stop.position: wanted} if wanted else {})
+            met = tuple(Met(point) for point in points if self.holds(point, stop.position, sights))
+            if met or stop.place in self.own:
+                yield stop._replace(met=met, is_due=stop.place in self.own)
+
+    def all_changes(self, stops):
+        """Yields a stop for each change of an action, of one stop for it."""
+        columns, last = [Column.of_place(place) for place in self.places], None
+        for stop in stops:
+            if stop.position == last:
+                continue
+            last = stop.position
+            dumps = {column.dump: None for column in columns}
+            sights = Sights(self.scout, {last - 1: dumps, last: dumps})
+            for place, column in zip(self.places, columns):
+                was, now = sights.value(last - 1, column), sights.value(last, column)
+                if was != now:
+                    yield stop._replace(place=place, was=was, now=now)
