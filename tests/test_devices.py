@@ -6,6 +6,7 @@ import re
 import unittest
 from unittest import mock
 
+from tests.films import PageCase
 from tests.support import EXAMPLES, PYTHON, Case, program, read, run, tool, write
 
 from pp6600 import Attached, Failure
@@ -418,6 +419,17 @@ class Films(Case):
 
     def test_without_a_picture(self):
         self.assertEqual({}, film_pictures.Pictures([PaperTape()]).table())
+
+
+class Page(PageCase):
+    def test_the_picture_of_the_moment(self):
+        """L and I at turn 76, F and T too at turn 110, and none at turn 1: FNC, ACN, LDN, OAM, four words in turns of PP 00."""
+        path = self.film("--device", "console_display@10", script="SET M 0 100 7710 7002 7410 1404 7310 110 300\n"
+                         "SET M 0 110 6000 7400 1411 624\nSET P 0 100\nSTEP 200\n")
+        for turn, count in (("1", 0), ("200", 4), ("76", 2), ("110", 4), ("1", 0)):
+            self.browser.open(path, f"#turn={turn}")
+            self.assertEqual(count, self.value("document.querySelectorAll('#pictures path').length"), turn)
+        self.assertEqual("ConsoleDisplay on channel 10", self.value("document.querySelector('#pictures figcaption').textContent"))
 
 
 class Options(Case):

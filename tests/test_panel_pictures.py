@@ -90,7 +90,7 @@ class Pictures(PanelCase):
             self.addCleanup(terminal.close)
             self.assertIsNotNone(terminal.shows("q quit"))
             terminal.type("200sv")
-            self.assertIsNotNone(terminal.shows("Turn 200"))
+            self.assertIsNotNone(terminal.shows("closes this page"))  # the last line, which is written last
             rows = [row.strip() for row in terminal.screen.text() if row.strip()]
             self.assertEqual(begin, rows[2][:1])
             terminal.type("\x1b")
