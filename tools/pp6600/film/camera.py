@@ -19,7 +19,7 @@ from .positions import Positions
 from .sources import InEffect, Written, written_by
 from .upcoming import upcoming
 
-# The kinds of a moment: what a turn was, another action, a BACK or FORWARD, turns that were skipped. TURNS is that of a line of the script.
+# The kinds of a moment: what a turn was, another action, a BACK or FORWARD, turns that were skipped. TURNS is that of a line.
 PASSES, WAITS, BUSY, BLOCK, LINE, JUMP, SKIP, TURNS = range(8)
 MOST_MOMENTS = 0o1000000
 AROUND = 0o4000  # moments before a turn, and after it
@@ -114,7 +114,8 @@ class Film:
     turn_line, turn_answer = "STEP 1", "TURNS 1 "
 
     def __init__(self, run, log, reader, printer, sources=()):
-        """The simulator that is filmed, the lines with their answers, the channels of the devices, and pairs of a processor and its source."""
+        """The simulator that is filmed, the lines with their answers, the channels of the devices, and pairs of a processor and
+        its source."""
         self.run, self.transcript = run, log
         self.size, self.reader, self.printer = log.size, reader, printer
         self.machine = Machine()

@@ -122,7 +122,8 @@ function drawProcessor(picture, n, sizes) {
 // The mark of the processor whose turn comes next, at the inner side of its circle.
 function drawSlot(picture, n, sizes) {
   const { x, y } = processorAt(n, sizes), degrees = Math.atan2(sizes.cy - y, sizes.isFlat && n % 5 ? 0 : sizes.cx - x) * 180 / Math.PI;
-  drawn(picture, "path", { class: "slot", d: `M ${CIRCLE + 0.15} 0 l 0.9 -0.6 v 1.2 Z`, transform: `translate(${x} ${y}) rotate(${degrees})`, "data-processor": n });
+  drawn(picture, "path", { class: "slot", d: `M ${CIRCLE + 0.15} 0 l 0.9 -0.6 v 1.2 Z`, transform: `translate(${x} ${y}) rotate(${degrees})`,
+    "data-processor": n });
 }
 
 // The middle of the ring: the action, what it was, and the first cell or word that it changed.
@@ -157,7 +158,7 @@ function drawChannel(picture, c, { x, y }) {
   drawn(group, "rect", { width: BOX_WIDTH, height: BOX_HEIGHT, rx: BOX_HEIGHT / 2 });
   drawn(group, "text", { x: 2.1, y: 1.27 }, `H ${two(c)}`);
   drawn(group, "text", { x: 5.4, y: 1.27, class: "strong" }, state > 1 ? four(film.numbers[places[0]]) : state ? "empty" : "");
-  const device = deviceOf(c), did = [places[0], film.layout.states + c].some((place) => isByDevice(film.at, place));
+  const device = deviceOf(c), did = c < CHANNELS && [places[0], film.layout.states + c].some((place) => isByDevice(film.at, place));
   drawn(group, "text", { x: BOX_WIDTH / 2, y: BOX_HEIGHT + 1, class: did ? "acted" : "" }, device);
 }
 
@@ -174,7 +175,7 @@ function drawLinesOfBarrel(picture, sizes) {
   }
   const moved = wordMoved(film.at);
   if (!moved) return;
-  const { x, y } = boxOf(moved.channel, sizes), text = moved.isOutput ? `${four(moved.word)}→` : `←${four(moved.word)}`;
+  const { x, y } = boxOf(moved.channel, sizes), word = four(moved.word), text = moved.isOutput ? `${word}→` : `←${word}`;
   drawn(picture, "path", { class: "moved", d: lineTo(film.processor[film.at], moved.channel) });
   const group = drawn(picture, "g", { class: "word", transform: `translate(${x - 2.4} ${y + BOX_HEIGHT / 2})`, "data-channel": moved.channel });
   drawn(group, "rect", { x: -1.9, y: -0.85, width: 3.8, height: 1.7, rx: 0.3 });
