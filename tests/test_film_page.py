@@ -55,7 +55,7 @@ class Answers(PageCase):
     def test_who(self):
         """docs/TOOLS.md: the card reader put the word on channel 12 in turn 373; the first instruction is the FNC 12 of README.md."""
         for turn, wanted in (("373", "H 12 is 0027. Changed here, by the card reader."),
-                             ("1", "H 12 is 0001. Changed here, by PP 00, FNC 12 0001 at 0100 START.")):
+                             ("1", "H 12 is 0001. Changed here, by PP 00, FNC 12 0001 at 0100 START, loader.pp:6.")):
             self.browser.open(shown_film("overwritten-loader"), f"#turn={turn}&place=H+12")
             self.assertIn(wanted, self.value(CHOSEN))
 

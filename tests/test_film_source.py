@@ -123,11 +123,13 @@ class Film(PageCase):
 
     def test_late(self):
         """In a film that begins late a line that is gone has been overwritten, and the line of a block that began before is not known."""
-        options, sources, script = RUNS[0]
-        page = read(self.film(*options, *sources_of(sources), "--last", "10", script=f"{script[0]}\n"))
-        known, numbers = about(page), numbers_at(page, [0])[0][0]
-        marks = [known["marks"][one] for one in numbers[known["layout"]["lines"]:known["layout"]["central"]]]
-        self.assertEqual({"now"}, {text for text, _ in marks})
+        options, sources, _ = RUNS[0]
+        for turns, texts, length in (("200", {""}, 5), ("1300", {"now"}, 6)):
+            page = read(self.film(*options, *sources_of(sources), "--last", "10", script=f"STEP {turns}\n"))
+            known, numbers = about(page), numbers_at(page, [0])[0][0]
+            marks = [known["marks"][one] for one in numbers[known["layout"]["lines"]:known["layout"]["central"]]]
+            with self.subTest(turns=turns):
+                self.assertEqual((texts, length), ({text for text, _ in marks}, len(known["next"][numbers[known["layout"]["next"]]])))
 
 
 class Page(PageCase):
@@ -146,6 +148,8 @@ class Page(PageCase):
         self.assertEqual("M 00 0106", self.value("shown.chosen.name"))
         self.browser.key("ArrowLeft")
         self.assertEqual("|10|0106||DCN    CR", self.rows(10, 10)[0])
+        self.value("moveTo(momentOfTurn(0o1251))")  # after the block the program goes on at 0106
+        self.assertEqual("PP 00, PSN 27 at 0106 START+6, was loader.pp:10", self.value("turnText(film.at)"))
 
     def test_subroutine(self):
         """RJM in turn 25 puts the return address 0104 into the second word of the line of SUBR: see docs/TOOLS.md."""
@@ -156,16 +160,16 @@ class Page(PageCase):
         self.assertEqual("6", self.value("document.querySelector('#source .acted .name').textContent"))
 
     def test_times(self):
-        """A click on a line goes to the next time that it was performed, with Shift to the time before; the loop at 0102 runs three times."""
+        """A click on a line goes to the next time that it was performed, with Shift to the time before: here a loop of three times."""
         self.browser.open(self.film("--source", "0", write(self.path("count.pp"), COUNT), script="STEP 1000\n"), "#turn=0")
         shown = "[film.turn[film.at], byId('times-text').innerText]"
-        calls = [0o25, 0o25 + 60, 0o25 + 120]  # RJM, SOD, UJN, LJM, LDD and NJN are 6 turns of the processor, and 60 (decimal) of all
+        calls = [0o25, 0o25 + 60, 0o25 + 120]  # RJM, SOD, UJN, LJM, LDD and NJN take six rounds of ten turns
         for at in (0, 1, 2, 0):
             self.browser.click("#source tr:nth-child(6) .line")
             self.assertEqual([calls[at], f"line 6 (decimal), time {at + 1} of 3"], self.value(shown))
         self.browser.click("#previous-time")
         self.assertEqual([calls[2], "line 6 (decimal), time 3 of 3"], self.value(shown))
-        self.value("document.querySelector('#source tr:nth-child(6) .line').dispatchEvent(new MouseEvent('click', { shiftKey: true, bubbles: true }))")
+        self.value("document.querySelector('#source tr:nth-child(6) .line').dispatchEvent(new MouseEvent('click', { shiftKey: true }))")
         self.assertEqual(calls[1], self.value(shown)[0])
         self.browser.click("#next-time")
         self.assertEqual(calls[2], self.value(shown)[0])
@@ -185,14 +189,15 @@ class Page(PageCase):
         """The source is that of the chosen processor, if it has one."""
         asks, answers = (f"{EXAMPLES}/handshake/{name}.pp" for name in ("asks", "answers"))
         self.browser.open(self.film("--source", "0", asks, "--source", "1", answers, script="STEP 1000\n"))
-        shown = "[document.querySelector('#source h2').innerText, document.querySelector('#source tbody:not([hidden]) .present .name').textContent]"
+        shown = "['h2', 'tbody:not([hidden]) .present .name'].map((one) => document.querySelector(`#source ${one}`).textContent)"
         self.assertEqual(["Source of PP 00: asks.pp", "11"], self.value(shown))
         self.browser.key("1")
         self.assertEqual(["Source of PP 01: answers.pp", "9"], self.value(shown))
         self.browser.key("2")
         self.assertEqual("Source of PP 01: answers.pp", self.value(shown)[0])
         self.value("byId('source-of').value = 0; byId('source-of').onchange()")
-        self.assertEqual(["Source of PP 00: asks.pp", "PP 00"], [self.value(shown)[0], self.value("byId('memory-of').selectedOptions[0].text")])
+        self.assertEqual("Source of PP 00: asks.pp", self.value(shown)[0])
+        self.assertEqual("PP 00", self.value("byId('memory-of').selectedOptions[0].text"))
 
     def test_looks(self):
         """The source is beside the lanes, or on a small screen below them; only its lines are scrolled, and on paper there are all."""

@@ -2,21 +2,21 @@
 
 import array
 import base64
+import functools
 import json
 import zlib
 
 
-def _number(out, number):
-    """Appends a number that is not negative: seven bits a byte, the lowest first."""
-    while number > 0x7f:
-        out.append(number & 0x7f | 0x80)
-        number >>= 7
-    out.append(number)
+@functools.lru_cache(maxsize=1 << 16)
+def _number(number):
+    """Returns the bytes of a number that is not negative: seven bits a byte, the lowest first."""
+    return bytes([number]) if number <= 0x7f else bytes([number & 0x7f | 0x80]) + _number(number >> 7)
 
 
-def _signed(out, number):
-    """Appends a number of either sign."""
-    _number(out, 2 * number if number >= 0 else -2 * number - 1)
+@functools.lru_cache(maxsize=1 << 16)
+def _signed(number):
+    """Returns the bytes of a number of either sign."""
+    return _number(2 * number if number >= 0 else -2 * number - 1)
 
 
 class Rows:
@@ -35,11 +35,11 @@ class Rows:
     def add(self, kind, changes, written):
         """Adds a moment with its changes, each a place with its number before and after it, and what it wrote."""
         kinds, places, growths, writes = self.streams
-        _number(kinds, len(changes) << 3 | kind)
+        kinds += _number(len(changes) << 3 | kind)
         last = 0
         for place, was, now in changes:
-            _number(places, place - last)
-            _signed(growths, now - was)
+            places += _number(place - last)
+            growths += _signed(now - was)
             last = place
         _add_writes(writes, written)
         for starts, stream in zip(self.starts, self.streams):
@@ -58,17 +58,17 @@ class Rows:
 
 def _add_writes(out, written):
     """Appends what a moment wrote."""
-    _number(out, written.count)
+    out += _number(written.count)
     numbers, last = iter(written.row), 0
     for place in numbers:
-        _signed(out, place - last)
+        out += _signed(place - last)
         last = place
-        _number(out, next(numbers))
+        out += _number(next(numbers))
         sources = next(numbers)
-        _number(out, sources)
+        out += _number(sources)
         for _ in range(sources):
-            _signed(out, next(numbers) - place)
-            _number(out, next(numbers))
+            out += _signed(next(numbers) - place)
+            out += _number(next(numbers))
 
 
 def encode(about, streams):

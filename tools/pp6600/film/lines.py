@@ -43,7 +43,7 @@ class Lines:
         self.sources = dict(sources)
         self.lines = [line for number, source in self.sources.items() for line in lines_of(number, source)]
         self.marks = Table({NOT_YET: 0, WHOLE: 1})
-        self.wrong = [{} for _ in self.lines]  # of each line: the marks of its words that are not in their cells
+        self.said = [{} for _ in self.lines]  # of each line: the marks for the sake of its words, or None
         self.on_cell = {}  # of the place of a cell: the numbers of lines and of their words whose marks depend on it
         for at, line in enumerate(self.lines):
             for number, word in enumerate(line.words):
@@ -60,18 +60,16 @@ class Lines:
         """Marks anew the lines whose cells are among the places."""
         uses = {use for place in places if place in self.on_cell for use in self.on_cell[place]}
         for at, number in uses:
-            mark = mark_of(self.lines[at], self.lines[at].words[number], machine)
-            self.wrong[at].pop(number, None)
-            self.wrong[at].update({number: mark} if mark else {})
-        for at in {at for at, _ in uses}:
+            self.said[at][number] = mark_of(self.lines[at], self.lines[at].words[number], machine)
+        for at in sorted({at for at, _ in uses}):
             self._put(machine, at)
 
     def _put(self, machine, at):
         """Puts the mark of a line: that of its first word that is gone, or else of a second word that is another one."""
         place = LAYOUT["central"] + at
-        marks = sorted(self.wrong[at].items(), key=lambda one: (one[1].text == SECOND, one[0]))
+        marks = [mark for _, mark in sorted(self.said[at].items()) if mark]
         if not marks or machine.numbers[place] != self.marks[NOT_YET]:
-            machine.put(place, self.marks.number(marks[0][1] if marks else WHOLE))
+            machine.put(place, self.marks.number(min(marks, key=lambda mark: mark.text == SECOND, default=WHOLE)))
 
     def at(self, machine, number, issued):
         """Returns the number of the line that a processor is at, and if it does not perform its instruction, why not; in a block transfer

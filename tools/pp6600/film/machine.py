@@ -73,9 +73,9 @@ class Machine:
 
     def processor(self, number):
         """Returns a processor as it is now."""
-        first = register(number, "P")
-        p, a, q, phase = self.numbers[first:first + len(REGISTERS)]
-        return processor_of(p, a, q, phase, self.word(number, p), self.word(number, p + 1))
+        first, numbers = register(number, "P"), self.numbers
+        p, a, q, phase = numbers[first:first + len(REGISTERS)]
+        return processor_of(p, a, q, phase, numbers[cell(number, p)], numbers[cell(number, p + 1)])
 
     def state(self, channel):
         return STATES[self.numbers[LAYOUT["states"] + channel]]
@@ -91,8 +91,10 @@ class Machine:
 
     def read(self, answer):
         """Takes the numbers from the lines of answers. Cells are those of the processor whose registers come before them."""
-        paper, watches, number = None, [], 0
+        paper, watches, number, known = None, [], 0, self.lines
         for line in answer:
+            if known.get(line[:5]) == line and line[0] != "L":  # most lines of DUMP H; after that of the printer the paper comes
+                continue
             kind = kind_of_beginning(line[:2])
             if kind == "M":
                 self._read_cells(number, line)
@@ -105,8 +107,8 @@ class Machine:
                 paper.append(f"{line[1:]}\n" if line[0] == "|" else line[1:])
             elif kind == "W":
                 watches.append(line[2:])
-            elif kind in self.READERS and self.lines.get(line[:5]) != line:
-                self.lines[line[:5]] = line
+            elif kind in self.READERS and known.get(line[:5]) != line:
+                known[line[:5]] = line
                 self.READERS[kind](self, line)
             if kind == "LP":
                 paper = []

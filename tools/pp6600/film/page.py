@@ -164,8 +164,10 @@ def of_sources(source_lines):
         return {}
     first = LAYOUT["central"]
     places = {(line.processor, line.number): (line.location, first + at) for at, line in enumerate(source_lines.lines)}
-    sources = {number: {"name": name_of(source.path, "source"), "lines": [
-        (text, *places.get((number, at), ())) for at, text in enumerate(texts_of(source), 1)]} for number, source in source_lines.sources.items()}
+    sources = {}
+    for number, source in source_lines.sources.items():
+        texts = enumerate(texts_of(source), 1)
+        sources[number] = {"name": name_of(source.path, "source"), "lines": [(text, *places.get((number, at), ())) for at, text in texts]}
     return {"sources": sources, "layout": {**LAYOUT, "lines": first, "central": first + len(places)}}
 
 

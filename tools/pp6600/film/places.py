@@ -2,6 +2,8 @@
 
 A word of sixty bits has two places: for its upper and its lower thirty bits."""
 
+import functools
+
 from ..core.forms import CELLS, CHANNELS, FRAME_WORDS, PROCESSORS, REGISTERS
 
 MODES = {"reader": ("IDLE", "READING", "STATUS", "SENT"), "printer": ("IDLE", "PRINTING", "STATUS", "SENT")}
@@ -28,5 +30,6 @@ def cell(processor, address):
     return LAYOUT["cells"] + processor * CELLS + address % CELLS
 
 
+@functools.lru_cache(maxsize=None)
 def register(processor, name):
     return LAYOUT["registers"] + processor * len(REGISTERS) + REGISTERS.index(name)

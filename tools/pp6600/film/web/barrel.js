@@ -1,7 +1,8 @@
 // ---- the barrel: the ten processors around the slot, the channels with their devices, and what the action of this moment did
 
-// Lengths in heights of a letter: the radius of a processor's circle, a channel's box, and how far apart two of them are.
-const CIRCLE = 2.2, BOX_WIDTH = 7.6, BOX_HEIGHT = 1.75, BOX_APART = 2, BELOW_BOX = 1.2, LETTER = 0.6;
+// Lengths in heights of a letter: the radius of a processor's circle, a channel's box, how far apart two of them are, and how far at most
+// from the ring.
+const CIRCLE = 2.2, BOX_WIDTH = 7.6, BOX_HEIGHT = 1.75, BOX_APART = 2, BELOW_BOX = 1.2, FROM_RING = 10, LETTER = 0.6;
 const STATE_CLASSES = ["inactive", "empty", "full", "function"];
 const barrel = { folded: false, channels: [] };
 
@@ -72,9 +73,9 @@ const deviceOf = (c) => (c === CLOCK ? "clock" : film.devices[c] || "");
 const heightOfChannel = (c) => BOX_APART + (deviceOf(c) ? BELOW_BOX : 0);
 
 // The upper left corner of a channel's box. The boxes are one below the other, in the middle of the height.
-function boxOf(c, { width, height, boxes }) {
+function boxOf(c, { width, height, boxes, cx, rx }) {
   const before = barrel.channels.slice(0, barrel.channels.indexOf(c)).reduce((sum, one) => sum + heightOfChannel(one), 0);
-  return { x: width - BOX_WIDTH - 0.2, y: (height - boxes) / 2 + before };
+  return { x: Math.min(width - BOX_WIDTH - 0.2, cx + rx + CIRCLE + FROM_RING), y: (height - boxes) / 2 + before };
 }
 
 // ---- the drawing

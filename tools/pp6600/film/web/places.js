@@ -78,8 +78,8 @@ function nameOf(place) {
 const turnOf = (moment) => film.next[film.turned[moment]];
 
 function turnText(moment) {
-  const n = film.processor[moment], { name, second, block } = turnOf(moment);
-  if (!block) return `PP ${two(n)}, ${`${name} ${second}`.trim()} at ${named(n, film.p[moment])}`;
+  const n = film.processor[moment], { name, second, block, line } = turnOf(moment);
+  if (!block) return `PP ${two(n)}, ${`${name} ${second}`.trim()} at ${named(n, film.p[moment])}${lineOfSource(n, line)}`;
   return `PP ${two(n)}, in the block of ${name}` + (block.issued === null ? "" : ` at ${named(n, block.issued)}`);
 }
 

@@ -1,15 +1,23 @@
 // ---- the source of a processor: its lines, the one where the processor is, and those that have been overwritten
 
-// What is shown of each source by its processor; the processor whose source is seen and the moment; the line that was clicked last, and the
-// moment to which this led.
-const source = { of: new Map(), processor: -1, at: -1, line: 0, led: -1 };
+// What is shown of each source by its processor, with the line that was clicked last and the moment to which this led; and the processor
+// whose source is seen, and where it was scrolled.
+const source = { of: new Map(), processor: -1, scrolled: "" };
+
+// The line of a source where a processor is, as ", count.pp:8"; or "".
+function lineOfSource(n, { number, note }) {
+  if (!number) return "";
+  const text = `${film.sources[n].name}:${number}`;
+  return note === "was" ? `, was ${text}` : `, ${text} ${note}`.trimEnd();
+}
 
 function buildSource() {
   if (!film.sources) return;
   document.querySelector(".column").prepend(byId("lanes"));
   byId("source").hidden = false;
   for (const [text, { name, lines }] of Object.entries(film.sources)) {
-    const n = Number(text), one = { processor: n, name, times: lines.map(() => []), last: 0, body: tableOf("source").createTBody() };
+    const n = Number(text), body = tableOf("source").createTBody();
+    const one = { processor: n, name, body, times: lines.map(() => []), last: 0, line: 0, led: -1 };
     one.rows = lines.map((line, at) => addSourceRow(one, at + 1, ...line));
     source.of.set(n, one);
     byId("source-of").add(new Option(`PP ${two(n)}`, n));
@@ -17,19 +25,17 @@ function buildSource() {
   source.processor = source.of.keys().next().value;
   byId("source-of").hidden = source.of.size < 2;
   byId("source-of").onchange = () => chooseMemory(Number(byId("source-of").value));
-  byId("previous-time").onclick = () => moveToTime(source.line, -1);
-  byId("next-time").onclick = () => moveToTime(source.line, 1);
+  byId("previous-time").onclick = () => moveToTime(source.of.get(source.processor), -1);
+  byId("next-time").onclick = () => moveToTime(source.of.get(source.processor), 1);
 }
 
 // Notes the times of the moments that came to the film after so many.
 function growSource(first) {
-  for (const one of source.of.values()) {
-    addTimes(one, Math.max(first, 1));
-    one.times.forEach((times, at) => { one.rows[at].element.querySelector("button.line").disabled = !times.length; });
-  }
+  for (const one of source.of.values()) addTimes(one, Math.max(first, 1));
 }
 
-// Notes for each line at which moments from the first one on it was begun. A line that waits, or that is in its block, only goes on.
+// Notes for each line at which moments from the first one on it was begun: a line that waits, or that is in its block, only goes on. A line
+// can be clicked if it was performed.
 function addTimes(one, first) {
   for (let moment = first; moment < film.count; moment++) {
     if (!isTurn(moment) || film.processor[moment] !== one.processor) continue;
@@ -37,25 +43,25 @@ function addTimes(one, first) {
     if (line.number && !line.note && !block && !waited) one.times[line.number - 1].push(moment);
     one.last = moment;
   }
+  one.rows.forEach(({ button }, at) => { button.disabled = !one.times[at].length; });
 }
 
 // A row of a line: of one with words the address of the first and the place of its mark too.
 function addSourceRow(one, number, text, address, place) {
   const element = addRow(one.body, ["", number, address === undefined ? "" : four(address), "", ""]), cells = [...element.cells];
-  const button = document.createElement("button");
+  const button = document.createElement("button"), words = document.createElement("span");
+  const blanks = text.slice(0, text.length - text.trimStart().length);
   button.type = "button";
   button.className = "line";
-  const words = document.createElement("span"), blanks = text.length - text.trimStart().length;
-  words.textContent = text.slice(blanks);
-  button.append(text.slice(0, blanks) || " ", words);
-  button.disabled = true;
-  button.onclick = (event) => moveToTime(number, event.shiftKey ? -1 : 1);
+  words.textContent = text.trimStart();
+  button.append(text ? blanks : " ", words);
+  button.onclick = (event) => { one.line = number; moveToTime(one, event.shiftKey ? -1 : 1); };
   cells[4].append(button);
   cells[1].className = cells[2].className = "name";
   cells[3].className = "mark";
   cells[3].append("", " ");
   element.classList.toggle("note", text.trim().startsWith("*"));
-  return { element, at: cells[0], words: cells[3].firstChild, mark: cells[3], place, number: null, shown: "" };
+  return { element, button, at: cells[0], words: cells[3].firstChild, mark: cells[3], place, number: null, shown: "" };
 }
 
 // It is that of the chosen processor, if this has one.
@@ -70,8 +76,8 @@ function showSource() {
   const performed = isTurn(film.at) && film.processor[film.at] === n && !turnOf(film.at).line.note ? turnOf(film.at).line.number : 0;
   one.rows.forEach((row, at) => showSourceRow(row, n, line.number === at + 1 ? line : null, performed === at + 1));
   showTimes(one);
-  if (source.at !== film.at) keepInView(one.rows[(film.at === source.led ? source.line : line.number) - 1]);
-  source.at = film.at;
+  if (source.scrolled !== `${n} ${film.at}`) keepInView(one.rows[(film.at === one.led ? one.line : line.number) - 1]);
+  source.scrolled = `${n} ${film.at}`;
 }
 
 function showSourceRow(row, n, here, performed) {
@@ -92,18 +98,17 @@ function showSourceRow(row, n, here, performed) {
 }
 
 function showTimes(one) {
-  const times = one.times[source.line - 1] || [], count = times.findIndex((moment) => moment > film.at);
+  const times = one.times[one.line - 1] || [], count = times.findIndex((moment) => moment > film.at);
   byId("times").hidden = !times.length;
-  setText(byId("times-text"), `line ${source.line} (decimal), time ${octal(count < 0 ? times.length : count)} of ${octal(times.length)}`);
+  setText(byId("times-text"), `line ${one.line} (decimal), time ${octal(count < 0 ? times.length : count)} of ${octal(times.length)}`);
 }
 
-// To the next time that a line was performed, or to the time before; after the last comes the first.
-function moveToTime(number, direction) {
-  const times = source.of.get(source.processor).times[number - 1];
+// To the next time that the line that was clicked was performed, or to the time before; after the last comes the first.
+function moveToTime(one, direction) {
+  const times = one.times[one.line - 1];
   const next = times.find((moment) => moment > film.at) ?? times[0], before = times.findLast((moment) => moment < film.at) ?? times.at(-1);
-  source.line = number;
-  source.led = direction > 0 ? next : before;
-  byHand(() => moveTo(source.led))();
+  one.led = direction > 0 ? next : before;
+  byHand(() => moveTo(one.led))();
 }
 
 // Scrolls the lines, not the page, so that a row is seen, and some rows around it.
