@@ -27,6 +27,7 @@ from pp6600.listing import AllSymbols
 from pp6600.options import OPTIONS
 from pp6600.page import film as live
 from pp6600.page import routes, server, session
+from pp6600.sources import symbols_from
 
 COUNTER = ("SET M 0 100 1405 3420 300", "SET P 0 100")  # LDN 5, STD 20, UJN 0
 LINE = 4  # the kind of a moment of a line
@@ -59,10 +60,12 @@ class Reply:
 class Served:
     """A server in this process, and a client that has its key."""
 
-    def __init__(self, *options):
+    def __init__(self, *options, symbols=None):
+        symbols = symbols or AllSymbols()
         asked = argparse.Namespace(script=None, **{name: None for name in OPTIONS})
         vars(asked).update({name[2:]: value for name, value in zip(options[::2], options[1::2])})
-        self.session = session.Session([program(), *options], "a session", carried(asked, b""), AllSymbols())
+        self.session = session.Session([program(), *options], "a session", carried(asked, b""), symbols)
+        self.session.perform_script(list(symbols.loading(())))
         self.server = server.Server(self.session, 0)
         self.port, self.key = self.server.server_port, self.server.key
         self.have, self.last = 0, -1
@@ -423,8 +426,8 @@ WHERE = "[film.at, film.count - 1, film.turn[film.at]]"
 class Walked(PageCase):
     """The page in a browser."""
 
-    def serve(self, *options):
-        served = Served(*options)
+    def serve(self, *options, **symbols):
+        served = Served(*options, **symbols)
         self.addCleanup(served.close)
         return served
 
@@ -514,6 +517,19 @@ class Walked(PageCase):
         self.type("BACK 1")
         self.assertEqual(["?", "76000 turns that were not filmed"], self.value(
             f"[{word}, (moveTo(1), byId('action').innerText.split(':')[0])]"))
+
+    def test_lines_of_a_source(self):
+        """The line where the processor is moves on, and a line that has been performed can be clicked."""
+        served = self.serve("--deck", DECK, symbols=symbols_from((), [("0", "examples/overwritten-loader/loader.pp")]))
+        self.open(served)
+        rows = "[...document.querySelectorAll('#source tbody tr')]"
+        first = "row.cells[4].textContent.split(' ').filter(Boolean)[0]"
+        here = f"{rows}.filter((row) => row.cells[0].textContent === '>').map((row) => {first})"
+        self.type("STEP 1")
+        self.assertEqual(["ACN"], self.value(here))
+        self.type("STEP 12")
+        self.assertEqual(["LDN"], self.value(here))
+        self.assertEqual(["START", "ACN"], self.value(f"{rows}.filter((row) => !row.querySelector('.line').disabled).map((row) => {first})"))
 
     def test_two_tabs(self):
         """A page that is behind does nothing, and shows what is new."""
