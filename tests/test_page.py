@@ -6,6 +6,7 @@ import argparse
 import http.client
 import json
 import os
+import random
 import re
 import signal
 import socket
@@ -19,10 +20,14 @@ from tests.films import DEVICES, PageCase, about, decode, film_text, numbers_at,
 from tests.fixtures import DECK, OVERWRITTEN
 from tests.support import PYTHON, TOP, Case, program, read, run, tool
 
+from pp6600.core.state import central_of
 from pp6600.film.page import carried
+from pp6600.film.places import LAYOUT
 from pp6600.listing import AllSymbols
 from pp6600.options import OPTIONS
+from pp6600.page import film as live
 from pp6600.page import routes, server, session
+from pp6600.sources import symbols_from
 
 COUNTER = ("SET M 0 100 1405 3420 300", "SET P 0 100")  # LDN 5, STD 20, UJN 0
 LINE = 4  # the kind of a moment of a line
@@ -55,10 +60,12 @@ class Reply:
 class Served:
     """A server in this process, and a client that has its key."""
 
-    def __init__(self, *options):
+    def __init__(self, *options, symbols=None):
+        symbols = symbols or AllSymbols()
         asked = argparse.Namespace(script=None, **{name: None for name in OPTIONS})
         vars(asked).update({name[2:]: value for name, value in zip(options[::2], options[1::2])})
-        self.session = session.Session([program(), *options], "a session", carried(asked, b""), AllSymbols())
+        self.session = session.Session([program(), *options], "a session", carried(asked, b""), symbols)
+        self.session.perform_script(list(symbols.loading(())))
         self.server = server.Server(self.session, 0)
         self.port, self.key = self.server.server_port, self.server.key
         self.have, self.last = 0, -1
@@ -131,7 +138,8 @@ class Session(ServedCase):
 
     def test_the_film_that_is_saved(self):
         """It is the page of tools/film for the script that is saved, and this script leads to the same machine."""
-        served, lines = self.serve("--deck", DECK), [*OVERWRITTEN.splitlines(), "WATCH M 0 106", "BACK W", "DUMP PP 0", "SET A 0 0", "STEP 25"]
+        served = self.serve("--deck", DECK)
+        lines = [*OVERWRITTEN.splitlines(), "WATCH M 0 106", "BACK W", "DUMP PP 0", "SET A 0 0", "STEP 25"]
         for line in lines:
             served.act(line)
         script = served.post("/script", {}).text
@@ -149,7 +157,8 @@ class Session(ServedCase):
         self.assertEqual(wanted, [text for line in answers for text in line["answer"]])
         self.assertEqual({4: "word 4: 9 is not octal"}, {at: line["why"] for at, line in enumerate(answers) if "why" in line and at < 9})
         reply = served.act("STEP", "SET A 9 9", "STEP")
-        self.assertEqual([2, "ERR 03 NUMBER (word 3: 9 is not octal)", True], [len(reply.news["lines"]), reply.news["said"], reply.news["is_refused"]])
+        self.assertEqual([2, "ERR 03 NUMBER (word 3: 9 is not octal)", True],
+                         [len(reply.news["lines"]), reply.news["said"], reply.news["is_refused"]])
 
     def test_turns_that_are_skipped(self):
         """STEP 100000 films its last 2000 turns, and has one moment for those before."""
@@ -161,10 +170,34 @@ class Session(ServedCase):
         self.assertEqual((0o2000 + 3, [[3, 0o76000]]), (len(kinds), reply.news["skips"]))
         self.assertEqual([7], reply.news["unseen"])
         back = served.act("BACK 3001")
-        self.assertEqual([[-1, 0o75000]], [jump[1:] for jump in back.news["jumps"]])  # 0o3000 turns and a SET: within those that were skipped
+        self.assertEqual([[-1, 0o75000]], [jump[1:] for jump in back.news["jumps"]])  # within those that were skipped
         served.act("STEP 3")
         self.assert_same_end(served, ["SET M 0 100 2000 2 6320 200 2001 3 6020 300", "SET P 0 100", "STEP 75003"])
         self.assertIn("this moment is gone", served.post("/act", {"have": served.have, "at": 20, "lines": ["STEP"]}).text)
+
+    def test_random_sessions_with_skips(self):
+        """After each line the numbers are those of full dumps; and so is each central word that is known."""
+        for seed in range(2):
+            choose, film = random.Random(seed), live.LiveFilm([program(), *DEVICES])
+            self.addCleanup(film.run.close)
+            more = (f"{choose.choice(('STEP', 'BACK', 'FORWARD'))} {choose.randrange(40) + 1:o}" for _ in range(10000))
+            lines = [part for pair in zip(random_session(seed), more) for part in pair]
+            with mock.patch.object(live, "MOST_FILMED", 8):
+                for line in lines:
+                    film.perform(line)
+                    film._read_all(True)
+                    self.assertEqual([], film.machine.take_changes(), line)
+            words = {int(line[2:8], 8): line[9:] for line in central_of(film.run)}
+            known = film.machine.central if film.machine.numbers[LAYOUT["unseen"]] else words
+            with self.subTest(seed=seed):
+                self.assertEqual([True, True], [len(film.skips) > 5, len(film.jumps) > 5])
+                self.assertEqual([], [address for address in known if words[address] != self.word_of(film.machine, address)])
+
+    @staticmethod
+    def word_of(machine, address):
+        """Returns a central word, as the page has it."""
+        place = machine.central.get(address)
+        return "0" * 20 if place is None else "".join(f"{number:010o}" for number in machine.numbers[place:place + 2])
 
     def assert_same_end(self, served, lines, *options):
         """Checks the last moment beside the last one of a film of these lines."""
@@ -261,8 +294,9 @@ class Security(ServedCase):
 
     def test_other_sites(self):
         """Another host, as after a name was bound to this address; another origin; what the browser says of who asks."""
-        for headers, wanted in (({"Host": "example.org"}, 421), ({"Host": "127.0.0.1"}, 421), ({"Host": f"localhost:{self.served.port}"}, 200),
-                                ({"Origin": "http://example.org"}, 403), ({"Origin": "null"}, 403), ({"Origin": f"http://{self.host}"}, 200),
+        for headers, wanted in (({"Host": "example.org"}, 421), ({"Host": "127.0.0.1"}, 421),
+                                ({"Host": f"localhost:{self.served.port}"}, 200), ({"Origin": "http://example.org"}, 403),
+                                ({"Origin": "null"}, 403), ({"Origin": f"http://{self.host}"}, 200),
                                 ({"Sec_Fetch_Site": "cross-site"}, 403), ({"Sec_Fetch_Site": "same-site"}, 403),
                                 ({"Sec_Fetch_Site": "same-origin"}, 200)):
             with self.subTest(headers):
@@ -290,18 +324,21 @@ class Security(ServedCase):
     def test_wrong_requests(self):
         """Clear words, and nothing is performed."""
         act = {"have": 1, "at": 0, "lines": ["STEP"]}
-        for asked, wanted in (({**act, "lines": []}, "lines"), ({**act, "lines": ["STEP\nSTEP"]}, "line ends"), ({**act, "lines": "STEP"}, "lines"),
-                              ({**act, "lines": ["A" * 1001]}, "letters"), ({**act, "lines": ["STEP"] * 1001}, "1000"), ({**act, "have": -1}, "have"),
-                              ({**act, "have": True}, "have"), ({**act, "at": "0"}, "at"), ({**act, "at": 7}, "gone"), ({"lines": []}, "have"),
-                              ([], "object"), ("x", "object")):
+        for asked, wanted in (({**act, "lines": []}, "lines"), ({**act, "lines": ["STEP\nSTEP"]}, "line ends"),
+                              ({**act, "lines": "STEP"}, "lines"), ({**act, "lines": ["A" * 1001]}, "letters"),
+                              ({**act, "lines": ["STEP"] * 1001}, "1000"), ({**act, "have": -1}, "have"), ({**act, "have": True}, "have"),
+                              ({**act, "at": "0"}, "at"), ({**act, "at": 7}, "gone"), ({"lines": []}, "have"), ([], "object"),
+                              ("x", "object")):
             reply = self.served.post("/act", asked)
             with self.subTest(asked=str(asked)[:60]):
                 self.assertEqual((400, True), (reply.status, wanted in reply.text), reply.text)
         self.assertEqual([], self.served.ask("/news").news["lines"])
 
     def test_bodies(self):
-        for body, headers, wanted in ((b"{", {}, 400), (b"\xff", {}, 400), (b"[" * 60000, {}, 400), (b"{}", {"Content_Type": "text/plain"}, 415),
-                                      (b"have=0", {"Content_Type": "application/x-www-form-urlencoded"}, 415), (b"", {"Content_Length": "65537"}, 413),
+        form = {"Content_Type": "application/x-www-form-urlencoded"}
+        for body, headers, wanted in ((b"{", {}, 400), (b"\xff", {}, 400), (b"[" * 60000, {}, 400),
+                                      (b"{}", {"Content_Type": "text/plain"}, 415),
+                                      (b"have=0", form, 415), (b"", {"Content_Length": "65537"}, 413),
                                       (b"{}", {"Content_Length": None}, 411), (b"{}", {"Content_Length": "-1"}, 411),
                                       (b"0\r\n\r\n", {"Transfer_Encoding": "chunked"}, 411)):
             with self.subTest(body[:10], headers=headers):
@@ -389,8 +426,8 @@ WHERE = "[film.at, film.count - 1, film.turn[film.at]]"
 class Walked(PageCase):
     """The page in a browser."""
 
-    def serve(self, *options):
-        served = Served(*options)
+    def serve(self, *options, **symbols):
+        served = Served(*options, **symbols)
         self.addCleanup(served.close)
         return served
 
@@ -399,7 +436,8 @@ class Walked(PageCase):
         self.browser.ask("Page.navigate", url="about:blank")
         key = f"key={served.key}" if fragment is None else fragment
         self.browser.ask("Page.navigate", url=f"http://127.0.0.1:{served.port}/#{key}")
-        self.browser.wait_for("document.readyState === 'complete' && (document.body.dataset.open === 'yes' || !document.getElementById('fault').hidden)")
+        self.browser.wait_for("document.readyState === 'complete' && (document.body.dataset.open === 'yes'"
+                              " || !document.getElementById('fault').hidden)")
 
     def tearDown(self):
         self.browser.log[:] = [line for line in self.browser.log if not line.startswith("asks for http://127.0.0.1:")]
@@ -433,14 +471,16 @@ class Walked(PageCase):
         self.browser.key("Home")
         self.assertEqual([0, "The beginning."], self.value("[film.at, byId('action').innerText]"))
         self.assertEqual(["SET M 0 100 7712 1 7412 1477 7112 60 7512 100", "STEP 12"], self.value(
-            "[...document.querySelectorAll('#script .line')].map((one) => one.textContent).filter((_, at, all) => !at || at === all.length - 1)"))
+            "[...document.querySelectorAll('#script .line')].map((one) => one.textContent)"
+            ".filter((_, at, all) => !at || at === all.length - 1)"))
 
     def test_refusals_and_conditions(self):
         served = self.serve()
         self.open(served)
         for line in (*COUNTER, "SET M 0 9 1"):
             self.type(line)
-        self.assertEqual(["ERR 03 NUMBER (word 4: 9 is not octal)", "wrong", "ERR 03 NUMBER\n  word 4: 9 is not octal"], self.value(
+        why = "word 4: 9 is not octal"
+        self.assertEqual([f"ERR 03 NUMBER ({why})", "wrong", f"ERR 03 NUMBER\n  {why}"], self.value(
             f"[{SAID}, byId('said').className, document.querySelector('#script li:last-child pre').textContent]"))
         self.type("until M 0 20 = 5")
         self.assertEqual(["TURN 13 PP 00 P 0101 STD WAS 0000 NOW 0005", 0o13], self.value(f"[{SAID}, film.turn[film.at]]"))
@@ -475,7 +515,21 @@ class Walked(PageCase):
         self.assertEqual([last, "?", "0" * 20], self.value(f"[{word}, (goTo(film.count - 2), {word}), (goTo(0), {word})]"))
         self.value("moveTo(film.count - 1)")
         self.type("BACK 1")
-        self.assertEqual(["?", "76000 turns that were not filmed."], self.value(f"[{word}, (moveTo(1), byId('action').innerText.split(':')[0] + '.')]"))
+        self.assertEqual(["?", "76000 turns that were not filmed"], self.value(
+            f"[{word}, (moveTo(1), byId('action').innerText.split(':')[0])]"))
+
+    def test_lines_of_a_source(self):
+        """The line where the processor is moves on, and a line that has been performed can be clicked."""
+        served = self.serve("--deck", DECK, symbols=symbols_from((), [("0", "examples/overwritten-loader/loader.pp")]))
+        self.open(served)
+        rows = "[...document.querySelectorAll('#source tbody tr')]"
+        first = "row.cells[4].textContent.split(' ').filter(Boolean)[0]"
+        here = f"{rows}.filter((row) => row.cells[0].textContent === '>').map((row) => {first})"
+        self.type("STEP 1")
+        self.assertEqual(["ACN"], self.value(here))
+        self.type("STEP 12")
+        self.assertEqual(["LDN"], self.value(here))
+        self.assertEqual(["START", "ACN"], self.value(f"{rows}.filter((row) => !row.querySelector('.line').disabled).map((row) => {first})"))
 
     def test_two_tabs(self):
         """A page that is behind does nothing, and shows what is new."""
@@ -549,10 +603,12 @@ class Projector(PageCase):
                 with self.subTest(name, address=address, height=height):
                     self.assertEqual([True, True], self.value("[document.documentElement.scrollHeight <= innerHeight, "
                                                               "document.documentElement.scrollWidth <= innerWidth]"))
-                    ends = self.value(f"{self.SEEN}.map((id) => byId(id).getBoundingClientRect()).map((box) => box.height > 0 && box.bottom)")
+                    ends = self.value(f"{self.SEEN}.map((id) => byId(id).getBoundingClientRect())"
+                                      ".map((box) => box.height > 0 && box.bottom)")
                     self.assertEqual([], [end for end in ends if not end or end > height])
                     rows = "[...document.querySelectorAll('#program tbody tr')]"
-                    self.assertEqual([16, True], self.value(f"[{rows}.length, {rows}.every((row) => row.getBoundingClientRect().bottom <= innerHeight)]"))
+                    self.assertEqual([16, True], self.value(
+                        f"[{rows}.length, {rows}.every((row) => row.getBoundingClientRect().bottom <= innerHeight)]"))
                     sizes = self.value("[...document.querySelectorAll('#program .number, #processors .chosen .number')].map("
                                        "(one) => parseFloat(getComputedStyle(one).fontSize))")
                     self.assertGreaterEqual(min(sizes), height / 30)
@@ -584,7 +640,8 @@ class InFirefox(Case):
         cls.addClassCleanup(cls.browser.end)
 
     def type(self, text):
-        self.browser.evaluate(f"(document.getElementById('typed').value = {json.dumps(text)}, document.getElementById('console').requestSubmit())")
+        self.browser.evaluate(f"(document.getElementById('typed').value = {json.dumps(text)},"
+                              "document.getElementById('console').requestSubmit())")
         self.browser.wait_for("document.getElementById('typed').value === ''")
 
     def test_a_session(self):

@@ -21,7 +21,7 @@ from .positions import Positions
 from .sources import InEffect, Written, written_by
 from .upcoming import upcoming
 
-# The kinds of a moment: what a turn was, another action, a BACK or FORWARD, turns that were skipped. TURNS is that of a line of the script.
+# The kinds of a moment: what a turn was, another action, a BACK or FORWARD, turns that were skipped. TURNS is that of a line.
 PASSES, WAITS, BUSY, BLOCK, LINE, JUMP, SKIP, TURNS = range(8)
 MOST_MOMENTS = 0o1000000
 AROUND = 0o4000  # moments before a turn, and after it

@@ -140,5 +140,6 @@ class Session:
 
         def progress(turn):
             if time.monotonic() > end:
-                raise Failure(f"the search has come to turn {turn:o} in {seconds} (decimal) seconds, and found nothing; step on, and search again")
+                raise Failure(f"the search has come to turn {turn:o} in {seconds} (decimal) seconds, and found nothing; "
+                              "step on, and search again")
         return progress

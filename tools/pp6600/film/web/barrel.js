@@ -1,7 +1,8 @@
 // ---- the barrel: the ten processors around the slot, the channels with their devices, and what the action of this moment did
 
-// Lengths in heights of a letter: the radius of a processor's circle, a channel's box, and how far apart two of them are.
-const CIRCLE = 2.2, BOX_WIDTH = 7.6, BOX_HEIGHT = 1.75, BOX_APART = 2, BELOW_BOX = 1.2, LETTER = 0.6;
+// Lengths in heights of a letter: the radius of a processor's circle, a channel's box, how far apart two of them are, and how far at most
+// from the ring.
+const CIRCLE = 2.2, BOX_WIDTH = 7.6, BOX_HEIGHT = 1.75, BOX_APART = 2, BELOW_BOX = 1.2, FROM_RING = 10, LETTER = 0.6;
 const STATE_CLASSES = ["inactive", "empty", "full", "function"];
 const barrel = { folded: false, channels: [] };
 
@@ -72,9 +73,9 @@ const deviceOf = (c) => (c === CLOCK ? "clock" : film.devices[c] || "");
 const heightOfChannel = (c) => BOX_APART + (deviceOf(c) ? BELOW_BOX : 0);
 
 // The upper left corner of a channel's box. The boxes are one below the other, in the middle of the height.
-function boxOf(c, { width, height, boxes }) {
+function boxOf(c, { width, height, boxes, cx, rx }) {
   const before = barrel.channels.slice(0, barrel.channels.indexOf(c)).reduce((sum, one) => sum + heightOfChannel(one), 0);
-  return { x: width - BOX_WIDTH - 0.2, y: (height - boxes) / 2 + before };
+  return { x: Math.min(width - BOX_WIDTH - 0.2, cx + rx + CIRCLE + FROM_RING), y: (height - boxes) / 2 + before };
 }
 
 // ---- the drawing
@@ -122,7 +123,8 @@ function drawProcessor(picture, n, sizes) {
 // The mark of the processor whose turn comes next, at the inner side of its circle.
 function drawSlot(picture, n, sizes) {
   const { x, y } = processorAt(n, sizes), degrees = Math.atan2(sizes.cy - y, sizes.isFlat && n % 5 ? 0 : sizes.cx - x) * 180 / Math.PI;
-  drawn(picture, "path", { class: "slot", d: `M ${CIRCLE + 0.15} 0 l 0.9 -0.6 v 1.2 Z`, transform: `translate(${x} ${y}) rotate(${degrees})`, "data-processor": n });
+  drawn(picture, "path", { class: "slot", d: `M ${CIRCLE + 0.15} 0 l 0.9 -0.6 v 1.2 Z`, transform: `translate(${x} ${y}) rotate(${degrees})`,
+    "data-processor": n });
 }
 
 // The middle of the ring: the action, what it was, and the first cell or word that it changed.
@@ -157,7 +159,7 @@ function drawChannel(picture, c, { x, y }) {
   drawn(group, "rect", { width: BOX_WIDTH, height: BOX_HEIGHT, rx: BOX_HEIGHT / 2 });
   drawn(group, "text", { x: 2.1, y: 1.27 }, `H ${two(c)}`);
   drawn(group, "text", { x: 5.4, y: 1.27, class: "strong" }, state > 1 ? four(film.numbers[places[0]]) : state ? "empty" : "");
-  const device = deviceOf(c), did = [places[0], film.layout.states + c].some((place) => isByDevice(film.at, place));
+  const device = deviceOf(c), did = c < CHANNELS && [places[0], film.layout.states + c].some((place) => isByDevice(film.at, place));
   drawn(group, "text", { x: BOX_WIDTH / 2, y: BOX_HEIGHT + 1, class: did ? "acted" : "" }, device);
 }
 
@@ -174,7 +176,7 @@ function drawLinesOfBarrel(picture, sizes) {
   }
   const moved = wordMoved(film.at);
   if (!moved) return;
-  const { x, y } = boxOf(moved.channel, sizes), text = moved.isOutput ? `${four(moved.word)}→` : `←${four(moved.word)}`;
+  const { x, y } = boxOf(moved.channel, sizes), word = four(moved.word), text = moved.isOutput ? `${word}→` : `←${word}`;
   drawn(picture, "path", { class: "moved", d: lineTo(film.processor[film.at], moved.channel) });
   const group = drawn(picture, "g", { class: "word", transform: `translate(${x - 2.4} ${y + BOX_HEIGHT / 2})`, "data-channel": moved.channel });
   drawn(group, "rect", { x: -1.9, y: -0.85, width: 3.8, height: 1.7, rx: 0.3 });

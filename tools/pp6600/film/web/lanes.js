@@ -1,7 +1,7 @@
 // ---- the lanes
 
-const GAP = 3;
-let LANE = 13, LABEL = 46, SIGN = 9, LETTERS = 11; // the height of a lane, the widths of the names and of a sign, and that of letters, in pixels
+const GAP = 3, SIGN = 9; // between lanes, and the width of a sign
+let LANE = 13, LABEL = 46, LETTERS = 11; // the height of a lane, the width of the names, and the height of letters, in pixels
 const lanes = { all: [], from: 0, to: 0, folded: true }; // whether the quiet ones are one line
 
 // The stretches of a lane: at which moment each begins, and what it is.

@@ -82,7 +82,7 @@ live.do = async (address, body) => {
   if (address !== "/news") await live.looking;
   if (live.isBusy) return false;
   live.isBusy = true;
-  const slow = setTimeout(() => say("the machine runs ..", false), 300);
+  const slow = address === "/news" ? 0 : setTimeout(() => say("the machine runs ..", false), 300);
   try {
     const [news, ...rows] = await unpack(await (await ask(address, { ...body, have: 1 + film.lines.length })).text());
     take(news, rows);

@@ -244,7 +244,8 @@ function buildFrame() {
 
 // Shows the parts of the machine that the film uses.
 function showParts() {
-  const { frame, reader, printer, paper } = film.layout, changes = (first, last) => film.places.some((place) => place >= first && place <= last);
+  const { frame, reader, printer, paper } = film.layout;
+  const changes = (first, last) => film.places.some((place) => place >= first && place <= last);
   const isNew = byId("central").hidden && film.central.length > 0;
   if (isNew) central.first = Math.min(...film.central) & ~7;
   if (isNew) byId("central").hidden = false;
