@@ -5,7 +5,7 @@ Expected values are those of docs/FILM.md, of `Source.line_of` for the numbers t
 import os
 import random
 
-from tests.films import PageCase, about, moments_of, numbers_at, shown_film, text_of
+from tests.films import PageCase, about, moments_of, numbers_at, shown_film
 from tests.support import EXAMPLES, TOP, program, read, write
 
 from pp6600.film.lines import NOT_YET, WHOLE, Mark

@@ -11,13 +11,10 @@ Other files lie where the program runs.
 """
 
 import os
-import resource
-import shutil
 import subprocess
-import sys
 import time
 
-from tests.support import EXAMPLES, PATIENCE, TOP, Case, add_tests, program, read, write
+from tests.support import EXAMPLES, PATIENCE, TOP, Case, add_tests, program, read
 from tests.ways import CaseFolders, cases, part, words_of
 
 # The loops over many turns, and the functions of a turn that stand in them, and so have no name of their own in the program.
