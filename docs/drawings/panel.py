@@ -1,8 +1,9 @@
 #!/usr/bin/env python3
-"""Draws panel.svg, the picture of docs/PANEL.md, beside this file: the panel before the loader of README.md is overwritten.
+"""Draws the pictures of the panel beside this file: panel.svg of docs/PANEL.md, before the loader of README.md is overwritten, and
+panel-source.svg of README.md, where the panel has the loader's source.
 
-Without a word it writes the picture. With `--check` it writes nothing, and fails if the picture is not what it draws. The
-simulator is $PP6600, or else the one that ./pp6600 runs.
+Without a word it writes the pictures. With `--check` it writes nothing, and fails if one is not what it draws. The simulator is $PP6600,
+or else the one that ./pp6600 runs.
 """
 
 import os
@@ -17,8 +18,8 @@ from pp6600.command_line import Failure, arguments, run, script_lines, simulator
 from pp6600.panel.app import Panel
 from pp6600.panel.session import Session
 from pp6600.panel.text import CHANGED, CHOSEN, CURSOR, HEAD, HERE as AT_P, REFUSED, SLOT, TITLE
+from pp6600.sources import symbols_from
 
-PICTURE = os.path.join(HERE, "panel.svg")
 EXAMPLE = os.path.join(TOP, "examples", "overwritten-loader")
 LINES = 6  # of its script, up to the first question
 KEYS = ("g", "1", "0", "6", "Enter", "W")
@@ -31,10 +32,11 @@ text { font: 15px "DejaVu Sans Mono", Menlo, Consolas, monospace; fill: #dddddd;
 .title { fill: #111111 } rect.title { fill: #dddddd } rect.ground { fill: #111111 }"""
 
 
-def screen_lines(words):
-    """Returns the lines of the panel's screen after the keys; the words are the simulator and its options."""
-    panel = Panel(Session([*words, "--deck", os.path.join(EXAMPLE, "deck")]))
-    panel.perform_script(script_lines(os.path.join(EXAMPLE, "script"))[:LINES])
+def screen_lines(words, lines, symbols, rows):
+    """Returns so many lines of the panel's screen after the keys; the words are the simulator and its options."""
+    panel = Panel(Session([*words, "--deck", os.path.join(EXAMPLE, "deck")]), symbols)
+    panel.rows = rows
+    panel.perform_script(lines)
     for key in KEYS:
         panel.press(key)
     panel.session.close()
@@ -69,18 +71,33 @@ def picture(lines):
     return "\n".join(svg + ["</svg>"]) + "\n"
 
 
+def pictures(words):
+    """Returns the texts of the pictures by the names of their files."""
+    octal, source = symbols_from([], []), symbols_from([], [("0", os.path.join(EXAMPLE, "loader.pp"))])
+    script = script_lines(os.path.join(EXAMPLE, "script"))[:LINES]
+    return {"panel.svg": picture(screen_lines(words, script, octal, 24)),
+            "panel-source.svg": picture(screen_lines(words, source.loading(["STEP 1300"]), source, 36))}
+
+
 def main():
     parser = arguments(__doc__.splitlines()[0])
-    parser.add_argument("--check", action="store_true", help="write nothing, and fail if the picture is old")
+    parser.add_argument("--check", action="store_true", help="write nothing, and fail if a picture is old")
     asked = parser.parse()
-    drawn = picture(screen_lines(simulator(asked)))
-    if not asked.check:
-        with open(PICTURE, "w", encoding="ascii") as file:
-            file.write(drawn)
-        return
-    with open(PICTURE, encoding="ascii") as file:
-        if file.read() != drawn:
-            raise Failure("docs/drawings/panel.svg is old: run docs/drawings/panel.py")
+    for name, drawn in pictures(simulator(asked)).items():
+        if not asked.check:
+            write(name, drawn)
+        elif read(name) != drawn:
+            raise Failure(f"docs/drawings/{name} is old: run docs/drawings/panel.py")
+
+
+def read(name):
+    with open(os.path.join(HERE, name), encoding="ascii") as file:
+        return file.read()
+
+
+def write(name, text):
+    with open(os.path.join(HERE, name), "w", encoding="ascii") as file:
+        file.write(text)
 
 
 run(main)
