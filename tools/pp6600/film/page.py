@@ -113,7 +113,9 @@ def growth(film, has):
     """Returns what a page lacks, beside the rows of the moments, that has so many of each thing."""
     machine = film.machine
     grown = {"papers": machine.papers, "watches": machine.watches, "next": film.upcoming, "constants": film.constants,
-             "central": machine.central, "unseen": machine.unseen, "marks": film.source_lines.marks}
+             "central": machine.central, "unseen": machine.unseen}
+    if film.source_lines.sources:
+        grown["marks"] = film.source_lines.marks
     return {"lines": list(lines(film, has.lines)), **of_moments(film, has.moments),
             **{name: list(islice(things, getattr(has, name), None)) for name, things in grown.items()}}
 
