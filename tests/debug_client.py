@@ -16,7 +16,7 @@ ADAPTER = os.path.join(TOP, "tools", "debug-adapter")
 
 
 LOADER = [line for line in read("examples", "overwritten-loader", "script").splitlines() if not line.startswith("*")][:4]
-REGISTERS, CHANNELS, DEVICES, WATCHES, HISTORY = (scope << 8 for scope in range(1, 6))
+REGISTERS, CHANNELS, DEVICES, WATCHES, HISTORY, CALLS = (scope << 8 for scope in range(1, 7))
 GO = "/usr/share/gocode/src/github.com/google/go-dap"
 HAS_GO = os.path.isdir(GO) and shutil.which("go") is not None
 CHECKER = """package main

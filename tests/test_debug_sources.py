@@ -4,7 +4,7 @@ is every tenth (decimal), so before its turn number n, from 1, there are 10 * (n
 import json
 import os
 
-from tests.debug_client import REGISTERS, DebugCase, Refusal
+from tests.debug_client import CALLS, REGISTERS, DebugCase, Refusal
 from tests.support import TOP
 
 # 0100 1401 3420 1402 3421 0200 0111 7005 0370, then the subroutine from 0110 on: 0100 0110 3622 0374.
@@ -181,6 +181,17 @@ class Steps(OwnCase):
         self.assertEqual([INPUT], self.after(client, "stepOut"))
         self.assertEqual(80, self.turns(client))
         self.assertEqual([ROUND], self.after(client, "stepOut"))  # it is in no subroutine
+
+    def test_calls(self):
+        """PP 00 calls the subroutine in its fifth turn, 51 in octal, and returns in its eighth."""
+        client, found = self.begin(), []
+        for turns in (4, 1, 2, 1):
+            for _ in range(turns):
+                client.stop_after("stepIn", threadId=1)
+            found.append(list(self.values(client, CALLS).values()))
+        self.assertEqual([[], ["SUB called from START+4, turn 51"], ["SUB called from START+4, turn 51"], []], found)
+        client.stop_after("stepBack", threadId=1, granularity="instruction")
+        self.assertEqual(["SUB called from START+4, turn 51"], list(self.values(client, CALLS).values()))
 
     def test_a_subroutine_that_counts_its_return_up(self):
         text = COUNTS.replace("          AOD    COUNT\n", "          AOM    SUB\n")

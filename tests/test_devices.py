@@ -10,6 +10,7 @@ from tests.films import PageCase
 from tests.support import EXAMPLES, PYTHON, Case, program, read, run, tool, write
 
 from pp6600 import Attached, Failure
+from pp6600.core.simulator import Simulator
 from pp6600.device import Event
 from pp6600.device_options import device_of, script_with
 from pp6600.devices import console_display
@@ -376,7 +377,7 @@ class Films(Case):
         words, display = [program()], ConsoleDisplay()
         script, _ = script_with(words, [display], self.SCRIPT.encode())
         transcript = Transcript(words, script.decode().splitlines())
-        film = Film(words, transcript, 0o12, 0o13, (), [display])
+        film = Film(Simulator(words), transcript, 0o12, 0o13, (), [display])
         film.shoot(*to_film(transcript, last, None))
         return film
 
@@ -402,7 +403,7 @@ class Films(Case):
     def test_pictures(self):
         """Each turn and each step back is a moment, and so is each reply, which changes no picture."""
         film, wanted = self.filmed(), self.pictures()
-        kinds = [kind for kind, _ in film.moments]
+        kinds = [film.rows.streams[0][start] & 7 for start in film.rows.starts[0][:-1]]
         moments = [moment for moment, kind in enumerate(kinds) if moment and kind != LINE]
         self.assertEqual(wanted, [self.shown(film, moment) for moment in moments])
         self.assertGreater(len(set(wanted)), 5)

@@ -51,9 +51,8 @@ def has_returned(run, number, call, position):
     return len(moments) > is_there
 
 
-def calls(run, number, source):
-    """Returns the subroutines that a processor is in at the end of a run, the innermost first."""
-    position = run.tape.end
+def calls(run, number, source, position):
+    """Returns the subroutines that a processor is in at a position of a run, the innermost first."""
     run.goto(position)
     processor = run.processor(number)
     address = processor.p if not processor.phase else (int(run.cells(number, 0, 0)[0], 8) - 1) % CELLS

@@ -47,7 +47,7 @@ def call_lines(run, symbols):
     """Returns a line for each subroutine of a source that its processor is in, the innermost first."""
     again = Replay(run.words, run.history.in_effect())
     lines = [f" PP {number:02o}  {sentence(again, number, call, symbols)}"
-             for number, source in symbols.sources() for call in calls(again, number, source)]
+             for number, source in symbols.sources() for call in calls(again, number, source, again.tape.end)]
     again.close()
     return lines
 

@@ -3,12 +3,13 @@
 import base64
 import binascii
 
+from ..calls import calls, sentence
 from ..core.forms import CELLS, PROCESSORS, ROW
 from .breakpoints import Cell
 from .listings import instruction
 from .protocol import Refused
 from .running import Runner
-from .variables import place_of, scope_and_number, scopes, set_line, value_of, variables
+from .variables import CALL_SCOPE, place_of, scope_and_number, scopes, set_line, value_of, variable, variables
 
 LINE_CONTEXTS = ("repl", "clipboard", "")  # of what is typed; the others must not act
 PREFIX = ":"  # of a line that an editor evaluates as a watch expression
@@ -78,12 +79,20 @@ class Requests:
     # ---- numbers
 
     def do_scopes(self, frameId, **_):
-        return {"scopes": scopes(self.frame(frameId))}
+        number = self.frame(frameId)
+        return {"scopes": scopes(number, number in self.own.of)}
 
     def do_variables(self, variablesReference, start=0, count=0, **_):
         scope, number = scope_and_number(variablesReference)
-        found = variables(self.machine, scope, number, dict.fromkeys([*self.machine.state.watched, *self.points.places()]))
+        places = dict.fromkeys([*self.machine.state.watched, *self.points.places()])
+        found = self.calls_of(number) if scope == CALL_SCOPE else variables(self.machine, scope, number, places)
         return {"variables": found[start:start + count] if count else found}
+
+    def calls_of(self, number):
+        """Returns the subroutines that a processor is in, the innermost first."""
+        source, scout = self.own.of.get(number), self.machine.scout("looks")
+        found = calls(scout, number, source, self.machine.position) if source else []
+        return [variable(f"{at}", sentence(scout, number, call, self.own.symbols)) for at, call in enumerate(found, 1)]
 
     def act(self, line):
         """Performs a line, and returns its answer. What was ahead may be lost by it: that is said."""

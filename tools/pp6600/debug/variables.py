@@ -8,8 +8,8 @@ from .breakpoints import Cell, checked
 from .protocol import Refused
 from .terms import of_processor
 
-SCOPES = ("Registers", "Channels and clock", "Devices", "Watches", "History")
-REGISTER_SCOPE, CHANNEL_SCOPE, DEVICE_SCOPE, WATCH_SCOPE, HISTORY_SCOPE = range(1, len(SCOPES) + 1)
+SCOPES = ("Registers", "Channels and clock", "Devices", "Watches", "History", "Calls")
+REGISTER_SCOPE, CHANNEL_SCOPE, DEVICE_SCOPE, WATCH_SCOPE, HISTORY_SCOPE, CALL_SCOPE = range(1, len(SCOPES) + 1)
 
 
 def reference(scope, number):
@@ -23,10 +23,11 @@ def scope_and_number(asked):
     return asked >> 8, asked & 0xFF
 
 
-def scopes(number):
-    """Returns the scopes of a processor."""
-    return [{"name": name, "variablesReference": reference(scope, number), "expensive": False,
-             **({"presentationHint": "registers"} if scope == REGISTER_SCOPE else {})} for scope, name in enumerate(SCOPES, 1)]
+def scopes(number, has_source):
+    """Returns the scopes of a processor. Its calls are known by a source alone, and take a search."""
+    return [{"name": name, "variablesReference": reference(scope, number), "expensive": scope == CALL_SCOPE,
+             **({"presentationHint": "registers"} if scope == REGISTER_SCOPE else {})}
+            for scope, name in enumerate(SCOPES, 1) if has_source or scope != CALL_SCOPE]
 
 
 def variable(name, value, place=""):
@@ -90,7 +91,7 @@ def set_line(scope, number, name, value):
         raise Refused(f"{value} is not octal")
     if scope == REGISTER_SCOPE and name == "PHASE":
         raise Refused("PHASE can't be set; to set P ends a block transfer")
-    if scope in (DEVICE_SCOPE, HISTORY_SCOPE):
+    if scope in (DEVICE_SCOPE, HISTORY_SCOPE, CALL_SCOPE):
         raise Refused(f"{name} can't be set")
     place = place_of(name, number if scope == REGISTER_SCOPE else None)
     return place, f"SET {place.short} {value}"
