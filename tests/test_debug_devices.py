@@ -41,7 +41,8 @@ class Sessions(Case):
         for command, places, *wanted in (
                 ("stepIn", "", "1", "3", "0", "0000", "I 0001"), ("stepIn", "", "13", "15", "0", "0000", "F 0101"),
                 ("stepBack", "", "12", "14", "1", "0000", "I 0001"), ("continue", "M 0 201", "63", "65", "0", "0102", "I 0102"),
-                ("reverseContinue", "M 0 201", "62", "64", "1", "0000", "F 0102"), ("continue", "M 0 201", "63", "65", "0", "0102", "I 0102"),
+                ("reverseContinue", "M 0 201", "62", "64", "1", "0000", "F 0102"),
+                ("continue", "M 0 201", "63", "65", "0", "0102", "I 0102"),
                 ("reverseContinue", "H 11", "50", "52", "13", "0000", "F 0101"), ("continue", "H 11", "51", "53", "12", "0000", "F 0102")):
             with self.subTest(command, turns=wanted[0]):
                 client.ask("setDataBreakpoints", breakpoints=[{"dataId": places}] if places else [])
@@ -55,7 +56,8 @@ class Sessions(Case):
         client = Client()
         self.addCleanup(client.end)
         client.ask("initialize", adapterID="pp6600")
-        for devices, message in (("paper_tape@11", "devices is no list"), ([5], "--device 5 names no channel: it is NAME[:WORD,..]@CHANNEL"),
+        for devices, message in (("paper_tape@11", "devices is no list"),
+                                 ([5], "--device 5 names no channel: it is NAME[:WORD,..]@CHANNEL"),
                                  (["paper_tape@12"], "PaperTape can't be on channel 12: the card reader is on it")):
             with self.subTest(message), self.assertRaises(Refusal) as caught:
                 client.ask("launch", devices=devices)

@@ -49,7 +49,8 @@ class Panels(Case):
 
     def test_to_and_fro(self):
         panel = self.panel(READS, PaperTape(b"AB"))
-        for keys, *wanted in (("", 0o200, "0102", 2, 0), ("b", 0o177, "0102", 2, 1), ("B", 0o165, "0102", 2, 0o13), ("<", 0, "0000", 0, 0o202),
+        for keys, *wanted in (("", 0o200, "0102", 2, 0), ("b", 0o177, "0102", 2, 1), ("B", 0o165, "0102", 2, 0o13),
+                              ("<", 0, "0000", 0, 0o202),
                               (">", 0o200, "0102", 2, 0), ("62G", 0o62, "0000", 2, 0o116), ("s", 0o63, "0102", 2, 0o115),
                               ("50G", 0o50, "0000", 1, 0o130), ("s", 0o51, "0000", 2, 0o127), (">3s", 0o203, "0102", 2, 0)):
             with self.subTest(keys):
@@ -80,8 +81,9 @@ class Panels(Case):
         panel = self.panel(FAILS, Counts())
         channel = panel.session.state.channels[0o11]
         self.assertEqual("function of Counts must return a state and a Reply, and returned (2, 5)", bottom(panel, "12s"))
-        self.assertEqual((1, 1, channel, None), (panel.session.history.turns, panel.session.simulator.state(), panel.session.state.channels[0o11],
-                                                 panel.fault))
+        session = panel.session
+        self.assertEqual((1, 1, channel, None),
+                         (session.history.turns, session.simulator.state(), session.state.channels[0o11], panel.fault))
         press(panel, "b")
         self.assertEqual((0, 0), (panel.session.history.turns, panel.session.simulator.state()))
 

@@ -17,8 +17,8 @@ from ..failure import Failure
 from ..choice import default_program
 from ..pipe import Pipe
 from .forms import (
-    ANSWER, CHANNELS_DUMP, FRAME_DUMP, MOST_TURNS, PROCESSORS, Dump, Place, Registers, cells_dump, central_dump, fields, is_refusal, kind_of, refused,
-    registers_dump, registers_of)
+    ANSWER, CHANNELS_DUMP, FRAME_DUMP, MOST_TURNS, PROCESSORS, Dump, Place, Registers, cells_dump, central_dump, fields, is_refusal,
+    kind_of, refused, registers_dump, registers_of)
 from .notebook import table_of
 from .tape import STEP, Action, History, Tape, lines_of, room_of
 from .turn import Processor

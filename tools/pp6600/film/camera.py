@@ -5,7 +5,7 @@ not dumped ends the tool."""
 
 from ..attached import names_of
 from ..core.forms import CELLS, PROCESSORS, dumps_from
-from ..core.simulator import MARK, Console, Simulator
+from ..core.simulator import MARK, Console
 from ..core.state import central_of, questions
 from ..core.tape import STEP, Action, lines_of
 from ..core.turn import CHANNEL_CODES, IN_BLOCK, Turn, TurnKind

@@ -63,7 +63,8 @@ class Writer:
                 yield step, f"{line} AS ABOVE"
                 continue
             seen.update([id(step), *map(id, links)])
-            yield step, " ".join([line, *self.how(step, links)]).rstrip() + (f", NOW {now}" if now and step is root else "") + self.source_line(step)
+            text = " ".join([line, *self.how(step, links)]).rstrip()
+            yield step, text + (f", NOW {now}" if now and step is root else "") + self.source_line(step)
             todo += self.following(step, [*links, *step.code], depth)
 
     @staticmethod
