@@ -5,7 +5,7 @@ import random
 import unittest
 
 from tests.debug_client import HISTORY, Client, Refusal
-from tests.device_law import DUMPS, PANEL, Definition, RandomDevice, random_program
+from tests.device_law import COUNTS, DUMPS, PANEL, Definition, RandomDevice, random_program
 from tests.support import Case, program
 
 from pp6600.cells import set_lines
@@ -15,12 +15,6 @@ from pp6600.debug.running import Runner
 
 # FNC 1, ACN, LDN 3, IAM to 0200, UJN 0. The tape puts A on the channel after turn 13 (octal) and B after turn 51.
 READS = "SET M 0 100 7711 1 7411 1403 7111 200 300\nSET P 0 100\n"
-OWN = '''from pp6600 import INACTIVE, Device
-class Counts(Device):
-    start = 0
-    def function(self, state, event):
-        return state + 1, INACTIVE if event.word < 2 else 5
-'''
 
 
 class Sessions(Case):
@@ -64,7 +58,7 @@ class Sessions(Case):
             self.assertEqual(message, str(caught.exception))
 
     def test_a_device_fails(self):
-        client = self.client("SET M 0 100 7711 1 7711 2 300\nSET P 0 100\n", f"{self.file(OWN, 'own.py')}:Counts@11")
+        client = self.client("SET M 0 100 7711 1 7711 2 300\nSET P 0 100\n", f"{self.file(COUNTS, 'own.py')}:Counts@11")
         client.stop_after("stepIn", threadId=1)
         before = self.at(client)
         stop = client.stop_after("stepIn", threadId=1)

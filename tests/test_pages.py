@@ -37,7 +37,8 @@ CONTRACT = re.compile(r"^- ((?:`[\w:]+`(?:, | and )?)+)(?: \(([^)]*)\))?:", re.M
 KINDS = {"clause": "clauses", "clauses": "clauses", "against": "clauses", "mutant": "mutants", "mutants": "mutants",
          "crate": "crates", "crates": "crates", "ghost words": "ghosts"}
 KIND = re.compile(r"\b(" + "|".join(KINDS) + r")\s+\(?((?:`\w+`(?:,\s+|\s+and\s+)?)+)")
-COUNT = re.compile(r"\b(?:\d[\d,]*|two|three|four|five|six|seven|eight|nine|ten|eleven|twelve|\w+teen|twenty)(?:\s+(?:of\s+)?[\w`-]+){0,2}?\s+"
+COUNT = re.compile(r"\b(?:\d[\d,]*|two|three|four|five|six|seven|eight|nine|ten|eleven|twelve|\w+teen|twenty)"
+                   r"(?:\s+(?:of\s+)?[\w`-]+){0,2}?\s+"
                    r"(?:mutants|crates|theorems|functions|tests|lines\s+of\s+(?:code|Python|Rattle))\b")
 
 

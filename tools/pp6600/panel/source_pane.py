@@ -9,7 +9,7 @@ from ..core.forms import CELLS
 from ..disassembly import Row, rows_around, rows_from
 from ..source.statements import TAB, Line as SourceText
 from ..sources import CellLine
-from .program import TEXT_FROM, cell_of, cells_line, head_line, present, program_of, row_line
+from .program import TEXT_FROM, cell_of, cells_line, head_line, program_of, row_line
 from .text import HERE, OVERWRITTEN, Line
 
 
