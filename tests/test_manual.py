@@ -75,7 +75,7 @@ class ManualPages(InstallCase):
 
     def test_of_each_tool(self):
         pages = sorted(os.path.basename(path) for path in glob.glob(self.path("*.1")))
-        self.assertEqual(sorted(["pp6600.1", *(f"pp6600-{name}.1" for name in TOOLS)]), pages)
+        self.assertEqual(sorted(["pp6600.1", "pp6600-python.1", *(f"pp6600-{name}.1" for name in TOOLS)]), pages)
         for name in TOOLS:
             with self.subTest(name):
                 options = options_in(alone(os.path.join(TOP, "tools", name), "--help").out)
