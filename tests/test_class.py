@@ -50,7 +50,7 @@ class HandedOut(InstallCase):
         for top, wanted in ((self.seat, []), (TOP, ["dead-start-from-cards.html"])):
             with self.subTest(top):
                 films = [path for path in sorted(os.listdir(f"{top}/docs/films")) if path.endswith(".html")]
-                self.assertEqual(3, len(films))
+                self.assertEqual(4, len(films))
                 self.assertEqual(wanted, [path for path in films if shows_solution(f"{top}/docs/films/{path}")])
 
     def test_page(self):

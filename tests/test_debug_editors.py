@@ -93,7 +93,7 @@ class Emacs(EditorCase):
 
 PACKAGE = json.loads(read("share", "editors", "vscode", "package.json"))
 GIVES = PACKAGE["contributes"]
-TYPES = ("string", "integer", "boolean", "object")  # of settings
+TYPES = ("string", "integer", "boolean", "object", "array")  # of settings
 CATEGORIES = {"Debuggers", "Programming Languages", "Snippets", "Formatters", "Themes", "Other"}
 
 

@@ -63,5 +63,6 @@ class Public(Case):
         page = read("docs", "PYTHON.md")
         self.assertEqual([], [name for name in pp6600.__all__ if f"`{name}`" not in page])
         calls = re.findall(r"`(\w+)\(", "".join(re.findall(r"^\| (`.*?) \|", page, flags=re.M)))
-        self.assertEqual([], [name for name in calls if name.startswith("_") or not hasattr(Console, name) and not hasattr(pp6600, name)])
+        classes = (Console, pp6600.Attached, pp6600)
+        self.assertEqual([], [name for name in calls if name.startswith("_") or not any(hasattr(one, name) for one in classes)])
         self.assertGreater(len(calls), 10)

@@ -101,7 +101,7 @@ class Exercises(Case):
         files = os.listdir(case)
         given = read(case, "args").splitlines() if "args" in files else []
         arguments = "".join(f" {name}/{word}" if word in files else f" {word}" for word in given)
-        self.assertIn(f"    cat {name}/script - | ./pp6600{arguments}", read("docs", "EXERCISES.md").splitlines())
+        self.assertIn(f"    tools/talk{arguments} {name}/script", read("docs", "EXERCISES.md").splitlines())
 
 
 add_tests(Sessions, Sessions.check, sessions())

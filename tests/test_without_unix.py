@@ -1,8 +1,11 @@
 """Tests the tools as on Windows, where pipes can't be waited for and only Python runs: by tests/without_unix.py, which takes away all
 else. They write what they write elsewhere. Windows itself is not tried."""
 
+import http.client
 import os
+import re
 import shutil
+import subprocess
 
 from tests.debug_client import Client
 from tests.support import PYTHON, TOOLS, TOP, Case, run, tool, write
@@ -31,7 +34,7 @@ class Tools(Case):
         return [self.path("film.html") if word == "FILM" else word for word in words]
 
     def test_each_is_here(self):
-        self.assertEqual(sorted([*WITH_SIMULATOR, *WITHOUT_SIMULATOR, "debug-adapter", "panel"]), TOOLS)
+        self.assertEqual(sorted([*WITH_SIMULATOR, *WITHOUT_SIMULATOR, "debug-adapter", "page", "panel"]), TOOLS)
 
     def test_with_simulator(self):
         for name, words in WITH_SIMULATOR.items():
@@ -48,6 +51,18 @@ class Tools(Case):
     def test_panel(self):
         self.assertEqual(("", "panel: this Python has no module curses, so it can't draw on a terminal; the tool talk needs none\n", 2),
                          outcome(["tools/panel"]))
+
+    def test_page(self):
+        """It is served to who has the address."""
+        with subprocess.Popen([*WITHOUT, "tools/page", *LOADER], cwd=TOP, env={**os.environ, "PP6600": ""}, stdout=subprocess.PIPE,
+                              stderr=subprocess.DEVNULL, text=True) as server:
+            self.addCleanup(server.kill)
+            address = re.search("http://(.*?)/", server.stdout.readline())[1]
+            reply = http.client.HTTPConnection(address, timeout=600)
+            reply.request("GET", "/")
+            self.assertEqual(200, reply.getresponse().status)
+            reply.close()
+            server.kill()
 
     def test_many_lines(self):
         """More than a pipe holds, both ways, while nothing is read."""

@@ -44,19 +44,6 @@ class Timeline(Simulator):
             return [f"FORWARD {count:o} SLOT {self.next_slot:02o}"]
         return self.act(line)
 
-    def lines_to(self, turn):
-        """Yields the lines that go back or on to where so many turns are in effect, after the settings that follow the last of them. Each
-        must be performed before the next one. New turns do not end where a watched number changes."""
-        history = self.history
-        if turn < history.turns:
-            yield f"BACK {history.back_over(history.turns - turn):o}"
-        elif turn >= history.last_turn and history.to_redo:
-            yield f"FORWARD {history.to_redo:o}"
-        elif history.turns < turn < history.last_turn:
-            yield f"FORWARD {history.forward_over(turn - history.turns + 1) - 1:o}"
-        while turn > history.turns:
-            yield f"STEP {min(turn - history.turns, MOST_TURNS):o}"
-
     def move(self, count):
         super().move(count)
         if count:
@@ -71,3 +58,18 @@ class Timeline(Simulator):
         sent, self.sent = self.sent, []  # a simulator that takes the place of another gives the same session
         super().renew(*lines)
         self.sent = sent
+
+
+def lines_to(session, turn):
+    """Yields the lines that go back or on to where so many turns are in effect, after the settings that follow the last of them. Each
+    must be performed before the next one. New turns do not end where a watched number changes. The session is a `Timeline` or one with
+    devices."""
+    counts = session.counts
+    if turn < counts.turns:
+        yield f"BACK {counts.back_over(counts.turns - turn):o}"
+    elif turn >= counts.last_turn and counts.to_redo:
+        yield f"FORWARD {counts.to_redo:o}"
+    elif counts.turns < turn < counts.last_turn:
+        yield f"FORWARD {counts.forward_over(turn - counts.turns + 1) - 1:o}"
+    while turn > session.counts.turns:
+        yield f"STEP {min(turn - session.counts.turns, MOST_TURNS):o}"

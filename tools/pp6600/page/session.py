@@ -11,6 +11,7 @@ from ..film.page import Counts, fixed, growth, page
 from ..moments import text_of
 from ..panel.search import last_before, next_found
 from ..panel.session import hit_of
+from ..timeline import lines_to
 from .film import LiveFilm
 
 MOST_MOMENTS = 0o200000  # of a session
@@ -74,7 +75,7 @@ class Session:
             for line in self._lines_to(at):
                 self._perform(line)
             found = (last_before if back else next_found)(self, text, self.symbols, self._stops_after(LONGEST_SEARCH))
-            for line in self.film.run.lines_to(found.turn) if found else ():
+            for line in lines_to(self.film.run, found.turn) if found else ():
                 self._perform(line)
             said = text_of(found, self.symbols) if found else f"NONE: there is no such turn {'before' if back else 'among those searched'}"
             return self._news(have, said=said, is_refused=not found)

@@ -6,6 +6,7 @@ from typing import NamedTuple
 from ..core.forms import is_refusal
 from ..core.simulator import Console, has_no_answer
 from ..device_options import timeline
+from ..timeline import lines_to
 from ..failure import Failure
 from ..core.state import state_of
 from ..core.tape import ScriptLine, SourceLine
@@ -157,7 +158,7 @@ class Session:
     def go(self, turn):
         """Goes back or on to where so many turns are in effect: after the settings that follow the last of them. New turns do
         not end where a watched number changes."""
-        for line in self.simulator.lines_to(turn):
+        for line in lines_to(self.simulator, turn):
             self.send(line)
 
     def perform_script(self, lines, stops=never):
