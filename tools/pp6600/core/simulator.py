@@ -126,7 +126,7 @@ class Console:
         return answers
 
     def demand(self, line: str) -> List[str]:
-        """As `ask`, of a line that must not be refused."""
+        """Returns the answer to a line that must not be refused."""
         answer = self.ask(line)
         if is_refusal(answer):
             raise Failure(f"the simulator answers {answer[0]} to {line}")
@@ -202,7 +202,7 @@ class Console:
 
     @functools.cached_property
     def central_size(self) -> int:
-        """How many words central memory has."""
+        """Returns how many words central memory has."""
         return self.size_of_central()
 
     @functools.cached_property

@@ -128,7 +128,7 @@ def turn_of_next_line(session, number, source, count, progress):
 
 
 def turn_of_line_before(session, number, source, count, progress):
-    """As `turn_of_next_line`, of the last lines that were begun before the present position."""
+    """Returns what `turn_of_next_line` does, of the last lines that were begun before the present position."""
     run = Replay(session.simulator.words, session.history.in_effect())
     found = []
     try:
