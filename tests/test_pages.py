@@ -42,7 +42,6 @@ COUNT = re.compile(r"\b(?:\d[\d,]*|two|three|four|five|six|seven|eight|nine|ten|
                    r"(?:mutants|crates|theorems|functions|tests|lines\s+of\s+(?:code|Python|Rattle))\b")
 
 
-
 def is_program(path):
     with open(os.path.join(TOP, path), "rb") as file:
         return (path.endswith(".py") or file.read(2) == b"#!") and not path.endswith("test_pages.py")
