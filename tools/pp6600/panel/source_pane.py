@@ -1,5 +1,5 @@
 """The memory of the chosen processor as its source: a row for each instruction, with the line that it is of, or was; and before it the
-lines without words, as notes. Whose line a cell is, `Source.line_of` says. What is no line has its own row."""
+lines without words, as notes. `Source.line_of` says whose line a cell is. A cell of no line has its own row."""
 
 import functools
 import os
