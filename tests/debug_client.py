@@ -202,5 +202,6 @@ def check_by_go(text, count):
     with tempfile.TemporaryDirectory() as room:
         path = write(os.path.join(room, "check.go"), CHECKER)
         env = {**os.environ, "GO111MODULE": "off", "GOPATH": "/usr/share/gocode", "GOCACHE": os.path.join(room, "cache"), "GOFLAGS": "-p=1"}
-        done = subprocess.run(["go", "run", path], input=text.encode(), env=env, stdout=subprocess.PIPE, stderr=subprocess.STDOUT, check=False)
+        done = subprocess.run(["go", "run", path], input=text.encode(), env=env, stdout=subprocess.PIPE, stderr=subprocess.STDOUT,
+                              check=False)
     assert done.stdout.decode() == f"{count}\n", done.stdout.decode()

@@ -31,7 +31,8 @@ class Firefox:
         self.room, port = tempfile.TemporaryDirectory(), free_port()
         with open(os.path.join(self.room.name, "user.js"), "w", encoding="ascii") as file:
             file.write(f'user_pref("marionette.port", {port});\nuser_pref("app.update.enabled", false);\n'
-                       'user_pref("datareporting.policy.dataSubmissionEnabled", false);\nuser_pref("network.captive-portal-service.enabled", false);\n')
+                       'user_pref("datareporting.policy.dataSubmissionEnabled", false);\n'
+                       'user_pref("network.captive-portal-service.enabled", false);\n')
         self.process = subprocess.Popen([path, "--headless", "--marionette", "--no-remote", "--profile", self.room.name, "about:blank"],
                                         stdout=subprocess.DEVNULL, stderr=subprocess.DEVNULL, env={**os.environ, "HOME": self.room.name})
         self.numbers, self.rest = itertools.count(1), b""

@@ -159,7 +159,7 @@ class Maker:
     def operand(self, kind):
         if kind == 'S':
             return self.choice('IEF')
-        least, greatest = self.ranges[kind]
+        _, greatest = self.ranges[kind]
         number = self.below(40) if kind == 'count' else self.number()
         if kind == 'n' and self.chance(80):
             number = self.choice(self.processors)

@@ -43,7 +43,8 @@ def lost_links(top):
             link = LINKS.get(os.path.splitext(name)[1])
             found = re.findall(link, read(folder, name)) if link else []
             lost += [(name, target) for target in found if not os.path.exists(os.path.join(folder, target))]
-        lost += [path for path in (os.path.join(folder, name) for name in folders + names) if os.path.islink(path) and not leads_inside(path, top)]
+        paths = (os.path.join(folder, name) for name in folders + names)
+        lost += [path for path in paths if os.path.islink(path) and not leads_inside(path, top)]
     return lost
 
 

@@ -14,7 +14,8 @@ from pp6600.simulation.places import CELLS, C, FRAME, H, PAPER
 TURNS = -1  # a place for the number of turns, which steps back and forward with the others
 # The names of places, by the first of each kind.
 KINDS = {TURNS: "turns", places.M: "M", places.P: "P", H: "H", places.A: "A", places.Q: "Q", places.PHASE: "phase",
-         places.STATE: "state", FRAME: "frame", places.SLOT: "slot", places.WATCHES: "watches", places.CARD: "card", places.CARD_COLUMN: "card column",
+         places.STATE: "state", FRAME: "frame", places.SLOT: "slot", places.WATCHES: "watches", places.CARD: "card",
+         places.CARD_COLUMN: "card column",
          places.READER_MODE: "reader mode", places.PAPER_LENGTH: "paper length", places.PAPER_COLUMN: "paper column",
          places.PRINTER_MODE: "printer mode", PAPER: "paper", C: "C"}
 FIRSTS = sorted(KINDS)

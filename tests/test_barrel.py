@@ -154,7 +154,8 @@ class Barrel(PageCase):
         """README.md: the turn that overwrote 0106. It read 0027; the card reader put 0030 on the channel after that."""
         self.browser.open(shown_film("overwritten-loader"), "#turn=405")
         got = self.value(PICTURE)
-        self.assertEqual((["00", "IAM", "0106"], [[0o12, "←0027"]], [0o12, "H 12", "0030"]), (got["circles"][0], got["word"], got["channels"][0]))
+        self.assertEqual((["00", "IAM", "0106"], [[0o12, "←0027"]], [0o12, "H 12", "0030"]),
+                         (got["circles"][0], got["word"], got["channels"][0]))
         self.assertEqual(["PP 00 IAM 12", "in its block", "M 00 0106", "7512 → 0027"], got["middle"])
         self.assertEqual(["card reader"], self.value("[...document.querySelectorAll('#barrel text.acted')].map((one) => one.textContent)"))
 
@@ -166,6 +167,7 @@ class Barrel(PageCase):
                                                 "byId('barrel-picture').getBoundingClientRect().right <= innerWidth]"))
         self.assertAlmostEqual(12, self.value("byId('barrel-picture').getScreenCTM().a * sizesOfBarrel(byId('barrel-picture')).unit"), 2)
         self.browser.key("b")
-        self.assertEqual(["▸ The barrel (B)", True], self.value("[byId('barrel-fold').innerText, byId('barrel-picture').hasAttribute('hidden')]"))
+        self.assertEqual(["▸ The barrel (B)", True],
+                         self.value("[byId('barrel-fold').innerText, byId('barrel-picture').hasAttribute('hidden')]"))
         self.browser.click("#barrel-fold")
         self.assertEqual("▾ The barrel (B)", self.value("byId('barrel-fold').innerText"))

@@ -82,7 +82,8 @@ class HandedOut(InstallCase):
                 done = alone("bash", "-c", f"{command} </dev/null", cwd=self.seat)
                 self.assertEqual((0, ""), (done.status, done.err))
         for command, said in (("tools/changes C 1005 exercises/who-wrote-it/script", "TURN 65 PP 02 P 0217 CWM"),
-                              ("tools/changes M 0 0 --deck loader-goes-round/deck exercises/loader-goes-round/script", "TURN 311 PP 00 P 0000 IAM"),
+                              ("tools/changes M 0 0 --deck loader-goes-round/deck exercises/loader-goes-round/script",
+                               "TURN 311 PP 00 P 0000 IAM"),
                               ("(cat first-program/script; echo STEP 100) | tools/trace", "TURN 100 PP 03")):
             for name in ("who-wrote-it", "loader-goes-round"):
                 shutil.copy(f"{TOP}/exercises/{name}/solution/script", f"{self.seat}/{name}")
@@ -156,7 +157,8 @@ class Refused(InstallCase):
     def test_seconds(self):
         for number in ("0", "x", "-1", "1.5"):
             with self.subTest(number):
-                self.check_refused(alone(exercise_program("grade"), f"--seconds={number}", self.folder), f"{number} is no number of seconds")
+                self.check_refused(alone(exercise_program("grade"), f"--seconds={number}", self.folder),
+                                   f"{number} is no number of seconds")
 
 
 class Answers(InstallCase):
@@ -182,7 +184,8 @@ class Answers(InstallCase):
         write(self.path("@deep", "a", "b", "exchange", "script"), "STEP\n")
         done = alone(exercise_program("grade"), "--csv", "--why", self.folder)
         nothing = ",.,.,.,.,.,.,.,."
-        self.assertEqual([f"\"'=1+1\"{nothing}", f"\"'@deep\"{nothing}", "", "=1+1, exchange: script.txt does not count: its name must be script",
+        self.assertEqual([f"\"'=1+1\"{nothing}", f"\"'@deep\"{nothing}", "",
+                          "=1+1, exchange: script.txt does not count: its name must be script",
                           "@deep, exchange: a/b/exchange does not count: it is too deep"], done.out.splitlines()[1:])
 
     def test_endless(self):
@@ -222,7 +225,8 @@ class Exercises(InstallCase):
 
     def test_channel(self):
         """Exercise 4: only the DCN of the program that knows how many words come may stay."""
-        for line, status in (("SET M 1 103 2400\n", 0), ("SET M 0 104 2400\n", 1), ("SET M 0 104 2400\nSET M 1 103 2400\n", 1), ("SET H 3 E\n", 1)):
+        for line, status in (("SET M 1 103 2400\n", 0), ("SET M 0 104 2400\n", 1), ("SET M 0 104 2400\nSET M 1 103 2400\n", 1),
+                             ("SET H 3 E\n", 1)):
             with self.subTest(line):
                 self.assertEqual(status, self.check("hanging-channel", line)[1])
 
@@ -237,7 +241,8 @@ class Exercises(InstallCase):
 class OwnExercise(InstallCase):
     """A folder with task, script, check and expected, outside of the checkout."""
 
-    FILES = {"task": "Store a 7 in cell 0020, from\ncell 0100 on. All else | is yours.\n", "script": "SET P 0 100\n", "check": "STEP 100\nDUMP M 0 20 20\n",
+    FILES = {"task": "Store a 7 in cell 0020, from\ncell 0100 on. All else | is yours.\n", "script": "SET P 0 100\n",
+             "check": "STEP 100\nDUMP M 0 20 20\n",
              "solution/script": "SET P 0 100\nSET M 0 100 1407 3420 300\n"}
     EXPECTED = "TURNS 100 SLOT 04\n0020 0007\n"
 
@@ -252,7 +257,8 @@ class OwnExercise(InstallCase):
     def test_new(self):
         """It is made as small as can be, then finished."""
         made = self.ask("new", "seven")
-        self.assertEqual((f"new: {self.own}/seven has task, script, check, solution/script: edit them, and give the same words again\n", "", 0), made)
+        self.assertEqual((f"new: {self.own}/seven has task, script, check, solution/script: edit them, and give the same words again\n",
+                          "", 0), made)
         done = self.ask("new", "seven")
         self.assertEqual((0, "new: seven: your answer passes, what is handed out does not pass"), (done.status, done.out.splitlines()[-1]))
         self.assertEqual("TURNS 100 SLOT 04\n0020 0007\n", read(self.own, "seven", "expected"))

@@ -73,7 +73,8 @@ class Vim(EditorCase):
         lists = ("silent make!\nfor q in getqflist()\n  if q.valid\n"
                  "    call add(out, join([q.lnum, q.col, trim(q.text)], ' '))\n  endif\nendfor")
         write(self.path("look.vim"), f"set nocompatible\nexe 'set runtimepath^={EDITORS}/vim'\n"
-              f"let g:pp6600_assembler = '{ASSEMBLER}'\nfiletype plugin on\nsyntax on\nedit a.pp\nlet out = []\n{looks}\n{lists}\nset errorformat&\n{lists}\n"
+              f"let g:pp6600_assembler = '{ASSEMBLER}'\nfiletype plugin on\nsyntax on\nedit a.pp\n"
+              f"let out = []\n{looks}\n{lists}\nset errorformat&\n{lists}\n"
               "call writefile(out, 'out')\nqall!\n")
         out = self.run_editor("vim", "-N", "-u", "NONE", "-i", "NONE", "-es", "-S", "look.vim")
         if "+syntax" not in run("vim", "--version").out:

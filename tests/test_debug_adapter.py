@@ -93,7 +93,8 @@ class Beginning(DebugCase):
         self.assertEqual("BACK 6 SLOT 04", client.typed("BACK 6"))
 
     def test_faults_of_options(self):
-        for arguments, said in (({"deck": "/none"}, "status 2: pp6600: CANNOT OPEN DECK"), ({"history": "x"}, "status 2"), ({"script": "/none"}, "can't read /none"),
+        for arguments, said in (({"deck": "/none"}, "status 2: pp6600: CANNOT OPEN DECK"), ({"history": "x"}, "status 2"),
+                                ({"script": "/none"}, "can't read /none"),
                                 ({"program": "/none"}, "can't run /none"), ({"program": "/bin/cat"}, "is not the simulator"),
                                 ({"processor": "12"}, "12 is no processor"), ({"central": 7}, "status 2")):
             with self.subTest(arguments):
@@ -238,7 +239,8 @@ class Breakpoint(DebugCase):
     def test_instructions(self):
         client = self.session(LOOPS)
         good, bad, odd = client.ask("setInstructionBreakpoints", breakpoints=[
-            {"instructionReference": "0x000082"}, {"instructionReference": "nonsense"}, {"instructionReference": "0x0", "offset": 1}])["breakpoints"]
+            {"instructionReference": "0x000082"}, {"instructionReference": "nonsense"},
+            {"instructionReference": "0x0", "offset": 1}])["breakpoints"]
         self.assertEqual((True, False, False), (good["verified"], bad["verified"], odd["verified"]))
         stop = client.stop_after("continue", threadId=1)
         self.assertEqual(("instruction breakpoint", [good["id"]]), (stop["reason"], stop["hitBreakpointIds"]))
@@ -377,7 +379,8 @@ class DataBreakpoint(DebugCase):
             client = self.session(lines)
             self.set_data(client, *places)
             self.assertEqual("M 10 0021 was 0000 and is 0001", client.stop_after("continue", threadId=1)["text"])
-            self.assertEqual((9999, "W NONE", "ERR 15 NOTHING WATCHED"), (self.turns(client), client.typed("DUMP W"), client.typed("BACK W")))
+            self.assertEqual((9999, "W NONE", "ERR 15 NOTHING WATCHED"),
+                             (self.turns(client), client.typed("DUMP W"), client.typed("BACK W")))
             self.assertEqual(["BACK 23417 SLOT 00", "BACK 1 SLOT 00", "FORWARD 23420 SLOT 11"],
                              [client.typed(line) for line in ("BACK 23417", "BACK 1", "FORWARD 23420")])
             self.assertEqual("0001", client.typed("M 10 21"))
@@ -436,7 +439,8 @@ class Back(DebugCase):
         """A step is one turn of the processor, and those before it; stepBack undoes it."""
         client = self.session(LOOPS, processor="0")
         turns = []
-        for command, number in (("stepIn", 0), ("next", 0), ("stepIn", 3), ("stepBack", 3), ("stepBack", 0), ("stepBack", 0), ("stepBack", 0)):
+        for command, number in (("stepIn", 0), ("next", 0), ("stepIn", 3), ("stepBack", 3), ("stepBack", 0), ("stepBack", 0),
+                                ("stepBack", 0)):
             stop = client.stop_after(command, threadId=number + 1)
             self.assertEqual(("step", number + 1), (stop["reason"], stop["threadId"]))
             turns.append(self.turns(client))
@@ -581,7 +585,8 @@ class Typed(DebugCase):
 
     def test_places(self):
         client = self.loader()
-        for text, value in (("M 0 106", "0027"), ("m 106", "0027"), ("A 0", "000000"), ("a", "000000"), ("C 1000", "0" * 20), ("H 14", "0102"),
+        for text, value in (("M 0 106", "0027"), ("m 106", "0027"), ("A 0", "000000"), ("a", "000000"), ("C 1000", "0" * 20),
+                            ("H 14", "0102"),
                             ("H 12", "E 0077"), ("P", "0111")):
             with self.subTest(text):
                 got = client.ask("evaluate", expression=text, frameId=1, context="hover")["result"]
@@ -620,7 +625,8 @@ class Numbers(DebugCase):
             self.assertEqual(got, client.ask("setVariable", variablesReference=scope, name=name, value=value)["value"])
             self.assertEqual(got, client.typed(place))
         for scope, name, value in ((REGISTERS, "PHASE", "1"), (REGISTERS, "A", "8"), (REGISTERS, "A", "1000000"), (HISTORY, "kept", "1"),
-                                   (CHANNELS, "H 14", "1"), (REGISTERS, "A", "1\nSTEP"), (REGISTERS, "Z", "1"), (99 << 8, "A", "1"), (0, "A", "1")):
+                                   (CHANNELS, "H 14", "1"), (REGISTERS, "A", "1\nSTEP"), (REGISTERS, "Z", "1"), (99 << 8, "A", "1"),
+                                   (0, "A", "1")):
             with self.subTest(name=name, value=value), self.assertRaises(Refusal):
                 client.ask("setVariable", variablesReference=scope, name=name, value=value)
         self.assertEqual(0o1300, self.turns(client))
@@ -670,10 +676,13 @@ class BadHands(DebugCase):
         self.assertFalse(os.path.exists(folder), "the listings are removed")
 
     def test_what_is_no_message(self):
-        for data, said in ((b"Content-Len", "has no Content-Length"), (b"hello\r\n\r\n", "has no Content-Length"), (b"Content-Length: x\r\n\r\n", "has no Content-Length"),
-                           (b"Content-Length: 100\r\n\r\n{}", "ends before its length"), (b"Content-Length: -1\r\n\r\n{}", "has no Content-Length"),
+        for data, said in ((b"Content-Len", "has no Content-Length"), (b"hello\r\n\r\n", "has no Content-Length"),
+                           (b"Content-Length: x\r\n\r\n", "has no Content-Length"),
+                           (b"Content-Length: 100\r\n\r\n{}", "ends before its length"),
+                           (b"Content-Length: -1\r\n\r\n{}", "has no Content-Length"),
                            (b"Content-Length: 3\r\n\r\n{a}", "is not JSON"), (b"Content-Length: 2\r\n\r\n[]", "is not a request"),
-                           (b"Content-Length: 99999999999\r\n\r\n", "has no Content-Length"), (b"Content-Length: 1\r\n\r\n{", "is not JSON"),
+                           (b"Content-Length: 99999999999\r\n\r\n", "has no Content-Length"),
+                           (b"Content-Length: 1\r\n\r\n{", "is not JSON"),
                            (b'Content-Length: 13\r\n\r\n{"command":1}', "is not a request")):
             with self.subTest(data):
                 client = self.loader()
@@ -707,8 +716,10 @@ class BadHands(DebugCase):
         with self.assertRaisesRegex(Refusal, "frobnicate is not supported"):
             client.ask("frobnicate")
         client.launch(script=self.script(LOOPS))
-        for command, arguments in (("stackTrace", {"threadId": 11}), ("stackTrace", {"threadId": "1"}), ("stackTrace", {}), ("scopes", {"frameId": 0}),
-                                   ("variables", {"variablesReference": 7}), ("variables", {"variablesReference": None}), ("continue", {"threadId": 0}),
+        for command, arguments in (("stackTrace", {"threadId": 11}), ("stackTrace", {"threadId": "1"}), ("stackTrace", {}),
+                                   ("scopes", {"frameId": 0}),
+                                   ("variables", {"variablesReference": 7}), ("variables", {"variablesReference": None}),
+                                   ("continue", {"threadId": 0}),
                                    ("source", {"sourceReference": 12}), ("setBreakpoints", {"source": {}, "breakpoints": 5}),
                                    ("readMemory", {"memoryReference": "0x0", "count": "x"}), ("goto", {"threadId": 1, "targetId": 1 << 30}),
                                    ("disassemble", {"memoryReference": "0x0", "instructionCount": None}), ("evaluate", {"expression": 5}),
@@ -740,7 +751,8 @@ class BadHands(DebugCase):
             self.assertEqual((0, ""), client.end())
 
     def test_words(self):
-        for words, said in ((["--nonsense"], "--help shows what may be given"), (["--log", "/none/log"], "can't write /none/log"), (["x"], "unrecognized")):
+        for words, said in ((["--nonsense"], "--help shows what may be given"), (["--log", "/none/log"], "can't write /none/log"),
+                            (["x"], "unrecognized")):
             client = Client(*words)
             self.assertEqual(2, client.process.wait(PATIENCE))
             self.assertIn(said, client.end()[1])
@@ -748,7 +760,8 @@ class BadHands(DebugCase):
     def test_streams(self):
         """Closed and full ones: one line, and status 2."""
         request = b'Content-Length: 49\r\n\r\n{"seq":1,"type":"request","command":"initialize"}'
-        for how, said in ((">&-", "standard output is closed, so there is nowhere to write to"), (">/dev/full", "can't write to standard output: No space left on device"),
+        for how, said in ((">&-", "standard output is closed, so there is nowhere to write to"),
+                          (">/dev/full", "can't write to standard output: No space left on device"),
                           ("<&-", "standard input is closed or a folder, so no editor can speak")):
             with self.subTest(how):
                 done = subprocess.run(["bash", "-c", f'"$0" "$@" {how}', *PYTHON, ADAPTER], input=request, stdout=subprocess.DEVNULL,

@@ -5,7 +5,7 @@ import random
 import unittest
 
 from tests.debug_client import HISTORY, Client, Refusal
-from tests.device_law import DUMPS, PANEL, Definition, RandomDevice, random_program
+from tests.device_law import COUNTS, DUMPS, PANEL, Definition, RandomDevice, random_program
 from tests.support import Case, program
 
 from pp6600.cells import set_lines
@@ -15,12 +15,6 @@ from pp6600.debug.running import Runner
 
 # FNC 1, ACN, LDN 3, IAM to 0200, UJN 0. The tape puts A on the channel after turn 13 (octal) and B after turn 51.
 READS = "SET M 0 100 7711 1 7411 1403 7111 200 300\nSET P 0 100\n"
-OWN = '''from pp6600 import INACTIVE, Device
-class Counts(Device):
-    start = 0
-    def function(self, state, event):
-        return state + 1, INACTIVE if event.word < 2 else 5
-'''
 
 
 class Sessions(Case):
@@ -41,7 +35,8 @@ class Sessions(Case):
         for command, places, *wanted in (
                 ("stepIn", "", "1", "3", "0", "0000", "I 0001"), ("stepIn", "", "13", "15", "0", "0000", "F 0101"),
                 ("stepBack", "", "12", "14", "1", "0000", "I 0001"), ("continue", "M 0 201", "63", "65", "0", "0102", "I 0102"),
-                ("reverseContinue", "M 0 201", "62", "64", "1", "0000", "F 0102"), ("continue", "M 0 201", "63", "65", "0", "0102", "I 0102"),
+                ("reverseContinue", "M 0 201", "62", "64", "1", "0000", "F 0102"),
+                ("continue", "M 0 201", "63", "65", "0", "0102", "I 0102"),
                 ("reverseContinue", "H 11", "50", "52", "13", "0000", "F 0101"), ("continue", "H 11", "51", "53", "12", "0000", "F 0102")):
             with self.subTest(command, turns=wanted[0]):
                 client.ask("setDataBreakpoints", breakpoints=[{"dataId": places}] if places else [])
@@ -55,14 +50,15 @@ class Sessions(Case):
         client = Client()
         self.addCleanup(client.end)
         client.ask("initialize", adapterID="pp6600")
-        for devices, message in (("paper_tape@11", "devices is no list"), ([5], "--device 5 names no channel: it is NAME[:WORD,..]@CHANNEL"),
+        for devices, message in (("paper_tape@11", "devices is no list"),
+                                 ([5], "--device 5 names no channel: it is NAME[:WORD,..]@CHANNEL"),
                                  (["paper_tape@12"], "PaperTape can't be on channel 12: the card reader is on it")):
             with self.subTest(message), self.assertRaises(Refusal) as caught:
                 client.ask("launch", devices=devices)
             self.assertEqual(message, str(caught.exception))
 
     def test_a_device_fails(self):
-        client = self.client("SET M 0 100 7711 1 7711 2 300\nSET P 0 100\n", f"{self.file(OWN, 'own.py')}:Counts@11")
+        client = self.client("SET M 0 100 7711 1 7711 2 300\nSET P 0 100\n", f"{self.file(COUNTS, 'own.py')}:Counts@11")
         client.stop_after("stepIn", threadId=1)
         before = self.at(client)
         stop = client.stop_after("stepIn", threadId=1)

@@ -134,11 +134,13 @@ class Extension(Case):
         self.assertEqual(names, set(GIVES["debuggers"][0]["languages"]))
         for grammar in GIVES["grammars"]:
             self.assertIn(grammar["language"], names)
-            self.assertEqual(grammar["scopeName"], json.loads(read("share", "editors", "vscode", *grammar["path"].split("/")[1:]))["scopeName"])
+            self.assertEqual(grammar["scopeName"],
+                             json.loads(read("share", "editors", "vscode", *grammar["path"].split("/")[1:]))["scopeName"])
 
     def test_debugger(self):
         debugger, = GIVES["debuggers"]
-        self.assertEqual({"type", "label", "languages", "runtime", "configurationAttributes", "initialConfigurations", "configurationSnippets"},
+        self.assertEqual({"type", "label", "languages", "runtime", "configurationAttributes", "initialConfigurations",
+                          "configurationSnippets"},
                          set(debugger))
         settings = debugger["configurationAttributes"]["launch"]["properties"]
         for name, setting in settings.items():
@@ -166,10 +168,12 @@ class Extension(Case):
             self.assertEqual(PACKAGE, json.loads(archive.read("extension/package.json")))
             self.assertIn("extension/syntaxes/pp6600.tmLanguage.json", names)
             types = ElementTree.fromstring(archive.read("[Content_Types].xml"))
-            self.assertEqual({os.path.splitext(name)[1] for name in names if name != "[Content_Types].xml"}, {one.get("Extension") for one in types})
+            self.assertEqual({os.path.splitext(name)[1] for name in names if name != "[Content_Types].xml"},
+                             {one.get("Extension") for one in types})
             manifest = ElementTree.fromstring(archive.read("extension.vsixmanifest"))
         found = {one.tag.split("}")[1]: one for one in manifest.iter()}
-        self.assertEqual([PACKAGE[name] for name in ("name", "version", "publisher")], [found["Identity"].get(name) for name in ("Id", "Version", "Publisher")])
+        self.assertEqual([PACKAGE[name] for name in ("name", "version", "publisher")],
+                         [found["Identity"].get(name) for name in ("Id", "Version", "Publisher")])
         self.assertEqual((PACKAGE["displayName"], PACKAGE["description"]), (found["DisplayName"].text, found["Description"].text))
         self.assertIn(found["Asset"].get("Path"), names)
 

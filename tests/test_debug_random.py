@@ -54,7 +54,8 @@ def condition(chance, numbers):
         None, None, Condition(f"{name} < {bound:o}", lambda oracle, at: int(oracle.value(at, name), 8) < bound),
         Condition("M 0 20 != 0 and H 1 is E", lambda oracle, at: oracle.value(at, "M 0 20") != "0000" and oracle.value(at, "S 1") == "E"),
         Condition(f"P {number:o} inside 100 104", lambda oracle, at: "0100" <= oracle.where(at, number)[0] <= "0104"),
-        Condition(f"{name} changes", lambda oracle, at: at > 0 and oracle.is_turn(at - 1) and oracle.value(at, name) != oracle.value(at - 1, name))))
+        Condition(f"{name} changes",
+                  lambda oracle, at: at > 0 and oracle.is_turn(at - 1) and oracle.value(at, name) != oracle.value(at - 1, name))))
 
 
 HITS = {None: lambda count: True, "2": lambda count: count == 2, "= 3": lambda count: count == 3, ">=3": lambda count: count >= 3,
@@ -71,7 +72,8 @@ class Point(NamedTuple):
 
     def asked(self, **where):
         """Returns what an editor asks for."""
-        return {**where, **({"condition": self.condition.text} if self.condition else {}), **({"hitCondition": self.hits} if self.hits else {}),
+        return {**where, **({"condition": self.condition.text} if self.condition else {}),
+                **({"hitCondition": self.hits} if self.hits else {}),
                 **({"logMessage": f"L {self.at[0]:o} {self.at[1]} {{A}} {{M 0 20}}"} if self.is_log else {})}
 
 
@@ -353,7 +355,8 @@ class Session(Case):
         data = [self.point(place, False) for place in chance.sample(places(self.numbers), chance.randrange(3))]
         for number in range(PROCESSORS):
             asked = [point.asked(line=int(point.at[1], 8) + 1) for point in lines if point.at[0] == number]
-            points = self.client.ask("setBreakpoints", source={"path": f"{self.folder}/PP{number:02o}.pplist"}, breakpoints=asked)["breakpoints"]
+            points = self.client.ask("setBreakpoints", source={"path": f"{self.folder}/PP{number:02o}.pplist"},
+                                     breakpoints=asked)["breakpoints"]
             self.assertTrue(all(point["verified"] for point in points), points)
         self.client.ask("setDataBreakpoints", breakpoints=[point.asked(dataId=point.at) for point in data])
         self.points = [*lines, *data]

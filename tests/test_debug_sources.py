@@ -73,7 +73,8 @@ class Launch(OwnCase):
     def test_frame(self):
         client = self.begin()
         frame = self.frame(client)
-        self.assertEqual(("P 0100 LDN 01", FIRST, {"name": "counts.pp", "path": self.source}), (frame["name"], frame["line"], frame["source"]))
+        self.assertEqual(("P 0100 LDN 01", FIRST, {"name": "counts.pp", "path": self.source}),
+                         (frame["name"], frame["line"], frame["source"]))
         self.assertEqual("PP03.pplist", self.frame(client, 3)["source"]["name"])
         listing = os.path.join(os.path.dirname(self.frame(client, 3)["source"]["path"]), "PP00.pplist")
         with open(listing, encoding="utf-8") as file:
@@ -106,7 +107,8 @@ class Launch(OwnCase):
     def test_faults(self):
         wrong = self.file("          PERIPH\n          LDN    100B\n          GO\n", "wrong.pp")
         good = self.file(COUNTS, "counts.pp")
-        for arguments, said in (({"sources": {"0": wrong}}, rf"^{wrong}:2:18: .*; {wrong}:3:11: .*"), ({"sources": {"0": "/none.pp"}}, "can't read /none.pp"),
+        for arguments, said in (({"sources": {"0": wrong}}, rf"^{wrong}:2:18: .*; {wrong}:3:11: .*"),
+                                ({"sources": {"0": "/none.pp"}}, "can't read /none.pp"),
                                 ({"sources": {"12": good}}, "12 is no processor"), ({"sources": good}, "sources is no object"),
                                 ({"sources": {"0": good, "00": good}}, "is given a source, and symbols or a source again"),
                                 ({"sources": {"0": good}, "symbols": {"0": good}}, ""), ({"sources": [good]}, "sources is no object")):
@@ -129,7 +131,8 @@ class Launch(OwnCase):
         target, = client.ask("gotoTargets", source={"path": self.source}, line=INPUT)["targets"]
         client.stop_after("goto", threadId=1, targetId=target["id"])
         self.assertEqual(INPUT, self.line(client))
-        self.assertEqual(["P 0100", "P 0102"], [one["label"] for one in client.ask("gotoTargets", source={"path": self.source}, line=PUT)["targets"]])
+        targets = client.ask("gotoTargets", source={"path": self.source}, line=PUT)["targets"]
+        self.assertEqual(["P 0100", "P 0102"], [one["label"] for one in targets])
         self.assertEqual([], client.ask("gotoTargets", source={"path": self.source}, line=NOTE)["targets"])
 
     def test_names(self):
@@ -166,7 +169,7 @@ class Steps(OwnCase):
         self.assertEqual([4, 4, 4], self.after(client, "next", "next", "next"))
 
     def test_a_line_with_a_block(self):
-        text = "          PERIPH\n          ORG    100B\n          LDN    3\n          IAM    20B,5\n          LDN    2\n          END    100B\n"
+        text = "".join(f"          {line}\n" for line in ("PERIPH", "ORG    100B", "LDN    3", "IAM    20B,5", "LDN    2", "END    100B"))
         client = self.begin(text, ["SET H 5 I"])  # on an inactive channel it writes a cell of zero, and ends
         self.assertEqual([4, 5], self.after(client, "next", "next"))
         self.assertEqual([4, 3], self.after(client, "stepBack", "stepBack"))
@@ -293,8 +296,8 @@ class Changed(OwnCase):
             file.write(f"* a note more\n{COUNTS}")
         self.set_points(client, CALL)
         self.assertEqual(FIRST, self.line(client))
-        self.assertEqual([f"{self.source} was changed after the launch: its lines here are those of the launch; restart to assemble it again\n"],
-                         client.shown)
+        self.assertEqual([f"{self.source} was changed after the launch: its lines here are those of the launch; "
+                          "restart to assemble it again\n"], client.shown)
 
     def test_restart(self):
         """The source is assembled again, and its breakpoints are where they then belong."""
@@ -328,7 +331,8 @@ class Terms(OwnCase):
 
     def test_conditions(self):
         client = self.begin()
-        for condition, turns in (("M 0 COUNT = 3", 350), ("M 0 22 >= 5 and A 0 != 7", 550), ("P 0 = SUB+1", 650), ("M 0 22 inside 10 12", 850)):
+        for condition, turns in (("M 0 COUNT = 3", 350), ("M 0 22 >= 5 and A 0 != 7", 550), ("P 0 = SUB+1", 650),
+                                 ("M 0 22 inside 10 12", 850)):
             self.set_points(client, {"line": COUNTED, "condition": condition})
             with self.subTest(condition):
                 self.assertEqual([turns], self.runs(client, "continue"))
@@ -346,7 +350,8 @@ class Terms(OwnCase):
 
     def test_counts(self):
         client = self.begin()
-        for count, stops in (("3", [250]), ("= 2", [150]), (">= 3", [250, 350, 450]), ("> 3", [350, 450]), ("% 4", [350, 750]), ("<2", [50]),
+        for count, stops in (("3", [250]), ("= 2", [150]), (">= 3", [250, 350, 450]), ("> 3", [350, 450]), ("% 4", [350, 750]),
+                             ("<2", [50]),
                              ("== 12", [950])):
             self.set_points(client, {"line": COUNTED, "hitCondition": count})
             with self.subTest(count):
@@ -381,7 +386,8 @@ class Terms(OwnCase):
     def test_logs(self):
         """They write as the machine comes there, in both directions, and end nothing."""
         client = self.begin()
-        self.set_points(client, {"line": COUNTED, "logMessage": "{A}: {M 22} of {M 0 COUNT} at {P}, {H 5} {"}, {"line": CALL, "hitCondition": "3"})
+        self.set_points(client, {"line": COUNTED, "logMessage": "{A}: {M 22} of {M 0 COUNT} at {P}, {H 5} {"},
+                        {"line": CALL, "hitCondition": "3"})
         client.stop_after("continue", threadId=1)
         text = ["000002: 0000 of 0000 at 0112, F 0007 {\n", "000002: 0001 of 0001 at 0112, F 0007 {\n"]
         self.assertEqual((text, 240), ([one for one in client.shown if " of " in one], self.turns(client)))
@@ -400,15 +406,18 @@ class Terms(OwnCase):
     def test_what_is_wrong(self):
         """A breakpoint with terms that are none is not set, and says why."""
         client = self.begin()
-        for asked, said in (({"condition": "A 0 ="}, "a condition is"), ({"condition": "NONE = 5"}, "a place is"), ({"hitCondition": "x"}, "no count of hits"),
-                            ({"hitCondition": "9"}, "9 is not octal"), ({"hitCondition": "% 0"}, "multiple of 0"), ({"logMessage": "{Z}"}, "a place is"),
+        for asked, said in (({"condition": "A 0 ="}, "a condition is"), ({"condition": "NONE = 5"}, "a place is"),
+                            ({"hitCondition": "x"}, "no count of hits"),
+                            ({"hitCondition": "9"}, "9 is not octal"), ({"hitCondition": "% 0"}, "multiple of 0"),
+                            ({"logMessage": "{Z}"}, "a place is"),
                             ({"condition": "PP 0 returns wrongly"}, "for no breakpoint"), ({"condition": "C 777777 = 1"}, "ERR 04"),
                             ({"logMessage": "{M 0 10000}"}, "no place"), ({"logMessage": "{}"}, "a place is")):
             with self.subTest(asked):
                 point, = self.set_points(client, {"line": COUNTED, **asked})
                 self.assertEqual((False, COUNTED), (point["verified"], point["line"]))
                 self.assertIn(said, point["message"])
-        point, = client.ask("setInstructionBreakpoints", breakpoints=[{"instructionReference": "0x000094", "hitCondition": "2"}])["breakpoints"]
+        point, = client.ask("setInstructionBreakpoints",
+                            breakpoints=[{"instructionReference": "0x000094", "hitCondition": "2"}])["breakpoints"]
         self.assertTrue(point["verified"])
         self.assertEqual([150], self.runs(client, "continue"))
 
@@ -434,9 +443,11 @@ class VSCode(OwnCase):
         """Begins a session. Returns the answer to the breakpoints, and the first stop."""
         self.source = self.file(COUNTS, "counts.pp")
         self.configuration = {"type": "pp6600", "request": "launch", "name": "PP source", "sources": {"0": self.source}, "processor": "0",
-                              "script": self.script(FULL), "__configurationTarget": 6, "__sessionId": "3b0a6c9f-0000-4000-8000-000000000000"}
-        client.ask("initialize", clientID="vscode", clientName="Visual Studio Code", adapterID="pp6600", pathFormat="path", linesStartAt1=True,
-                   columnsStartAt1=True, supportsVariableType=True, supportsVariablePaging=True, supportsRunInTerminalRequest=True, locale="en",
+                              "script": self.script(FULL), "__configurationTarget": 6,
+                              "__sessionId": "3b0a6c9f-0000-4000-8000-000000000000"}
+        client.ask("initialize", clientID="vscode", clientName="Visual Studio Code", adapterID="pp6600", pathFormat="path",
+                   linesStartAt1=True, columnsStartAt1=True, supportsVariableType=True, supportsVariablePaging=True,
+                   supportsRunInTerminalRequest=True, locale="en",
                    supportsProgressReporting=True, supportsInvalidatedEvent=True, supportsMemoryReferences=True, supportsMemoryEvent=True,
                    supportsArgsCanBeInterpretedByShell=True, supportsStartDebuggingRequest=True, supportsANSIStyling=True)
         client.ask("launch", **self.configuration)
@@ -467,12 +478,14 @@ class VSCode(OwnCase):
         for command in ("next", "continue", "stepOut", "stepIn", "stepBack", "reverseContinue"):
             stop = client.stop_after(command, threadId=1, **({"singleThread": False} if command != "continue" else {}))
             found.append((stop["reason"], self.look(client, stop)[1]))
-        self.assertEqual([("breakpoint", SECOND), ("breakpoint", COUNTED), ("step", INPUT), ("step", ROUND), ("step", INPUT), ("breakpoint", COUNTED)], found)
+        self.assertEqual([("breakpoint", SECOND), ("breakpoint", COUNTED), ("step", INPUT), ("step", ROUND), ("step", INPUT),
+                          ("breakpoint", COUNTED)], found)
         self.assertEqual("000002", client.ask("evaluate", expression="A", frameId=1, context="watch")["result"])
         self.assertEqual("0022  0000  PSN 00", client.ask("evaluate", expression="COUNT", frameId=1, context="hover",
                                                             line=COUNTED, column=18, source={"path": self.source})["result"])
         info = client.ask("dataBreakpointInfo", variablesReference=REGISTERS, name="A", frameId=1)
-        points = client.ask("setDataBreakpoints", breakpoints=[{"dataId": info["dataId"], "accessType": "write", "condition": "A 0 = 1"}])["breakpoints"]
+        points = client.ask("setDataBreakpoints", breakpoints=[{"dataId": info["dataId"], "accessType": "write",
+                                                                "condition": "A 0 = 1"}])["breakpoints"]
         self.assertTrue(points[0]["verified"])
         client.ask("disassemble", memoryReference="0x000094", offset=0, instructionOffset=-200, instructionCount=400, resolveSymbols=True)
         client.ask("restart", arguments=self.configuration)

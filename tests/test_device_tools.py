@@ -4,11 +4,12 @@ import os
 import re
 import unittest
 
+from tests.device_law import COUNTS, Counts
 from tests.panels import bottom, press
 from tests.support import PYTHON, TOP, Case, program, read
 from tests.terminal import PATIENCE, Terminal
 
-from pp6600 import INACTIVE, Console, Device
+from pp6600 import Console
 from pp6600.devices.paper_tape import PaperTape
 from pp6600.panel.app import Panel
 from pp6600.panel.session import Session
@@ -17,21 +18,6 @@ from pp6600.panel.session import Session
 # turn 13, and B in turn 51, in which A is stored; B is stored in turn 63.
 READS = ["SET M 0 100 7711 1 7411 1403 7111 200 300", "SET P 0 100", "STEP 200"]
 FAILS = ["SET M 0 100 7711 1 7711 2 300", "SET P 0 100", "STEP"]
-OWN = '''from pp6600 import INACTIVE, Device
-class Counts(Device):
-    start = 0
-    def function(self, state, event):
-        return state + 1, INACTIVE if event.word < 2 else 5
-'''
-
-
-class Counts(Device):
-    """A device that fails at code 2."""
-
-    start = 0
-
-    def function(self, state, event):
-        return state + 1, INACTIVE if event.word < 2 else 5
 
 
 class Panels(Case):
@@ -49,7 +35,8 @@ class Panels(Case):
 
     def test_to_and_fro(self):
         panel = self.panel(READS, PaperTape(b"AB"))
-        for keys, *wanted in (("", 0o200, "0102", 2, 0), ("b", 0o177, "0102", 2, 1), ("B", 0o165, "0102", 2, 0o13), ("<", 0, "0000", 0, 0o202),
+        for keys, *wanted in (("", 0o200, "0102", 2, 0), ("b", 0o177, "0102", 2, 1), ("B", 0o165, "0102", 2, 0o13),
+                              ("<", 0, "0000", 0, 0o202),
                               (">", 0o200, "0102", 2, 0), ("62G", 0o62, "0000", 2, 0o116), ("s", 0o63, "0102", 2, 0o115),
                               ("50G", 0o50, "0000", 1, 0o130), ("s", 0o51, "0000", 2, 0o127), (">3s", 0o203, "0102", 2, 0)):
             with self.subTest(keys):
@@ -80,8 +67,9 @@ class Panels(Case):
         panel = self.panel(FAILS, Counts())
         channel = panel.session.state.channels[0o11]
         self.assertEqual("function of Counts must return a state and a Reply, and returned (2, 5)", bottom(panel, "12s"))
-        self.assertEqual((1, 1, channel, None), (panel.session.history.turns, panel.session.simulator.state(), panel.session.state.channels[0o11],
-                                                 panel.fault))
+        session = panel.session
+        self.assertEqual((1, 1, channel, None),
+                         (session.history.turns, session.simulator.state(), session.state.channels[0o11], panel.fault))
         press(panel, "b")
         self.assertEqual((0, 0), (panel.session.history.turns, panel.session.simulator.state()))
 
@@ -105,7 +93,7 @@ class Terminals(Case):
         self.assertEqual(0, terminal.status())
 
     def test_talk_goes_on(self):
-        script, own = self.file("\n".join(FAILS) + "\n"), self.file(OWN, "own.py")
+        script, own = self.file("\n".join(FAILS) + "\n"), self.file(COUNTS, "own.py")
         terminal = self.started("talk", "--device", f"{own}:Counts@11", script, kind="dumb", columns=132, rows=40)
         for typed in ("STEP 20", "undo", "\x04"):
             self.assertIsNotNone(terminal.wait_until(lambda one: re.fullmatch("[0-7]+>", (one.lines() or [""])[-1])), terminal.lines())

@@ -55,7 +55,8 @@ class Tool(FilmCase):
         """One line in plain words, status 2, and no file."""
         path = self.path("none.html")
         for words, script in (((), "STEP\n"), (("-o", self.path("no/folder.html")), "STEP\n"), (("-o", path, "no-such-file"), ""),
-                              (("-o", path), "STEP 1000000\nSTEP\n"), (("-o", path, "--last", "9"), "STEP\n"), (("-o", self.folder), "STEP\n"),
+                              (("-o", path), "STEP 1000000\nSTEP\n"), (("-o", path, "--last", "9"), "STEP\n"),
+                              (("-o", self.folder), "STEP\n"),
                               (("-o", path, "--deck", "no-such-file"), "STEP\n"), (("-o", path, "--reader", "99"), "STEP\n"),
                               (("-o", path, "--around", "2"), "STEP\n"), (("-o", path, "--around", "1", "--last", "1"), "STEP\n"),
                               (("-o", path, "--program", "no-such-program"), "STEP\n")):
@@ -115,7 +116,8 @@ class Tool(FilmCase):
     def test_files_of_the_run(self):
         """The page has the script, the deck and the panel byte for byte, and how one runs them again."""
         room = self.folder
-        contents = {"script": b"STEP 3\r\n* caf\xe9 \xff\nGO", "deck": b"* one card\n0001 0002\n", "my panel": b"1 2 3 4 5 6\n7 10 11 12 13 14\n"}
+        contents = {"script": b"STEP 3\r\n* caf\xe9 \xff\nGO", "deck": b"* one card\n0001 0002\n",
+                    "my panel": b"1 2 3 4 5 6\n7 10 11 12 13 14\n"}
         for name, data in contents.items():
             write(self.path(name), data)
         words = ("--deck", f"{room}/deck", "--panel", f"{room}/my panel", "--central", "32")

@@ -26,7 +26,8 @@ class Origin(PageCase):
         self.assertEqual(["0027"], self.value(MARKED.format(".columns")))
         self.browser.click("#origin li:nth-child(2) button")
         self.assertEqual(0o373, self.value("film.turn[film.at]"))
-        self.assertEqual([False, True], self.value("[...document.querySelectorAll('#origin button')].map((one) => one.hasAttribute('aria-current'))"))
+        self.assertEqual([False, True], self.value(
+            "[...document.querySelectorAll('#origin button')].map((one) => one.hasAttribute('aria-current'))"))
         self.browser.key("o")
         self.assertEqual([True, []], self.value(f"[byId('origin').hidden, {MARKED.format('.columns')}]"))
 
@@ -39,7 +40,8 @@ class Origin(PageCase):
         self.assertEqual(wanted, [line.split(":")[0] for line in self.value(STEPS)])
         self.assertEqual("M 00 0022 0000: never written", self.value(STEPS)[-1])
         self.assertIn("M 00 0201 0002: before turn 1, line 1 word 6 (decimal) of the script: SET M 0 200 1 2 4", self.value(STEPS))
-        self.assertEqual([SUM.splitlines()[0]], self.value("[...document.querySelectorAll('#script .origin .line')].map((one) => one.textContent)"))
+        self.assertEqual([SUM.splitlines()[0]], self.value(
+            "[...document.querySelectorAll('#script .origin .line')].map((one) => one.textContent)"))
         self.browser.click("#memory button[data-place='M 00 0020']")
         self.assertTrue(self.value("byId('origin').hidden"))
         self.browser.key("o")
@@ -54,7 +56,8 @@ class Origin(PageCase):
         self.assertEqual(["P 01 0001: turn 122, PP 01, in the block of IAM 01, at its end, of M 01 0000",
                           "M 01 0000 0000: turn 26, PP 01, in the block of IAM 01, from H 01",
                           "H 01 0000: turn 25, PP 00, in the block of OAM 01 at 0002, from M 00 0011",
-                          "M 00 0011 0000: before turn 1, line 1 (decimal) of the script: DEADSTART, word 9 (decimal) of the panel"], self.value(STEPS))
+                          "M 00 0011 0000: before turn 1, line 1 (decimal) of the script: DEADSTART, word 9 (decimal) of the panel"],
+                         self.value(STEPS))
 
     def test_central_memory(self):
         """docs/MACHINE.md: a block of cells to a central word, and parts of it back to cells."""
@@ -89,7 +92,8 @@ class Origin(PageCase):
             lines, choose = random_session(seed), random.Random(seed)
             script = "".join(f"{line}\n" for line in lines)
             self.browser.open(self.film(*DEVICES, script=script, status=None))
-            places = [f"M {choose.randrange(3)} {choose.randrange(0o100):o}" for _ in range(6)] + [f"C {choose.randrange(0o400):o}" for _ in range(3)]
+            places = [f"M {choose.randrange(3)} {choose.randrange(0o100):o}" for _ in range(6)]
+            places += [f"C {choose.randrange(0o400):o}" for _ in range(3)]
             for place in (*places, *(f"{kind} {choose.randrange(3)}" for kind in "APQ"), "H 5", "H 12", "XP 0"):
                 wanted = self.tool_lines(script, place)
                 if len(wanted) < 0o40:  # the page has at most so many steps

@@ -125,7 +125,8 @@ class Program(PageCase):
         loader = "examples/overwritten-loader"
         self.browser.open(self.film("--symbols", "0", listing, "--deck", f"{loader}/deck", f"{loader}/script"), "#turn=113")
         self.browser.key("i")
-        texts = "[...document.querySelectorAll('#program tbody tr')].map((row) => row.cells[1].textContent + ' ' + row.cells[4].textContent)"
+        texts = ("[...document.querySelectorAll('#program tbody tr')]"
+                 ".map((row) => row.cells[1].textContent + ' ' + row.cells[4].textContent)")
         self.assertEqual(["0104 INPUT IAM 12 60", "0106 DCN 12", "0107 INPUT+3"],
                          [text for text in self.value(texts) if text[:4] in ("0104", "0106", "0107")])
         self.value("moveTo(momentOfTurn(0o405))")
@@ -147,8 +148,10 @@ class Controls(PageCase):
         self.assertEqual(["<b>&", "<b>&"], self.value("[document.title, document.querySelector('h1').textContent]"))
         last = self.LAST
         for key, shift, wanted in (
-                ("End", False, last), ("ArrowRight", False, last), ("ArrowLeft", False, last - 1), ("Home", False, 0), ("ArrowLeft", False, 0),
-                ("ArrowRight", False, 1), ("ArrowRight", False, 2), ("ArrowRight", True, 12), ("ArrowRight", True, 22), ("ArrowLeft", True, 12),
+                ("End", False, last), ("ArrowRight", False, last), ("ArrowLeft", False, last - 1), ("Home", False, 0),
+                ("ArrowLeft", False, 0),
+                ("ArrowRight", False, 1), ("ArrowRight", False, 2), ("ArrowRight", True, 12), ("ArrowRight", True, 22),
+                ("ArrowLeft", True, 12),
                 (".", False, 2 + 0o1000), (".", False, last - 1), (",", False, 2 + 0o1000), (",", False, 2), (",", False, 1)):
             self.browser.key(key, shift)
             with self.subTest(key=key, shift=shift):
@@ -171,7 +174,8 @@ class Controls(PageCase):
         self.open("#moment=0")
         shown = "[film.at, byId('no-turn').innerText, byId('turn').getAttribute('aria-invalid')]"
         for word, wanted in (("13", [2 + 0o13, "", "false"]), ("9", [2 + 0o13, "not an octal number", "true"]),
-                             ("77777", [self.LAST, "no turn 77777: the highest is 1000", "true"]), ("x", [self.LAST, "not an octal number", "true"]),
+                             ("77777", [self.LAST, "no turn 77777: the highest is 1000", "true"]),
+                             ("x", [self.LAST, "not an octal number", "true"]),
                              ("1000", [2 + 0o1000, "", "false"])):
             self.browser.fill("g", word)
             with self.subTest(word):
@@ -185,8 +189,8 @@ class Controls(PageCase):
     def test_place_box(self):
         """docs/FILM.md: the box of the place has the name of the number that was clicked; what it says if there is no such place."""
         self.open("#moment=0")
-        shown = ("[byId('place').value, shown.chosen && shown.chosen.name, byId('no-place').innerText, byId('place').getAttribute('aria-invalid')"
-                 ", document.activeElement.id]")
+        shown = ("[byId('place').value, shown.chosen && shown.chosen.name, byId('no-place').innerText, "
+                 "byId('place').getAttribute('aria-invalid'), document.activeElement.id]")
         self.assertEqual(["", "M 0 106"], self.value("[byId('place').value, byId('place').placeholder]"))
         self.browser.click("#memory button[data-place='M 00 0020']")
         self.assertEqual(["M 00 0020", "M 00 0020", "", "false", ""], self.value(shown))
@@ -229,7 +233,8 @@ class Controls(PageCase):
         self.browser.open(self.film(script=script), "#moment=2")
         shown = "[byId('memory-of').selectedOptions[0].text, document.querySelector('#memory .at-p').place.name]"
         rows = (("#moment=2", "PP 01, follows the turns"), ("#turn=1", "PP 00, follows the turns"), ("#turn=2", "PP 01, follows the turns"),
-                ("#turn=12", "PP 01, follows the turns"), ("#turn=75", "PP 00, follows the turns"), ("#turn=100", "PP 01, follows the turns"))
+                ("#turn=12", "PP 01, follows the turns"), ("#turn=75", "PP 00, follows the turns"),
+                ("#turn=100", "PP 01, follows the turns"))
         for address, wanted in rows:
             self.value(f"location.hash = '{address}'; followAddress()")
             with self.subTest(address):

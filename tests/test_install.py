@@ -6,7 +6,8 @@ import re
 import shutil
 import unittest
 
-from tests.installing import ANSWERED, INSTALL, OWN, PAGES, InstallCase, alone, below, checkout, commit, installation, lasting_room, lost_links
+from tests.installing import (
+    ANSWERED, INSTALL, OWN, PAGES, InstallCase, alone, below, checkout, commit, installation, lasting_room, lost_links)
 from tests.support import TOOLS, Done, program, read, write
 
 ARCHIVE = f"pp6600-{read('VERSION').strip()}-x86_64-linux.tar.gz"

@@ -132,7 +132,8 @@ class Choice(Launched):
         os.chmod(os.path.join(self.top, name), 0o644)
         self.check_refused(self.run_here("pp6600"), "dist/pp6600 can't be read and run: chmod +rx dist/pp6600")
         self.write(name, "stripped\n", 0o755)
-        self.check_refused(self.run_here("pp6600"), "dist/pp6600 is not the program that dist/sources names: git checkout dist brings it back")
+        self.check_refused(self.run_here("pp6600"),
+                           "dist/pp6600 is not the program that dist/sources names: git checkout dist brings it back")
         os.remove(os.path.join(self.top, "dist/sources"))
         self.check_refused(self.run_here("pp6600"), "dist/sources can't be read: git checkout dist brings it back")
 
@@ -203,7 +204,8 @@ class OtherMachines(Launched):
         self.write("dist/pp6600", "#!/bin/sh\nexit 1\n", 0o755)
         self.write("dist/sources", f"program {self.sum_of('dist/pp6600')}\nsources {self.checksum()}\nkit a kit\n")
         self.assertEqual(("TURNS 12 SLOT 00\n", self.SAID, 0), self.run_here("pp6600"))
-        tool = self.run_here("/usr/bin/env", sys.executable, "-S", "-m", "pp6600", "show", "--program", self.launcher, folder=f"{self.top}/tools")
+        tool = self.run_here("/usr/bin/env", sys.executable, "-S", "-m", "pp6600", "show", "--program", self.launcher,
+                             folder=f"{self.top}/tools")
         self.assertEqual(("> STEP 12\nTURNS 12 SLOT 00\n", self.SAID, 0), tool)
 
 
@@ -236,7 +238,8 @@ class Prove(Launched):
         self.run_here("prove", rt=True)
         with self.marked("fails"):
             out, err, status = self.run_here("prove", rt=True)
-        self.assertEqual(("== pp_arith\n", "== pp_arith\na goal is open\nprove: not proved; what went wrong is above\n", 1), (out, err, status))
+        self.assertEqual(("== pp_arith\n", "== pp_arith\na goal is open\nprove: not proved; what went wrong is above\n", 1),
+                         (out, err, status))
         self.assertFalse(os.path.exists(f"{self.built}.proved"))
 
     def test_a_source_that_changes_meanwhile_leaves_no_stamp(self):

@@ -47,7 +47,8 @@ class Shown(Case):
         self.assertEqual([["", "00", "0000", "000000", "0000", "0000", "DCN 05", "05 active"],
                           [">", "01", "0100", "000003", "0000", "7106", "IAM 06", ""],
                           ["", "02", "0001", "000000", "0000", "0000", "LDC 01 2345", ""],
-                          *(["", f"{number:02o}", "0001", "000000", "0000", "0000", "PSN 00", ""] for number in range(3, 10))], shown.rows[1:11])
+                          *(["", f"{number:02o}", "0001", "000000", "0000", "0000", "PSN 00", ""] for number in range(3, 10))],
+                         shown.rows[1:11])
         self.assertEqual([["H", *(f"{number:02o}" for number in range(13))], ["", *["I 0000"] * 12, "F 0001"]], shown.rows[11:])
         self.assertEqual(["CR H 12 CARD 0000 OF 0000 COLUMN 000 MODE IDLE", "LP H 13 SYMBOLS 000000 COLUMN 000 MODE IDLE"], shown.lines)
 

@@ -23,8 +23,9 @@ CRATES = [line.split(":")[0].split()[0] for line in read("crates.txt").splitline
 
 # What the repository does not define: words of the kit and of the system, keys, what is installed, and what recipes invent.
 OTHERS = set("""crate doc lemma logic plant version specs proofs ghost prove inline auto using unfolding clause functions proof failed
-    --anew --allow-holes --fix-imports --only --start Display Read Write File cd echo cp gz tar zip Ctrl Shift Tab End Home WORD FILE FILE.html
-    FUNCTION word /usr/local ~/.local ~/.pp6600_history PREFIX/bin PREFIX/libexec/pp6600/tools share/pp6600/exercises pp6600-VERSION-x86_64-linux.tar.gz work.html
+    --anew --allow-holes --fix-imports --only --start Display Read Write File cd echo cp gz tar zip Ctrl Shift Tab End Home WORD FILE
+    FILE.html FUNCTION word /usr/local ~/.local ~/.pp6600_history PREFIX/bin PREFIX/libexec/pp6600/tools share/pp6600/exercises
+    pp6600-VERSION-x86_64-linux.tar.gz work.html
     WHO Who slot_text kept_text must-fail/who_shows_p.edit pp_console/who_shows_p""".split())
 COMMENT_OR_TEXT = re.compile(r'//[^\n]*|--[^\n]*|b?("(?:\\.|[^"\\])*")')
 OF_A_PROGRAM = re.compile(r"--?[a-z][a-z-]*|\b[A-Z][A-Z\d_]*\b|(?<=[\"'])\w+(?=[\"'])|(?<=def )\w+|(?<=class )\w+")
@@ -36,9 +37,9 @@ CONTRACT = re.compile(r"^- ((?:`[\w:]+`(?:, | and )?)+)(?: \(([^)]*)\))?:", re.M
 KINDS = {"clause": "clauses", "clauses": "clauses", "against": "clauses", "mutant": "mutants", "mutants": "mutants",
          "crate": "crates", "crates": "crates", "ghost words": "ghosts"}
 KIND = re.compile(r"\b(" + "|".join(KINDS) + r")\s+\(?((?:`\w+`(?:,\s+|\s+and\s+)?)+)")
-COUNT = re.compile(r"\b(?:\d[\d,]*|two|three|four|five|six|seven|eight|nine|ten|eleven|twelve|\w+teen|twenty)(?:\s+(?:of\s+)?[\w`-]+){0,2}?\s+"
+COUNT = re.compile(r"\b(?:\d[\d,]*|two|three|four|five|six|seven|eight|nine|ten|eleven|twelve|\w+teen|twenty)"
+                   r"(?:\s+(?:of\s+)?[\w`-]+){0,2}?\s+"
                    r"(?:mutants|crates|theorems|functions|tests|lines\s+of\s+(?:code|Python|Rattle))\b")
-
 
 
 def is_program(path):
@@ -65,7 +66,8 @@ class Known:
         self.calls = {(owner, call) for contracts in CONTRACTS.values() for *owners, call, _ in contracts for owner in owners}
         self.mutants = {os.path.basename(path)[:-len(".edit")] for path in self.files if path.endswith(".edit")}
         self.crates = set(re.findall(r"\w+", read("crates.txt")))
-        names = {name for path in self.files for name in (os.path.basename(path), "pp6600-" + os.path.basename(path), path[len("tests/"):-3])}
+        names = {name for path in self.files
+                 for name in (os.path.basename(path), "pp6600-" + os.path.basename(path), path[len("tests/"):-3])}
         self.words |= self.mutants | names | set().union(*self.code.values())
 
     def add_source(self, crate, text):
@@ -184,6 +186,7 @@ class Pages(Case):
         names = "".join(f"## {one}\n\nAll.\n\n### {one}1\n\nSo.\ncall: c\n\n### {one}2\n\nSo.\ncall: c\n\n" for one in "AB")
         text = f"# Page\n\nfirst: B: B2; B3\nfirst: C: C1\n\n{names}## Last\n\nIt is.\n"
         parts, faults = PROOFS["ordered"](text)
-        order = "# Page, ## B, ### B2, ## C, ## Last, ## Appendix: promises of inner calls, ### A, #### A1, #### A2, ### B: inner calls, #### B1"
+        order = ("# Page, ## B, ### B2, ## C, ## Last, ## Appendix: promises of inner calls, ### A, #### A1, #### A2, ### B: inner calls, "
+                 "#### B1")
         self.assertEqual(order.split(", "), [part.partition("\n")[0] for part, _ in parts])
         self.assertEqual(["first: B has no promise B3", "first: C has no promise C1"], faults)

@@ -18,8 +18,8 @@ from pp6600.simulation.program import console_of, read_words
 
 
 def console_at(page, first, last):
-    """Returns a console of the simulator in Python that has performed a session of a page, with those that continue it, up to its line `last`.
-    The line `first` is in the first one."""
+    """Returns a console of the simulator in Python that has performed a session of a page, with those that continue it, up to its
+    line `last`. The line `first` is in the first one."""
     sessions = blocks(page, "session")
     at = next(number for number, block in enumerate(sessions) if first in block.text)
     words = [os.path.join(EXAMPLES, word) if "/" in word else word for word in sessions[at].words[1:]]

@@ -29,7 +29,8 @@ class Lines(PanelCase):
         """The lines of README.md and docs/HOWTO.md, and turns counted by the barrel's order."""
         self.check_rows(self.sent,
                 ("", "s", "STEP"), ("", "12s", "STEP 12"), ("", " ", "STEP"), ("STEP 3", "S", "STEP 12"), ("", "3S", "STEP 36"),
-                ("", "3)n", "STEP 3"), ("", "n", "STEP 12"), ("STEP", "n", "STEP 11"), ("STEP 11", "n", "STEP"), ("STEP 4", "2n", "STEP 20"),
+                ("", "3)n", "STEP 3"), ("", "n", "STEP 12"), ("STEP", "n", "STEP 11"), ("STEP 11", "n", "STEP"),
+                ("STEP 4", "2n", "STEP 20"),
                 ("STEP 10", "b", "BACK"), ("STEP 1000", "675b", "BACK 675"), ("", "2000001s", "STEP 1000000, STEP 1000000, STEP"),
                 (FIRST_PROGRAM, "gP 0<Enter>W", "WATCH P 0, BACK W"))
 
@@ -128,7 +129,8 @@ class Culprits(PanelCase):
         ahead = panel.session.history.to_redo
         self.assertEqual(0o12, ahead)
         self.check_rows(lambda line: bottom(panel, f":{line}<Enter>")[:6],
-                        ("SET A 0 9", "ERR 03"), ("SET A 12 0", "ERR 04"), ("SET A 0", "ERR 02"), ("WATCH A 1", "ERR 12"), ("UNWATCH A 0", "ERR 13"), ("DEADSTART", "ERR 14"), ("STEP 0", "ERR 04"))
+                        ("SET A 0 9", "ERR 03"), ("SET A 12 0", "ERR 04"), ("SET A 0", "ERR 02"), ("WATCH A 1", "ERR 12"),
+                        ("UNWATCH A 0", "ERR 13"), ("DEADSTART", "ERR 14"), ("STEP 0", "ERR 04"))
         self.assertEqual((ahead, []), (panel.session.history.to_redo, panel.asked))
         self.assertIn("discards the 12 actions ahead", bottom(panel, ":SET A 0 7<Enter>"))
         press(panel, "n<End>")
@@ -257,7 +259,8 @@ class Until(PanelCase):
         """The number at the cursor, forward and back; nothing is lost of what is ahead."""
         panel = self.wide_panel(OVERWRITTEN, "--deck", DECK)
         change = "^TURN 405 PP 00 P 0106 IAM WAS 7512 NOW 0027$"
-        for keys, turn, message in (("g106<Enter>[", 405, change), ("[", 405, "^NONE: M 0 106 changes, before turn 405$"), ("G3<Enter>", 3, "^s step"),
+        for keys, turn, message in (("g106<Enter>[", 405, change), ("[", 405, "^NONE: M 0 106 changes, before turn 405$"),
+                                    ("G3<Enter>", 3, "^s step"),
                                     ("]", 405, change), ("]", 405, "^NONE: M 0 106 changes, in turns 406 to 10001300$")):
             self.assert_goes(panel, keys, turn, message)
         self.assertIn("0100 0021  0022  0023  0024  0025  0026  0027*>0100", "\n".join(press(panel)))
@@ -268,9 +271,11 @@ class Until(PanelCase):
         """docs/TUTORIAL.md: in turn 13 STD stores 5 in cell 20, and in turn 25 UJN jumps to itself. P is 0101 after turn 1."""
         panel = self.wide_panel(FIRST_PROGRAM + "STEP 100\n")
         store, one = "^TURN 13 PP 00 P 0101 STD ", "^TURN 1 PP 00 P 0100 LDN "
-        for keys, turn, message in (("UM 0 20 = 5<Enter>", 13, f"{store}WAS 0000 NOW 0005$"), ("F", 13, "^NONE: M 0 20 = 5, before turn 13$"),
+        for keys, turn, message in (("UM 0 20 = 5<Enter>", 13, f"{store}WAS 0000 NOW 0005$"),
+                                    ("F", 13, "^NONE: M 0 20 = 5, before turn 13$"),
                                     ("UP 0 = 101<Enter>", 1, f"{one}WAS 0100 NOW 0101$"), ("u<Up><Up><Enter>", 13, store),
-                                    ("F", 13, "^NONE: M 0 20 = 5, before"), ("UP 0 outside 100 101 and A 0 = 5<Enter>", 13, "^NONE: P 0 outside"),
+                                    ("F", 13, "^NONE: M 0 20 = 5, before"),
+                                    ("UP 0 outside 100 101 and A 0 = 5<Enter>", 13, "^NONE: P 0 outside"),
                                     ("G0<Enter>", 0, "^s step"), ("f", 13, store), ("<End>", 100, "^s step"), ("F", 13, store)):
             self.assert_goes(panel, keys, turn, message)
 
@@ -285,7 +290,8 @@ class Until(PanelCase):
 
     def test_faults(self):
         panel = self.wide_panel(FIRST_PROGRAM)
-        for keys, message in (("f", "^give a condition, as P 0 = 105"), ("uP 0<Enter>", "^a condition is PLACE = 105"), ("uP 0 = 9<Enter>", "^9 is not octal$"),
+        for keys, message in (("f", "^give a condition, as P 0 = 105"), ("uP 0<Enter>", "^a condition is PLACE = 105"),
+                              ("uP 0 = 9<Enter>", "^9 is not octal$"),
                               ("uP 13 = 0<Enter>", "13")):
             self.assert_goes(panel, keys, 0, message)
         self.assertIsNone(panel.fault)
@@ -364,7 +370,8 @@ class Program(PanelCase):
 
     def test_wrong_return(self):
         """A return is wrong by a call before the present turn, forward and back. It is to 0033; the call is in turn 1."""
-        source = ("  BASE OCTAL", "  ORG 100", " START RJM SUB", "  UJN *", " SUB SUBR", "  LDN 33", "  STM SUB", "  UJN SUBX", "  END START")
+        source = ("  BASE OCTAL", "  ORG 100", " START RJM SUB", "  UJN *", " SUB SUBR", "  LDN 33", "  STM SUB", "  UJN SUBX",
+                  "  END START")
         panel = self.panel("STEP 100\n", sources=[(0, self.file("\n".join(source)))])
         found = "TURN 51 PP 00 P 0103 SUBX LJM WAS 0103 NOW 0033"
         self.assertIn(found, bottom(panel, "30GuPP 0 returns wrongly<Enter>"))

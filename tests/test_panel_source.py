@@ -79,7 +79,8 @@ class Pane(SourceCase):
 
     def test_block(self):
         """In a block transfer the present line is that of the instruction, and r is where it goes on."""
-        self.assertEqual([" 0103 1477         8           LDN    77          SHOULD BE 20", " 0104 7112 0060  > 9           IAM    PROGRAM,CR",
+        self.assertEqual([" 0103 1477         8           LDN    77          SHOULD BE 20",
+                          " 0104 7112 0060  > 9           IAM    PROGRAM,CR",
                           "r0106 7512        10           DCN    CR", " 0107 0100 0060   11           LJM    PROGRAM",
                           "                  12           END    START"], rows(press(self.loader(turn=0o113)))[1:])
 
@@ -112,7 +113,8 @@ class Pane(SourceCase):
 
     def test_texts(self):
         """Tabs are expanded, and neither a long line nor a text that is not ASCII breaks a column."""
-        lines = [" START\tLDN\t1\t\tTABS", "\tUJN\tSTART\t\t\u00c4\u6f22e\u0301\U0001f600 END", "* \x1b[31m\x07", f"\tLDN\t2{' ' * 20}{'LONG ' * 40}"]
+        lines = [" START\tLDN\t1\t\tTABS", "\tUJN\tSTART\t\t\u00c4\u6f22e\u0301\U0001f600 END", "* \x1b[31m\x07",
+                 f"\tLDN\t2{' ' * 20}{'LONG ' * 40}"]
         panel = self.panel(sources=[(0, self.file("\n".join(["  ORG 100B", *lines, "  END START", ""]), "t.pp"))])
         self.assertEqual([">0100 1401       >2  START  LDN     1               TABS",
                           " 0101 0376        3         UJN     START           ??e?? END",
@@ -151,7 +153,8 @@ class Keys(SourceCase):
             return [name for name in ("SOURCE", "INSTRUCTIONS", "CENTRAL", " 7  CENTRAL", "?J:#") if name in shown]
         self.check_rows(seen, ("", ["SOURCE"]), ("m", ["CENTRAL", " 7  CENTRAL"]), ("m", ["SOURCE"]), ("i", ["INSTRUCTIONS", "CENTRAL"]),
                         ("m", ["SOURCE"]), ("d", ["INSTRUCTIONS", "CENTRAL", "?J:#"]), ("m", ["SOURCE"]), ("C", ["SOURCE", "CENTRAL"]),
-                        ("C", ["SOURCE"]), ("gC 7<Enter>", ["SOURCE", "CENTRAL"]), ("<Tab>", ["SOURCE"]), ("C<Shift-Tab>", ["SOURCE", "CENTRAL"]),
+                        ("C", ["SOURCE"]), ("gC 7<Enter>", ["SOURCE", "CENTRAL"]), ("<Tab>", ["SOURCE"]),
+                        ("C<Shift-Tab>", ["SOURCE", "CENTRAL"]),
                         ("C", ["SOURCE"]))
         self.assertEqual("memory", panel.view.pane, "the cursor was in central memory")
         self.assertEqual("central memory is beside the cells; m shows the source", bottom(panel, "mC"))
@@ -159,7 +162,8 @@ class Keys(SourceCase):
     def test_cursor(self):
         """Up and Down go by rows of cells; the window moves with the cursor, and Tab leaves out what is not shown."""
         panel = self.loader(turn=0)
-        self.check_rows(lambda keys: press(panel, keys) and panel.view.place(), ("<Tab><Tab>", "M 0 100"), ("j", "M 0 102"), ("3j", "M 0 106"),
+        self.check_rows(lambda keys: press(panel, keys) and panel.view.place(), ("<Tab><Tab>", "M 0 100"), ("j", "M 0 102"),
+                        ("3j", "M 0 106"),
                         ("l", "M 0 107"), ("l", "M 0 110"), ("j", "M 0 111"), ("6k", "M 0 100"), ("<Tab>", "P 0"))
         before = rows(press(panel, "o"))
         self.assertEqual(before, rows(press(panel, "<Tab><Tab>j")), "it stays while the cursor is in it")
@@ -180,9 +184,11 @@ class Keys(SourceCase):
         def origin(place):
             return [line.rstrip() for line in press(panel, f"g{place}<Enter>c") if line[0] == ">"][0], press(panel, "<Escape>") and None
         self.check_rows(lambda place: origin(place)[0],
-                        ("M 0 105", f">M 00 0105 0060 TURN 0 FROM {LOADER}:9 WORD 2"), ("M 0 20", ">M 00 0020 0005 TURN 0 SET LINE 1 WORD 5 (decimal)"),
+                        ("M 0 105", f">M 00 0105 0060 TURN 0 FROM {LOADER}:9 WORD 2"),
+                        ("M 0 20", ">M 00 0020 0005 TURN 0 SET LINE 1 WORD 5 (decimal)"),
                         ("P 0", f">P 00 0100 TURN 0 FROM {LOADER}:12, NOW 0104"),
-                        ("A 0", f">A 00 000077 TURN 25 PP 00 AT 0103 START+3 LDN 77 CONSTANT 77  {LOADER}:8: LDN    77          SHOULD BE 20"))
+                        ("A 0", ">A 00 000077 TURN 25 PP 00 AT 0103 START+3 LDN 77 CONSTANT 77  "
+                         f"{LOADER}:8: LDN    77          SHOULD BE 20"))
 
 
 class Lines(SourceCase):
@@ -238,7 +244,8 @@ class Lines(SourceCase):
         """A line may begin by a setting, which is performed on the way; and a step by lines ends where a watched number changes."""
         panel = self.counter("STEP 12\nSET P 0 106\nSET A 1 7\nSTEP 200\n", turn=0)
         self.assert_walks(panel, "N", [0o12])
-        self.assertEqual(("0106", "000007"), (panel.session.state.processors[0].registers["P"], panel.session.state.processors[1].registers["A"]))
+        first, second = panel.session.state.processors[:2]
+        self.assertEqual(("0106", "000007"), (first.registers["P"], second.registers["A"]))
         self.assert_walks(panel, "P", [0])
         panel = self.counter("WATCH A 2\nSTEP 12\n")
         self.assert_walks(panel, "PN", [0, 0o12])

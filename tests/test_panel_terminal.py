@@ -214,7 +214,8 @@ class Talk(TerminalCase):
         """Who asks for help or for the end as elsewhere is told how talk ends; no line is sent."""
         told = "Ctrl-D ends. undo and redo go back and forward. Card: docs/CARD.md."
         for typed, answer, status in (("help", [told], 0), ("?", [told], 0), ("Quit", [told], 0), (" EXIT ", [told], 0),
-                                      ("help me", ["ERR 01 NOT A COMMAND", "  help is no command: they are SET, STEP, BACK, FORWARD, WATCH, "
+                                      ("help me", ["ERR 01 NOT A COMMAND",
+                                                   "  help is no command: they are SET, STEP, BACK, FORWARD, WATCH, "
                                                    "UNWATCH, DEADSTART and DUMP"], 1)):
             with self.subTest(typed):
                 wanted = [f"0> {typed}".rstrip(), *answer, "0> STEP", "TURNS 1 SLOT 01", "1>"]

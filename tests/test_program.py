@@ -54,7 +54,8 @@ class System(Case):
 
     def test_deck_panel_and_script_are_opened_in_this_order(self):
         """Each is a named pipe, and is opened only by who reads that very path."""
-        contents = {"a deck": b"1 2 3\n", "ein Pult": b"1405 3420 300 0 0 0 0 0 0 0 0 0\n", "--script": b"DEADSTART\nDUMP M 0 1 2\nDUMP CR\n"}
+        contents = {"a deck": b"1 2 3\n", "ein Pult": b"1405 3420 300 0 0 0 0 0 0 0 0 0\n",
+                    "--script": b"DEADSTART\nDUMP M 0 1 2\nDUMP CR\n"}
         folder = self.room()
         for name in contents:
             os.mkfifo(os.path.join(folder, name))

@@ -63,7 +63,8 @@ class Compared(Case):
         """Words of the command line that random sessions have seldom."""
         with open("script", "wb") as file:
             file.write(b"SET A 0 1\nDUMP PP 0\n")
-        for words in (["--", "script"], ["--", "--help"], ["--", "--"], ["--deck", "--", "script"], ["--deck=", "script"], ["--help", b"\xff"],
+        for words in (["--", "script"], ["--", "--help"], ["--", "--"], ["--deck", "--", "script"], ["--deck=", "script"],
+                      ["--help", b"\xff"],
                       [b"\xff", "--help"], ["script", "--", "script"], ["--history", "0" * 5000 + "7", "script"], ["--history", "9" * 5000],
                       ["--deck", "/dev/zero", "script"], ["--panel", "/dev/zero", "script"], ["-"], ["--history", "7\n", "script"]):
             with self.subTest(words):

@@ -150,4 +150,3 @@ class RandomSessions(Case):
         for number, session in enumerate(limits()):
             self.compare(f'limit {number}', session, make_small=False)
         self.check_seen(EXPECTED_LIMITS)
-

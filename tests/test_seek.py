@@ -17,7 +17,8 @@ FIRST, COUNT = map(int, os.environ.get("PP6600_SEEK", "0:10").split(":"))
 CELLS = 0o347  # of the cells from 0 on, which programs of LOOPS use
 PARTS = ("P {n} = {p}", "P {n} outside 100 {p}", "P {n} != {p}", "A {n} > 5", "Q {n} changes", "M {n} 20 = 1", "M {n} {p} changes",
          "M {n} 0 27 changes", "H 1 is {s}", "H 2 is {s}", "H 1 > 3", "H 14 = {a}", "H 14 changes", "PP {n} waits",
-         "PP {n} in a block", "PP {n} not in a block", "H 1 changes", "H 1 changes state", "H 0 changes state", "A {n} inside 1 {p}", "P {n} < {p}")
+         "PP {n} in a block", "PP {n} not in a block", "H 1 changes", "H 1 changes state", "H 0 changes state",
+         "A {n} inside 1 {p}", "P {n} < {p}")
 
 
 class SeekCase(Case):

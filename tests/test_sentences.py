@@ -61,9 +61,14 @@ class Sentences(Case):
                 ("7405 0", "ACN 05: waits for channel 05 to be inactive; it is empty"),
                 ("7505 0", "DCN 05: disconnects channel 05"), ("7514 0", "DCN 14: passes"),
                 ("7414 0", "ACN 14: waits for ever: channel 14 is never inactive"))
+
+    def test_states(self):
+        """The rows of instructions on a channel, by its state."""
         self.check_rows(lambda state, words: sentence_of(words, states=state),
-                ("F", "7005 0", "IAN 05: A gets 4321 from channel 05, which becomes empty"), ("I", "7405 0", "ACN 05: activates channel 05"),
-                ("I", "7605 0", "FAN 05: channel 05 gets function code 0051 from A"), ("I", "7705 1", "FNC 05 1: channel 05 gets function code 1"),
+                ("F", "7005 0", "IAN 05: A gets 4321 from channel 05, which becomes empty"),
+                ("I", "7405 0", "ACN 05: activates channel 05"),
+                ("I", "7605 0", "FAN 05: channel 05 gets function code 0051 from A"),
+                ("I", "7705 1", "FNC 05 1: channel 05 gets function code 1"),
                 ("X", "7705 1", "FNC 05 1: waits for channel 05 to be inactive; it has a function code"),
                 ("X", "6605 300", "FJM 05 300: channel 05 is full: jumps to 300"))
 

@@ -15,7 +15,8 @@ SAID = "pp6600: the proved program does not start here; this is pp6600-python, w
 SCRIPT, DECK = (f"examples/overwritten-loader/{name}" for name in ("script", "deck"))
 LOADER = ["--deck", DECK, SCRIPT]
 # The words of each tool that runs the simulator; standard input is empty.
-WITH_SIMULATOR = {"changes": ["M", "0", "106", *LOADER], "compare": ["--other-panel", "examples/dead-start/panel", *LOADER], "film": ["-o", "FILM", *LOADER],
+WITH_SIMULATOR = {"changes": ["M", "0", "106", *LOADER], "compare": ["--other-panel", "examples/dead-start/panel", *LOADER],
+                  "film": ["-o", "FILM", *LOADER],
                   "origin": ["M", "0", "50", "exercises/first-program/solution/script"], "save": ["0", "100", "110", *LOADER],
                   "show": LOADER, "state": LOADER, "talk": LOADER, "trace": LOADER,
                   "until": ["M", "0", "106", "=", "27", *LOADER], "waits": ["exercises/hanging-channel/script"]}

@@ -91,7 +91,8 @@ def performed(kind, words):
         before = {places.P: 0o100, **cells, **numbers_of(words[2], of_processor)}
         return after(Machine(central=0o2000), before, int(words[0], 0), processor), numbers_of(words[3], of_processor)
     if kind == "Leads" and len(words) == 3:
-        return after(Machine(central=0o2000), numbers_of(words[0], of_processor), int(words[1], 0), processor), numbers_of(words[2], of_processor)
+        machine = after(Machine(central=0o2000), numbers_of(words[0], of_processor), int(words[1], 0), processor)
+        return machine, numbers_of(words[2], of_processor)
     if kind == "Leads":
         return after(Machine(deck_of(words[0])), numbers_of(words[1], of_machine), int(words[2], 0)), numbers_of(words[3], of_machine)
     if kind == "ReaderLeads":

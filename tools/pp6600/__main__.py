@@ -7,7 +7,8 @@ import sys
 from .ending import run
 from .failure import Failure
 
-MODULES = {"debug-adapter": "debug.main", "film": "film.tool", "origin": "origin.tool", "page": "page.tool", "panel": "panel.main"}  # else of commands
+# The others are in commands.
+MODULES = {"debug-adapter": "debug.main", "film": "film.tool", "origin": "origin.tool", "page": "page.tool", "panel": "panel.main"}
 
 
 def names():

@@ -154,7 +154,7 @@ class Attached(Simulator):
         return answer + self.ask_all([*dumps, MARK]) if dumps else answer
 
     def act_by_move(self, line: str) -> List[str]:
-        """As `act`, in which BACK and FORWARD have no limit anyway. Says also whether `sent` has begun anew."""
+        """Performs a line by `act`, in which BACK and FORWARD have no limit anyway. Says also whether `sent` has begun anew."""
         replays = self.replays
         answer = self.act(line)
         return [*answer, REPLAYED] if self.replays > replays else answer

@@ -27,8 +27,9 @@ def default_program() -> str:
 
 @functools.lru_cache(maxsize=None)
 def words_to_run(program: str) -> Tuple[str, ...]:
-    """Returns the words that run a simulator. The launcher of a checkout or of a class stands for the program that it would choose. Where
-    the program of one of these, an installation or a package does not start, it is the one in Python, and standard error says so."""
+    """Returns the words that run a simulator. For the launcher of a checkout or of a class it is the program that the launcher would
+    choose. If the program of one of these, of an installation or of a package does not start, it is the one in Python, and standard
+    error says so."""
     if os.path.dirname(program) == "":
         return (program,)
     whole = os.path.realpath(program)

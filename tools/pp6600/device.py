@@ -61,31 +61,31 @@ class Device:
     start: Any = None  # its state at first
 
     def function(self, state: Any, event: Event) -> Answer:
-        """A function code is on the channel. The processor goes on when the channel is made inactive."""
+        """Handles a function code on the channel. The processor goes on when the channel is made inactive."""
         return state, NOTHING
 
     def word(self, state: Any, event: Event) -> Answer:
-        """A processor has put a word on the channel. EMPTY takes it."""
+        """Handles a word that a processor has put on the channel. EMPTY takes it."""
         return state, NOTHING
 
     def activated(self, state: Any, event: Event) -> Answer:
-        """The channel has become active, and is empty."""
+        """Handles a channel that has become active, and is empty."""
         return state, NOTHING
 
     def taken(self, state: Any, event: Event) -> Answer:
-        """A processor has taken the word that was on the channel."""
+        """Handles a channel from which a processor has taken the word."""
         return state, NOTHING
 
     def disconnected(self, state: Any, event: Event) -> Answer:
-        """The channel has become inactive."""
+        """Handles a channel that has become inactive."""
         return state, NOTHING
 
     def due(self, state: Any, event: Event) -> Answer:
-        """The turn has come that an earlier reply asked for by `wake`."""
+        """Handles the turn that an earlier reply asked for by `waking`."""
         return state, NOTHING
 
     def told(self, state: Any, event: Event) -> Answer:
-        """The user has done something to the device, as to press a key: event.word is what."""
+        """Handles what the user has done to the device, for example which key was pressed: event.word."""
         return state, NOTHING
 
     def picture(self, state: Any) -> Optional[Picture]:

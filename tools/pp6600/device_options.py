@@ -21,7 +21,8 @@ NAMES = sorted(module.name for module in pkgutil.iter_modules(devices.__path__))
 
 def add_devices(parser):
     parser.add_argument("--device", metavar=FORM, action="append", default=[],
-                        help=f"put a device on a channel: {', '.join(NAMES)}, or FILE.py:CLASS; its constructor gets the words; for each one")
+                        help=f"put a device on a channel: {', '.join(NAMES)}, or FILE.py:CLASS; its constructor gets the words; "
+                             "for each one")
 
 
 def devices_of(asked):

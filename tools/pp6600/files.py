@@ -12,15 +12,6 @@ def tool_names():
     return sorted(name for name in os.listdir(TOOLS) if "." not in name and os.path.isfile(os.path.join(TOOLS, name)))
 
 
-def tool_files():
-    """Returns the tools and all that they need: paths below their folder."""
-    found = []
-    for folder, folders, names in os.walk(TOOLS):
-        folders[:] = [name for name in folders if name != "__pycache__"]
-        found += [os.path.relpath(os.path.join(folder, name), TOOLS) for name in names]
-    return sorted(found)
-
-
 def checked_program(path, *words):
     """Returns the words that run a program that answers as the simulator does, with its whole path; fails if it does not."""
     try:

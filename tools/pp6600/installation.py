@@ -21,14 +21,14 @@ LINKS = {".md": re.compile(r"!?\[(?P<text>[^\[\]]*)\]\((?P<file>[^)#:\s]+)[^)]*\
 
 
 def without_lost_links(top):
-    """Of each link of the pages below a folder that leads to no file, leaves the text alone."""
+    """Replaces each link that leads to no file by its text, in the pages below a folder."""
     for folder, _, names in os.walk(top):
         for name in names:
             link, path = LINKS.get(os.path.splitext(name)[1]), os.path.join(folder, name)
             if link:
                 with open(path, encoding="utf-8", newline="") as file:
                     page = file.read()
-                kept = link.sub(lambda found, folder=folder: found[0] if os.path.exists(os.path.join(folder, found["file"])) else found["text"], page)
+                kept = link.sub(lambda found, at=folder: found[0 if os.path.exists(os.path.join(at, found["file"])) else "text"], page)
                 if kept != page:
                     with open(path, "w", encoding="utf-8", newline="") as file:
                         file.write(kept)

@@ -41,7 +41,7 @@ def completions():
 
 
 def edit_lines():
-    """At a terminal, has rlwrap run the tool again, which then has line editing and the history of ./pp6600. Without
+    """Has rlwrap run the tool again at a terminal, which then has line editing and the history of ./pp6600. Without
     rlwrap Python's own line editing does that, if it is there. An interrupt does not end the tool."""
     if not is_terminal():
         return

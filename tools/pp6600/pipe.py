@@ -33,7 +33,8 @@ class Ended(Failure):
 
     def __init__(self, words: Sequence[str], status: int, said: str) -> None:
         how = f"with status {status}" if status >= 0 else f"by signal {-status}"
-        super().__init__(f"the simulator ended early, {how}{': ' + said + file_of(words, said) if said else f'; is {words[0]} the simulator?'}")
+        why = f": {said}{file_of(words, said)}" if said else f"; is {words[0]} the simulator?"
+        super().__init__(f"the simulator ended early, {how}{why}")
 
 
 def file_of(words: Sequence[str], said: str) -> str:

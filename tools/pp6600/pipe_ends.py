@@ -1,5 +1,5 @@
-"""The pipes of a program: how they are written and read without one of them being left to fill up. Where the system can wait for pipes,
-one poll does it; elsewhere, as on Windows, each pipe has a thread."""
+"""The pipes of a program, which are written and read so that none fills up. If the system can wait for pipes, one poll does it;
+otherwise, as on Windows, each pipe has a thread."""
 
 from __future__ import annotations
 

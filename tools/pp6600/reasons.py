@@ -8,13 +8,14 @@ from .core.forms import CENTRAL_ADDRESSES, CLOCK, KINDS
 from .core.simulator import LONGEST_LINE, MOST_TURNS
 
 FORMS = ("SET M n a v ..", "SET A n v", "SET P n v", "SET Q n v", "SET C a v", "SET H c s [v]", "STEP [count]",
-         "BACK [count]", "BACK W", "FORWARD [count]", "WATCH place", "UNWATCH place", "DEADSTART", "DUMP M n a b", "DUMP PP n", "DUMP H", "DUMP C a b",
-         "DUMP XP", "DUMP CR", "DUMP LP", "DUMP W")
+         "BACK [count]", "BACK W", "FORWARD [count]", "WATCH place", "UNWATCH place", "DEADSTART", "DUMP M n a b", "DUMP PP n", "DUMP H",
+         "DUMP C a b", "DUMP XP", "DUMP CR", "DUMP LP", "DUMP W")
 PLACES = ("M n a", "A n", "P n", "Q n", "C a", "H c")
 COMMANDS = tuple(dict.fromkeys(form.split()[0] for form in FORMS))
 SET_STATES = ("I", "E", "F")
 ADVICE = {"10": "the tool changes finds older ones", "11": "UNWATCH one of them first; DUMP W shows them",
-          "12": "DUMP W shows what is watched", "13": "DUMP W shows what is watched", "14": "the option --panel names its file", "15": "WATCH a place first"}
+          "12": "DUMP W shows what is watched", "13": "DUMP W shows what is watched", "14": "the option --panel names its file",
+          "15": "WATCH a place first"}
 
 
 def kinds_of(command):

@@ -1,7 +1,7 @@
 """Tape files, in the form that SIMH and other simulators have.
 
-A record is its number of bytes in four bytes, the lowest one first; then its bytes, and one of 0 if they are odd; then the number
-again. A number of 0 alone is a file mark. Two words are in three bytes, the upper bits first."""
+A record is its number of bytes in four bytes, the lowest one first; then its bytes, and one of 0 if their number is odd; then the
+number again. A number of 0 alone is a file mark. Two words are in three bytes, the upper bits first."""
 
 from __future__ import annotations
 

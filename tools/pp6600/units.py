@@ -74,17 +74,17 @@ class UnitHistory:
         return self.units.count(self.history.position + self.plain.history.ahead) - self.position
 
     def over(self, actions: int) -> int:
-        """As that of a history, in units."""
+        """Returns how many units the last so many actions of the tape are."""
         return self.position - self.units.whole(self.history.position - actions)
 
     def back_over(self, turns: int) -> int:
-        """As that of a history, in units."""
+        """Returns what that of a history does, in units."""
         count = self.history.back_over(turns)
         before = self.history.position - count
         return self.position - (self.units.count(before) if before > 0 else before)
 
     def forward_over(self, turns: int) -> int:
-        """As that of a history, in units."""
+        """Returns what that of a history does, in units."""
         return self.units.count(self.history.position + self.history.forward_over(turns)) - self.position
 
 

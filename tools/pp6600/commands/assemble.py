@@ -34,4 +34,3 @@ def main():
         return WRONG
     write_lines(lines_of(program, form, asked.set or 0))
     return 0
-

@@ -9,8 +9,9 @@ from ..sources import add_sources, symbols_of
 DESCRIPTION = """Shows a script with its answers, then goes on with the lines that are typed. At a terminal it has a
 prompt, with the number of turns that are in effect, octal, and a history of lines, through rlwrap if it is there; Ctrl-D ends
 it, Ctrl-C does not. There undo and redo, with a count or without, go back and forward as BACK and FORWARD do, but without their
-limit: older actions are replayed. A line that is refused has the reason below its answer. With --save FILE it writes a script that gives the session again: the lines of the script, and those typed
-that were not refused. The exit status is 0 if no line was refused, else 1."""
+limit: older actions are replayed. A line that is refused has the reason below its answer. With --save FILE it writes a script
+that gives the session again: the lines of the script, and those typed that were not refused. The exit status is 0 if no line was
+refused, else 1."""
 
 
 class Transcript:

@@ -15,13 +15,12 @@ from ..sources import add_symbols, symbols_of
 
 DESCRIPTION = """Shows each turn of a script, as the processor stood before it: the turn, counted in octal from 1, the
 processor, P, the one or two words of the instruction, its name, A, Q and the phase; and WAITS if the turn was a wait.
-In a block transfer P is the cell of the next word, and the name is that of the transfer. Turns that the script took back and did not perform again are left out. With --channel it shows the turns that touched the channel: that
+In a block transfer P is the cell of the next word, and the name is that of the transfer. Turns that the script took back and did
+not perform again are left out. With --channel it shows the turns that touched the channel: that
 completed an instruction on it, or in which it changed, by a processor, a device or the clock; a wait is not one. Its
 state and register are shown in place of Q and the phase, and WORD LOST if the turn disconnected a full channel, or WORD LEFT if
 a block of input has ended and the channel is still full. With --symbols an address has its label after it, and the listing's own
 text is at the end of the line."""
-
-
 AT_ONCE = 1000  # turns that are read
 FARTHEST = 9000  # actions between them, all of which the simulator keeps
 

@@ -239,9 +239,10 @@ def read_turns(simulator: Simulator, positions: Sequence[int], dumps: Sequence[D
     answers = simulator.look_at([*stops, (here, [])])[:-1]
     before, after = answers[::2], answers[1::2]
     registers = [registers_of(lines[0]) for lines in before]
-    words = simulator.look_at([*((position, word_dumps(slot, int(one["P"], 8))) for position, slot, one in zip(positions, slots, registers)),
-                               (here, [])])
-    return [Made(position, slot, Processor(one, [word for line in lines for word in line.split()[1:]]), registers_of(then[0]), was[1:], then[1:])
+    of_words = [word_dumps(slot, int(one["P"], 8)) for slot, one in zip(slots, registers)]
+    words = simulator.look_at([*zip(positions, of_words), (here, [])])
+    return [Made(position, slot, Processor(one, [word for line in lines for word in line.split()[1:]]), registers_of(then[0]),
+                 was[1:], then[1:])
             for position, slot, one, lines, was, then in zip(positions, slots, registers, words, before, after)]
 
 

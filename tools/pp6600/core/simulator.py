@@ -17,8 +17,8 @@ from ..failure import Failure
 from ..choice import default_program
 from ..pipe import Pipe
 from .forms import (
-    ANSWER, CHANNELS_DUMP, FRAME_DUMP, MOST_TURNS, PROCESSORS, Dump, Place, Registers, cells_dump, central_dump, fields, is_refusal, kind_of, refused,
-    registers_dump, registers_of)
+    ANSWER, CHANNELS_DUMP, FRAME_DUMP, MOST_TURNS, PROCESSORS, Dump, Place, Registers, cells_dump, central_dump, fields, is_refusal,
+    kind_of, refused, registers_dump, registers_of)
 from .notebook import table_of
 from .tape import STEP, Action, History, Tape, lines_of, room_of
 from .turn import Processor
@@ -126,7 +126,7 @@ class Console:
         return answers
 
     def demand(self, line: str) -> List[str]:
-        """As `ask`, of a line that must not be refused."""
+        """Returns the answer to a line that must not be refused."""
         answer = self.ask(line)
         if is_refusal(answer):
             raise Failure(f"the simulator answers {answer[0]} to {line}")
@@ -202,7 +202,7 @@ class Console:
 
     @functools.cached_property
     def central_size(self) -> int:
-        """How many words central memory has."""
+        """Returns how many words central memory has."""
         return self.size_of_central()
 
     @functools.cached_property

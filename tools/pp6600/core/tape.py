@@ -306,17 +306,17 @@ class History:
     # ---- what the simulator did
 
     def restarted(self) -> None:
-        """A fresh simulator is at the beginning of the tape."""
+        """Notes that a fresh simulator is at the beginning of the tape."""
         self.position = self.kept = self.ahead = 0
 
     def performed(self, count: int) -> None:
-        """The simulator has performed the next so many actions of the tape by their lines."""
+        """Notes that the simulator has performed the next so many actions of the tape by their lines."""
         self.position += count
         self.kept = min(self.kept + count, self.room)
         self.ahead = 0
 
     def moved(self, count: int) -> None:
-        """The simulator has gone forward by so many actions, or back if it is negative."""
+        """Notes that the simulator has gone forward by so many actions, or back if it is negative."""
         if count > self.ahead or -count > self.kept:
             raise Failure(f"what is run is not the simulator: it went by {abs(count):o} actions, and there are fewer")
         self.position += count
@@ -324,7 +324,7 @@ class History:
         self.ahead -= count
 
     def added(self, line: str, times: int = 1) -> None:
-        """The simulator has performed a new action: what was ahead is gone."""
+        """Notes that the simulator has performed a new action: what was ahead is gone."""
         self.tape.cut(self.position)
         self.tape.append(line, times)
         self.performed(times)

@@ -174,7 +174,8 @@ class Window:
         """Returns the number in cell d before a turn whose operand's address is in it."""
         if self._addresses is None:
             keys = [Key(key) for key, words in self.words.items() if key[9:13] == NO_PHASE and address_is_in_cell(int(words[:4], 8))]
-            self._addresses = self._at_turns({key: [f"DUMP M {key.number:o} {self.words[key][2:4]} {self.words[key][2:4]}\n"] for key in keys})
+            self._addresses = self._at_turns({key: [f"DUMP M {key.number:o} {self.words[key][2:4]} {self.words[key][2:4]}\n"]
+                                              for key in keys})
         return int(self._addresses[at][0][5:9], 8)
 
     # ---- one turn
@@ -201,7 +202,8 @@ class Window:
 
     def _has_function(self, channel: int) -> bool:
         """Returns whether a turn may give a function code to a channel."""
-        return any(int(group[13:15], 8) in FUNCTIONS and int(group[15:17], 8) == channel and group[9:13] == NO_PHASE for group in self.groups)
+        return any(int(group[13:15], 8) in FUNCTIONS and int(group[15:17], 8) == channel and group[9:13] == NO_PHASE
+                   for group in self.groups)
 
     def words_of_reader(self) -> Dict[int, Optional[Tuple[int, int]]]:
         """Returns by turns what the card reader put on its channel: a card and its column, or None for the status."""

@@ -124,7 +124,7 @@ class Adapter(Requests, Setting):
             self.stopped("pause", self.paused)
 
     def lose(self):
-        """The simulator has ended."""
+        """Notes that the simulator has ended."""
         self.end_simulator()
         self.is_terminated = False
         self.wire.event("terminated")

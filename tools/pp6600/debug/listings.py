@@ -89,7 +89,8 @@ class Listings:
         beside = self.beside[number]
         if not beside.width:
             return "".join(f"{instruction(memory, cell):{WIDTH}}\n" for cell in cells).encode("ascii")
-        return b"".join(f"{instruction(memory, cell):{WIDTH}}".encode("ascii") + beside.at(cell, memory.word(cell)) + b"\n" for cell in cells)
+        return b"".join(f"{instruction(memory, cell):{WIDTH}}".encode("ascii") + beside.at(cell, memory.word(cell)) + b"\n"
+                        for cell in cells)
 
     def text(self, number, memory):
         return self.lines(number, memory, range(CELLS)).decode()

@@ -69,7 +69,7 @@ class File:
 
 
 class OwnSources:
-    """All of them."""
+    """The sources of all processors."""
 
     def __init__(self, symbols):
         """The symbols are those of all processors, as `pp6600.listing` has them."""

@@ -159,7 +159,7 @@ class Runner:
                 self.machine.tally(one.point).add(stop.position)
 
     def know(self, wanted, position):
-        """All hits up to a position are known."""
+        """Notes that all hits up to a position are known."""
         for point in wanted.points:
             if point.terms.hits:
                 tally = self.machine.tally(point)

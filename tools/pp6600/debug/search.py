@@ -131,7 +131,8 @@ class Search:
             return
         where = [place_in(value) for value in (before, *values)]
         for at, (end, was, now) in enumerate(zip(looks.ends, where, where[1:])):
-            is_aim = self.aim is not None and number == self.aim.number and (now in self.aim.targets or bool(returns) and now == returns[at])
+            is_aim = (self.aim is not None and number == self.aim.number
+                      and (now in self.aim.targets or bool(returns) and now == returns[at]))
             if now != was and (is_aim or now in self.targets[number]):
                 position = looks.position + end
                 position += (number - self.tape.slot(position)) % PROCESSORS

@@ -58,7 +58,8 @@ class Setting:
             raise Refused("no line of the listing")
         cell = Cell(number, address)
         point = Point(LINE_ID | cell.bits, LINE, {cell: None}, terms=self.terms(one, [number]))
-        return {"id": point.number, "line": one["line"], "source": self.listings.source(number), "instructionReference": cell.reference}, point
+        return {"id": point.number, "line": one["line"], "source": self.listings.source(number),
+                "instructionReference": cell.reference}, point
 
     # ---- in the user's own source
 

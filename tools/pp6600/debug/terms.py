@@ -1,7 +1,7 @@
-"""On what terms a breakpoint ends a run: a condition, a count of hits, or never, for a log point only writes.
+"""On what terms a breakpoint ends a run: a condition, a count of hits, or never, because a log point only writes.
 
-A hit is one coming of a processor to the breakpoint, or one change of a data breakpoint, at which the condition holds. Hits are counted
-from the beginning of the run, wherever the search for them began. So a hit has the same number forward and back."""
+A hit is each time that a processor comes to the breakpoint, or that the place of a data breakpoint changes, and the condition holds.
+Hits are counted from the beginning of the run, wherever the search for them began. So a hit has the same number forward and back."""
 
 import operator
 import re

@@ -1,1 +1,1 @@
-"""Devices that tools have at hand."""
+"""The devices of the package, which tools find by their names."""

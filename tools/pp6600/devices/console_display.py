@@ -1,7 +1,7 @@
 """The display console of 1964: two screens of 512 by 512 places, and a keyboard.
 
 A function code chooses the screen, and symbols of a size or dots. Words of 6000 and more are coordinates; others are two symbols
-each. docs/DEVICES.md has the codes, and what of them the manuals say. What was put on a screen fades, so a program draws it again
+each. docs/DEVICES.md has the codes, and which the manuals have. What was put on a screen fades, so a program draws it again
 and again."""
 
 from __future__ import annotations

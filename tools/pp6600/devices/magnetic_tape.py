@@ -1,8 +1,8 @@
 """A magnetic tape unit of the 3000 series, as one that is connected through a 6681 converter.
 
 The tape is a row of blocks, and the head is between two of them. A block is a record, the tuple of its words, or a file mark. The
-head goes to and fro by one block, so the blocks before and after it are two chains. docs/DEVICES.md has the function codes, the
-status word, and what of them the manuals say."""
+head goes to and fro by one block, so the blocks before and after it are two chains. docs/DEVICES.md has the function codes and
+the status word, and which facts the manuals have."""
 
 from __future__ import annotations
 

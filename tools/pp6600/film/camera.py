@@ -5,7 +5,7 @@ not dumped ends the tool."""
 
 from ..attached import names_of
 from ..core.forms import CELLS, PROCESSORS, dumps_from
-from ..core.simulator import MARK, Console, Simulator
+from ..core.simulator import MARK, Console
 from ..core.state import central_of, questions
 from ..core.tape import STEP, Action, lines_of
 from ..core.turn import CHANNEL_CODES, IN_BLOCK, Turn, TurnKind
@@ -185,7 +185,7 @@ class Film:
                 self.run.act(step)
 
     def _open(self):
-        """The opening: all numbers before the first action that is filmed. Those of a new machine are zero."""
+        """Films the opening: all numbers before the first action that is filmed. Those of a new machine are zero."""
         self.positions = Positions(self.run.position)
         self._read_all(bool(self.run.position))
         self._renew(range(PROCESSORS))
@@ -267,7 +267,7 @@ class Film:
         return [number for number, one in enumerate(processors) if one.channel in changed and one.code in CHANNEL_CODES]
 
     def _line(self, line):
-        """A SET, WATCH, UNWATCH or DEADSTART."""
+        """Films a SET, WATCH, UNWATCH or DEADSTART."""
         answer = self.run.act(line, self._dumps_after(line.upper().split()))
         if answer[0] != "OK":
             raise Failure(f"the simulator answers {answer[0]} to {line}")
@@ -283,7 +283,7 @@ class Film:
 
     @staticmethod
     def _dumps_after(words):
-        """The lines that show what a line may have changed."""
+        """Returns the lines that show what a line may have changed."""
         if words[0] in ("WATCH", "UNWATCH"):
             return ["DUMP W"]
         if words[0] == "DEADSTART":
@@ -295,7 +295,7 @@ class Film:
         return ["DUMP H"] if words[1] == "H" else [f"DUMP PP {words[2]}"]
 
     def _jump(self, line):
-        """A BACK or a FORWARD."""
+        """Films a BACK or a FORWARD."""
         before = self.run.position
         self.run.act(line)
         self._moved(before)

@@ -72,7 +72,7 @@ def _add_writes(out, written):
 
 
 def encode(about, streams):
-    """The text of a film, or of a part of it, by its rows; `about` is what else the page needs, as JSON takes it."""
+    """Returns the text of a film, or of a part of it, by its rows; `about` is what else the page needs, as JSON takes it."""
     head = json.dumps({**about, "streams": [len(stream) for stream in streams]}, separators=(",", ":")).encode("ascii")
     whole = len(head).to_bytes(4, "little") + head + b"".join(streams)
     text = base64.b64encode(zlib.compress(whole, 9)).decode("ascii")
@@ -80,7 +80,7 @@ def encode(about, streams):
 
 
 def decode(text):
-    """What `encode` was given, but for the numbers before each change and the writes: what else the page needs, and of each moment
+    """Returns what `encode` was given, but for the numbers before each change and the writes: what else the page needs, and of each moment
     its kind and a list of places with the growths of their numbers."""
     whole = zlib.decompress(base64.b64decode(text))
     size = int.from_bytes(whole[:4], "little")
@@ -105,7 +105,7 @@ def _numbers(stream):
 
 
 def _changes(count, places, growths):
-    """The next so many changes."""
+    """Returns the next so many changes."""
     changes, place = [], 0
     for _ in range(count):
         place += next(places)

@@ -1,6 +1,6 @@
 """The lines of sources at the moments of a film: at which line a processor is, and which lines have been overwritten.
 
-Whose line a cell is, `sources` knows. Each line with words has a place among the numbers of the film: that of its mark."""
+`sources` knows whose line a cell is. Each line with words has a place among the numbers of the film: that of its mark."""
 
 from typing import List, NamedTuple, Optional
 

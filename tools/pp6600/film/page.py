@@ -121,14 +121,14 @@ def growth(film, has):
 
 
 def tables():
-    """What the page has to know of the machine."""
+    """Returns what the page has to know of the machine."""
     return {"layout": LAYOUT, "names": NAMES, "two_words": TWO_WORDS, "relative_jumps": list(RELATIVE_JUMPS), "symbols": SYMBOLS,
             "states": [(letter, name) for name, letter in STATE_LETTERS.items()], "modes": MODES, "first_central": CENTRAL,
             "first_column": DECK, "columns": COLUMNS}
 
 
 def carried(asked, script):
-    """What the page carries of the run's files: their bytes, as characters, and how one runs them again. `asked` has the
+    """Returns what the page carries of the run's files: their bytes, as characters, and how one runs them again. `asked` has the
     options, and the names of the files or None; `script` is the bytes of the script."""
     files = [{"kind": "script", "name": name_of(asked.script, "script"), "bytes": script.decode("latin-1")}]
     words = ["pp6600"]
@@ -148,20 +148,20 @@ def name_of(path, otherwise):
 
 
 def octal_rows(text):
-    """The words of each line of a deck or panel file, which the simulator has accepted."""
+    """Returns the words of each line of a deck or panel file, which the simulator has accepted."""
     rows = [line.split() for line in lines_of(text)]
     return [[int(word, 8) for word in row] for row in rows if row and not row[0].startswith("*")]
 
 
 def setup(files):
-    """The cards and the panel that the simulator was given."""
+    """Returns the cards and the panel that the simulator was given."""
     rows = {file["kind"]: octal_rows(file["bytes"]) for file in files if file["kind"] != "script"}
     return {"deck": rows.get("deck", []), "panel": [word for row in rows.get("panel", []) for word in row]}
 
 
 def of_sources(source_lines):
-    """The lines of the sources, each with the address of its first word and the place of its mark if it has words; nothing without a
-    source."""
+    """Returns the lines of the sources, each with the address of its first word and the place of its mark if it has words; nothing
+    without a source."""
     if not source_lines.sources:
         return {}
     first = LAYOUT["central"]

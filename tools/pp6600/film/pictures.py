@@ -35,7 +35,7 @@ class Pictures:
         self.values[position:] = [tuple(values)]
 
     def acted(self, position):
-        """After an action that is no turn the devices are as before."""
+        """Keeps the devices as they were, after an action that is no turn."""
         if self.devices:
             self.values[position:] = [self.values[position - 1]]
 

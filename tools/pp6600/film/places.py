@@ -10,9 +10,9 @@ MODES = {"reader": ("IDLE", "READING", "STATUS", "SENT"), "printer": ("IDLE", "P
 
 
 def _layout():
-    """The first place of each part. What the next turn of each processor does is the number of a row of a table. At `unseen` is 1 after
-    turns that were skipped: central words that were not looked at since may have any number. The central words that a film needs
-    follow, in the order in which they are met."""
+    """Returns the first place of each part. What the next turn of each processor does is the number of a row of a table. At
+    `unseen` is 1 after turns that were skipped: central words that were not looked at since may have any number. The central words
+    that a film needs follow, in the order in which they are met."""
     parts = (("cells", PROCESSORS * CELLS), ("registers", PROCESSORS * len(REGISTERS)), ("states", CHANNELS),
              ("words", CHANNELS), ("clock", 1), ("frame", 2 * FRAME_WORDS), ("reader", 3), ("printer", 3),
              ("paper", 1), ("slot", 1), ("next", PROCESSORS), ("watches", 1), ("unseen", 1), ("central", 0))

@@ -18,7 +18,7 @@ class Positions:
         self.moments.append(moment)
 
     def add_skip(self, before, count, moment):
-        """As `add`, of turns that were skipped."""
+        """Adds turns that were skipped."""
         self.add(before, count, moment)
         self.skips.append((before, before + count, moment))
 

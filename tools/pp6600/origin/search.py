@@ -292,7 +292,8 @@ def wanted_sources(write, parts):
         return [source for part, source in enumerate(write.sources) if parts is None or part in parts]
     if parts is None or not write.is_moved or write.place.kind not in ("C", "XP"):
         return write.sources
-    wanted = [(place, tuple(sorted(part for part in parts if of_source is None or part in of_source))) for place, of_source in write.sources]
+    wanted = [(place, tuple(sorted(part for part in parts if of_source is None or part in of_source)))
+              for place, of_source in write.sources]
     return [(place, some) for place, some in wanted if some]
 
 

@@ -63,12 +63,13 @@ class Writer:
                 yield step, f"{line} AS ABOVE"
                 continue
             seen.update([id(step), *map(id, links)])
-            yield step, " ".join([line, *self.how(step, links)]).rstrip() + (f", NOW {now}" if now and step is root else "") + self.source_line(step)
+            text = " ".join([line, *self.how(step, links)]).rstrip()
+            yield step, text + (f", NOW {now}" if now and step is root else "") + self.source_line(step)
             todo += self.following(step, [*links, *step.code], depth)
 
     @staticmethod
     def wanted(step, parts):
-        """The links of a step, if these parts of its word are wanted: of a word that was joined only those that wrote them."""
+        """Returns the links of a step, if these parts of its word are wanted: of a word that was joined only those that wrote them."""
         if parts is None or step.cause != TURN or not step.write.is_joined:
             return step.links
         places = [place for part, (place, _) in enumerate(step.write.sources) if part in parts]
@@ -76,7 +77,7 @@ class Writer:
 
     @staticmethod
     def following(step, links, depth):
-        """What follows a line, the last one first."""
+        """Returns what follows a line, the last one first."""
         same = links if len(links) == 1 else [link for link in links if link.place == step.place][-1:]
         others = [link for link in links if link not in same]
         return [*((link.step, link.place, depth, link.parts) for link in same),
@@ -122,18 +123,18 @@ class Writer:
 
     @staticmethod
     def performer(step):
-        """The processor before the turn that began the instruction of a step; None if a dead start began it."""
+        """Returns the processor before the turn that began the instruction of a step; None if a dead start began it."""
         if not step.processor.phase:
             return step.processor
         return step.block.step.processor if step.block.step.cause == TURN else None
 
     def source_line(self, step):
-        """The line of the source whose instruction wrote a number, after two blanks."""
+        """Returns the line of the source whose instruction wrote a number, after two blanks."""
         processor = self.performer(step) if step.cause == TURN else None
         return self.symbols.line_at_p(step.turn.number, processor) if processor else ""
 
     def instruction(self, step):
-        """The processor, and the address and the text of its instruction."""
+        """Returns the processor, and the address and the text of its instruction."""
         processor, at = step.processor, ""
         code, second, performer = processor.code, "", self.performer(step)
         if performer:
@@ -148,7 +149,7 @@ class Writer:
         return [f"{step.times:o} TIMES SINCE TURN {first:o}"] if step.times > 1 else []
 
     def sources(self, step, links):
-        """From what an instruction wrote a number."""
+        """Returns from what an instruction wrote a number."""
         names = [self.name(link) for link in links] + [self.constant(step, name) for name in step.constants]
         if step.place.kind == "P" and step.turn.effects() in (AT_END_OF_BLOCK, AT_END_OF_INPUT):
             verb = "END OF BLOCK OF "

@@ -63,7 +63,8 @@ def origin_lines(words, tape, place, turn=None, most_steps=MOST_STEPS, with_addr
 
 def main():
     parser = arguments(DESCRIPTION, "[OPTION ..] PLACE [SCRIPT]")
-    parser.add_argument("--turn", "--at", metavar="N", type=octal, help="as it is after turn N, octal, with the settings before the next one")
+    parser.add_argument("--turn", "--at", metavar="N", type=octal,
+                        help="as it is after turn N, octal, with the settings before the next one")
     parser.add_argument("--depth", metavar="N", type=count, default=MOST_STEPS,
                         help="follow the sources until N steps by processors are found, octal (40)")
     parser.add_argument("--all", action="store_true", help="follow all sources to their ends")

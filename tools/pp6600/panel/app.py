@@ -331,7 +331,8 @@ class Panel:
 
     def go_until(self, text):
         """Goes on to the next turn at which a condition comes to hold."""
-        self.go_to_found(next_found, text, f"in turns {self.session.history.turns + 1:o} to {self.session.history.last_turn + self.session.most_new:o}")
+        history = self.session.history
+        self.go_to_found(next_found, text, f"in turns {history.turns + 1:o} to {history.last_turn + self.session.most_new:o}")
 
     def go_back_until(self, text):
         """Goes back to the last such turn before the present one."""

@@ -69,7 +69,7 @@ def back_to(facts, count):
 
 
 def back_to_change(facts, count):
-    """With nothing watched it is the number at the cursor that is looked for."""
+    """Returns the lines that go back to a change of a watched number, or with nothing watched of the number at the cursor."""
     watch = [] if facts.watched else toggle_watch(facts, count)
     return watch + ["BACK W"] * min(count, facts.history.kept + 1)  # each one but a refused one undoes an action
 

@@ -1,8 +1,8 @@
 """The turns by which a processor begins a line of its source: the next ones, and those before. A simulator of its own searches them.
 
 A processor begins a line by a turn if it is in another line before this turn than before its turn before. So an instruction of two words,
-all instructions that a macro made of a line, and a block transfer with the instruction that began it are one line each. Whose line a
-cell is, `Source.line_of` says."""
+all instructions that a macro made of a line, and a block transfer with the instruction that began it are one line each.
+`Source.line_of` says whose line a cell is."""
 
 from itertools import islice
 
@@ -128,7 +128,7 @@ def turn_of_next_line(session, number, source, count, progress):
 
 
 def turn_of_line_before(session, number, source, count, progress):
-    """As `turn_of_next_line`, of the last lines that were begun before the present position."""
+    """Returns what `turn_of_next_line` does, of the last lines that were begun before the present position."""
     run = Replay(session.simulator.words, session.history.in_effect())
     found = []
     try:

@@ -1,4 +1,4 @@
-"""The page of what devices of one's own show. The keys that send lines do so here too: the pictures go with the run."""
+"""The page of what devices of one's own show. The keys that send lines do so here too: the pictures follow the run."""
 
 from ..device import Device, DeviceFailure, drawn
 from ..pictures import braille

@@ -27,7 +27,7 @@ def next_found(session, text, symbols, progress):
 
 
 def last_before(session, text, symbols, progress):
-    """As `next_found`, the last turn before the present one."""
+    """Returns what `next_found` does, of the last turn before the present one."""
     run = Replay(session.simulator.words, session.history.tape)
     try:
         found = last_moments(run, Condition.parse(text, symbols), 1, 0, session.history.turns - 1, progress)

@@ -1,5 +1,5 @@
 """The memory of the chosen processor as its source: a row for each instruction, with the line that it is of, or was; and before it the
-lines without words, as notes. Whose line a cell is, `Source.line_of` says. What is no line has its own row."""
+lines without words, as notes. `Source.line_of` says whose line a cell is. A cell of no line has its own row."""
 
 import functools
 import os
@@ -9,7 +9,7 @@ from ..core.forms import CELLS
 from ..disassembly import Row, rows_around, rows_from
 from ..source.statements import TAB, Line as SourceText
 from ..sources import CellLine
-from .program import TEXT_FROM, cell_of, cells_line, head_line, present, program_of, row_line
+from .program import TEXT_FROM, cell_of, cells_line, head_line, program_of, row_line
 from .text import HERE, OVERWRITTEN, Line
 
 

@@ -168,7 +168,7 @@ def memory_top(top, address, rows):
 
 
 def central_top(top, address, rows, size):
-    """As `memory_top`, of central memory, which does not begin anew after its end."""
+    """Returns what `memory_top` does, of central memory, which does not begin anew after its end."""
     if not top <= address < top + rows:
         top = address - (rows - 1 if address == top + rows else 0 if address == top - 1 else rows // 3)
     return max(min(top, size - rows), 0)

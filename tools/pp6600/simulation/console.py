@@ -7,8 +7,8 @@ from typing import Any, Callable, Dict, List, Optional, Sequence, Tuple, Union
 
 from .machine import Machine, Record, dead_start
 from .places import (
-    CARD, CARD_COLUMN, CELLS, CHANNELS, FRAME, FRAME_WORDS, PAPER, PAPER_COLUMN, PAPER_LENGTH, PHASE, PRINTER_MODE, READER_MODE, SLOT, STATE,
-    WATCHES, A, C, H, M, P, Q, place_of)
+    CARD, CARD_COLUMN, CELLS, CHANNELS, FRAME, FRAME_WORDS, PAPER, PAPER_COLUMN, PAPER_LENGTH, PHASE, PRINTER_MODE, READER_MODE, SLOT,
+    STATE, WATCHES, A, C, H, M, P, Q, place_of)
 
 ERRORS = (
     "", "NOT A COMMAND", "WORDS", "NUMBER", "RANGE", "LINE TOO LONG", "NOT ASCII", "TOO FEW KEPT", "NO CHANGE KEPT",
@@ -186,7 +186,8 @@ class Console:
         machine, numbers = self.machine, self.machine.numbers
         paper = "".join((SYMBOLS + "\n")[numbers[PAPER + i]] for i in range(numbers[PAPER_LENGTH]))
         *printed, rest = paper.split("\n")
-        return [f"LP H {machine.printer:02o} SYMBOLS {len(paper):06o} COLUMN {numbers[PAPER_COLUMN]:03o} MODE {MODES[numbers[PRINTER_MODE]]}",
+        return [f"LP H {machine.printer:02o} SYMBOLS {len(paper):06o} COLUMN {numbers[PAPER_COLUMN]:03o} "
+                f"MODE {MODES[numbers[PRINTER_MODE]]}",
                 *("|" + line for line in printed), *(["/" + rest] if rest else [])]
 
     def dump_watches(self, kind: str) -> Answer:
