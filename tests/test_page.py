@@ -34,6 +34,11 @@ LINE = 4  # the kind of a moment of a line
 SKIP = 6
 
 
+def loader():
+    """Returns the symbols of a session whose PP 00 has the loader."""
+    return symbols_from((), [("0", "examples/overwritten-loader/loader.pp")])
+
+
 class Reply:
     """A reply of the server; `news` and `moments` of one that has a part of a film."""
 
@@ -256,6 +261,19 @@ class Session(ServedCase):
         reply = served.ask("/until", text="M 0 20 changes", back=True)
         self.assertEqual(["BACK 100"], [line["text"] for line in reply.news["lines"]])
         self.assertEqual(400, served.ask("/until", text="P 0 is here", back=False).status)
+
+    def test_lines_of_a_source(self):
+        """The three instructions of the loader are a line each, ten turns apart; its block overwrites it, so no line comes after."""
+        served = Served("--deck", DECK, symbols=loader())
+        self.addCleanup(served.close)
+        served.ask("/news")
+        for back, turns in ((False, (0o12, 0o24, 0o36)), (True, (0o24, 0o12, 0)), (False, (0o12, 0o24, 0o36))):
+            for turn in turns:
+                served.ask("/line", processor=0, back=back)
+                self.assertEqual(turn, served.session.history.turns)
+        for processor, said in ((0, "NONE: no other line up to turn"), (3, "PP 03 has no source: the option --source 3 FILE loads one")):
+            reply = served.ask("/line", processor=processor, back=False)
+            self.assertEqual((400, True), (reply.status, reply.text.startswith(said)), reply.text)
 
     def test_a_long_search(self):
         """It ends, and says how far it has come; the session is where it was."""
@@ -520,7 +538,7 @@ class Walked(PageCase):
 
     def test_lines_of_a_source(self):
         """The line where the processor is moves on, and a line that has been performed can be clicked."""
-        served = self.serve("--deck", DECK, symbols=symbols_from((), [("0", "examples/overwritten-loader/loader.pp")]))
+        served = self.serve("--deck", DECK, symbols=loader())
         self.open(served)
         rows = "[...document.querySelectorAll('#source tbody tr')]"
         first = "row.cells[4].textContent.split(' ').filter(Boolean)[0]"
@@ -530,6 +548,16 @@ class Walked(PageCase):
         self.type("STEP 12")
         self.assertEqual(["LDN"], self.value(here))
         self.assertEqual(["START", "ACN"], self.value(f"{rows}.filter((row) => !row.querySelector('.line').disabled).map((row) => {first})"))
+
+    def test_steps_by_lines(self):
+        """N and P, and the buttons of the source."""
+        served = self.serve("--deck", DECK, symbols=loader())
+        self.open(served)
+        for step, turn in ((lambda: self.browser.key("n"), 0o12), (lambda: self.browser.click("#next-line"), 0o24),
+                           (lambda: self.browser.key("p"), 0o12), (lambda: self.browser.click("#line-before"), 0)):
+            step()
+            self.browser.wait_for(f"!live.isBusy && film.turn[film.at] === {turn}")
+        self.assertEqual("PP 00 begins this line of its source next", self.value(SAID))
 
     def test_two_tabs(self):
         """A page that is behind does nothing, and shows what is new."""
