@@ -31,7 +31,7 @@ from pp6600.sources import symbols_from
 
 COUNTER = ("SET M 0 100 1405 3420 300", "SET P 0 100")  # LDN 5, STD 20, UJN 0
 LINE = 4  # the kind of a moment of a line
-SKIP = 6
+JUMP, SKIP = 5, 6
 
 
 def loader():
@@ -178,6 +178,17 @@ class Session(ServedCase):
         served.act("STEP 3")
         self.assert_same_end(served, ["SET M 0 100 2000 2 6320 200 2001 3 6020 300", "SET P 0 100", "STEP 75003"])
         self.assertIn("this moment is gone", served.post("/act", {"have": served.have, "at": 20, "lines": ["STEP"]}).text)
+
+    def test_central_words_that_are_dumped(self):
+        """A DUMP C makes the words known that a page shows of its answer; it moves nothing, and what follows is as without it."""
+        served = self.serve()
+        served.act("SET C 3 5", "STEP 100000")
+        reply = served.act("DUMP C 0 100")
+        last = 0o2000 + 2
+        self.assertEqual([[JUMP], [[last + 1, last, 0o100000]]], [[kind for kind, _ in reply.moments], reply.news["jumps"]])
+        self.assertEqual([word for word in range(0o50) if word != 3], sorted(reply.news["unseen"]))
+        self.assertEqual([0, 1], [len(served.act(line).moments) for line in ("DUMP C 0 47", "BACK 1")])
+        self.assert_same_end(served, ["STEP 77777"])
 
     def test_random_sessions_with_skips(self):
         """The numbers are those of full dumps, and so is each central word that is known."""
@@ -535,6 +546,10 @@ class Walked(PageCase):
         self.type("BACK 1")
         self.assertEqual(["?", "76000 turns that were not filmed"], self.value(
             f"[{word}, (moveTo(1), byId('action').innerText.split(':')[0])]"))
+        self.value("moveTo(film.count - 1)")
+        self.type("DUMP C 100 101")
+        self.assertEqual(["0" * 20, [0o2000 + 4, 0o2000 + 4, 0o100000], "The line DUMP C 100 101 shows words that were not known."], self.value(
+            f"[{word}, {WHERE}, byId('action').innerText]"))
 
     def test_lines_of_a_source(self):
         """The line where the processor is moves on, and a line that has been performed can be clicked."""
