@@ -574,6 +574,17 @@ class Walked(PageCase):
             self.browser.wait_for(f"!live.isBusy && film.turn[film.at] === {turn}")
         self.assertEqual("PP 00 begins this line of its source next", self.value(SAID))
 
+    def test_lanes_are_drawn_once(self):
+        """By each action, in the view of the whole run and in one of a part of it."""
+        served = self.serve()
+        self.open(served)
+        self.type("STEP 1000")
+        self.value("Object.assign(window, { timesDrawn: 0, drawOld: drawLanes, drawLanes: () => { timesDrawn++; drawOld(); } }), 0")
+        for size in ("", "64"):
+            self.value(f"byId('zoom').value = '{size}', byId('zoom').onchange()")
+            for line in ("STEP", "BACK 2", "STEP 3"):
+                self.assertEqual(1, self.value(f"timesDrawn = 0, live.act(['{line}']).then(() => timesDrawn)"), (size, line))
+
     def test_two_tabs(self):
         """A page that is behind does nothing, and shows what is new."""
         served = self.serve()

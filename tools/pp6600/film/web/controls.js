@@ -76,7 +76,7 @@ function show() {
   showPosition();
   showSigns();
   showBarrel();
-  if (setView()) drawLanes();
+  if (setView() || !lanes.isDrawn) drawLanes();
   showHead();
 }
 

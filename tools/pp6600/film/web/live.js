@@ -106,8 +106,6 @@ function take(news, rows) {
   if (isNew) {
     grow(news, ...rows);
     grew(before);
-    setView();
-    drawLanes();
     goTo(here);
     moveTo(film.count > before ? film.count - 1 : here);
   }
