@@ -294,6 +294,16 @@ class Session(ServedCase):
         self.assertEqual((400, True), (reply.status, "the search has come to turn" in reply.text))
         self.assertEqual([], served.ask("/news").news["lines"])
 
+    def test_a_search_in_the_past_that_fails(self):
+        """The session is where the page was, and the page gets what it lacks."""
+        served = self.serve()
+        served.act(*COUNTER, "STEP 12")
+        reply = served.ask("/until", at=5, text="P 0 is here", back=False)
+        self.assertEqual([["BACK 7"], True, True], [[line["text"] for line in reply.news["lines"]], reply.news["is_refused"],
+                                                    reply.news["said"].startswith("a condition is PLACE")])
+        self.assertEqual(400, served.ask("/line", processor=0, back=True).status)
+        self.assertEqual(["TURNS 1 SLOT 04"], served.act("STEP").news["lines"][0]["answer"])
+
     def test_a_full_session(self):
         served = self.serve()
         with mock.patch.object(session, "MOST_MOMENTS", 5):

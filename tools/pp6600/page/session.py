@@ -93,9 +93,15 @@ class Session:
         with self.lock:
             if have != len(self.counts) - 1:
                 return self._news(have, behind=True, said=BEHIND)
-            for line in self._lines_to(at):
+            lines = self._lines_to(at)
+            for line in lines:
                 self._perform(line)
-            turn, said = find(self._stops_after(LONGEST_SEARCH))
+            try:
+                turn, said = find(self._stops_after(LONGEST_SEARCH))
+            except Failure as failure:
+                if not lines:
+                    raise
+                turn, said = None, str(failure)  # the page must have what was performed
             for line in () if turn is None else self.film.run.lines_to(turn):
                 self._perform(line)
             return self._news(have, said=said, is_refused=turn is None)
