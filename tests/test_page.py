@@ -582,7 +582,7 @@ class Walked(PageCase):
                            (lambda: self.browser.key("p"), 0o12), (lambda: self.browser.click("#line-before"), 0)):
             step()
             self.browser.wait_for(f"!live.isBusy && film.turn[film.at] === {turn}")
-        self.assertEqual("PP 00 begins this line of its source next", self.value(SAID))
+        self.assertEqual("PP 00 begins this line next", self.value(SAID))
 
     def test_lanes_are_drawn_once(self):
         """By each action, in the view of the whole run and in one of a part of it."""

@@ -45,8 +45,8 @@ class LiveFilm(Film):
         return answer
 
     def _met(self, lines):
-        """Takes the central words of a DUMP, as far as a page shows them. If they were not known after turns that were skipped, they come by
-        a moment that goes nowhere."""
+        """Takes the central words of a DUMP, as far as a page shows them. If turns that were skipped had made them unknown, they come by a
+        moment that goes nowhere."""
         self.machine.read_central(line for line in lines if line.startswith("C "))
         if self.machine.changes:
             self._moved(self.run.position)

@@ -85,7 +85,7 @@ class Session:
 
         def find(progress):
             turn = (turn_of_line_before if back else turn_of_next_line)(self, number, source, 1, progress)
-            return turn, f"PP {number:02o} begins this line of its source next"
+            return turn, f"PP {number:02o} begins this line next"
         return self._search(have, at, find)
 
     def _search(self, have, at, find):
