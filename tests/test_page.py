@@ -326,7 +326,7 @@ class Security(ServedCase):
 
     def test_key(self):
         self.assertEqual([200, 403, 403, 403], [self.status(X_Key=key) for key in (self.served.key, None, "", self.served.key[:-1])])
-        self.assertEqual([403] * 5, [self.status(path=path, X_Key="other") for path in routes.ROUTES])
+        self.assertEqual([403] * 6, [self.status(path=path, X_Key="other") for path in routes.ROUTES])
         page = self.served.request("GET", "/", X_Key=None)
         self.assertEqual((200, False), (page.status, self.served.key in page.text + str(page.headers)))
         self.assertGreaterEqual(len(self.served.key), 22)  # 128 bits
