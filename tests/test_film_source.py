@@ -216,4 +216,4 @@ class Page(PageCase):
         self.browser.look(1280, 800, media="print")
         self.assertTrue(self.value(f"{box}.scrollHeight <= {box}.clientHeight + 1"))
         self.browser.open(shown_film("handshake"))
-        self.assertEqual([True, True], self.value("[byId('source').hidden, byId('lanes').parentElement === document.querySelector('main').parentElement]"))
+        self.assertEqual([True, True], self.value("[byId('source').hidden, byId('lanes').parentElement === document.body]"))

@@ -31,7 +31,12 @@ from pp6600.sources import symbols_from
 
 COUNTER = ("SET M 0 100 1405 3420 300", "SET P 0 100")  # LDN 5, STD 20, UJN 0
 LINE = 4  # the kind of a moment of a line
-SKIP = 6
+JUMP, SKIP = 5, 6
+
+
+def loader():
+    """Returns the symbols of a session whose PP 00 has the loader."""
+    return symbols_from((), [("0", "examples/overwritten-loader/loader.pp")])
 
 
 class Reply:
@@ -174,6 +179,17 @@ class Session(ServedCase):
         self.assert_same_end(served, ["SET M 0 100 2000 2 6320 200 2001 3 6020 300", "SET P 0 100", "STEP 75003"])
         self.assertIn("this moment is gone", served.post("/act", {"have": served.have, "at": 20, "lines": ["STEP"]}).text)
 
+    def test_central_words_that_are_dumped(self):
+        """A DUMP C makes the words known that a page shows of its answer; it moves nothing, and what follows is as without it."""
+        served = self.serve()
+        served.act("SET C 3 5", "STEP 100000")
+        reply = served.act("DUMP C 0 100")
+        last = 0o2000 + 2
+        self.assertEqual([[JUMP], [[last + 1, last, 0o100000]]], [[kind for kind, _ in reply.moments], reply.news["jumps"]])
+        self.assertEqual([word for word in range(0o50) if word != 3], sorted(reply.news["unseen"]))
+        self.assertEqual([0, 1], [len(served.act(line).moments) for line in ("DUMP C 0 47", "BACK 1")])
+        self.assert_same_end(served, ["STEP 77777"])
+
     def test_random_sessions_with_skips(self):
         """The numbers are those of full dumps, and so is each central word that is known."""
         for seed in range(2):
@@ -257,6 +273,19 @@ class Session(ServedCase):
         self.assertEqual(["BACK 100"], [line["text"] for line in reply.news["lines"]])
         self.assertEqual(400, served.ask("/until", text="P 0 is here", back=False).status)
 
+    def test_lines_of_a_source(self):
+        """The three instructions of the loader are a line each, ten turns apart; its block overwrites it, so no line comes after."""
+        served = Served("--deck", DECK, symbols=loader())
+        self.addCleanup(served.close)
+        served.ask("/news")
+        for back, turns in ((False, (0o12, 0o24, 0o36)), (True, (0o24, 0o12, 0)), (False, (0o12, 0o24, 0o36))):
+            for turn in turns:
+                served.ask("/line", processor=0, back=back)
+                self.assertEqual(turn, served.session.history.turns)
+        for processor, said in ((0, "NONE: no other line up to turn"), (3, "PP 03 has no source: the option --source 3 FILE loads one")):
+            reply = served.ask("/line", processor=processor, back=False)
+            self.assertEqual((400, True), (reply.status, reply.text.startswith(said)), reply.text)
+
     def test_a_long_search(self):
         """It ends, and says how far it has come; the session is where it was."""
         served = self.serve()
@@ -264,6 +293,16 @@ class Session(ServedCase):
             reply = served.ask("/until", text="PP 0 in a block", back=False)
         self.assertEqual((400, True), (reply.status, "the search has come to turn" in reply.text))
         self.assertEqual([], served.ask("/news").news["lines"])
+
+    def test_a_search_in_the_past_that_fails(self):
+        """The session is where the page was, and the page gets what it lacks."""
+        served = self.serve()
+        served.act(*COUNTER, "STEP 12")
+        reply = served.ask("/until", at=5, text="P 0 is here", back=False)
+        self.assertEqual([["BACK 7"], True, True], [[line["text"] for line in reply.news["lines"]], reply.news["is_refused"],
+                                                    reply.news["said"].startswith("a condition is PLACE")])
+        self.assertEqual(400, served.ask("/line", processor=0, back=True).status)
+        self.assertEqual(["TURNS 1 SLOT 04"], served.act("STEP").news["lines"][0]["answer"])
 
     def test_a_full_session(self):
         served = self.serve()
@@ -287,7 +326,7 @@ class Security(ServedCase):
 
     def test_key(self):
         self.assertEqual([200, 403, 403, 403], [self.status(X_Key=key) for key in (self.served.key, None, "", self.served.key[:-1])])
-        self.assertEqual([403] * 5, [self.status(path=path, X_Key="other") for path in routes.ROUTES])
+        self.assertEqual([403] * 6, [self.status(path=path, X_Key="other") for path in routes.ROUTES])
         page = self.served.request("GET", "/", X_Key=None)
         self.assertEqual((200, False), (page.status, self.served.key in page.text + str(page.headers)))
         self.assertGreaterEqual(len(self.served.key), 22)  # 128 bits
@@ -517,10 +556,14 @@ class Walked(PageCase):
         self.type("BACK 1")
         self.assertEqual(["?", "76000 turns that were not filmed"], self.value(
             f"[{word}, (moveTo(1), byId('action').innerText.split(':')[0])]"))
+        self.value("moveTo(film.count - 1)")
+        self.type("DUMP C 100 101")
+        self.assertEqual(["0" * 20, [0o2000 + 4, 0o2000 + 4, 0o100000], "The line DUMP C 100 101 shows words that were not known."], self.value(
+            f"[{word}, {WHERE}, byId('action').innerText]"))
 
     def test_lines_of_a_source(self):
         """The line where the processor is moves on, and a line that has been performed can be clicked."""
-        served = self.serve("--deck", DECK, symbols=symbols_from((), [("0", "examples/overwritten-loader/loader.pp")]))
+        served = self.serve("--deck", DECK, symbols=loader())
         self.open(served)
         rows = "[...document.querySelectorAll('#source tbody tr')]"
         first = "row.cells[4].textContent.split(' ').filter(Boolean)[0]"
@@ -530,6 +573,27 @@ class Walked(PageCase):
         self.type("STEP 12")
         self.assertEqual(["LDN"], self.value(here))
         self.assertEqual(["START", "ACN"], self.value(f"{rows}.filter((row) => !row.querySelector('.line').disabled).map((row) => {first})"))
+
+    def test_steps_by_lines(self):
+        """N and P, and the buttons of the source."""
+        served = self.serve("--deck", DECK, symbols=loader())
+        self.open(served)
+        for step, turn in ((lambda: self.browser.key("n"), 0o12), (lambda: self.browser.click("#next-line"), 0o24),
+                           (lambda: self.browser.key("p"), 0o12), (lambda: self.browser.click("#line-before"), 0)):
+            step()
+            self.browser.wait_for(f"!live.isBusy && film.turn[film.at] === {turn}")
+        self.assertEqual("PP 00 begins this line next", self.value(SAID))
+
+    def test_lanes_are_drawn_once(self):
+        """By each action, in the view of the whole run and in one of a part of it."""
+        served = self.serve()
+        self.open(served)
+        self.type("STEP 1000")
+        self.value("Object.assign(window, { timesDrawn: 0, drawOld: drawLanes, drawLanes: () => { timesDrawn++; drawOld(); } }), 0")
+        for size in ("", "64"):
+            self.value(f"byId('zoom').value = '{size}', byId('zoom').onchange()")
+            for line in ("STEP", "BACK 2", "STEP 3"):
+                self.assertEqual(1, self.value(f"timesDrawn = 0, live.act(['{line}']).then(() => timesDrawn)"), (size, line))
 
     def test_two_tabs(self):
         """A page that is behind does nothing, and shows what is new."""

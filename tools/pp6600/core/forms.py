@@ -215,6 +215,11 @@ def is_refusal(answer: Sequence[str]) -> bool:
     return bool(answer) and answer[0].startswith("ERR ")
 
 
+def hit_of(answer: Sequence[str]) -> Optional[str]:
+    """Returns the line of an answer that says that a watched number changed, or None."""
+    return next((line for line in answer[1:2] if line.startswith("HIT ")), None)
+
+
 def refused(answers: Iterable[str]) -> Optional[str]:
     """Returns the first refusal among the lines of answers, or None."""
     return next((line for line in answers if line.startswith("ERR ")), None)

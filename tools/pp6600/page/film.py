@@ -37,10 +37,19 @@ class LiveFilm(Film):
             self._take_line(line, self.run.ask_all([*self._dumps_after(line.upper().split()), MARK]))
         elif kind in ("BACK", "FORWARD"):
             self._moved(before)
+        elif kind == "C":
+            self._met(shortened(answer))
         if len(self.rows) > first:
             self.transcript.turns[number] = turns, self.run.turn
             self.first_moments[number], self.lengths[number] = first, len(self.rows) - first
         return answer
+
+    def _met(self, lines):
+        """Takes the central words of a DUMP, as far as a page shows them. If turns that were skipped had made them unknown, they come by a
+        moment that goes nowhere."""
+        self.machine.read_central(line for line in lines if line.startswith("C "))
+        if self.machine.changes:
+            self._moved(self.run.position)
 
     def _film_turns(self, made):
         """Films the last of so many turns that were made."""

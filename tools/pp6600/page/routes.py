@@ -58,6 +58,11 @@ def until(session, asked):
     return TEXT, session.until(number(asked, "have"), number(asked, "at"), text(asked, "text"), asked.get("back") is True).encode()
 
 
+def line(session, asked):
+    have, at, processor = (number(asked, name) for name in ("have", "at", "processor"))
+    return TEXT, session.by_line(have, at, processor, asked.get("back") is True).encode()
+
+
 def film(session, asked):
     return HTML, session.whole_film().encode()
 
@@ -66,4 +71,4 @@ def script(session, asked):
     return TEXT, session.script()
 
 
-ROUTES = {"/news": news, "/act": act, "/until": until, "/film": film, "/script": script}
+ROUTES = {"/news": news, "/act": act, "/until": until, "/line": line, "/film": film, "/script": script}

@@ -3,14 +3,14 @@
 import threading
 import time
 
-from ..core.forms import is_refusal
+from ..core.forms import hit_of, is_refusal
 from ..core.tape import ScriptLine
 from ..failure import Failure
 from ..film.data import encode
 from ..film.page import Counts, fixed, growth, page
+from ..line_search import turn_of_line_before, turn_of_next_line
 from ..moments import text_of
-from ..panel.search import last_before, next_found
-from ..panel.session import MOST_NEW, hit_of
+from ..searches import MOST_NEW, last_before, next_found
 from ..timeline import lines_to
 from .film import LiveFilm
 
@@ -71,16 +71,41 @@ class Session:
 
     def until(self, have, at, text, back):
         """Goes to the next turn, or the last one before, at which a condition comes to hold. Returns the news."""
+        def find(progress):
+            found = (last_before if back else next_found)(self, text, self.symbols, progress)
+            if not found:
+                return None, f"NONE: there is no such turn {'before' if back else 'among those searched'}"
+            return found.turn, text_of(found, self.symbols)
+        return self._search(have, at, find)
+
+    def by_line(self, have, at, number, back):
+        """Goes to where a processor begins the next line of its source, or the one before. Returns the news."""
+        source = self.film.source_lines.sources.get(number)
+        if not source:
+            raise Failure(f"PP {number:02o} has no source: the option --source {number:o} FILE loads one")
+
+        def find(progress):
+            turn = (turn_of_line_before if back else turn_of_next_line)(self, number, source, 1, progress)
+            return turn, f"PP {number:02o} begins this line next"
+        return self._search(have, at, find)
+
+    def _search(self, have, at, find):
+        """Goes to the turn that a function finds: it returns the turn, or None, and what is said of it. Returns the news."""
         with self.lock:
             if have != len(self.counts) - 1:
                 return self._news(have, behind=True, said=BEHIND)
-            for line in self._lines_to(at):
+            lines = self._lines_to(at)
+            for line in lines:
                 self._perform(line)
-            found = (last_before if back else next_found)(self, text, self.symbols, self._stops_after(LONGEST_SEARCH))
-            for line in lines_to(self.film.run, found.turn) if found else ():
+            try:
+                turn, said = find(self._stops_after(LONGEST_SEARCH))
+            except Failure as failure:
+                if not lines:
+                    raise
+                turn, said = None, str(failure)  # the page must have what was performed
+            for line in () if turn is None else lines_to(self.film.run, turn):
                 self._perform(line)
-            said = text_of(found, self.symbols) if found else f"NONE: there is no such turn {'before' if back else 'among those searched'}"
-            return self._news(have, said=said, is_refused=not found)
+            return self._news(have, said=said, is_refused=turn is None)
 
     def whole_film(self):
         """Returns the film of the session so far, as one page."""

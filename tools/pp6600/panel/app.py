@@ -10,16 +10,16 @@ from ..device import DeviceFailure
 from ..failure import Failure
 from ..keyboard import FIRST_WORDS, card
 from ..timeline import REPLAYED
+from ..line_search import turn_of_line_before, turn_of_next_line
 from ..listing import AllSymbols
 from ..moments import text_of
+from ..searches import Stopped, last_before, next_found
 from .keys import LINES, Facts, help_lines, to_turn
-from .line_search import turn_of_line_before, turn_of_next_line
 from .origins import Origin, OriginPage
 from .page import Page
 from .pictures import PicturePage, devices_that
 from .prompt import Prompt
 from .remarks import in_width, remarks
-from .search import Stopped, last_before, next_found
 from .screen import LEAST_COLUMNS, LEAST_ROWS, Shown, is_too_small, layout, log_lines, screen
 from .text import Line
 from .view import ARROWS, View

@@ -1,10 +1,10 @@
 """What the panel says of the lines that were sent, beside their answers."""
 
-from ..core.forms import Place
+from ..core.forms import Place, hit_of
 from ..reasons import reason
 from ..timeline import REPLAYED
 from .next_change import next_change
-from .session import hit_of, kind_of
+from .session import kind_of
 
 # What a key does about a refusal.
 ADVICE = {"ERR 07": "< goes back to the beginning", "ERR 10": "[ goes to older changes", "ERR 15": "t watches the number at the cursor",

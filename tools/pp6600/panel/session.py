@@ -3,16 +3,16 @@
 import os
 from typing import NamedTuple
 
-from ..core.forms import is_refusal
+from ..core.forms import hit_of, is_refusal
 from ..core.simulator import Console, has_no_answer
 from ..device_options import timeline
 from ..timeline import lines_to
 from ..failure import Failure
 from ..core.state import state_of
 from ..core.tape import ScriptLine, SourceLine
+from ..searches import MOST_NEW
 
 NEW = ("OK", "TURNS")  # the first words of answers to lines that discard what is ahead
-MOST_NEW = 0o10000000  # turns
 LOG_LENGTH = 10000  # decimal, lines and answers
 SEARCHED_AT_ONCE = 0o10000  # central words
 ALLOWANCE = 0o100  # central words asked for on either side of those that are shown
@@ -31,11 +31,6 @@ def kind_of(answer):
     return answer[0].split()[0] if answer else ""
 
 
-def hit_of(answer):
-    """Returns the line of an answer that says that a watched number changed, or None."""
-    return next((line for line in answer[1:2] if line.startswith("HIT ")), None)
-
-
 def is_action(line):
     """Returns whether a line may be an action, BACK or FORWARD."""
     return not has_no_answer(line) and line.upper().split()[:1] != ["DUMP"]
@@ -50,7 +45,7 @@ class Session:
 
     def __init__(self, words, devices=()):
         self.simulator = timeline(words, devices)
-        self.most_new = 0 if devices else MOST_NEW  # that are searched after those that were made; a search has no devices
+        self.most_new = 0 if devices else MOST_NEW  # a search has no devices
         self.size = self.simulator.size_of_central()
         self.lines_sent = 0
         self.saved = (0, 0)  # the lines that are in a file

@@ -76,7 +76,7 @@ function show() {
   showPosition();
   showSigns();
   showBarrel();
-  if (setView()) drawLanes();
+  if (setView() || !lanes.isDrawn) drawLanes();
   showHead();
 }
 
@@ -214,6 +214,7 @@ const KEYS = {
   ",": byHand(() => moveLine(-1)), ".": byHand(() => moveLine(1)),
   "[": byHand(() => moveToChange(-1)), "]": byHand(() => moveToChange(1)),
   o: () => findOrigin(), "/": () => byId("place").select(), g: () => byId("turn").select(), "?": () => showHelp(byId("help").hidden),
+  n: byHand(() => live.byLine(1)), p: byHand(() => live.byLine(-1)),
   i: () => nextForm(), f: () => followTurns(), b: () => foldBarrel(), z: () => project(), Enter: () => live.isOn && byId("typed").focus(), Escape: () => (byId("help").hidden ? chooseNone() : showHelp(false)),
 };
 
@@ -254,7 +255,7 @@ function buildControls() {
   byId("rate").value = 1;
   byId("rate").onchange = () => changeRate(0);
   const buttons = { first: "Home", "round-back": "Shift+ArrowLeft", back: "ArrowLeft", play: " ", forward: "ArrowRight",
-    "round-forward": "Shift+ArrowRight", last: "End", "previous-change": "[", "next-change": "]", "came-from": "o", "help-button": "?" };
+    "round-forward": "Shift+ArrowRight", last: "End", "previous-change": "[", "next-change": "]", "came-from": "o", "line-before": "p", "next-line": "n", "help-button": "?" };
   for (const [id, key] of Object.entries(buttons)) byId(id).onclick = KEYS[key];
   byId("choose-none").onclick = chooseNone;
   byId("go-turn").onsubmit = (event) => { event.preventDefault(); goToTyped(); };

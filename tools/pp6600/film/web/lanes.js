@@ -2,7 +2,7 @@
 
 const GAP = 3, SIGN = 9; // between lanes, and the width of a sign
 let LANE = 13, LABEL = 46, LETTERS = 11; // the height of a lane, the width of the names, and the height of letters, in pixels
-const lanes = { all: [], from: 0, to: 0, folded: true }; // whether the quiet ones are one line
+const lanes = { all: [], from: 0, to: 0, isDrawn: false, folded: true }; // folded: the quiet ones are one line
 
 // The stretches of a lane: at which moment each begins, and what it is.
 function stretches(kindAt) {
@@ -49,6 +49,7 @@ function channelLanes() {
 // Makes the lanes anew, and offers to see parts of a longer run.
 function renewLanes() {
   lanes.all = [...Array(PROCESSORS).keys()].map(processorLane).concat(channelLanes());
+  lanes.isDrawn = false;
   const zoom = byId("zoom");
   for (const size of [0o10000, 0o1000, 0o100]) {
     if (size >= film.count || [...zoom.options].some((one) => Number(one.value) === size)) continue;
@@ -148,6 +149,7 @@ function sizeLanes(rows) {
 }
 
 function drawLanes() {
+  lanes.isDrawn = true;
   const drawn = lanesShown(), rows = drawn.length + 1 + (shown.chosen ? 1 : 0);
   sizeLanes(rows);
   const canvas = byId("canvas"), width = Math.floor(pictureWidth()), ratio = window.devicePixelRatio || 1, height = rows * (LANE + GAP) + GAP;

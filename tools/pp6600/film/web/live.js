@@ -70,6 +70,11 @@ live.send = async (text) => {
 live.act = (lines) => live.do("/act", { lines, at: film.at });
 live.until = (text, back) => live.do("/until", { text, back, at: film.at });
 
+// To where the processor of the source that is seen begins another line.
+live.byLine = (direction) => {
+  if (live.isOn && film.sources) live.do("/line", { processor: source.processor, back: direction < 0, at: film.at });
+};
+
 // To the change of the chosen number that the film does not have.
 live.findChange = (direction) => {
   const { kind, name, numbers } = shown.chosen;
@@ -101,8 +106,6 @@ function take(news, rows) {
   if (isNew) {
     grow(news, ...rows);
     grew(before);
-    setView();
-    drawLanes();
     goTo(here);
     moveTo(film.count > before ? film.count - 1 : here);
   }

@@ -104,6 +104,7 @@ function actionText(moment) {
   if (kind === SKIP) return `${octal(film.skips.get(moment))} turns that were not filmed`;
   if (kind === LINE) return `The line ${lineOf(moment).text.trim()}`;
   const target = film.jumps.get(moment)[0];
+  if (lineOf(moment).answer[0].startsWith("C ")) return `The line ${lineOf(moment).text.trim()} shows words that were not known`;
   const where = target < 0 ? film.skips.size ? "as it was then, which was not filmed" : "before the film begins" : "as it was then";
   return `The line ${lineOf(moment).text.trim()}: the answer is ${lineOf(moment).answer[0]}, and the machine is ${where}`;
 }

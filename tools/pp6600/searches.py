@@ -1,10 +1,12 @@
 """The turns at which a condition comes to hold, before the present turn and after it. A simulator of its own searches them."""
 
-from ..conditions import Condition
-from ..core.seek import Search, last_moments
-from ..core.simulator import Replay
-from ..core.tape import STEP, Tape
-from ..failure import Failure
+from .conditions import Condition
+from .core.seek import Search, last_moments
+from .core.simulator import Replay
+from .core.tape import STEP, Tape
+from .failure import Failure
+
+MOST_NEW = 0o10000000  # turns that are searched after those that were made
 
 
 class Stopped(Failure):

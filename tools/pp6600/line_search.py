@@ -6,13 +6,13 @@ all instructions that a macro made of a line, and a block transfer with the inst
 
 from itertools import islice
 
-from ..core.forms import PROCESSORS
-from ..core.probe import Probe, all_registers, word_dumps
-from ..core.seek import spans
-from ..core.simulator import Replay
-from ..core.tape import STEP, Tape
-from ..core.turn import states_of
-from ..failure import Failure
+from .core.forms import PROCESSORS
+from .core.probe import Probe, all_registers, word_dumps
+from .core.seek import spans
+from .core.simulator import Replay
+from .core.tape import STEP, Tape
+from .core.turn import states_of
+from .failure import Failure
 
 NO_BLOCK = "0000"  # the phase outside a block transfer
 WATCHED_AT_ONCE = 0o4000000  # turns, while a processor is where it was
