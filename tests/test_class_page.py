@@ -244,6 +244,13 @@ class OfExercises(ClassCase):
         self.assertIn("PANEL LINE 1 NOT OCTAL (your panel)", student.begin("dead-start-from-cards", "9"))
         self.assertEqual([["TURNS 1 SLOT 01"]], student.act("STEP"))
 
+    def test_until(self):
+        """docs/TOOLS.md: the next turn at which a condition comes to hold."""
+        student = Student(self.open())
+        student.act("SET M 0 100 1405 3420 300", "SET P 0 100")
+        reply = student.ask("/until", have=3, at=2, text="M 0 20 = 5", session=1)[1]
+        self.assertEqual("TURN 13 PP 00 P 0101 STD WAS 0000 NOW 0005", decode(reply)[0]["said"])
+
     def test_a_page_that_is_late(self):
         """A page of a session that was begun anew does nothing in the next one."""
         student = Student(self.open())

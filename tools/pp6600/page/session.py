@@ -10,7 +10,7 @@ from ..film.data import encode
 from ..film.page import Counts, fixed, growth, page
 from ..moments import text_of
 from ..panel.search import last_before, next_found
-from ..panel.session import hit_of
+from ..panel.session import MOST_NEW, hit_of
 from .film import LiveFilm
 
 MOST_MOMENTS = 0o200000  # of a session
@@ -30,6 +30,8 @@ class Session:
         self.counts = [Counts(), Counts.of(self.film)]  # what the film had: nothing, with its opening, and after each line
 
     # ---- what searches need of a session
+
+    most_new = MOST_NEW
 
     @property
     def simulator(self):
