@@ -6,6 +6,7 @@ import concurrent.futures
 import http.client
 import json
 import os
+import socket
 import threading
 import unittest
 from unittest import mock
@@ -180,10 +181,12 @@ class Seats(ClassCase):
         """Clear words, and nothing is performed."""
         of_class = self.open()
         student = Student(of_class)
-        self.assertEqual("in a class a STEP makes at most 4000000 turns", student.act("STEP 4000001"))
+        for lines in (["STEP 4000001"], ["step\t04000000", "STEP 1"]):
+            self.assertEqual("in a class at most 4000000 turns are made at once", student.act(*lines))
         self.assertIn("at most 100 (decimal) lines", student.act(*["STEP"] * 101))
-        with mock.patch.object(classroom, "MOST_LINES", 0):
-            self.assertIn("this session is full", student.act("STEP"))
+        for limit in ("MOST_LINES", "MOST_OF_SESSION"):
+            with mock.patch.object(classroom, limit, 0):
+                self.assertIn("this session is full", student.act("STEP"))
         with mock.patch.object(classroom, "WAIT", 0.01):
             for gate, act in ((of_class.room.acting, lambda: student.act("STEP")), (of_class.room.starting, lambda: student.begin("")),
                               (of_class.room.searching, lambda: student.ask("/until", have=1, at=0, text="A 0 = 1", session=1)[1])):
@@ -192,8 +195,8 @@ class Seats(ClassCase):
                 for _ in range(sum(gates)):
                     gate.room.release()
         self.assertEqual([], student.news(1)["lines"])
-        with mock.patch.object(class_routes, "MOST_OF_ADDRESS", 0), self.assertRaises((OSError, http.client.HTTPException)):
-            student.news(1)
+        with mock.patch.object(class_routes, "MOST_OF_ADDRESS", 0), socket.create_connection(("127.0.0.1", of_class.server.server_port), 60) as one:
+            self.assertIn(b"503", one.recv(100))
 
     def test_side_by_side(self):
         """Sixty sessions make a turn each, at once, and each is answered."""

@@ -197,7 +197,9 @@ class ClassServer(Server):
     def verify_request(self, request, client_address):
         """Returns whether there is room for a connection, and for one of its address."""
         address = client_address[0]
-        if collections.Counter(self.connected.values())[address] >= MOST_OF_ADDRESS or not super().verify_request(request, client_address):
+        if collections.Counter(list(self.connected.values()))[address] >= MOST_OF_ADDRESS:
+            return self.turn_away(request)
+        if not super().verify_request(request, client_address):
             return False
         self.connected[request] = address
         return True

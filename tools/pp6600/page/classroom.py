@@ -26,10 +26,11 @@ IDLE = 2 * 60 * 60  # seconds until a seat that asks for nothing ends
 WAIT = 20  # seconds for a turn at what few may do at once
 MOST_LINES = 4000  # of a session
 MOST_FILMED = 0o200  # turns of one line
-MOST_TURNS = 0o4000000  # of one STEP
+MOST_TURNS = 0o4000000  # of one request
+MOST_OF_SESSION = 0o100000000  # turns, which a BACK over all of them may have to make again
 MOST_AT_ONCE = 100  # lines of one request
 LONGEST_NAME = 40
-LONG_STEP = re.compile(r"[ \t]*STEP[ \t]+0*([0-7]{1,20})[ \t\r]*", re.I)
+STEP_LINE = re.compile(r"[ \t]*STEP[ \t]+0*([0-7]{1,20})[ \t\r]*", re.I)
 FREE = "no exercise"
 
 
@@ -171,6 +172,9 @@ class Classroom:
         asked.program, asked.script = self.program, None
         with self.starting.entered():
             session = self._session(asked, f"{exercise.name if exercise else FREE}, seat {seat.number}", exercise)
+        if self.seats.get(seat.number) is not seat:
+            session.close()
+            raise Failure("this seat has ended meanwhile")
         before, seat.session, seat.exercise, seat.verdict = seat.session, session, exercise, []
         seat.panel = (panel if path else exercise.text("panel")) if exercise else None
         seat.begun, seat.first_line = seat.begun + 1, len(session.film.transcript.lines)
@@ -192,10 +196,8 @@ class Classroom:
         self._check_room(seat)
         if len(lines) > MOST_AT_ONCE:
             raise Failure(f"at most {MOST_AT_ONCE} (decimal) lines at once")
-        for line in lines:
-            found = LONG_STEP.fullmatch(line)
-            if found and int(found[1], 8) > MOST_TURNS:
-                raise Failure(f"in a class a STEP makes at most {MOST_TURNS:o} turns")
+        if sum(int(found[1], 8) for found in map(STEP_LINE.fullmatch, lines) if found) > MOST_TURNS:
+            raise Failure(f"in a class at most {MOST_TURNS:o} turns are made at once")
         with seat.lock, self.acting.entered():
             return seat.session.act(have, at, lines)
 
@@ -207,7 +209,8 @@ class Classroom:
 
     @staticmethod
     def _check_room(seat):
-        if len(seat.session.film.transcript.lines) >= MOST_LINES:
+        film = seat.session.film
+        if len(film.transcript.lines) >= MOST_LINES or film.run.turn >= MOST_OF_SESSION:
             raise Failure("this session is full: save it as a film or a script, and begin the exercise anew")
 
     def check(self, seat):

@@ -62,6 +62,11 @@ class Server(http.server.ThreadingHTTPServer):
         if len(self.coming) < MOST_CONNECTIONS:
             self.coming[request] = time.monotonic() + PATIENCE
             return True
+        return self.turn_away(request)
+
+    @staticmethod
+    def turn_away(request):
+        """Says that there is no room for a connection."""
         with contextlib.suppress(OSError):
             request.settimeout(1)
             request.sendall(b"HTTP/1.1 503 Service Unavailable\r\nConnection: close\r\n\r\ntoo many connections: close other pages\n")
