@@ -18,6 +18,7 @@ class LiveFilm(Film):
     """A session: its simulator, its lines with their answers, and its moments."""
 
     turn_line, turn_answer = "FORWARD 1", "FORWARD 1 "
+    most_filmed = None  # fewer turns of one line, of a session in a class
 
     def __init__(self, words, sources=()):
         run, log = Timeline(words), Log()
@@ -53,7 +54,7 @@ class LiveFilm(Film):
 
     def _film_turns(self, made):
         """Films the last of so many turns that were made."""
-        filmed = min(made, MOST_FILMED, self.run.history.kept)
+        filmed = min(made, self.most_filmed or MOST_FILMED, self.run.history.kept)
         Simulator.move(self.run, -filmed)  # no line of the session
         if filmed < made:
             self._skip(made - filmed)

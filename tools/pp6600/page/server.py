@@ -16,6 +16,7 @@ ADDRESS = "127.0.0.1"
 PATIENCE = 10  # seconds for a request to come, and for a reply to be taken
 MOST_CONNECTIONS = 200
 AT_ONCE = 20  # requests that are answered
+NO_ADDRESS = Refused(404, "there is no such address")
 
 
 class Server(http.server.ThreadingHTTPServer):
@@ -26,20 +27,33 @@ class Server(http.server.ThreadingHTTPServer):
 
     def __init__(self, session, port):
         """On any free port if it is 0."""
-        try:
-            super().__init__((ADDRESS, port), Handler)
-        except OSError as error:
-            raise Failure(f"can't listen at port {port} (decimal): {error.strerror}") from error
-        self.session, self.key = session, secrets.token_urlsafe(16)
+        self.listen(ADDRESS, port, {"/": page(session.title, "")})
+        self.session = session
         self.hosts = {f"{name}:{self.server_port}" for name in (ADDRESS, "localhost")}
-        self.page = page(session.title, "").encode()
-        self.policy = policy(self.page.decode())
+
+    def listen(self, address, port, pages):
+        """Listens at an address with pages, each by its path."""
+        try:
+            super().__init__((address, port), Handler)
+        except OSError as error:
+            raise Failure(f"can't listen at {'' if address == ADDRESS else address + ', '}port {port} (decimal): {error.strerror}") from error
+        self.key = secrets.token_urlsafe(16)
+        self.pages = {path: text.encode() for path, text in pages.items()}
+        self.policies = {path: policy(text) for path, text in pages.items()}
         self.coming = {}  # the connections; of each whose request has not come when its time is over, else None
         self.gate = threading.BoundedSemaphore(AT_ONCE)
 
     @property
     def address(self):
         return f"http://{ADDRESS}:{self.server_port}/#key={self.key}"
+
+    def answering(self, path, headers):
+        """Returns the function that answers a request: of what it asks."""
+        route = ROUTES.get(path)
+        if not route:
+            raise NO_ADDRESS
+        check_key(headers, self.key)
+        return lambda asked: route(self.session, asked)
 
     # ---- connections
 
@@ -48,6 +62,11 @@ class Server(http.server.ThreadingHTTPServer):
         if len(self.coming) < MOST_CONNECTIONS:
             self.coming[request] = time.monotonic() + PATIENCE
             return True
+        return self.turn_away(request)
+
+    @staticmethod
+    def turn_away(request):
+        """Says that there is no room for a connection."""
         with contextlib.suppress(OSError):
             request.settimeout(1)
             request.sendall(b"HTTP/1.1 503 Service Unavailable\r\nConnection: close\r\n\r\ntoo many connections: close other pages\n")
@@ -103,27 +122,26 @@ class Handler(http.server.BaseHTTPRequestHandler):
             gate.release()
 
     def reply_to_get(self):
-        if self.path != "/":
-            raise Refused(404, "there is no such address")
+        if self.path not in self.server.pages:
+            raise NO_ADDRESS
         self.server.coming[self.connection] = None
-        return HTML, self.server.page
+        return HTML, self.server.pages[self.path]
 
     def reply_to_post(self):
-        route = ROUTES.get(self.path)
-        if not route:
-            raise Refused(404, "there is no such address")
-        check_key(self.headers, self.server.key)
+        answer = self.server.answering(self.path, self.headers)
         length = length_of_body(self.headers)
         body = self.rfile.read(length)
         if len(body) < length:
             raise Refused(400, "the request has ended early")
         self.server.coming[self.connection] = None
-        return route(self.server.session, parsed(body))
+        return answer(parsed(body))
 
     def put(self, status, kind, data):
         """Sends a reply."""
         self.send_response(status)
-        headers = {**FIXED_HEADERS, "Content-Type": kind, "Content-Length": str(len(data)), "Content-Security-Policy": self.server.policy}
+        rules = self.server.policies
+        headers = {**FIXED_HEADERS, "Content-Type": kind, "Content-Length": str(len(data)),
+                   "Content-Security-Policy": rules.get(self.path, rules["/"])}
         for name, value in headers.items():
             self.send_header(name, value)
         with contextlib.suppress(OSError):
