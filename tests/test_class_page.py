@@ -308,6 +308,7 @@ class Lecturer(ClassCase):
         for words, said in ((["--class"], "--listen"), (["--class", "--listen", "0.0.0.0:80"], "address of this machine"),
                             (["--class", "--listen", "127.0.0.1"], "no address"), (["--class", "--listen", "127.0.0.1:99999"], "no address"),
                             (["--listen", "127.0.0.1:0"], "give --class"), (["--class", "--listen", "127.0.0.1:0", "script"], "no script"),
+                            (["--class", "--listen", "127.0.0.1:0", "--source", "0", "file"], "no script"),
                             (["--class", "--listen", "127.0.0.1:0", "--seats", "0"], "seats"),
                             (["--class", "--listen", "127.0.0.1:0", "--exercises", "no-such-folder"], "no-such-folder")):
             done = tool("page", *words)

@@ -46,8 +46,8 @@ def serve_class(asked):
     """Seats a class until it is interrupted."""
     if asked.listen is None:
         raise Failure("a class needs --listen ADDRESS:PORT, which its browsers open")
-    if asked.script or asked.title or asked.port or any(getattr(asked, option) for option in OPTIONS):
-        raise Failure("a class has no script, title, port or simulator options of its own: each exercise has its options")
+    if any(getattr(asked, name) for name in ("script", "title", "port", "symbols", "source", *OPTIONS)):
+        raise Failure("a class has no script, title, port, symbols, source or simulator options: each exercise has its own")
     if "program" in getattr(asked, "given_options", ()):
         os.environ["PP6600"] = asked.program  # of the checks too
     classroom = Classroom(asked.program, exercises(asked.exercises), asked.seats or SEATS)
