@@ -400,7 +400,7 @@ class Security(ServedCase):
             said = more[-1].recv(1000)
             self.assertIn(b"503", said)
             for half in halves:
-                half.settimeout(60)
+                half.settimeout(600)
                 self.assertIn(half.recv(1000)[:12], (b"", b"HTTP/1.1 400"))
                 half.close()
         for one in more:
@@ -408,7 +408,7 @@ class Security(ServedCase):
 
     def test_a_body_that_does_not_come(self):
         with mock.patch.object(server, "PATIENCE", 1):
-            half = socket.create_connection(("127.0.0.1", self.served.port), timeout=60)
+            half = socket.create_connection(("127.0.0.1", self.served.port), timeout=600)
             half.sendall(f"POST /news HTTP/1.1\r\nHost: {self.host}\r\nX-Key: {self.served.key}\r\nContent-Type: application/json\r\n"
                          "Content-Length: 100\r\n\r\n{".encode())
             self.assertIn(half.recv(1000)[:12], (b"", b"HTTP/1.1 400"))
@@ -428,7 +428,8 @@ class Tool(Case):
 
     def start(self, *words):
         process = subprocess.Popen([*PYTHON, os.path.join(TOP, "tools", "page"), *words], stdout=subprocess.PIPE, text=True, cwd=TOP,
-                                   env={**os.environ, "PP6600": program()}, start_new_session=True)
+                                   env={**os.environ, "PP6600": program()}, start_new_session=True,
+                                   preexec_fn=lambda: signal.signal(signal.SIGINT, signal.SIG_DFL))  # ignored in the background
         self.addCleanup(process.stdout.close)
         self.addCleanup(process.wait)
         self.addCleanup(process.kill)
@@ -438,13 +439,13 @@ class Tool(Case):
         process, said = self.start("--deck", DECK, "examples/overwritten-loader/script")
         port, key = re.fullmatch(r"Open http://127\.0\.0\.1:(\d+)/#key=([\w-]+) in a browser of this machine\. Ctrl-C ends the session\.\n",
                                  said).groups()
-        connection = http.client.HTTPConnection("127.0.0.1", int(port), timeout=60)
+        connection = http.client.HTTPConnection("127.0.0.1", int(port), timeout=600)
         connection.request("POST", "/news", b'{"have": 0}', {"X-Key": key, "Content-Type": "application/json"})
         news = Reply(connection.getresponse()).news
         connection.close()
         self.assertEqual(read("examples", "overwritten-loader", "script").splitlines(), [line["text"] for line in news["lines"]])
         process.send_signal(signal.SIGINT)
-        self.assertEqual(-signal.SIGINT, process.wait(60))
+        self.assertEqual(-signal.SIGINT, process.wait(600))
 
     def test_failures(self):
         taken = socket.create_server(("127.0.0.1", 0))
