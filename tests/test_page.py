@@ -389,22 +389,28 @@ class Security(ServedCase):
         answers = [self.served.act(line).news["lines"][0]["answer"] for line in lines]
         self.assertEqual([["ERR 06 NOT ASCII"], [], ["ERR 06 NOT ASCII"], ["ERR 05 LINE TOO LONG"], ["ERR 01 NOT A COMMAND"]], answers)
 
+    def half_requests(self, count):
+        """Returns connections on which no request comes, or only its beginning."""
+        halves = [socket.create_connection(("127.0.0.1", self.served.port), timeout=600) for _ in range(count)]
+        for at, half in enumerate(halves):
+            self.addCleanup(half.close)
+            half.sendall(b"POST /news HTTP/1.1\r\nHost: " if at % 2 else b"")
+        return halves
+
     def test_requests_that_do_not_come(self):
-        """They are ended, and others are answered meanwhile; too many are refused."""
-        with mock.patch.object(server, "PATIENCE", 2), mock.patch.object(server, "MOST_CONNECTIONS", 20):
-            halves = [socket.create_connection(("127.0.0.1", self.served.port)) for _ in range(19)]
-            for at, half in enumerate(halves):
-                half.sendall(b"POST /news HTTP/1.1\r\nHost: " if at % 2 else b"")
+        """They are ended, and others are answered meanwhile."""
+        with mock.patch.object(server, "PATIENCE", 2):
+            halves = self.half_requests(19)
             self.assertEqual(200, self.status())
-            more = [socket.create_connection(("127.0.0.1", self.served.port)) for _ in range(3)]
-            said = more[-1].recv(1000)
-            self.assertIn(b"503", said)
             for half in halves:
-                half.settimeout(600)
                 self.assertIn(half.recv(1000)[:12], (b"", b"HTTP/1.1 400"))
+
+    def test_too_many_connections(self):
+        with mock.patch.object(server, "PATIENCE", 600), mock.patch.object(server, "MOST_CONNECTIONS", 20):
+            halves = self.half_requests(22)
+            self.assertIn(b"503", halves[-2].recv(1000))
+            for half in halves:
                 half.close()
-        for one in more:
-            one.close()
 
     def test_a_body_that_does_not_come(self):
         with mock.patch.object(server, "PATIENCE", 1):
