@@ -216,6 +216,11 @@ class Refusals(Case):
                 self.begun(*devices)
             self.assertEqual(message, str(caught.exception))
 
+    def test_a_session_without_a_device(self):
+        session = self.begun()
+        self.assertEqual(["TURNS 10000 SLOT 06"], session.act("STEP 10000"))
+        self.assertEqual(["BACK 10000 SLOT 00"], session.act("BACK 10000"))
+
     def test_states_that_can_change(self):
         for state, wanted in (((1, "a", b"", None, frozenset((1,))), True), ([], False), ((1, [2]), False), ({}, False),
                               (object(), False), (Chain(), True), (bytearray(), False), (chain_of("abc"), True)):

@@ -438,7 +438,8 @@ class Check:
             self.hit, turns = answers.pop(at + 1), int(answers[at].split()[1], 8)
         looks = count
         if count > 1:
-            looks = min(self.first_change(channel, row, looks) for channel, row in zip(self.planner.channels, moment.rows))
+            changes = (self.first_change(channel, row, count) for channel, row in zip(self.planner.channels, moment.rows))
+            looks = min(changes, default=count)
             turns = leg.ends[looks - 1]
         self.at = at + LINES_OF_LOOK * looks
         dump = self.at - LINES_OF_LOOK + 1
