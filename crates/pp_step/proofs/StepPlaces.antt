@@ -38,18 +38,13 @@ module _ (size n : ℕ) (is_processor : n < 10) where
   block_held : (s : PpView) → s.p < 4096 → length s.central ≡ size → Held size n (block_writes s)
   block_held s h words = grind (arith, nat_tests, five_held size n is_processor s.p (split60 (slice_index s.central s.a)))
 
-  step_held : (s : PpView) → s.p < 4096 → All (λ cell. cell ≤ 0o7777) s.cells → length s.central ≡ size → Held size n (pp_writes s)
-  unfolding pp_writes
-  step_held s low small words =
-      let first = slice_index s.cells s.p in
-      let at_most : first % 0o100 < 64 = omega arith in
-      let i = instruction_at s.p s.cells in
-      let address = address_in (row_of i.code).mode (first % 0o100) _ s.cells at_most (cell_in s.cells _ small) small in
-      AllPlaces-if (λ x. Has size (pp_place n x)) (s.phase == 0) _ _
-      (λ outside. each_row (λ (r : Row). Held size n (r.effect i s)) (λ c. effect_held c i s address words) tt i.code)
-      (λ inside. block_held s low words)
-
   -- the places of a step's write list, as places of the machine
   pub HasAll-step : (s : PpView) → s.p < 4096 → All (λ cell. cell ≤ 0o7777) s.cells →
       length s.central ≡ size → HasAll size (renamed (pp_place n) (pp_writes s))
-  HasAll-step s low small words = AllPlaces-renamed (pp_place n) (Has size) (pp_writes s) (step_held s low small words)
+  unfolding pp_writes
+  HasAll-step s low small words =
+      let i = instruction_at s.p s.cells in
+      let address = address_in (row_of i.code).mode i.d i.m s.cells (omega arith) (cell_in s.cells _ small) small in
+      AllPlaces-renamed (pp_place n) (Has size) (pp_writes s) (AllPlaces-if (λ x. Has size (pp_place n x)) (s.phase == 0) _ _
+      (λ outside. each_row (λ (r : Row). Held size n (r.effect i s)) (λ c. effect_held c i s address words) tt i.code)
+      (λ inside. block_held s low words))
