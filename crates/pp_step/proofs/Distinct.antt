@@ -1,8 +1,7 @@
 -- No step writes a place twice.
 use Rattle.std.proofs.Common.{◌≡◌, ◌≢◌, ℕ, ◌+◌, ◌<◌, ◌≤◌, ◌==◌, slice_index, Bool, true, false, nat_lt, List, [], ◌∷◌, ◌++◌, None}
-use Rattle.std.proofs.Common.{length, refl, arith, ◌∙◌}
+use Rattle.std.proofs.Common.{AllPairs, length, refl, arith, ◌∙◌}
 use Rattle.std.proofs.{lemmas.Bool.eq-eqb, lemmas.Bool.ne_eqb, lemmas.Bool.Decides.nat_tests, lemmas.List.append-nil}
-use Rattle.std.specs.List.{AllPairs}
 use Rattle.pp_machine.specs.Writes.{Writes, places}
 use Rattle.pp_machine.proofs.Once.{once, IsOnce, either, each-once}
 use Rattle.pp_arith.specs.Words60.{split60}

@@ -1,5 +1,5 @@
 -- A step of a processor writes only places that the machine has.
-use Rattle.std.proofs.Common.{◌≡◌, ℕ, ◌<◌, ◌≤◌, ◌%◌, ◌==◌, slice_index, List, All, length, arith}
+use Rattle.std.proofs.Common.{◌≡◌, ℕ, ◌<◌, ◌≤◌, ◌==◌, slice_index, List, All, length, arith}
 use Rattle.std.proofs.{lemmas.Bool.Decides.nat_tests, lemmas.Grind.common_steps}
 use Rattle.pp_arith.specs.Words60.{split60}
 use Rattle.pp_machine.specs.WriteLaws.{AllPlaces-if}
@@ -34,17 +34,14 @@ module _ (size n : ℕ) (is_processor : n < 10) where
   )
   effect_held _ i s h words = grind (arith, nat_tests, five_held size n is_processor i.d (split60 (slice_index s.central s.a)))
 
-  -- in a block transfer
-  block_held : (s : PpView) → s.p < 4096 → length s.central ≡ size → Held size n (block_writes s)
-  block_held s h words = grind (arith, nat_tests, five_held size n is_processor s.p (split60 (slice_index s.central s.a)))
-
   -- the places of a step's write list, as places of the machine
   pub HasAll-step : (s : PpView) → s.p < 4096 → All (λ cell. cell ≤ 0o7777) s.cells →
       length s.central ≡ size → HasAll size (renamed (pp_place n) (pp_writes s))
   unfolding pp_writes
   HasAll-step s low small words =
       let i = instruction_at s.p s.cells in
+      let cells = five_held size n is_processor s.p (split60 (slice_index s.central s.a)) in
       let address = address_in (row_of i.code).mode i.d i.m s.cells (omega arith) (cell_in s.cells _ small) small in
       AllPlaces-renamed (pp_place n) (Has size) (pp_writes s) (AllPlaces-if (λ x. Has size (pp_place n x)) (s.phase == 0) _ _
       (λ outside. each_row (λ (r : Row). Held size n (r.effect i s)) (λ c. effect_held c i s address words) tt i.code)
-      (λ inside. block_held s low words))
+      (λ inside. grind (arith, nat_tests, cells)))
