@@ -103,8 +103,9 @@ module _ {H : Type 0} (heads : Heads H) (is : IsHeads heads) (n : ℕ) (within :
   module _ (k slot : ℕ) (x : Option H) (at : slot ≡ n + k) (kept : ℕ) (less : k < kept) where
     pub slot_here : slot < 256 → x ≡ get_or heads.block.items slot x → slice_get (take kept (behind heads n)) k ≡ Some x
     slot_here within here =
-        grind (arith, at, less, slice_get-take kept (behind heads n) k, slice_get-append_left (drop n heads.block.items) (others_in heads) k, length-drop n heads.block.items, is.block,
-          slice_get-drop n heads.block.items k slot at, slice_get_read heads.block.items 256 slot x (sym is.block) within here)
+        slice_get-take kept (behind heads n) k less ∙ slice_get-append_left (drop n heads.block.items) (others_in heads) k
+        (omega (arith, at, within, length-drop n heads.block.items, is.block))
+        ∙ slice_get-drop n heads.block.items k slot at ∙ slice_get_read heads.block.items 256 slot x (sym is.block) within here
 
     pub slot_there : (block : Vec (Option H) Global) → 256 ≤ slot → slice_get heads.others.items (slot / 256 - 1) ≡ Some block →
         x ≡ get_or block.items (slot % 256) x → slice_get (take kept (behind heads n)) k ≡ Some x
