@@ -5,7 +5,7 @@ use Rattle.pp_arith.specs.Words60.{split60}
 use Rattle.pp_machine.specs.WriteLaws.{AllPlaces-if}
 use Rattle.pp_machine.specs.Prelude.{renamed, Has, HasAll, AllPlaces-append, AllPlaces-renamed}
 use Rattle.pp_step.proofs.{Numbers.each_row, Swapped.length-loaded}
-use Rattle.pp_step.specs.{Blocks.block_writes, Codes.number_of, Exchange.loaded}
+use Rattle.pp_step.specs.{Codes.number_of, Exchange.loaded}
 use Rattle.pp_step.specs.{Step.pp_writes, declared.code.Code.Code, Instruction.InstructionNumbers, Instruction.Mode}
 use Rattle.pp_step.specs.{Instruction.address_of, InstructionTable.Row, InstructionTable.row_of, InstructionTable.instruction_at}
 use Rattle.pp_step.specs.{PpPlaces.Held, PpPlaces.five_held, PpPlaces.frame_held, PpPlaces.words_held, View.PpView, View.pp_place}
