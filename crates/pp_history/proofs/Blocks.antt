@@ -92,18 +92,12 @@ pub is_still : {H : Type 0} {old new : Heads H} → IsHeads old → length new.b
 is_still is long whole many room same = grind arith
 
 module _ {H : Type 0} (heads : Heads H) (is : IsHeads heads) (n : ℕ) (within : n ≤ 256) where
-  length_behind : heads.capacity ≤ length (behind heads n)
-  length_behind = grind (arith, common_steps, length_slots items heads.others.items is.others)
+  enough_slots : (heads.capacity ≤ length (behind heads n)) × (heads.capacity ≤ length (before heads n))
+  enough_slots = grind (arith, common_steps, length_slots items heads.others.items is.others)
 
-  length_before : heads.capacity ≤ length (before heads n)
-  length_before = grind (arith, common_steps, length_slots items heads.others.items is.others)
-
-  module _ (kept ahead : ℕ) (full : ahead + kept ≤ heads.capacity) where
-    pub length_kept : length (halves heads n kept ahead).kept ≡ kept
-    length_kept = omega (arith, length-take kept (behind heads n), length_behind, full)
-
-    pub length_ahead : length (halves heads n kept ahead).ahead ≡ ahead
-    length_ahead = omega (arith, length-take ahead (before heads n), length_before, full)
+  pub length_halves : (kept ahead : ℕ) → ahead + kept ≤ heads.capacity →
+      (length (halves heads n kept ahead).kept ≡ kept) × (length (halves heads n kept ahead).ahead ≡ ahead)
+  length_halves kept ahead full = grind (arith, length-take kept (behind heads n), length-take ahead (before heads n), enough_slots)
 
   -- the k-th slot behind a place, in the block in use and in another one
   module _ (k slot : ℕ) (x : Option H) (at : slot ≡ n + k) (kept : ℕ) (less : k < kept) where

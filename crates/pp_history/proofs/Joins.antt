@@ -14,11 +14,9 @@ module _ {H B X : Type 0} (in_head : H → X) (in_other : B → Option X) where
   -- what belongs to the first n heads, for which n items of the ring are enough
   joined_take : (n m : ℕ) (heads : List (Option H)) (others : List B) → n ≤ m →
       joined in_head in_other (take n heads) (take m others) ≡ take n (joined in_head in_other heads others)
-  joined_take zero m heads others enough = refl
-  joined_take (suc n) m [] others enough = refl
-  joined_take (suc n) zero (head ∷ heads) others enough = absurd (omega arith)
   joined_take (suc n) (suc m) (head ∷ heads) others enough =
       grind (arith, joined_take n (suc m) heads others, joined_take n m heads (drop 1 others))
+  joined_take n m heads others enough = grind arith
 
   -- what belongs to the n-th head, and to the later ones
   pub record ItemAt (n : ℕ) (heads : List (Option H)) (others : List B) (head : Option H) : Type 0 where

@@ -1,5 +1,5 @@
 -- An action that is performed again and again.
-use Rattle.pp_history.proofs.Names.{◌≡◌, ℕ, zero, suc, ◌+◌, ◌-◌, ◌≤◌, Option, Some, None, IfSome, add-one, arith, ap, refl, inl}
+use Rattle.pp_history.proofs.Names.{◌≡◌, ℕ, zero, suc, ◌+◌, ◌-◌, ◌≤◌, Option, Some, IfSome, add-one, arith, ap, refl, inl}
 use Rattle.pp_history.proofs.Names.{inr, cases_lt, first_of, IsUnmarked, AreUnmarked, after_acts, machine_after, SessionValue}
 use Rattle.pp_history.proofs.Names.{after_act, replay, IsKept, in_tail, Marks, Ghosts, Tails, Log, IsActed, IsSession, ◌∙◌}
 use Rattle.pp_history.proofs.Runs.{IsRun, run_none}
@@ -13,10 +13,9 @@ module _ {M A : Type 0} where
 -- the action that was kept is that of its head, or else of the newest tail
 put_first : {A R H : Type 0} (unpacked : H → A × R) (head : Option H) (tails tails' : Tails A R) (action : A) (back : R) → 1 ≤ tails.ring.capacity →
     IsKept unpacked head action back tails tails' → first_of unpacked in_tail head tails'.ring.items ≡ Some (action, back)
-put_first unpacked (Some head) tails tails' action back room kept = ap Some kept.0
-put_first unpacked None tails tails' action back room kept =
+put_first unpacked head tails tails' action back room kept =
     let one : tails.ring.capacity ≡ suc (tails.ring.capacity - 1) = omega (arith, room) in
-    rw (kept, one) refl
+    grind (arith, one, kept)
 
 module _ {M A R P H : Type 0} (rules : Ghosts M A R P H) where
   -- the replay after the action was performed this many times

@@ -4,9 +4,9 @@ use Rattle.pp_history.proofs.Names.{slice_get, ap, arith, refl, sym, length-take
 use Rattle.pp_history.proofs.Names.{Halves, Heads, behind, before, IsActed, IsHeads, IsJoined, IsNext, IsSame, IsSide, Log}
 use Rattle.pp_history.proofs.Names.{AdmitsInTurn, IsAt, ahead_in, first_of, halves_in, left_by, contents_of, contents_with, Contents, IsSession, Moves}
 use Rattle.pp_history.proofs.Names.{SessionValue, after_act, after_back, after_forward, IsKept, in_tail, Ghosts, Tails}
-use Rattle.pp_history.proofs.Blocks.{halves_before, halves_behind, halves_written, is_still, length_ahead, length_kept}
+use Rattle.pp_history.proofs.Blocks.{halves_before, halves_behind, halves_written, is_still, length_halves}
 use Rattle.pp_history.proofs.Joins.{ItemAt, kept_more, side_first, side_less, side_more}
-use Rattle.pp_history.proofs.Steps.{after_back-more, after_forward-more, back_at, forward_is, newest-step, put_at}
+use Rattle.pp_history.proofs.Steps.{after_steps-more, back_at, forward_is, newest-step, put_at}
 
 module _ {M A R P H : Type 0} (rules : Ghosts M A R P H) where
   abbrev action_of : H → A
@@ -15,10 +15,10 @@ module _ {M A R P H : Type 0} (rules : Ghosts M A R P H) where
   -- the numbers of actions are what is counted
   module _ (machine : M) (log : Log A R H) (is : IsSession rules machine log) where
     pub kept_is : log.kept ≡ length (contents_of rules.unpacked machine log).records
-    kept_is = sym (is.joined.kept.all ∙ length_kept log.heads is.heads log.at is.within log.kept log.ahead is.full)
+    kept_is = sym (is.joined.kept.all ∙ (length_halves log.heads is.heads log.at is.within log.kept log.ahead is.full).0)
 
     pub ahead_is : log.ahead ≡ length (contents_of rules.unpacked machine log).ahead
-    ahead_is = sym (is.joined.ahead.all ∙ length_ahead log.heads is.heads log.at is.within log.kept log.ahead is.full)
+    ahead_is = sym (is.joined.ahead.all ∙ (length_halves log.heads is.heads log.at is.within log.kept log.ahead is.full).1)
 
   pub acted : {old new : M} {action : A} {head : Option H} {tails tails' : Tails A R} → new ≡ rules.after_act old action →
       ((back : R) × rules.fits back new × (rules.after_undo back new ≡ old) × IsKept rules.unpacked head action back tails tails') →
@@ -65,9 +65,6 @@ module _ {M A R P H : Type 0} (rules : Ghosts M A R P H) where
       is_at = run.span.moves is.value is.is_at;
     }
 
-    pub run_moves : IsRun start old after machine log → Moves rules (contents_of rules.unpacked start old) (contents_of rules.unpacked machine log) after
-    run_moves run = run.span.moves
-
     -- another block came into use
     pub run_turned : IsRun start old after machine log → (heads : Heads H) (at : ℕ) →
         IsHeads heads → at ≤ 256 → IsSame log.heads log.at heads at → IsRun start old after machine (record log { heads = heads; at = at })
@@ -99,7 +96,7 @@ module _ {M A R P H : Type 0} (rules : Ghosts M A R P H) where
           IsSomeAnd (first_of rules.unpacked in_tail head log.tails.ring.items) (λ newest. rules.fits newest.1 now)
       fits_newest session =
           let found = ap (λ (entries : List (A × R)). slice_get entries 0) newest.split in
-          rw newest.is (newest-step rules _ _ (here.moves session.value session.is_at) newest.item found).fits
+          rw newest.is (newest-step rules _ _ (here.moves session.value session.is_at) newest.item found).0
 
       pub back_more : {machine : M} {tails : Tails A R} {undone : Buffer A} (more : ℕ) → more ≡ suc log.ahead → log.at < 256 →
           IsSomeAnd (first_of rules.unpacked in_tail head log.tails.ring.items) (λ newest.
@@ -118,7 +115,7 @@ module _ {M A R P H : Type 0} (rules : Ghosts M A R P H) where
             full = omega (arith, run.full, one, counted);
             span = rw (counted, halves_before log.heads log.at head found less log.ahead) (record {
               joined = record { kept = fewer.1; ahead = longer.1 };
-              moves = λ v at. rw (did.0, longer.0, ← after_back-more v count 1)
+              moves = λ v at. rw (did.0, longer.0, ← (after_steps-more v count 1).0)
                   (back_at rules now newest.item _ _ log.heads.capacity (after_back v count) (rw fewer.0 at (here.moves v at)));
             });
           }
@@ -186,7 +183,7 @@ module _ {M A R P H : Type 0} (rules : Ghosts M A R P H) where
           let admits = rw fewer.0 at (there.moves session.value session.is_at).admits_ahead in
           acted_run run slot at head' block set_is acted kept (omega (arith, run.full, counted, one)) undone less (omega (arith, run.full, counted, one))
           fewer.1 admits.0 (rw acted.next admits.1) _
-          (λ v was. sym (after_forward-more v count 1) ∙ forward_is rules _ _ _ _ log.heads.capacity (after_forward v count) (rw fewer.0 at (there.moves v was)))
+          (λ v was. sym (after_steps-more v count 1).1 ∙ forward_is rules _ _ _ _ log.heads.capacity (after_forward v count) (rw fewer.0 at (there.moves v was)))
 
   -- one more action
   pub act_next : {start : M} {old : Log A R H} {after : SessionValue M A → SessionValue M A} {now : M} {log : Log A R H} →

@@ -1,6 +1,5 @@
 -- Marks of places, a Bloom filter with two hashes. They show of most undo records that they have none of the places.
-use Rattle.std.specs.Prelude.{ℕ, Bool, true, false, ◌≡◌, ◌%◌, ◌||◌, ◌&&◌, List, Option, Some, None, get_or}
-use Rattle.std.specs.List.{All}
+use Rattle.std.specs.Prelude.{ℕ, Bool, true, false, ◌≡◌, ◌%◌, ◌||◌, ◌&&◌, List, All, Option, Some, None, get_or}
 use Rattle.pp_history.specs.declared.marks.Marks.{Marks}
 
 -- the mark with this number, modulo 1024, is set

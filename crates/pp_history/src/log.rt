@@ -1,8 +1,7 @@
 //! What a session keeps of its actions, in blocks and rings.
 
 ghost use Rattle.std.specs.Prelude.{◌≡◌, ◌≤◌, IfOk};
-ghost use Rattle.pp_history.specs.Parts.{IsSession};
-ghost use Rattle.pp_history.specs.SessionValue.{fresh};
+ghost use Rattle.pp_history.specs.{Parts.IsSession, SessionValue.fresh};
 
 use crate::heads::Heads;
 use crate::reversible::Reversible;

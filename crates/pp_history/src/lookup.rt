@@ -1,11 +1,8 @@
 //! The search of undo records for a change.
 
-ghost use Rattle.std.specs.Prelude.{◌≡◌, ◌+◌, ◌≤◌, ℕ, IfSome, Option, None, Bool, true, false, length};
-ghost use Rattle.std.specs.List.{All};
-ghost use Rattle.pp_history.specs.Marks.{AreCovered, IsUnmarked};
-ghost use Rattle.pp_history.specs.Parts.{IsSession, contents_of};
-ghost use Rattle.pp_history.specs.Search.{IsCounted, changes, differs_from, first_changing};
-ghost use Rattle.pp_history.specs.UndoRecord.{whole_record};
+ghost use Rattle.std.specs.Prelude.{◌≡◌, ◌+◌, ◌≤◌, ℕ, IfSome, Option, None, All, Bool, true, false, length};
+ghost use Rattle.pp_history.specs.{Marks.AreCovered, Marks.IsUnmarked, Parts.IsSession, Parts.contents_of, Search.IsCounted};
+ghost use Rattle.pp_history.specs.{Search.changes, Search.differs_from, Search.first_changing, UndoRecord.whole_record};
 
 use crate::log::Log;
 use crate::looks::Looks;

@@ -2,8 +2,7 @@
 
 ghost use Rattle.std.specs.Prelude.{◌≡◌, ℕ, Option, Some, None, IfSome, true, false};
 ghost use Rattle.pp_history.specs.Marks as spec;
-ghost use Rattle.pp_history.specs.Marks.{AreCovered, IsUnmarked, is_covered};
-ghost use Rattle.pp_history.specs.UndoRecord.{whole_record};
+ghost use Rattle.pp_history.specs.{Marks.AreCovered, Marks.IsUnmarked, Marks.is_covered, UndoRecord.whole_record};
 
 use crate::reversible::{Reversible, UndoRecord};
 

@@ -4,9 +4,7 @@ ghost use Rattle.std.specs.Prelude.{◌≡◌, ◌≤◌, Some, None, IfSome, Is
 ghost use Rattle.std.specs.Option.{option_map};
 ghost use Rattle.circular_buffer.specs.Buffer.{buffer};
 ghost use Rattle.pp_history.specs.Joining.{IsActed, IsNext, first_of, left_by};
-ghost use Rattle.pp_history.specs.Marks.{IsUnmarked};
-ghost use Rattle.pp_history.specs.Tails.{in_tail, pushed};
-ghost use Rattle.pp_history.specs.UndoRecord.{whole_record};
+ghost use Rattle.pp_history.specs.{Marks.IsUnmarked, Tails.in_tail, Tails.pushed, UndoRecord.whole_record};
 
 use crate::marks::{Marked, Marks};
 use crate::reversible::{Reversible, UndoRecord};

@@ -21,9 +21,7 @@ pub struct Tails<A, R> {
 }
 
 impl<A: Drop, R: Drop> Tails<A, R> {
-    ghost use Rattle.std.specs.Borrow.{LendsIf, sem};
-    ghost use Rattle.std.specs.Option.{option_copied_mut};
-    ghost use Rattle.std.specs.Prelude.{slice_get};
+    ghost use Rattle.std.specs.{Borrow.LendsIf, Borrow.sem, Option.option_copied_mut, Prelude.slice_get};
     ghost use Rattle.pp_history.specs.Tails.{with_newest};
     ghost use Rattle.pp_history.specs.contracts.tails.Tail.{the_row as tail_row};
     ghost use Rattle.pp_history.specs.contracts.tails.Tails.{the_row};

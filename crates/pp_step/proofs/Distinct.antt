@@ -1,8 +1,7 @@
 -- No step writes a place twice.
 use Rattle.std.proofs.Common.{◌≡◌, ◌≢◌, ℕ, ◌+◌, ◌<◌, ◌≤◌, ◌==◌, slice_index, Bool, true, false, nat_lt, List, [], ◌∷◌, ◌++◌, None}
-use Rattle.std.proofs.Common.{length, refl, arith, ◌∙◌}
+use Rattle.std.proofs.Common.{AllPairs, length, refl, arith, ◌∙◌}
 use Rattle.std.proofs.{lemmas.Bool.eq-eqb, lemmas.Bool.ne_eqb, lemmas.Bool.Decides.nat_tests, lemmas.List.append-nil}
-use Rattle.std.specs.List.{AllPairs}
 use Rattle.pp_machine.specs.Writes.{Writes, places}
 use Rattle.pp_machine.proofs.Once.{once, IsOnce, either, each-once}
 use Rattle.pp_arith.specs.Words60.{split60}
@@ -57,14 +56,10 @@ effect-once code.Exn i s size = one (exchange-once i.next s.a s.central s.frame 
 effect-once code.Crd i s size = one (five-once i.d (split60 (slice_index s.central s.a)))
 effect-once _ i s size = search (either same_place)
 
-block-once : (s : PpView) → IsOnce same_place (block_writes s)
-block-once s = one (grind (arith, five-once s.p (split60 (slice_index s.central s.a))))
-
-step-once : (s : PpView) → length s.frame ≡ 16 → IsOnce same_place (pp_writes s)
-unfolding pp_writes
-step-once s size = either same_place (s.phase == 0) _ _
-    (let i = instruction_at s.p s.cells in
-    each_row (λ (r : Row). IsOnce same_place (r.effect i s)) (λ c. effect-once c i s size) (one refl) i.code) (block-once s)
-
 pub step_each_once : (s : PpView) → length s.frame ≡ 16 → AllPairs (λ one other. one ≢ other) (places (pp_writes s))
-step_each_once s size = each-once same_place self (pp_writes s) (step-once s size).holds
+unfolding pp_writes
+step_each_once s size =
+    let i = instruction_at s.p s.cells in
+    let outside = each_row (λ (r : Row). IsOnce same_place (r.effect i s)) (λ c. effect-once c i s size) (one refl) i.code in
+    let inside : once same_place (block_writes s) ≡ true = grind (arith, five-once s.p (split60 (slice_index s.central s.a))) in
+    each-once same_place self (pp_writes s) (either same_place (s.phase == 0) _ _ outside (one inside)).holds

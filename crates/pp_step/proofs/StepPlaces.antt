@@ -1,11 +1,11 @@
 -- A step of a processor writes only places that the machine has.
-use Rattle.std.proofs.Common.{◌≡◌, ℕ, ◌<◌, ◌≤◌, ◌%◌, ◌==◌, slice_index, List, All, length, arith}
+use Rattle.std.proofs.Common.{◌≡◌, ℕ, ◌<◌, ◌≤◌, ◌==◌, slice_index, List, All, length, arith}
 use Rattle.std.proofs.{lemmas.Bool.Decides.nat_tests, lemmas.Grind.common_steps}
 use Rattle.pp_arith.specs.Words60.{split60}
 use Rattle.pp_machine.specs.WriteLaws.{AllPlaces-if}
 use Rattle.pp_machine.specs.Prelude.{renamed, Has, HasAll, AllPlaces-append, AllPlaces-renamed}
 use Rattle.pp_step.proofs.{Numbers.each_row, Swapped.length-loaded}
-use Rattle.pp_step.specs.{Blocks.block_writes, Codes.number_of, Exchange.loaded}
+use Rattle.pp_step.specs.{Codes.number_of, Exchange.loaded}
 use Rattle.pp_step.specs.{Step.pp_writes, declared.code.Code.Code, Instruction.InstructionNumbers, Instruction.Mode}
 use Rattle.pp_step.specs.{Instruction.address_of, InstructionTable.Row, InstructionTable.row_of, InstructionTable.instruction_at}
 use Rattle.pp_step.specs.{PpPlaces.Held, PpPlaces.five_held, PpPlaces.frame_held, PpPlaces.words_held, View.PpView, View.pp_place}
@@ -34,22 +34,14 @@ module _ (size n : ℕ) (is_processor : n < 10) where
   )
   effect_held _ i s h words = grind (arith, nat_tests, five_held size n is_processor i.d (split60 (slice_index s.central s.a)))
 
-  -- in a block transfer
-  block_held : (s : PpView) → s.p < 4096 → length s.central ≡ size → Held size n (block_writes s)
-  block_held s h words = grind (arith, nat_tests, five_held size n is_processor s.p (split60 (slice_index s.central s.a)))
-
-  step_held : (s : PpView) → s.p < 4096 → All (λ cell. cell ≤ 0o7777) s.cells → length s.central ≡ size → Held size n (pp_writes s)
-  unfolding pp_writes
-  step_held s low small words =
-      let first = slice_index s.cells s.p in
-      let at_most : first % 0o100 < 64 = omega arith in
-      let i = instruction_at s.p s.cells in
-      let address = address_in (row_of i.code).mode (first % 0o100) _ s.cells at_most (cell_in s.cells _ small) small in
-      AllPlaces-if (λ x. Has size (pp_place n x)) (s.phase == 0) _ _
-      (λ outside. each_row (λ (r : Row). Held size n (r.effect i s)) (λ c. effect_held c i s address words) tt i.code)
-      (λ inside. block_held s low words)
-
   -- the places of a step's write list, as places of the machine
   pub HasAll-step : (s : PpView) → s.p < 4096 → All (λ cell. cell ≤ 0o7777) s.cells →
       length s.central ≡ size → HasAll size (renamed (pp_place n) (pp_writes s))
-  HasAll-step s low small words = AllPlaces-renamed (pp_place n) (Has size) (pp_writes s) (step_held s low small words)
+  unfolding pp_writes
+  HasAll-step s low small words =
+      let i = instruction_at s.p s.cells in
+      let cells = five_held size n is_processor s.p (split60 (slice_index s.central s.a)) in
+      let address = address_in (row_of i.code).mode i.d i.m s.cells (omega arith) (cell_in s.cells _ small) small in
+      AllPlaces-renamed (pp_place n) (Has size) (pp_writes s) (AllPlaces-if (λ x. Has size (pp_place n x)) (s.phase == 0) _ _
+      (λ outside. each_row (λ (r : Row). Held size n (r.effect i s)) (λ c. effect_held c i s address words) tt i.code)
+      (λ inside. grind (arith, nat_tests, cells)))

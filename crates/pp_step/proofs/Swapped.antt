@@ -2,7 +2,7 @@
 use Rattle.std.proofs.Common.{◌≡◌, ℕ, zero, suc, List, [], ◌∷◌, ◌++◌, ◌+◌, ◌<◌, ◌≤◌, length, slice_index, refl, arith, zero-add}
 use Rattle.std.proofs.{lemmas.Bool.Decides.nat_tests, lemmas.Grind.common_steps, lemmas.List.FromFn.get_or-map-range_with_len}
 use Rattle.pp_machine.specs.Frame.{frame_word}
-use Rattle.pp_step.proofs.{FewPlaces.few_exchanged, Exchanged.over-exchange, Exchanged.over-swap, Exchanged.length-stored_over}
+use Rattle.pp_step.proofs.{Exchanged.few_exchanged, Exchanged.over-exchange, Exchanged.over-swap, Exchanged.length-stored_over}
 use Rattle.pp_step.specs.{Exchange.exchange, Exchange.frame_pairs, Exchange.loaded, Exchange.word_pairs, Words.central_after}
 use Rattle.pp_step.specs.{Inner.loaded_word, Inner.stored_over, View.PpView, View.FrameWord, View.Central, View.number, View.over}
 

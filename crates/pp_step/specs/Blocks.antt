@@ -4,11 +4,9 @@ use Rattle.std.specs.Prelude.{ℕ, [], ◌∷◌, ◌/◌, ◌%◌, ◌-◌, ◌
 use Rattle.pp_arith.specs.Words60.{split60}
 use Rattle.pp_machine.specs.Prelude.{Writes, state_number}
 use Rattle.pp_machine.specs.declared.channel.ChannelState.TheVariants.{Empty, Full}
-use Rattle.pp_step.specs.Channels.{is_clock, is_in, is_active}
-use Rattle.pp_step.specs.Instruction.{InstructionNumbers}
-use Rattle.pp_step.specs.Rows.{five_cells}
 use Rattle.pp_step.specs.View.{PpView, PpPlace, A, P, Q, Phase, Cell, State, Register, Central}
-use Rattle.pp_step.specs.Words.{cell_after, central_after, joined_cells}
+use Rattle.pp_step.specs.{Channels.is_clock, Channels.is_in, Channels.is_active, Instruction.InstructionNumbers}
+use Rattle.pp_step.specs.{Rows.five_cells, Words.cell_after, Words.central_after, Words.joined_cells}
 
 -- ---- the issue
 

@@ -1,7 +1,6 @@
 -- How an instruction sees channel c. 00 to 13 are the data channels, and 14 is the real-time clock.
 use Rattle.std.specs.Prelude.{ℕ, List, Bool, ◌==◌, ◌&&◌, ◌||◌, nat_lt, slice_index}
-use Rattle.pp_machine.specs.ChannelNumbers.{state_number}
-use Rattle.pp_machine.specs.declared.channel.ChannelState.{ChannelState}
+use Rattle.pp_machine.specs.{ChannelNumbers.state_number, declared.channel.ChannelState.ChannelState}
 
 -- Channel 14 is the real-time clock. [M16]
 abbrev pub is_clock : ℕ → Bool

@@ -1,10 +1,8 @@
 -- The exchange of the frame with sixteen central words.
 use Rattle.std.specs.Prelude.{ℕ, Bool, true, List, [], ◌∷◌, ◌++◌, ◌+◌, nat_lt, if◌then◌else◌, map, length, slice_index}
 use Rattle.std.specs.List.{range_with_len}
-use Rattle.pp_machine.specs.Frame.{frame_word}
-use Rattle.pp_machine.specs.Writes.{Writes}
-use Rattle.pp_step.specs.View.{PpPlace, P, Central, FrameWord}
-use Rattle.pp_step.specs.Words.{central_after}
+use Rattle.pp_machine.specs.{Frame.frame_word, Writes.Writes}
+use Rattle.pp_step.specs.{View.PpPlace, View.P, View.Central, View.FrameWord, Words.central_after}
 
 -- The writes of a list of numbers to places, beginning with place i. A number whose place is not there is not written.
 -- [P19, P22]

@@ -3,19 +3,14 @@
 -- complement; the twelve bits of a cell count as positive.
 use Rattle.std.specs.Prelude.{ℕ, ◌+◌, ◌*◌, ◌-◌, ◌/◌, ◌%◌, ◌==◌, ◌^◌, true, if◌then◌else◌, nat_lt, not, bit_and, bit_xor}
 use Rattle.std.specs.Prelude.{List, [], ◌∷◌, length, slice_index, slice_index_or}
-use Rattle.pp_arith.specs.Arith.{add18, sub18, shift18}
-use Rattle.pp_arith.specs.Words60.{split60}
-use Rattle.pp_machine.specs.Frame.{program_address_of}
-use Rattle.pp_machine.specs.Writes.{Writes}
+use Rattle.pp_arith.specs.{Arith.add18, Arith.sub18, Arith.shift18, Words60.split60}
 use Rattle.pp_machine.specs.declared.channel.ChannelState.TheVariants.{Inactive, Empty, Full, Function}
-use Rattle.pp_step.specs.Blocks.{issue, issue_counted}
+use Rattle.pp_machine.specs.{Frame.program_address_of, Writes.Writes}
 use Rattle.pp_step.specs.Channels.{is_clock, is_in, is_active, is_full}
-use Rattle.pp_step.specs.Exchange.{exchange}
 use Rattle.pp_step.specs.Instruction.{Mode, NoAddress, Direct, Indirect, Memory, Unindexed, InstructionNumbers, address_of, next_of}
 use Rattle.pp_step.specs.Rows.{jump, branch, test, load, store, replace, five_cells, input, output, activity}
-use Rattle.pp_step.specs.View.{PpView, PpPlace, P, Cell, Central}
-use Rattle.pp_step.specs.Words.{cell_after, lower12, joined_cells}
-use Rattle.pp_step.specs.declared.code.Code.{Code}
+use Rattle.pp_step.specs.{Blocks.issue, Blocks.issue_counted, Exchange.exchange, View.PpView, View.PpPlace, View.P, View.Cell}
+use Rattle.pp_step.specs.{View.Central, Words.cell_after, Words.lower12, Words.joined_cells, declared.code.Code.Code}
 use Rattle.pp_step.specs.declared.code.Code.TheVariants as code
 
 -- A row of the instruction table has a mnemonic, an addressing mode and an effect: what the instruction writes, from its

@@ -4,11 +4,9 @@ use Rattle.std.specs.Prelude.{ℕ, List, [], ◌∷◌, Bool, if◌then◌else�
 use Rattle.std.specs.List.{range_with_len}
 use Rattle.pp_arith.specs.Arith.{relative}
 use Rattle.pp_machine.specs.Prelude.{Writes, state_number}
-use Rattle.pp_machine.specs.declared.channel.ChannelState.{ChannelState}
-use Rattle.pp_machine.specs.declared.channel.ChannelState.TheVariants.{Empty}
-use Rattle.pp_step.specs.Instruction.{InstructionNumbers}
+use Rattle.pp_machine.specs.{declared.channel.ChannelState.ChannelState, declared.channel.ChannelState.TheVariants.Empty}
 use Rattle.pp_step.specs.View.{PpPlace, A, P, Cell, State, Register}
-use Rattle.pp_step.specs.Words.{cell_after, lower12}
+use Rattle.pp_step.specs.{Instruction.InstructionNumbers, Words.cell_after, Words.lower12}
 
 -- The processor continues at p, and nothing else changes. [M6, M13]
 abbrev pub jump : ℕ → Writes PpPlace

@@ -1,11 +1,8 @@
 //! Undoing a step: the numbers of its undo record go back to their places.
 
 ghost use Rattle.std.specs.Prelude.{◌≡◌, ◌<◌, ℕ, List, length, slice_set};
-ghost use Rattle.pp_machine.specs.ChannelNumbers.{state_number};
-ghost use Rattle.pp_machine.specs.Ranges.{channel_count};
-ghost use Rattle.pp_step.specs.Pairs.{target_pairs, FitsTarget};
-ghost use Rattle.pp_step.specs.Step.{pp_pairs, FitsPp};
-ghost use Rattle.pp_step.specs.View.{pp_view, over};
+ghost use Rattle.pp_machine.specs.{ChannelNumbers.state_number, Ranges.channel_count};
+ghost use Rattle.pp_step.specs.{Pairs.target_pairs, Pairs.FitsTarget, Step.pp_pairs, Step.FitsPp, View.pp_view, View.over};
 
 use crate::cells::put_five_cells;
 use crate::channel_states::holding;

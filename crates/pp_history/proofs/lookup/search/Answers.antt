@@ -1,7 +1,6 @@
 use Rattle.pp_history.proofs.Names.{◌∙◌, arith, drop-drop, rules, sym}
-use Rattle.pp_history.proofs.Search.{seen}
+use Rattle.pp_history.proofs.{Search.seen, lookup.search.Goals.in-Some, lookup.search.Goals.in-None}
 use Rattle.pp_history.proofs.lookup.search.Goals as goal
-use Rattle.pp_history.proofs.lookup.search.Goals.{in-Some, in-None}
 
 pub unwrap-back-requires : goal.unwrap-back-requires
 unwrap-back-requires g c =

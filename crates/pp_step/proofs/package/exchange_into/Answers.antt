@@ -1,6 +1,6 @@
 use Rattle.std.proofs.Common.{length}
 use Rattle.pp_step.specs.Step.{pp_pairs}
-use Rattle.pp_step.proofs.FewPlaces.{few_exchanged}
+use Rattle.pp_step.proofs.Exchanged.{few_exchanged}
 use Rattle.pp_step.proofs.package.exchange_into.Goals as goal
 
 pub returns-clause-old_values : goal.returns-clause-old_values

@@ -1,4 +1,4 @@
-use Rattle.pp_history.proofs.Names.{◌≡◌, Option, Some, None, IfSome, IsNone, option_map, List, length, slice_get, ap, arith, halves_in, in_tail, whole_record}
+use Rattle.pp_history.proofs.Names.{◌≡◌, Option, Some, IfSome, IsNone, option_map, List, length, slice_get, ap, arith, halves_in, in_tail, whole_record}
 use Rattle.pp_history.proofs.{Joins.item-at, Steps.newest-step}
 use Rattle.std.proofs.lemmas.Option.{IfSome_then}
 use Rattle.pp_history.proofs.session.Session.newest.Goals as goal
@@ -6,8 +6,7 @@ use Rattle.pp_history.proofs.session.Session.newest.Goals as goal
 -- the undo record of an item is handed out
 out : {A R X : Type 0} (f : X → R) (result : Option X) (item : A × R) → option_map f result ≡ Some item.1 →
     IfSome result (λ back. item.1 ≡ f back) × (IsNone result → ⊥)
-out f None item is = cc
-out f (Some back) item is = (cc, λ none. cc)
+out f result item is = grind arith
 
 pub returns : goal.returns
 returns g c =
@@ -19,8 +18,8 @@ returns g c =
     let first = ap (λ (entries : List (_ × _)). slice_get entries 0) at.split in
     rw (← c.self.view_is) (record {
       fits = IfSome_then c.undo_record.result handed.0 (λ back is.
-          rw (← is) (newest-step T _ c.self.invariant.value c.self.invariant.is_at at.item first).fits);
-      leads_back = IfSome_then c.undo_record.result handed.0 (λ back is. λ v was. rw (← is) (newest-step T _ v was at.item first).leads);
+          rw (← is) (newest-step T _ c.self.invariant.value c.self.invariant.is_at at.item first).0);
+      leads_back = IfSome_then c.undo_record.result handed.0 (λ back is. λ v was. rw (← is) (newest-step T _ v was at.item first).1);
       none_kept = (λ none. absurd (handed.1 none), λ none. absurd (omega (arith, none, ap length at.split)));
       some_room = c.self.invariant.heads.some_room;
     })

@@ -31,13 +31,12 @@ loop-count-preserved g c =
     (min (c.self.inside.log.kept + (c.loop-count.count + 1)) c.slot_before-at.new.self.capacity) (omega (arith, slot.same.capacity))
     (g.met.T.Repeatable.is_admitted c.loop-count.self-inside.machine)) in
     let run = before.repeated.run in
-    let count : c.loop-count.count + 1 - 1 ≡ c.loop-count.count = omega arith in
     record {
       at_most = omega (arith, c.loop-count-test.true);
       some = before.some;
       repeated = more;
       kept = before.kept;
-      before = rw count (before.all c.loop-count-test.true);
+      before = λ k less. before.all c.loop-count-test.true k (omega (arith, less));
       all = λ less. unmarked_more T g.T.Marked.marks_of c.args.marks.now before.repeated.machine_is more.machine_is acted
           (omega (arith, run.heads.some_room, run.span.joined.kept.room)) (c.may_be_marked.ensures c.if-may_be_marked.false) (before.all c.loop-count-test.true);
     }
@@ -48,7 +47,6 @@ loop-count-preserved-then-may_be_marked g c =
     let before = c.loop-count.invariant in
     let slot = c.slot_before-at.ensures in
     let acted = rw c.repeated.ensures at (acted T c.perform.ensures.next c.perform.ensures.kept) in
-    let count : c.loop-count.count + 1 - 1 ≡ c.loop-count.count = omega arith in
     record {
       at_most = omega arith;
       some = (omega arith, omega (arith, before.some, c.loop-count-test.true));
@@ -57,7 +55,7 @@ loop-count-preserved-then-may_be_marked g c =
           (min (c.self.inside.log.kept + (c.loop-count.count + 1)) c.slot_before-at.new.self.capacity) (omega (arith, slot.same.capacity))
           (g.met.T.Repeatable.is_admitted c.loop-count.self-inside.machine));
       kept = before.kept;
-      before = rw count (before.all c.loop-count-test.true);
+      before = λ k less. before.all c.loop-count-test.true k (omega (arith, less));
       all = λ less. absurd (omega (arith, less));
     }
 
