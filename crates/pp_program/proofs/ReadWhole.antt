@@ -1,14 +1,13 @@
 -- What a run read of its files and of standard input.
-use Rattle.std.proofs.Common.{◌≡◌, ◌==◌, ◌≤◌, ◌⊎◌, ℕ, arith, inl, inr, refl, All, Bool, true, false, Err, Ok, OnOk, Option, None, Some, Result}
-use Rattle.std.proofs.Common.{List, [], IfSome, if◌then◌else◌, ap}
+use Rattle.std.proofs.Common.{◌≡◌, ◌≤◌, ◌⊎◌, ℕ, arith, inl, inr, refl, true, Err, Ok, OnOk, Option, None, Some, Result}
+use Rattle.std.proofs.Common.{List, [], IfSome, ap}
 use Rattle.std.proofs.lemmas.List.Elements.{All-cons, All-nil, All-weaker}
 use Rattle.std.specs.Result.{result_map_both}
 use Rattle.pp_arguments.specs.CommandLine.{Text}
 use Rattle.pp_console.specs.Commands.{Value}
 use Rattle.pp_files.specs.{Files.deck_of_file, Files.panel_of_file}
 use Rattle.pp_files.specs.declared.fault.LoadFault.{LoadFault}
-use Rattle.pp_files.specs.declared.fault.LoadFault.TheVariants as load
-use Rattle.pp_host.specs.{Calls.IsAllRead, Events.NamedFile, Known.Content, Known.Found, Known.Missing, Loading.deck_at}
+use Rattle.pp_host.specs.{Calls.IsAllRead, Known.Content, Known.Found, Known.Missing, Loading.deck_at}
 use Rattle.pp_host.specs.Loading.{panel_at}
 use Rattle.pp_program.specs.{Calls.IsScriptRead, Course.Course, Course.after, Course.ends, Course.opening, Course.performing}
 use Rattle.pp_program.specs.{Program.exit_of, Program.script_at, Program.served}

@@ -1,12 +1,12 @@
 -- The exit status of a run that was cut short.
-use Rattle.std.proofs.Common.{◌≡◌, ℕ, ◌≤◌, List, Option, Some, None, refl, ap, inl, inr, arith, ◌⊎◌}
+use Rattle.std.proofs.Common.{◌≡◌, ℕ, ◌≤◌, List, Option, refl, inl, inr, arith, ◌⊎◌}
 use Rattle.pp_arguments.specs.CommandLine.{Text}
 use Rattle.pp_console.specs.Commands.{Value}
 use Rattle.pp_files.specs.Files.{Rule}
-use Rattle.pp_host.specs.{Known.Content, Known.Found, Known.Known, Known.Missing, Loading.IsLost, Options.Asked}
+use Rattle.pp_host.specs.{Known.Found, Known.Known, Loading.IsLost, Options.Asked}
 use Rattle.pp_program.specs.{Course.Course, Cuts.IsCut, Cuts.IsCutServing, Outside.Outside, Program.Given, Program.exit_of}
 use Rattle.pp_program.specs.Run.{IsCutShort, IsRun, IsWhole}
-use Rattle.pp_program.specs.Traces.{AreEnded, Ended}
+use Rattle.pp_program.specs.Traces.{AreEnded}
 use Rattle.pp_program.proofs.ReadWhole.{all-ended}
 use Rattle.pp_trouble.specs.{Trouble.status_of, declared.trouble.FileKind.FileKind, declared.trouble.FileKind.TheVariants.Deck}
 use Rattle.pp_trouble.specs.declared.trouble.Trouble.{Trouble}
