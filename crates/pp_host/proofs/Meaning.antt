@@ -1,5 +1,5 @@
 -- The meaning of the words.
-use Rattle.std.proofs.Common.{◌≡◌, List, [], refl, inl, inr, arith, Ok, Err, ◌⊎◌}
+use Rattle.std.proofs.Common.{◌≡◌, List, [], refl, inl, inr, Ok, Err, ◌⊎◌}
 use Rattle.pp_arguments.specs.{CommandLine.Text, CommandLine.faults_of, Options.IsCauseOf, Options.asked_by, Options.asked_of}
 use Rattle.pp_arguments.specs.declared.options.{ArgFault.ArgFault, Options.Options}
 use Rattle.pp_arguments.specs.declared.options.ArgFault.TheVariants as argument

@@ -38,7 +38,8 @@ pub trait Host {
     // The number of files with a failed read, up to `u64::MAX`.
     ghost failure_count: { Self → ℕ };
 
-    /// Returns the words of the command line. The first one is the program's name. A program asks for them once.
+    /// Returns the words of the command line. The first one is the program's name. A program asks for them once: they are
+    /// used up then, and nothing is known of what a second call returns.
     ///
     /// # Errors
     /// `NotText` if a word is not text, and `NoMemory` if memory runs out.
@@ -48,7 +49,8 @@ pub trait Host {
         ensures failures { failure_count self.new ≡ failure_count self.old }
         ensures words { MatchResult result
             (λ words. Agrees (known_words self.old) (Texts (map string_bytes words.items)))
-            (λ fault. fault ≡ WordsFault.NotText → Agrees (known_words self.old) Words.NotText) };
+            (λ fault. fault ≡ WordsFault.NotText → Agrees (known_words self.old) Words.NotText) }
+        ensures used_up { known_words self.new ≡ None };
 
     /// Opens a file, to be read from its start, and logs that. Returns `None` if the path names no file that can be opened.
     fn open(&mut self, kind: FileKind, path: &str) -> Option<Self::File>

@@ -1,14 +1,13 @@
 -- What a run read of its files and of standard input.
-use Rattle.std.proofs.Common.{◌≡◌, ◌==◌, ◌≤◌, ◌⊎◌, ℕ, arith, inl, inr, refl, All, Bool, true, false, Err, Ok, OnOk, Option, None, Some, Result}
-use Rattle.std.proofs.Common.{List, [], IfSome, if◌then◌else◌, ap}
+use Rattle.std.proofs.Common.{◌≡◌, ◌≤◌, ◌⊎◌, ℕ, arith, inl, inr, refl, true, Err, Ok, OnOk, Option, None, Some, Result}
+use Rattle.std.proofs.Common.{List, [], IfSome, ap}
 use Rattle.std.proofs.lemmas.List.Elements.{All-cons, All-nil, All-weaker}
 use Rattle.std.specs.Result.{result_map_both}
 use Rattle.pp_arguments.specs.CommandLine.{Text}
 use Rattle.pp_console.specs.Commands.{Value}
 use Rattle.pp_files.specs.{Files.deck_of_file, Files.panel_of_file}
 use Rattle.pp_files.specs.declared.fault.LoadFault.{LoadFault}
-use Rattle.pp_files.specs.declared.fault.LoadFault.TheVariants as load
-use Rattle.pp_host.specs.{Calls.IsAllRead, Events.NamedFile, Known.Content, Known.Found, Known.Missing, Loading.deck_at}
+use Rattle.pp_host.specs.{Calls.IsAllRead, Known.Content, Known.Found, Known.Missing, Loading.deck_at}
 use Rattle.pp_host.specs.Loading.{panel_at}
 use Rattle.pp_program.specs.{Calls.IsScriptRead, Course.Course, Course.after, Course.ends, Course.opening, Course.performing}
 use Rattle.pp_program.specs.{Program.exit_of, Program.script_at, Program.served}
@@ -29,27 +28,15 @@ file-stops : {A B : Type 0} (kind : FileKind) (f : A → B) (file : Result A Loa
 file-stops kind f (Ok x) = tt
 file-stops kind f (Err fault) = inr (inl (fault, refl))
 
-deck-stops : (path : Option Text) (content : Found) → StopsAt Deck (deck_at path content)
+pub deck-stops : (path : Option Text) (content : Found) → StopsAt Deck (deck_at path content)
 deck-stops None content = tt
 deck-stops (Some path) Missing = inl refl
 deck-stops (Some path) (Content bytes) = file-stops Deck (λ cards. cards) (deck_of_file bytes)
 
-panel-stops : (path : Option Text) (content : Found) → StopsAt Panel (panel_at path content)
+pub panel-stops : (path : Option Text) (content : Found) → StopsAt Panel (panel_at path content)
 panel-stops None content = tt
 panel-stops (Some path) Missing = inl refl
 panel-stops (Some path) (Content bytes) = file-stops Panel Some (panel_of_file bytes)
-
-stopped : {A : Type 0} (kind : FileKind) (found : Result A Trouble) (trouble : Trouble) → found ≡ Err trouble → StopsAt kind found →
-    IsTroubleOf kind trouble
-stopped kind found trouble e p = rw e at p
-
-pub deck-stopped : (path : Option Text) (content : Found) (trouble : Trouble) → deck_at path content ≡ Err trouble →
-    IsTroubleOf Deck trouble
-deck-stopped path content trouble e = stopped Deck (deck_at path content) trouble e (deck-stops path content)
-
-pub panel-stopped : (path : Option Text) (content : Found) (trouble : Trouble) → panel_at path content ≡ Err trouble →
-    IsTroubleOf Panel trouble
-panel-stopped path content trouble e = stopped Panel (panel_at path content) trouble e (panel-stops path content)
 
 -- ---- the troubles of a script
 
@@ -58,22 +45,13 @@ abbrev IsLimited : Result ℕ Trouble → Type 0
 IsLimited (Ok status) = Unit {0}
 IsLimited (Err trouble) = trouble ≡ LineLimit
 
-test-limited : (within : Bool) (status : ℕ) → IsLimited (if within then Ok status else Err LineLimit)
-test-limited true status = tt
-test-limited false status = refl
-
 served-limited : (start : Value) (bytes : List ℕ) → IsLimited (served start bytes).ended
 unfolding served
-served-limited start bytes = test-limited _ _
-
-limit-stops : (result : Result ℕ Trouble) → IsLimited result → StopsAt Script result
-limit-stops (Ok status) p = tt
-limit-stops (Err trouble) p = inr (inr (refl, p))
+served-limited start bytes = grind arith
 
 script-stops : (path : Text) (content : Found) (input : List ℕ) (start : Value) →
     StopsAt Script (after (script_at (Some path) content input) (served start)).ended
-script-stops path Missing input start = inl refl
-script-stops path (Content bytes) input start = limit-stops _ (served-limited start bytes)
+script-stops path content input start = grind (arith, served-limited)
 
 -- ---- files
 
@@ -96,39 +74,24 @@ opened kind (Some path) course ended p q = record {
 -- one more file, which was read to its end
 pub read-opened : (kind : FileKind) (path : Option Text) (course : Course) (ended : Ended) → IsAllRead path (ended.files kind) →
     AreReadEnough course ended → AreReadEnough (opening kind path course) ended
-read-opened kind None course ended p q = opened kind None course ended tt q
-read-opened kind (Some path) course ended p q = opened kind (Some path) course ended (inl p) q
+read-opened kind path course ended p q = opened kind path course ended (grind arith) q
 
 -- one more file, which ended the course
 pub stopped-opened : (kind : FileKind) (path : Option Text) (ended : Ended) (trouble : Trouble) → IsTroubleOf kind trouble →
     AreReadEnough (opening kind path (ends [] (Err trouble))) ended
-stopped-opened kind None ended trouble p = opened kind None _ ended tt (nothing-opened ended [] (Err trouble))
-stopped-opened kind (Some path) ended trouble p =
-    opened kind (Some path) _ ended (inr (trouble, refl, p)) (nothing-opened ended [] (Err trouble))
+stopped-opened kind path ended trouble p =
+    let stops : IsReadEnough ended (Err trouble) kind = inr (trouble, refl, p) in
+    opened kind path _ ended (grind (arith, stops)) (nothing-opened ended [] (Err trouble))
 
 -- ---- the script
 
--- standard input was read to its end
-pub input-ended : (result : Result ℕ Trouble) (read_ended input_ended : Bool) → OnOk result (input_ended ≡ true) →
-    OnOk result (IsScriptRead None read_ended input_ended)
-input-ended (Ok status) read_ended input_ended p = (tt, λ none. p)
-input-ended (Err trouble) read_ended input_ended p = tt
-
--- the script of this path was read to its end
-pub file-ended : (result : Result ℕ Trouble) (path : Text) (read_ended input_ended : Bool) → OnOk result (read_ended ≡ true) →
-    OnOk result (IsScriptRead (Some path) read_ended input_ended)
-file-ended (Ok status) path read_ended input_ended p = (p, λ none. grind arith)
-file-ended (Err trouble) path read_ended input_ended p = tt
-
 input-on : (result : Result ℕ Trouble) (ended : Ended) → OnOk result (IsScriptRead None (ended.files Script) ended.input) →
     IsLimited result → (ended.input ≡ true) ⊎ (result ≡ Err LineLimit)
-input-on (Ok status) ended (file, input) p = inl (input refl)
-input-on (Err trouble) ended all p = inr (ap Err p)
+input-on result ended all p = grind arith
 
 file-on : (result : Result ℕ Trouble) (path : Text) (ended : Ended) →
     OnOk result (IsScriptRead (Some path) (ended.files Script) ended.input) → StopsAt Script result → IsReadEnough ended result Script
-file-on (Ok status) path ended (file, input) p = inl file
-file-on (Err trouble) path ended all p = inr (trouble, refl, p)
+file-on result path ended all p = grind arith
 
 -- the script was performed as far as its limits
 pub script-read : (path : Option Text) (content : Found) (input : List ℕ) (start : Value) (answers : List ℕ)
@@ -148,37 +111,16 @@ script-read (Some path) content input start answers result ended e all = record 
 -- ---- the end of a run
 
 load-status : (kind : FileKind) (fault : LoadFault) → 2 ≤ status_of (of_load kind fault)
-load-status kind load.NoMemory = omega arith
-load-status kind load.ReadFailed = omega arith
-load-status kind load.FileTooLong = omega arith
-load-status kind (load.LineTooLong line) = omega arith
-load-status kind (load.NotOctal line) = omega arith
-load-status kind (load.TooLarge line) = omega arith
-load-status kind (load.TooManyWords line) = omega arith
-load-status kind load.PanelCount = omega arith
-
--- a trouble of a file has status 2 or 3
-trouble-status : (kind : FileKind) (trouble : Trouble) → IsTroubleOf kind trouble → 2 ≤ status_of trouble
-trouble-status kind trouble (inl e) = rw e (omega arith)
-trouble-status kind trouble (inr (inl (fault, e))) = rw e (load-status kind fault)
-trouble-status kind trouble (inr (inr (script, e))) = rw e (omega arith)
-
-above : (status : ℕ) → 2 ≤ status → status ≤ 1 → ⊥
-above status least small = grind arith
+load-status kind fault = grind arith
 
 file-end : (result : Result ℕ Trouble) (ended : Ended) (kind : FileKind) → exit_of result ≤ 1 → IsReadEnough ended result kind →
     ended.files kind ≡ true
-file-end result ended kind small (inl read) = read
-file-end result ended kind small (inr (trouble, e, p)) = absurd (above (status_of trouble) (trouble-status kind trouble p) (rw e at small))
-
-input-end : (result : Result ℕ Trouble) (input : Bool) → exit_of result ≤ 1 → (input ≡ true) ⊎ (result ≡ Err LineLimit) → input ≡ true
-input-end result input small (inl read) = read
-input-end result input small (inr e) = absurd (above 3 (omega arith) (rw e at small))
+file-end result ended kind small read = grind (arith, load-status)
 
 -- with status 0 or 1 all was read to its end
 pub all-ended : (course : Course) (ended : Ended) → AreReadEnough course ended → exit_of course.ended ≤ 1 → AreEnded course ended
 all-ended course ended read small = record {
   files = All-weaker (λ file. IsReadEnough ended course.ended file.kind) (λ file. ended.files file.kind ≡ true)
       (λ file p. file-end course.ended ended file.kind small p) course.opened read.files;
-  input = λ performed. input-end course.ended ended.input small (read.input performed);
+  input = grind arith;
 }

@@ -1,27 +1,22 @@
 -- The exit status of a run that was cut short.
-use Rattle.std.proofs.Common.{◌≡◌, ℕ, ◌≤◌, List, Option, Some, None, refl, ap, inl, inr, arith, ◌⊎◌}
+use Rattle.std.proofs.Common.{◌≡◌, ℕ, ◌≤◌, List, Option, refl, inl, inr, arith, ◌⊎◌}
 use Rattle.pp_arguments.specs.CommandLine.{Text}
 use Rattle.pp_console.specs.Commands.{Value}
 use Rattle.pp_files.specs.Files.{Rule}
-use Rattle.pp_host.specs.{Known.Content, Known.Found, Known.Known, Known.Missing, Loading.IsLost, Options.Asked}
+use Rattle.pp_host.specs.{Known.Found, Known.Known, Loading.IsLost, Options.Asked}
 use Rattle.pp_program.specs.{Course.Course, Cuts.IsCut, Cuts.IsCutServing, Outside.Outside, Program.Given, Program.exit_of}
 use Rattle.pp_program.specs.Run.{IsCutShort, IsRun, IsWhole}
-use Rattle.pp_program.specs.Traces.{AreEnded, Ended}
+use Rattle.pp_program.specs.Traces.{AreEnded}
 use Rattle.pp_program.proofs.ReadWhole.{all-ended}
 use Rattle.pp_trouble.specs.{Trouble.status_of, declared.trouble.FileKind.FileKind, declared.trouble.FileKind.TheVariants.Deck}
 use Rattle.pp_trouble.specs.declared.trouble.Trouble.{Trouble}
 
 lost : (rule : Rule) (path : Option Text) (read content : Found) (trouble : Trouble) → IsLost rule path read content trouble →
     (status_of trouble ≡ 2) ⊎ (status_of trouble ≡ 3)
-lost rule (Some path) (Content read) (Content bytes) trouble (inl (out, runs)) = inl (ap status_of out)
-lost rule (Some path) (Content read) (Content bytes) trouble (inr (failed, breaks)) = inr (ap status_of failed)
-lost rule (Some path) (Content read) Missing trouble p = absurd p
-lost rule (Some path) Missing content trouble p = absurd p
-lost rule None read content trouble p = absurd p
+lost rule path read content trouble p = grind arith
 
 serving : (start : Value) (bytes read : List ℕ) (course : Course) → IsCutServing start bytes read course → exit_of course.ended ≡ 3
-serving start bytes read course (IsCutServing.ByRead e) = rw e
-serving start bytes read course (IsCutServing.ByWrite done later line front among part proper e) = rw e
+serving start bytes read course p = grind arith
 
 cut : (asked : Asked) (given : Given) (readings : FileKind → Found) (typed : List ℕ) (course : Course) →
     IsCut asked given readings typed course →
@@ -39,22 +34,11 @@ cut_short files given readings typed course (IsCutShort.InWords e) = rw e (inl r
 cut_short files given readings typed course (IsCutShort.AfterWords asked means named is_cut) =
     cut asked given readings typed course is_cut
 
-above : (status : ℕ) → (status ≡ 2) ⊎ (status ≡ 3) → status ≤ 1 → ⊥
-above status either small = grind arith
-
-whole : (files : Text → Known Found) (given : Given) (readings : FileKind → Found) (typed : List ℕ) (ended : Ended) (course : Course) →
-    IsWhole files given ended course ⊎ IsCutShort files given readings typed course →
-    exit_of course.ended ≤ 1 → IsWhole files given ended course
-whole files given readings typed ended course (inl is_whole) small = is_whole
-whole files given readings typed ended course (inr at) small =
-    absurd (above (exit_of course.ended) (cut_short files given readings typed course at) small)
-
 -- ---- runs
 
 pub whole_run : (before after : Outside) (status : ℕ) (run : IsRun before after status) → status ≤ 1 →
     IsWhole before.files.known run.given run.ended run.course
-whole_run before after status run small =
-    whole before.files.known run.given run.readings run.typed run.ended run.course run.follows (rw run.exit at small)
+whole_run before after status run small = grind (arith, cut_short)
 
 pub ended_run : (before after : Outside) (status : ℕ) (run : IsRun before after status) → status ≤ 1 → AreEnded run.course run.ended
 ended_run before after status run small =
