@@ -10,11 +10,13 @@ use Rattle.pp_lines.specs.Words.{words}
 use Rattle.pp_command.specs.declared.fault.LineFault.{LineFault, TheVariants.TooLong, TheVariants.NotAscii}
 use Rattle.pp_command.specs.{declared.request.Request.Request, CommandLine.command, CommandLine.is_printable, CommandLine.sentence}
 
--- one more line is one more step
-pub outcome-line : (start : Value) (done : List (List ℕ)) (line : List ℕ) →
-    outcome start (done ++ line ∷ []) ≡ follow (outcome start done) line
+-- one more line is one more step, and so is a text that has the same answer
+outcome-line : (start : Value) (done : List (List ℕ)) (text line : List ℕ) →
+    ((v : Value) → answer_line v text ≡ answer_line v line) →
+    outcome start (done ++ line ∷ []) ≡ follow (outcome start done) text
 unfolding outcome
-outcome-line start done line = fold-append follow (record { text = []; value = start; refused = 0 }) done (line ∷ [])
+outcome-line start done text line same = rw (same (outcome start done).value)
+    (fold-append follow (record { text = []; value = start; refused = 0 }) done (line ∷ []))
 
 -- the request of a line, after its carriage return was dropped
 abbrev command_of_text : List ℕ → Result (Option Request) LineFault
@@ -25,15 +27,11 @@ command_of_text text =
 too_long : (text : List ℕ) → 255 < length text → command_of_text text ≡ Err TooLong
 too_long text h = grind (arith, nat_tests)
 
--- a prefix of more than 256 bytes parses as the line does
-pub command-kept : (most : ℕ) (line : List ℕ) → 256 < most → command (take most line) ≡ command line
-unfolding command
-command-kept most line long = read-kept command_of_text (Err TooLong) 255 most line too_long long
-
 -- the kept prefix of a line has the same answer as the line
 pub answer_line-kept : (value : Value) (line : List ℕ) → answer_line value (take KEPT line) ≡ answer_line value line
-unfolding answer_line
-answer_line-kept value line = ap (answer_parsed value) (command-kept KEPT line (omega arith))
+unfolding answer_line command
+answer_line-kept value line =
+    ap (answer_parsed value) (read-kept command_of_text (Err TooLong) 255 KEPT line too_long (omega arith))
 
 -- a `bool` as a number counts a rejected line
 bool-counts : (refused : Bool) → from_bool refused ≡ (if refused then 1 else 0)
@@ -41,35 +39,34 @@ bool-counts true = refl
 bool-counts false = refl
 
 module _ {W E : Type 0} (sink : Ghosts W) {old new : State} {second third : W} {origin : Origin} {done : List (List ℕ)}
-    {summary : Summary} (line : List ℕ) (ended : HasEnded summary old (sink.text second) origin done) where
+    {summary : Summary} (text line : List ℕ) (ended : HasEnded summary old (sink.text second) origin done)
+    (same : (v : Value) → answer_line v text ≡ answer_line v line) where
   -- the line was performed and counted, and its answer was written
   pub line-ended : (performed : Bool) (next : Summary) →
-      Performs {E = E} sink old new second third (Ok performed) (λ v. answer_line v line) →
+      Performs {E = E} sink old new second third (Ok performed) (λ v. answer_line v text) →
       next.lines ≡ summary.lines + 1 → next.refused ≡ summary.refused + from_bool (not performed) →
       HasEnded next new (sink.text third) origin (done ++ line ∷ [])
-  line-ended performed next performs one_more same = record {
-    performed = record {
-      leaves = rw (outcome-line origin.start done line) (performs.session _ ended.performed.leaves);
-      writes = rw (outcome-line origin.start done line)
-          (Appends-again _ _ _ _ _ ended.performed.writes (performs.text _ ended.performed.leaves));
-    };
-    counts_lines = one_more ∙ rw (length-append done (line ∷ [])) (ap (λ n. n + 1) ended.counts_lines);
-    counts_refused = let refused = performs.performed _ ended.performed.leaves in
-        same ∙ rw (outcome-line origin.start done line, bool-counts, ended.counts_refused, refused) refl;
-  }
+  line-ended performed next performs one_more counted =
+      let step = outcome-line origin.start done text line same in
+      let refused = performs.performed _ ended.performed.leaves in
+      record {
+        performed = record {
+          leaves = rw step (performs.session _ ended.performed.leaves);
+          writes = rw step (Appends-again _ _ _ _ _ ended.performed.writes (performs.text _ ended.performed.leaves));
+        };
+        counts_lines = one_more ∙ rw (length-append done (line ∷ [])) (ap (λ n. n + 1) ended.counts_lines);
+        counts_refused = counted ∙ rw (step, bool-counts, ended.counts_refused, refused) refl;
+      }
 
   -- the line was performed, and a proper prefix of its answer was written
-  pub line-breaks : {fault : E} → Performs sink old new second third (Err fault) (λ v. answer_line v line) →
+  pub line-breaks : {fault : E} → Performs sink old new second third (Err fault) (λ v. answer_line v text) →
       Breaks new (sink.text third) origin done line
   line-breaks performs =
+      let step = outcome-line origin.start done text line same in
       let (front, written, proper) = performs.text _ ended.performed.leaves in
       record {
-        leaves = rw (outcome-line origin.start done line) (performs.session _ ended.performed.leaves);
+        leaves = rw step (performs.session _ ended.performed.leaves);
         front = front;
         writes = Appends-again _ _ _ _ _ ended.performed.writes written;
-        prefix = record {
-          rest = proper.rest;
-          all = rw (outcome-line origin.start done line, append_assoc, ← proper.all) refl;
-          some = proper.some;
-        };
+        prefix = record { rest = proper.rest; all = rw (step, append_assoc, ← proper.all) refl; some = proper.some };
       }

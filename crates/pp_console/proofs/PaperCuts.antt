@@ -24,9 +24,7 @@ lines_of_paper text = flat_map (marked (codes "|")) (finished text) ++ flat_map 
 -- the first line of the paper, and the others
 paper-first : (line later : List ℕ) → finished line ≡ [] →
     lines_of_paper (line ++ 10 ∷ later) ≡ marked (codes "|") line ++ lines_of_paper later
-paper-first line later none = let first = feed-first line later none in
-    rw (first.0, first.1) (append_assoc (marked (codes "|") line) (flat_map (marked (codes "|")) (finished later))
-    (flat_map (marked (codes "/")) (last_line (unfinished later))))
+paper-first line later none = let first = feed-first line later none in simp (first.0, first.1, append_assoc)
 
 -- the first line end is the first line feed of the characters
 ends : (symbols : List ℕ) → position_or_len (λ byte. byte == 10) (map character symbols) ≡ position_or_len is_line_end symbols
@@ -64,5 +62,4 @@ pub characters-piece : (symbols : List ℕ) (n : ℕ) (piece later text : List �
     piece ≡ take n symbols → later ≡ drop n symbols → text ≡ map character piece →
     map character symbols ≡ text ++ map character later
 characters-piece symbols n piece later text front back e =
-    rw (e, front, back) (ap (map character) (sym (take-append-drop n symbols))
-    ∙ map-append character (take n symbols) (drop n symbols))
+    rw (e, front, back, ← map-append character (take n symbols) (drop n symbols), take-append-drop) refl

@@ -35,19 +35,6 @@ module _ {W E : Type 0} {sink : Ghosts W} {new : State} {before after : W} {resu
     unchanged = IfOk-weaker result _ _ (λ x same no. unchanged) performed;
   }
 
-module _ {W E : Type 0} {sink : Ghosts W} {old new : State} {before after : W}
-    {result : Result Bool E} {first second : Value → Answer} where
-  -- the same effect, if the answers are the same
-  pub Performs-same : ((v : Value) → first v ≡ second v) →
-      Performs sink old new before after result first → Performs sink old new before after result second
-  Performs-same same p = record {
-    session = λ v at. rw (← same v) (p.session v at);
-    text = λ v at. rw (← same v) (p.text v at);
-    counted = p.counted;
-    performed = IfOk-weaker result _ _ (λ x known v at. sym (ap (λ a. a.refused) (same v)) ∙ known v at) p.performed;
-    unchanged = p.unchanged;
-  }
-
 pub back-within : (actions : ℕ) (v : Value) → actions ≤ v.kept →
     back_answer actions v ≡ moved (codes "BACK ") actions (after_back v actions)
 unfolding back_answer

@@ -6,7 +6,7 @@ pub use Rattle.pp_lines.specs.LineCutter.{IsPrefixOf}
 pub use Rattle.pp_lines.specs.Lines.{lines, finished, unfinished, finished_within, IsWithin}
 pub use Rattle.pp_lines.specs.Output.{Appends, Written}
 pub use Rattle.pp_lines.specs.Puts.{Puts}
-pub use Rattle.pp_lines.proofs.Writing.{Appends-again, Remains, Remains-fails, Remains-next, Remains-none, front_longer}
+pub use Rattle.pp_lines.proofs.Writing.{Appends-again, front_longer}
 pub use Rattle.pp_lines.specs.declared.device.Sink.{Ghosts}
 pub use Rattle.pp_lines.specs.declared.fault.IoFault.{IoFault}
 pub use Rattle.pp_lines.specs.declared.fault.IoFault.TheVariants.{ReadFailed, WriteFailed, LineLimit}

@@ -21,15 +21,6 @@ HasRead-new progress session text start at empty no_bytes no_lines no_refused = 
   };
 }
 
--- a line feed within the limits
-fed-within : (line_limit byte_limit : ℕ) (bytes : List ℕ) → length bytes < byte_limit → length (finished bytes) < line_limit →
-    finished_within line_limit byte_limit (bytes ++ 10 ∷ []) ≡ finished bytes ++ unfinished bytes ∷ []
-fed-within line_limit byte_limit bytes bytes_within lines_within =
-    let count : length (finished (bytes ++ 10 ∷ [])) ≡ length (finished bytes) + 1 =
-    rw (finished-feed bytes) (length-append (finished bytes) (unfinished bytes ∷ [])) in
-    finished_within-whole line_limit byte_limit (bytes ++ 10 ∷ []) (simp length-append (omega arith)) (omega (arith, count))
-    ∙ finished-feed bytes
-
 module _ {progress : Progress} {session : State} {text : Written} {origin : Origin} {bytes : List ℕ}
     (has_read : HasRead progress session text origin bytes) where
   -- the bytes read so far are within the limits
@@ -51,9 +42,12 @@ module _ {progress : Progress} {session : State} {text : Written} {origin : Orig
       length more < BYTE_LIMIT - progress.bytes → progress.summary.lines < LINE_LIMIT →
       finished_within LINE_LIMIT BYTE_LIMIT ((bytes ++ more) ++ 10 ∷ []) ≡ finished bytes ++ unfinished (bytes ++ more) ∷ []
   HasRead-finishes more none bytes_within lines_within =
-      let same = finished-text bytes more none in
-      let size : length (bytes ++ more) < BYTE_LIMIT = simp length-append (omega (arith, has_read.counts_bytes, bytes_within)) in
-      rw same at (fed-within LINE_LIMIT BYTE_LIMIT (bytes ++ more) size (rw (same, ← has_read.ended.counts_lines) lines_within))
+      let text = bytes ++ more in
+      let ends : finished (text ++ 10 ∷ []) ≡ finished bytes ++ unfinished text ∷ [] =
+      rw (finished-feed text, finished-text bytes more none) in
+      finished_within-whole LINE_LIMIT BYTE_LIMIT (text ++ 10 ∷ [])
+      (simp length-append (omega (arith, has_read.counts_bytes, bytes_within)))
+      (rw ends (simp length-append (omega (arith, has_read.ended.counts_lines, lines_within)))) ∙ ends
 
 -- what reading bytes of a line needs
 pub ruleset texts_read = (append_assoc, length-append, finished-text)

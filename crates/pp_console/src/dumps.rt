@@ -15,7 +15,7 @@ use pp_machine::Place;
 use pp_rig::Rig;
 
 /// Returns a row: an address, and the cells from there to `last`, at most eight.
-#[tactic(auto, unfolding(crate::specs::Dumps::cell_row), using(crate::proofs::Each::each_one))]
+#[tactic(auto, unfolding(crate::specs::Dumps::cell_row, crate::specs::Dumps::cell_text), using(crate::proofs::Each::each_one))]
 fn row_line(machine: &Rig, pp: u8, last: u16, from: u16) -> ArrayVec<u8, 45>
     requires pp { pp < processor_count }
     requires from { from ≤ last }
@@ -100,7 +100,7 @@ fn state_text(state: u64) -> &'static [u8]
 ///
 /// # Errors
 /// `Failed` if a call of the sink fails.
-#[tactic(auto, unfolding(crate::specs::Dumps::channels_text), using(crate::proofs::Each::each_one))]
+#[tactic(auto, unfolding(crate::specs::Dumps::channels_text, crate::specs::Dumps::channel_line), using(crate::proofs::Each::each_one))]
 #[inline(never)]
 pub fn put_channels<W: Sink>(machine: &Rig, out: &mut W) -> Result<(), Failed>
     ensures { Puts ⟦<W as Sink>⟧ out.old out.new result (channels_text machine.now) }
@@ -124,7 +124,7 @@ pub fn put_channels<W: Sink>(machine: &Rig, out: &mut W) -> Result<(), Failed>
 ///
 /// # Errors
 /// `Failed` if a call of the sink fails.
-#[tactic(auto, unfolding(crate::specs::Dumps::frame_text), using(crate::proofs::Each::each_one))]
+#[tactic(auto, unfolding(crate::specs::Dumps::frame_text, crate::specs::Dumps::frame_line), using(crate::proofs::Each::each_one))]
 #[inline(never)]
 pub fn put_frame<W: Sink>(machine: &Rig, out: &mut W) -> Result<(), Failed>
     ensures { Puts ⟦<W as Sink>⟧ out.old out.new result (frame_text machine.now) }

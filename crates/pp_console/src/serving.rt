@@ -138,11 +138,11 @@ fn finish<W: Sink>(
     session: &mut Session<Rig>,
     out: &mut W,
 ) -> Result<Summary, IoFault>
-    ensures serves { (origin : Origin) (bytes : List ℕ) →
+    ensures serves { (origin : Origin) (bytes : List ℕ) (left : Option (List ℕ)) → IsAtEnd left →
         HasRead progress.old session.old (W.text out.old) origin bytes →
         MatchResult result
         (λ summary. Serves summary session.new (W.text out.new) origin bytes)
-        (λ fault. (left : Option (List ℕ)) → IsAtEnd left → Stops fault session.new (W.text out.new) origin bytes left) }
+        (λ fault. Stops fault session.new (W.text out.new) origin bytes left) }
     ensures counts { CountsWrites (W.failure_count out.old) (W.failure_count out.new) result }
     ensures faults { IfErr result IsNoReadFault }
 {

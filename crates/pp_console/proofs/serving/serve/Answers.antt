@@ -1,9 +1,9 @@
 use Rattle.std.proofs.Common.{◌≡◌, ◌∙◌, ◌++◌, [], refl, sym, ap, take, rules, append_assoc, append-nil}
 use Rattle.std.proofs.lemmas.Result.{err_from_is_err_and}
 use Rattle.std.specs.Io.KnownBytes.{Consumes, IsAtEnd}
-use Rattle.pp_console.specs.Serving.{origin_of, Serves, Stops}
+use Rattle.pp_console.specs.Serving.{origin_of}
 use Rattle.pp_lines.proofs.Reading.{Consumes-nothing, Consumes-again, Consumes-keeps}
-use Rattle.pp_console.proofs.{Reading.HasRead-new, Reading.Performed-within, Ending.Stops-interrupted, Ending.at-end}
+use Rattle.pp_console.proofs.{Reading.HasRead-new, Reading.Performed-within, Ending.Stops-interrupted}
 use Rattle.pp_console.proofs.serving.serve.Goals as goal
 
 pub pieces-init : goal.pieces-init
@@ -37,12 +37,8 @@ returns-in-Ok-eq0-clause-script g c =
       taken,
       rw (append-nil taken) at all,
       same ∙ append-nil (g.R.Source.given c.pieces.source) ∙ given,
-      λ start at. at-end c.finish.result (g.R.Source.rest c.take.new.self)
-          (λ summary. Serves summary c.finish.new.session (g.W.Sink.text c.finish.new.out)
-          (origin_of start (g.W.Sink.text c.args.out.now)) taken)
-          (λ fault left. Stops fault c.finish.new.session (g.W.Sink.text c.finish.new.out)
-          (origin_of start (g.W.Sink.text c.args.out.now)) taken left)
-          end (c.finish.ensures.serves (origin_of start (g.W.Sink.text c.args.out.now)) taken (has_read start at)),
+      λ start at. c.finish.ensures.serves (origin_of start (g.W.Sink.text c.args.out.now)) taken
+          (g.R.Source.rest c.take.new.self) end (has_read start at),
     )
 
 pub pieces-preserved : goal.pieces-preserved
