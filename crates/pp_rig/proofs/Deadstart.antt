@@ -1,17 +1,17 @@
 -- What a dead start writes fits the machine, and has a known length.
+use Rattle.pp_rig.proofs.Names.{arith, zero, suc, ap, sym, ◌∙◌, ℕ, ◌≡◌, ◌+◌, ◌<◌, ◌≤◌, Bool, true, false, All, List, [], ◌∷◌}
+use Rattle.pp_rig.proofs.Names.{length, replicate, refl, None, common_steps, length-append, Machine, old_values, number, Writes}
+use Rattle.pp_rig.proofs.Names.{places, write_list, lookup, places-old_values, Place, AreSettings-cell_writes}
+use Rattle.pp_rig.proofs.Names.{deadstart_write_list, AreSettings, HasAll-settings, cell_writes}
 use Rattle.std.specs.List.{flat_map, list_all, range_with_len}
-use Rattle.std.proofs.Common.{arith, zero, suc, lit<, ap, sym, ◌∙◌, ℕ, ◌≡◌, ◌+◌, ◌<◌, ◌≤◌, ◌^◌, Bool, true, false, All, List, []}
-use Rattle.std.proofs.Common.{◌∷◌, ◌++◌, length, replicate, refl, not, None}
-use Rattle.std.proofs.lemmas.{Grind.common_steps, List.length-append}
-use Rattle.pp_machine.specs.Prelude.{Machine, old_values, number, Writes, places, write_list, lookup, same_place, places-append}
-use Rattle.pp_machine.specs.{Prelude.places-old_values, declared.place.Write.Write, declared.place.Place.Place}
+use Rattle.std.proofs.Common.{lit<, ◌++◌, ◌^◌, not}
+use Rattle.pp_machine.specs.{Prelude.same_place, Prelude.places-append, declared.place.Write.Write}
+use Rattle.pp_machine.specs.{Ranges.IsInRange, Ranges.twelve_bits}
 use Rattle.pp_machine.specs.declared.place.Place.TheVariants.{Central, ChannelMode, Slot}
-use Rattle.pp_actions.specs.{CellLaws.AreSettings-cell_writes, RecordLists.numbers, RecordLists.with_new_numbers}
-use Rattle.pp_actions.specs.Deadstart.{loading, states, waiting, deadstart_write_list, deadstart_place_count, deadstart_places}
-use Rattle.pp_machine.specs.Ranges.{IsInRange, twelve_bits}
-use Rattle.pp_actions.specs.Settings.{IsSettable, AreSettings, AreSettings-append, HasAll-settings}
-use Rattle.pp_actions.specs.WriteLists.{cell_writes, register_writes, writes_from}
 use Rattle.pp_actions.proofs.WriteLists.{length-old_values, places-cell_writes, with_new_numbers-numbers}
+use Rattle.pp_actions.specs.{RecordLists.numbers, RecordLists.with_new_numbers, Deadstart.deadstart_places, Settings.IsSettable}
+use Rattle.pp_actions.specs.{Settings.AreSettings-append, WriteLists.register_writes, WriteLists.writes_from}
+use Rattle.pp_actions.specs.Deadstart.{loading, states, waiting}
 
 pub AreSettings-deadstart : (size : ℕ) (panel : List ℕ) →
     All (λ word. word ≤ twelve_bits) panel → AreSettings size (deadstart_write_list panel)
@@ -46,9 +46,6 @@ length-cell_writes n a (v ∷ vs) = ap suc (length-cell_writes n (a + 1) vs)
 pub length-deadstart_write_list : (panel : List ℕ) → length (deadstart_write_list panel) ≡ length panel + 64
 unfolding deadstart_write_list
 length-deadstart_write_list panel = simp (length-append, length-cell_writes) (omega arith)
-
-pub length-deadstart : (panel : List ℕ) → length panel ≡ 12 → length (deadstart_write_list panel) ≡ deadstart_place_count
-length-deadstart panel e = omega (arith, length-deadstart_write_list panel)
 
 pub places-old : (m : Machine) (panel : List ℕ) → length panel ≡ 12 →
     places (old_values m (deadstart_write_list panel)) ≡ places deadstart_places
@@ -86,7 +83,7 @@ short-old size ks s same = (s, short-at size ks (rw same short-places) s)
 
 -- what the undo record of a dead start needs
 pub ruleset deadstarts =
-    (common_steps, places-old, with_new_numbers-old, short-old, length-deadstart, length-old_values, HasAll-settings)
+    (common_steps, places-old, with_new_numbers-old, short-old, length-deadstart_write_list, length-old_values, HasAll-settings)
 
 -- ---- what a dead start does not write
 

@@ -1,9 +1,7 @@
 -- The devices of a turn: their steps, and what their undo records have, if they were called.
-use Rattle.std.proofs.Common.{◌≡◌, ◌≤◌, ◌∷◌, ◌++◌, ap, false, None, length, arith}
-use Rattle.pp_machine.proofs.{AllDevices.all-laws, DeviceSteps.device-steps}
-use Rattle.pp_machine.specs.{Inner.AllDevices.all_model, Inner.Attached.of_device, Prelude.lookup, declared.place.Place.Place}
-use Rattle.pp_rig.specs.Inner.TurnRecords.{devices_old_values, end_parts, rest_of_turn}
-use Rattle.pp_rig.specs.{Turn.processor_step, Turn.turn_parts, declared.rig.TurnRest.TurnRest}
+use Rattle.pp_rig.proofs.Names.{◌≡◌, ◌≤◌, ◌∷◌, ◌++◌, ap, false, None, length, arith, all-laws, all_model, of_device, lookup}
+use Rattle.pp_rig.proofs.Names.{Place, devices_old_values, end_parts, rest_of_turn, processor_step, turn_parts, TurnRest}
+use Rattle.pp_machine.proofs.DeviceSteps.{device-steps}
 
 -- the parts of a turn, with the steps of the devices by their models
 pub by_models : processor_step ∷ rest_of_turn ≡ turn_parts

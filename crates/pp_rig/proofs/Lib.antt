@@ -2,6 +2,7 @@ pub mod Admitting
 pub mod Deadstart
 pub mod Devices
 pub mod Marks
+pub mod Names
 pub mod Overwritten
 pub mod Runs
 pub mod Shortest

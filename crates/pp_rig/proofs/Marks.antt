@@ -1,26 +1,20 @@
 -- What the marks of places say of a turn's undo record.
-use Rattle.std.proofs.Common.{ℕ, true, false, ◌≡◌, ◌≤◌, ◌||◌, ◌+◌, [], ◌∷◌, List, None, length, refl, arith}
-use Rattle.std.proofs.lemmas.Bool.Decides.{nat_tests}
-use Rattle.pp_history.specs.{Marks.covers, Marks.is_marked, Marks.is_set, declared.marks.Marks.Marks}
-use Rattle.pp_machine.specs.{Writes.AllPlaces, declared.place.Place.Place, Prelude.Writes, Prelude.lookup, Prelude.same_place}
-use Rattle.pp_machine.specs.{Prelude.words_of, WriteLaws.AllPlaces-append, WriteLaws.AllPlaces-renamed}
-use Rattle.pp_rig.specs.Inner.Marks.{cell_mark, central_mark, marks_of, AreUnmarked}
-use Rattle.pp_rig.specs.{Inner.TurnRecords.rest_pairs, Inner.TurnRecords.turn_pairs, declared.rig.TurnRecord.TurnRecord}
-use Rattle.pp_step.specs.{Exchange.frame_pairs, Exchange.word_pairs, Pairs.pairs_as, Pairs.target_pairs, Step.pp_pairs}
-use Rattle.pp_step.specs.{View.pp_place, declared.record.StepRecord.StepRecord, declared.record.ExchangeRecord.ExchangeRecord}
-use Rattle.pp_step.specs.{declared.record.PpRecord.TheVariants.Step, declared.record.PpRecord.TheVariants.Exchange}
+use Rattle.pp_rig.proofs.Names.{ℕ, true, false, ◌≡◌, ◌≤◌, ◌||◌, ◌+◌, [], ◌∷◌, List, None, length, refl, arith, nat_tests}
+use Rattle.pp_rig.proofs.Names.{covers, Marks, Place, Writes, lookup, words_of, AllPlaces-append, marks_of, rest_pairs}
+use Rattle.pp_rig.proofs.Names.{turn_pairs, TurnRecord, frame_pairs, pp_pairs, pp_place, Step}
+use Rattle.pp_history.specs.Marks.{is_marked, is_set}
+use Rattle.pp_machine.specs.{Writes.AllPlaces, WriteLaws.AllPlaces-renamed, Prelude.same_place}
+use Rattle.pp_step.specs.{Exchange.word_pairs, Pairs.pairs_as, Pairs.target_pairs, declared.record.StepRecord.StepRecord}
+use Rattle.pp_step.specs.{declared.record.ExchangeRecord.ExchangeRecord, declared.record.PpRecord.TheVariants.Exchange}
+use Rattle.pp_rig.specs.Inner.Marks.{cell_mark, central_mark, AreUnmarked}
 use Rattle.pp_step.specs.declared.record.Target.TheVariants as target
 
 -- an unmarked place is no marked place
-different_places : (m : Marks) (p q : Place) → is_marked m (marks_of q) ≡ false →
-    is_marked m (marks_of p) ≡ true → same_place q p ≡ false
-different_places m p q unmarked marked = grind (arith, nat_tests)
-
 lookup_unmarked : (m : Marks) (ws : Writes Place) (p : Place) → AllPlaces (λ q. is_marked m (marks_of q) ≡ false) ws →
     is_marked m (marks_of p) ≡ true → lookup ws p ≡ None
 lookup_unmarked m [] p unmarked marked = refl
-lookup_unmarked m (w ∷ ws) p unmarked marked =
-    rw (different_places m p w.0 unmarked.0 marked) (lookup_unmarked m ws p unmarked.1 marked)
+lookup_unmarked m (w ∷ ws) p unmarked marked = let other : same_place w.0 p ≡ false = grind (arith, nat_tests, unmarked.0) in
+    rw other (lookup_unmarked m ws p unmarked.1 marked)
 
 -- ---- cells and central words, by blocks
 

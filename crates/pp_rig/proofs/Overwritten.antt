@@ -1,15 +1,13 @@
 -- The old values of an action lead back, and are at the places that it writes.
-use Rattle.std.proofs.Common.{arith, IsPermutation, ◌≡◌, ◌≤◌, length, refl, sym}
-use Rattle.std.proofs.lemmas.List.{length-append, Sorted.IsPermutation-refl}
-use Rattle.pp_machine.specs.Prelude.{Machine, over, number, places, places-old_values}
-use Rattle.pp_step.specs.{Step.pp_pairs, Step.most_step_places, View.pp_place}
-use Rattle.pp_rig.specs.{Inner.ActionRecords.writes, Inner.ActionRecords.old_values_of, Action.next, Turn.turn, Turn.turn_parts}
-use Rattle.pp_rig.specs.Inner.TurnRecords.{most_turn_places, rest_pairs, turn_old_values, turn_pairs, turn_writes}
-use Rattle.pp_actions.specs.declared.action.Action.{Action, TheVariants.Turn}
-use Rattle.pp_rig.specs.declared.rig.TurnRecord.{TurnRecord}
-use Rattle.pp_rig.proofs.Devices.{devices-at_most}
-use Rattle.pp_machine.proofs.{MachineStore.taken_back, Parts.back-after, Parts.over-parts, Parts.same_places}
+use Rattle.pp_rig.proofs.Names.{arith, ◌≡◌, ◌≤◌, length, refl, sym, length-append, Machine, over, number, places}
+use Rattle.pp_rig.proofs.Names.{places-old_values, pp_pairs, pp_place, writes, old_values_of, turn, turn_parts, rest_pairs}
+use Rattle.pp_rig.proofs.Names.{turn_pairs, turn_writes, Action, Turn, TurnRecord, over-parts}
+use Rattle.std.proofs.{Common.IsPermutation, lemmas.List.Sorted.IsPermutation-refl}
+use Rattle.pp_machine.proofs.{MachineStore.taken_back, Parts.back-after, Parts.same_places}
 use Rattle.pp_machine.specs.WriteLaws.{length-renamed}
+use Rattle.pp_step.specs.Step.{most_step_places}
+use Rattle.pp_rig.specs.{Action.next, Inner.TurnRecords.most_turn_places, Inner.TurnRecords.turn_old_values}
+use Rattle.pp_rig.proofs.Devices.{devices-at_most}
 
 -- an action leads to the machine after its write list
 pub next_by_writes : (m : Machine) (action : Action) → next m action ≡ over m (writes m action)
@@ -35,6 +33,4 @@ places_old_values_of m action = rw (places-old_values number m (writes m action)
 pub at_most-turn : (r : TurnRecord) → length (pp_pairs r.pp) ≤ most_step_places → length (turn_pairs r) ≤ most_turn_places
 unfolding turn_pairs rest_pairs
 at_most-turn r at_most =
-    let pp = length-renamed (pp_place r.rest.slot) (pp_pairs r.pp) in
-    let devices = devices-at_most r.rest in
-    simp length-append (grind arith)
+    simp length-append (grind (arith, length-renamed (pp_place r.rest.slot) (pp_pairs r.pp), devices-at_most r.rest))

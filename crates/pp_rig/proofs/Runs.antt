@@ -1,20 +1,16 @@
 -- Runs, one turn after another.
-use Rattle.std.proofs.lemmas.{Bool.Decides.nat_tests, List.Elements.recursion_from_All, List.at_drop_more}
-use Rattle.std.proofs.Common.{add-one, drop, get_or, length, map, ◌≡◌, ◌∙◌, ap, true, ◌∷◌, ℕ, zero, suc, ◌+◌, ◌-◌, ◌<◌, ◌≤◌}
-use Rattle.std.proofs.Common.{refl, sym, arith, List, Option, Some, None, [], unwrap_or}
-use Rattle.std.specs.{List.AllByRecursion}
-use Rattle.pp_machine.specs.{NumberLaws.number-over, Prelude.Machine, Prelude.number, Prelude.lookup, declared.place.Place.Place}
-use Rattle.pp_rig.specs.Inner.{ActionRecords.FitsRecord, ActionRecords.before, ActionRecords.record_pairs, Marks.marks_of}
-use Rattle.pp_rig.specs.{declared.rig.RigRecord.RigRecord, Rules.rules, Turn.turn, declared.stopping.Hit.Hit}
-use Rattle.pp_history.specs.{Marks.AreCovered, Marks.covers, declared.marks.Marks.Marks, SessionLaws.machine_at}
-use Rattle.pp_history.specs.Repeating.{AreUnmarked, after_acts}
-use Rattle.pp_history.specs.SessionValue.{SessionValue, after_act, replay}
-use Rattle.pp_rig.specs.Stopping.{after_turns, first_change, hit_of, stopped, turned}
-use Rattle.pp_actions.specs.{Watches.watches_of, Watches.watched_place, declared.action.Action.Action}
+use Rattle.pp_rig.proofs.Names.{nat_tests, drop, get_or, length, map, ◌≡◌, ◌∙◌, ap, true, ◌∷◌, ℕ, zero, suc, ◌+◌, ◌-◌, ◌<◌, ◌≤◌}
+use Rattle.pp_rig.proofs.Names.{refl, arith, List, Option, Some, None, [], Machine, number, lookup, Place, before, marks_of}
+use Rattle.pp_rig.proofs.Names.{rules, turn, Hit, covers, Marks, machine_at, SessionValue, after_act, after_turns, first_change}
+use Rattle.pp_rig.proofs.Names.{hit_of, stopped, turned, watches_of, watched_place, Action, Turn, Watched, Stopped}
+use Rattle.std.proofs.{lemmas.List.Elements.recursion_from_All, lemmas.List.at_drop_more, Common.add-one, Common.unwrap_or}
+use Rattle.std.specs.List.{AllByRecursion}
+use Rattle.pp_history.specs.{Marks.AreCovered, Repeating.AreUnmarked, Repeating.after_acts, SessionValue.replay}
 use Rattle.pp_history.proofs.Repeats.{acts_replayed, machine_after_more}
+use Rattle.pp_actions.specs.declared.watched.Watched.TheVariants.{Cell}
+use Rattle.pp_machine.specs.NumberLaws.{number-over}
+use Rattle.pp_rig.specs.{Inner.ActionRecords.FitsRecord, Inner.ActionRecords.record_pairs, declared.rig.RigRecord.RigRecord}
 use Rattle.pp_rig.proofs.{Shortest.turned-first, Turns.turn-watches}
-use Rattle.pp_actions.specs.declared.{action.Action.TheVariants.Turn, watched.Watched.Watched, watched.Watched.TheVariants.Cell}
-use Rattle.pp_rig.specs.declared.stopping.Stopped.{Stopped}
 
 -- this many turns before the rest of a run
 unfoldable pub turns_before : ℕ → Stopped → Stopped
@@ -104,15 +100,6 @@ none_changed m back Watches (w ∷ ws) fits none all =
     let same = rw (none (watched_place w) all.0) at (record_was back m (watched_place w) fits) in
     grind (arith, nat_tests, same, none_changed m back Watches ws fits none all.1)
 
--- a turn whose record has no marked place changed no watched number
-pub unmarked-hit : (old new : Machine) (marks : Marks) (back : RigRecord) → new ≡ turn old → FitsRecord back new →
-    before back new ≡ old → ((p : Place) → covers marks_of marks p ≡ true → lookup (record_pairs back) p ≡ None) →
-    AreCovered marks_of marks (map watched_place (watches_of old)) → None ≡ hit_of old
-unmarked-hit old new marks back turned fits led_back none covered =
-    let Covered = λ (p : Place). covers marks_of marks p ≡ true in
-    let all = recursion_from_All Covered (map watched_place (watches_of old)) covered in
-    sym (rw (led_back, turned) at (none_changed new back Covered (watches_of old) fits none all))
-
 -- turns whose records have no marked place
 pub unmarked_turns : (marks : Marks) (n turns : ℕ) (machine : Machine) →
     turns ≤ n → AreUnmarked rules marks_of marks Turn turns machine →
@@ -124,7 +111,9 @@ unmarked_turns marks n (suc turns) machine within none covered =
     let s = turned turns machine in
     let (back, fits, led_back, unmarked) = rw add-one at (none turns (omega arith)) in
     let same : watches_of s ≡ watches_of machine = grind (arith, watches_kept turns machine) in
-    let hit = unmarked-hit s (turn s) marks back refl fits led_back unmarked (rw same covered) in
+    let Covered = λ (p : Place). covers marks_of marks p ≡ true in
+    let all = recursion_from_All Covered (map watched_place (watches_of s)) (rw same covered) in
+    let hit = rw led_back at (none_changed (turn s) back Covered (watches_of s) fits unmarked all) in
     grind (arith, before, before_next n turns s, hit)
 
 -- the last of some turns changed a watched number, or no turn did
@@ -132,11 +121,9 @@ pub last_turn : (marks : Marks) (turns : ℕ) (machine : Machine) → AreUnmarke
     AreCovered marks_of marks (map watched_place (watches_of machine)) →
     stopped (turns + 1) machine ≡ record { turns = turns + 1; hit = hit_of (turned turns machine) }
 unfolding turns_before stopped
-last_turn marks turns machine none covered = grind (
-  arith,
-  unmarked_turns marks (turns + 1) turns machine (omega arith) none covered,
-  before_next (turns + 1) turns (turned turns machine),
-)
+last_turn marks turns machine none covered =
+    let unmarked = unmarked_turns marks (turns + 1) turns machine (omega arith) none covered in
+    grind (arith, unmarked, before_next (turns + 1) turns (turned turns machine))
 
 -- the change that the last of some turns made
 pub last_hit : (turns : ℕ) (old new : Machine) (v : SessionValue Machine Action) (hit : Option Hit) →

@@ -1,10 +1,7 @@
 -- A stopping run is the shortest.
-use Rattle.std.proofs.Common.{◌≡◌, ◌∙◌, ℕ, zero, suc, ◌+◌, refl, sym, ap, arith, ◌∷◌, ◌++◌, Option, Some, None, replicate}
-use Rattle.pp_history.specs.SessionValue.{SessionValue}
-use Rattle.pp_machine.specs.Machine.{Machine}
-use Rattle.pp_rig.specs.{Turn.turn, declared.stopping.Hit.Hit, declared.stopping.Stopped.Stopped}
-use Rattle.pp_rig.specs.Stopping.{hit_of, hit_or, stopped, turned, after_turns, IsShortest}
-use Rattle.pp_actions.specs.declared.action.Action.{Action, TheVariants.Turn}
+use Rattle.pp_rig.proofs.Names.{◌≡◌, ◌∙◌, ℕ, zero, suc, ◌+◌, refl, sym, ap, arith, ◌∷◌, ◌++◌, Option, Some, None, replicate}
+use Rattle.pp_rig.proofs.Names.{SessionValue, Machine, turn, Hit, Stopped, hit_of, stopped, turned, after_turns, Action, Turn}
+use Rattle.pp_rig.specs.Stopping.{hit_or, IsShortest}
 
 -- a turn added first, or added last
 pub turned-first : (turns : ℕ) (machine : Machine) → turned turns (turn machine) ≡ turned (suc turns) machine
@@ -28,11 +25,8 @@ shortest-by most machine rest (Some hit) e ih = record {
 shortest-by most machine rest None e ih = record {
   within = omega (arith, ih.within);
   earlier = λ turns less. none-first machine turns e (λ n same. ih.earlier n (omega arith));
-  hit = λ h same. let (earlier, counted, found) = ih.hit h same in (
-    suc earlier,
-    (let count : suc rest.turns ≡ suc earlier + 1 = omega (arith, counted) in count),
-    sym (ap hit_of (turned-first earlier machine)) ∙ found,
-  );
+  hit = λ h same. let (earlier, counted, found) = ih.hit h same in
+      (suc earlier, omega (arith, counted), rw (← turned-first earlier machine) found);
   none = λ same. let all = ih.none same in
       (ap suc all.0, λ turns less. none-first machine turns e (λ n more. all.1 n (omega arith)));
 }

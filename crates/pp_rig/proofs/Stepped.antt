@@ -1,19 +1,15 @@
 -- The parts of a turn: what each does to the machine, and what its undo record then has.
-use Rattle.std.proofs.Common.{arith, ℕ, Bool, true, false, [], ◌∷◌, ◌<◌, ◌≡◌, ◌∙◌, refl, get_or, subst, sym}
-use Rattle.std.proofs.lemmas.List.{get_or_read}
-use Rattle.pp_machine.proofs.{AllDevices.all-laws, Parts.both-performed, Parts.led_back, Parts.none-performed, Parts.one-performed}
-use Rattle.pp_machine.specs.{Inner.AllDevices.all_model, NumberLaws.setup-over, Parts.after_parts}
-use Rattle.pp_machine.specs.Inner.PartWrites.{AreIdle, ArePerformed, parts_old_values}
-use Rattle.pp_machine.specs.Prelude.{Machine, ProcessorNumbers, over, put, no_processor, Writes, renamed, Has, HasAll}
-use Rattle.pp_step.specs.{Step.pp_pairs, Step.pp_writes, Step.IsStep, declared.record.PpRecord.PpRecord}
-use Rattle.pp_step.specs.View.{PpPlace, PpView, over as over_pp, pp_place, view_of as step_view}
-use Rattle.pp_rig.specs.{Inner.IsMachine.IsMachine, Turn.pp_of, Turn.processor_step, Turn.turn, Inner.Lift.with_pp, IsSetup.IsSetup}
-use Rattle.pp_rig.specs.Inner.{LiftLaws.step-pp, LiftLaws.record-pp, MachineLaws.has_processor, MachineLaws.IsMachine-with_pp}
-use Rattle.pp_machine.specs.WriteLaws.{AllPlaces-append, over-append}
-use Rattle.pp_step.specs.PpPlaces.{HasAll-pp}
-use Rattle.pp_rig.specs.{Inner.Short.IsTurned, declared.rig.TurnRecord.TurnRecord, declared.rig.TurnRest.TurnRest}
-use Rattle.pp_rig.specs.Inner.TurnRecords.{FitsRest, FitsTurn, IsSlotStep, device_parts, devices_old_values, end_old_values}
-use Rattle.pp_rig.specs.Inner.TurnRecords.{end_parts, rest_of_turn, rest_pairs, turn_old_values, turn_pairs}
+use Rattle.pp_rig.proofs.Names.{arith, ℕ, Bool, true, false, [], ◌∷◌, ◌<◌, ◌≡◌, ◌∙◌, refl, get_or, subst, sym, get_or_read, Machine}
+use Rattle.pp_rig.proofs.Names.{all-laws, both-performed, all_model, setup-over, over, no_processor, Writes, renamed, Has, HasAll}
+use Rattle.pp_rig.proofs.Names.{pp_pairs, pp_writes, pp_place, pp_of, processor_step, turn, AllPlaces-append, TurnRecord, TurnRest}
+use Rattle.pp_rig.proofs.Names.{devices_old_values, end_old_values, end_parts, rest_of_turn, rest_pairs, turn_pairs}
+use Rattle.pp_machine.proofs.Parts.{led_back, one-performed}
+use Rattle.pp_machine.specs.{Inner.PartWrites.ArePerformed, Prelude.ProcessorNumbers, Prelude.put, WriteLaws.over-append}
+use Rattle.pp_step.specs.{Step.IsStep, declared.record.PpRecord.PpRecord, View.PpPlace, View.PpView, View.over as over_pp}
+use Rattle.pp_step.specs.{View.view_of as step_view, PpPlaces.HasAll-pp}
+use Rattle.pp_rig.specs.Inner.LiftLaws.{with_pp, step-pp, record-pp, has_processor, IsMachine-with_pp}
+use Rattle.pp_rig.specs.{Inner.IsMachine.IsMachine, IsSetup.IsSetup, Inner.Short.IsTurned, Inner.TurnRecords.FitsRest}
+use Rattle.pp_rig.specs.{Inner.TurnRecords.FitsTurn, Inner.TurnRecords.IsSlotStep, Inner.TurnRecords.turn_old_values}
 use Rattle.pp_rig.proofs.{Devices.by_models, Overwritten.at_most-turn}
 
 -- processor n, as it is read from the list, and as it is put back
@@ -41,23 +37,15 @@ module _ (m : Machine) (x : ProcessorNumbers) (new : PpView) (back : PpRecord)
   pub slot-stepped : stepped → IsSlotStep m (with_pp m m.slot new) back
   slot-stepped e =
       let here = rw (seen m m.slot x ok ok.slot read) at e in
-      let ok1 = IsMachine-stepped e in
-      grind (
-        arith,
-        step-pp m m.slot (has_processor m m.slot ok ok.slot) new (pp_writes (pp_of m.slot m)),
-        record-pp m m.slot (pp_writes (pp_of m.slot m)),
-        here,
-        ok1,
-      )
+      let writes = pp_writes (pp_of m.slot m) in
+      let step = step-pp m m.slot (has_processor m m.slot ok ok.slot) new writes in
+      grind (arith, step, record-pp m m.slot writes, here, IsMachine-stepped e)
 
   -- a step that is performed, or that changes nothing
-  pub slot-same : new ≡ step_view x m.channels m.central m.frame → with_pp m m.slot new ≡ m
-  slot-same = slot-over m m.slot x ok ok.slot read new []
-
   pub IsMachine-short : (done : Bool) → (done ≡ true → stepped) →
       (done ≡ false → new ≡ step_view x m.channels m.central m.frame) → IsMachine (with_pp m m.slot new)
   IsMachine-short true step same = IsMachine-stepped (step refl)
-  IsMachine-short false step same = subst IsMachine (sym (slot-same (same refl))) ok
+  IsMachine-short false step same = subst IsMachine (sym (slot-over m m.slot x ok ok.slot read new [] (same refl))) ok
 
 -- ---- the rest of a turn: devices, clock and slot
 
@@ -65,10 +53,6 @@ module _ (m : Machine) (x : ProcessorNumbers) (new : PpView) (back : PpRecord)
 pub rest_undone : (r : TurnRest) (s : Machine) → over s (rest_pairs r) ≡ over (over s (end_old_values r)) (devices_old_values r)
 unfolding rest_pairs
 rest_undone r s = over-append put s (devices_old_values r) (end_old_values r)
-
--- the devices do nothing
-pub idle : (m : Machine) → AreIdle device_parts m → (after_parts device_parts m ≡ m) × (parts_old_values device_parts m ≡ [])
-idle m none = let same = none-performed device_parts m none in (sym same.step, sym same.old_values)
 
 -- the first part of the conclusion is there for `grind`, which looks for it
 pub rest_fits : (m new : Machine) (back : TurnRest) → ArePerformed end_parts m new (end_old_values back) → back.slot < 10 →
@@ -82,14 +66,11 @@ rest_fits m new back ended in_slot in_clock devices =
 -- the places of a turn's record are places of the machine
 HasAll-turn : (r : TurnRecord) (s : Machine) → IsSetup s.setup → FitsTurn r s → HasAll s.setup.central_words (turn_pairs r)
 unfolding turn_pairs rest_pairs
-HasAll-turn r s ok f = let size = s.setup.central_words in grind (
-  arith,
-  AllPlaces-append (Has size),
-  HasAll-pp size r.rest.slot f.rest.slot r.pp f.pp,
-  all-laws.pairs_has size r.rest.devices (over s (end_old_values r.rest)),
-  setup-over s (end_old_values r.rest),
-  ok.channels,
-)
+HasAll-turn r s ok f =
+    let size = s.setup.central_words in
+    let pp = HasAll-pp size r.rest.slot f.rest.slot r.pp f.pp in
+    let devices = all-laws.pairs_has size r.rest.devices (over s (end_old_values r.rest)) in
+    grind (arith, AllPlaces-append (Has size), pp, devices, setup-over s (end_old_values r.rest), ok.channels)
 
 pub turned : (m m1 new : Machine) (r : TurnRecord) → IsSlotStep m m1 r.pp → ArePerformed rest_of_turn m1 new (rest_pairs r.rest) →
     FitsRest r.rest new → r.rest.slot ≡ m1.slot → new.setup ≡ m1.setup → IsMachine new → IsTurned m new r

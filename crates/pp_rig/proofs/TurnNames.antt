@@ -1,12 +1,11 @@
 -- Which parts of a turn's record may have a place.
-use Rattle.std.proofs.Common.{arith, ℕ, false, ◌≡◌, Option, Some, None, if◌then◌else◌, refl}
-use Rattle.pp_machine.specs.{Inner.Attached.of_device, Prelude.renamed, Prelude.first_of_two, Prelude.lookup, Prelude.same_place}
-use Rattle.pp_machine.specs.{WriteLaws.lookup-append, declared.place.Place.Place}
-use Rattle.pp_machine.specs.declared.place.Place.TheVariants.{Clock, Slot}
-use Rattle.pp_rig.specs.Inner.TurnRecords.{devices_old_values, end_old_values, rest_pairs, turn_pairs}
-use Rattle.pp_rig.specs.declared.rig.{TurnRecord.TurnRecord, TurnRest.TurnRest}
+use Rattle.pp_rig.proofs.Names.{arith, ℕ, ◌≡◌, Option, Some, None, of_device, renamed, lookup, Place, devices_old_values}
+use Rattle.pp_rig.proofs.Names.{end_old_values, rest_pairs, turn_pairs, TurnRecord, TurnRest, pp_pairs, pp_place}
+use Rattle.std.proofs.Common.{if◌then◌else◌}
+use Rattle.pp_machine.specs.{Prelude.first_of_two, Prelude.same_place, WriteLaws.lookup-append}
+use Rattle.std.proofs.Common.{false, refl}
+use Rattle.pp_machine.specs.{declared.place.Place.TheVariants.Clock, declared.place.Place.TheVariants.Slot}
 use Rattle.pp_rig.proofs.Devices.{not_by_devices}
-use Rattle.pp_step.specs.{Step.pp_pairs, View.pp_place}
 
 -- ---- the rest of a turn's record, by the kind of the place
 
@@ -30,13 +29,11 @@ unfolding rest_pairs
 lookup_parts r p = simp lookup-append
 
 -- a place other than the clock and the slot
-not_at_end : (r : TurnRest) (p : Place) → same_place Clock p ≡ false → same_place Slot p ≡ false → by_end r p ≡ None
-not_at_end r p clock slot = grind arith
-
 devices_alone : (r : TurnRest) (p : Place) → same_place Clock p ≡ false → same_place Slot p ≡ false →
     lookup (rest_pairs r) p ≡ (if of_device p then by_devices r p else None)
 devices_alone r p clock slot =
-    grind (arith, lookup_parts r p, not_at_end r p clock slot, first_alone (by_devices r p), not_by_devices r p)
+    let none : by_end r p ≡ None = grind arith in
+    grind (arith, lookup_parts r p, none, first_alone (by_devices r p), not_by_devices r p)
 
 pub lookup_by_kind : (r : TurnRest) (p : Place) → lookup (rest_pairs r) p ≡ by_kind r p
 lookup_by_kind r Clock = grind (arith, lookup_parts r Clock, not_by_devices r Clock)

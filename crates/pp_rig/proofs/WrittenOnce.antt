@@ -1,16 +1,15 @@
 -- No action other than a turn writes a place twice.
-use Rattle.std.proofs.Common.{◌≡◌, ◌≢◌, ℕ, ◌+◌, ◌%◌, ◌<◌, ◌≤◌, ◌==◌, List, [], ◌∷◌, drop, length, true, zero, suc, refl, arith}
-use Rattle.std.proofs.Common.{Option, Some, None, position, replicate, sym, ◌∙◌, zero-add}
-use Rattle.std.specs.List.{All, AllPairs}
-use Rattle.std.proofs.lemmas.List.{Kept.AllPairs-cons, FromFn.get_or-map-range_with_len, get_or-replicate, length-replicate}
-use Rattle.pp_machine.specs.{Prelude.Machine, Prelude.Writes, Prelude.places, Prelude.same_place, declared.place.Place.Place}
-use Rattle.pp_machine.specs.declared.place.Place.TheVariants.{Cell, WatchEntry}
+use Rattle.pp_rig.proofs.Names.{◌≡◌, ◌≢◌, ℕ, ◌+◌, ◌<◌, ◌≤◌, ◌==◌, List, [], ◌∷◌, drop, length, true, refl, arith, Option, Some}
+use Rattle.pp_rig.proofs.Names.{None, position, replicate, sym, ◌∙◌, All, Machine, Writes, places, Place, WatchEntry}
+use Rattle.pp_rig.proofs.Names.{most_places, writes, without_entry, moved_up, watch_code, Action, deadstart_place_count}
+use Rattle.pp_rig.proofs.Names.{deadstart_writes, deadstart_write_list, cell_writes, writes_from}
+use Rattle.std.proofs.{Common.◌%◌, Common.zero-add, lemmas.List.Kept.AllPairs-cons}
+use Rattle.std.proofs.{lemmas.List.FromFn.get_or-map-range_with_len, lemmas.List.get_or-replicate, lemmas.List.length-replicate}
+use Rattle.std.proofs.{lemmas.List.Elements.All-nil, lemmas.List.Elements.All-cons}
+use Rattle.std.specs.List.{AllPairs}
+use Rattle.pp_machine.specs.{Prelude.same_place, declared.place.Place.TheVariants.Cell}
 use Rattle.pp_machine.proofs.{DeviceLaws.same-self, Once.once, Once.each-once}
 use Rattle.pp_rig.proofs.Deadstart.{places-deadstart, length-cell_writes, length-deadstart_write_list}
-use Rattle.pp_rig.specs.Inner.ActionRecords.{most_places, writes}
-use Rattle.pp_actions.specs.{Unwatching.without_entry, Unwatching.moved_up, WatchCodes.watch_code, declared.action.Action.Action}
-use Rattle.pp_actions.specs.Deadstart.{deadstart_place_count, deadstart_writes, deadstart_write_list}
-use Rattle.pp_actions.specs.WriteLists.{cell_writes, writes_from}
 use Rattle.pp_actions.specs.declared.action.Action.TheVariants as action
 
 abbrev EachOnce : Writes Place → Type 0
@@ -22,9 +21,9 @@ EachOnce w = AllPairs (λ one other. one ≢ other) (places w)
 module _ (name : ℕ → Place) (room : ℕ) (apart : (i j : ℕ) → i < j → j < i + room → name i ≢ name j) where
   behind : (i j : ℕ) (vs : List ℕ) → i < j → j + length vs ≤ i + room →
       All (λ other. name i ≢ other) (places (writes_from name j vs))
-  behind i j [] less at_most k d within = absurd (omega (arith, within))
-  behind i j (v ∷ vs) less at_most zero d within = apart i j less (omega arith)
-  behind i j (v ∷ vs) less at_most (suc k) d within = behind i (j + 1) vs (omega arith) (omega arith) k d (omega (arith, within))
+  behind i j [] less at_most = All-nil (λ other. name i ≢ other)
+  behind i j (v ∷ vs) less at_most = All-cons (λ other. name i ≢ other) (name j) (places (writes_from name (j + 1) vs))
+      (apart i j less (omega arith)) (behind i (j + 1) vs (omega arith) (omega arith))
 
   listed-once : (i : ℕ) (vs : List ℕ) → length vs ≤ room → EachOnce (writes_from name i vs)
   listed-once i [] at_most = λ k l d less within. absurd (omega (arith, within))
@@ -33,18 +32,13 @@ module _ (name : ℕ → Place) (room : ℕ) (apart : (i j : ℕ) → i < j → 
       (listed-once (i + 1) vs (omega arith))
 
 -- 4096 cells from any address on; cell 0 follows the last
-cells_apart : (n i j : ℕ) → i < j → j < i + 4096 → Cell n (i % 4096) ≢ Cell n (j % 4096)
-cells_apart n i j less near = grind arith
-
 cells-once : (n a : ℕ) (vs : List ℕ) → length vs ≤ 4096 → EachOnce (cell_writes n a vs)
-cells-once n a vs at_most = listed-once (λ i. Cell n (i % 4096)) 4096 (cells_apart n) a vs at_most
-
-entries-once : (i : ℕ) (codes : List ℕ) → EachOnce (writes_from WatchEntry i codes)
-entries-once i codes = listed-once WatchEntry (length codes) (λ k l less near. grind arith) i codes (omega arith)
+cells-once n a vs at_most = listed-once (λ i. Cell n (i % 4096)) 4096 (λ i j less near. grind arith) a vs at_most
 
 without_entry-once : (entries : List ℕ) (found : Option ℕ) → EachOnce (without_entry entries found)
 without_entry-once entries None = λ i j d less within. absurd (omega (arith, within))
-without_entry-once entries (Some i) = entries-once i (moved_up (drop (i + 1) entries))
+without_entry-once entries (Some i) = let codes = moved_up (drop (i + 1) entries) in
+    listed-once WatchEntry (length codes) (λ k l less near. grind arith) i codes (omega arith)
 
 -- ---- lists of known places
 

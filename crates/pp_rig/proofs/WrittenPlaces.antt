@@ -1,19 +1,14 @@
 -- An admitted action writes only places that the machine has.
-use Rattle.std.proofs.Common.{◌≡◌, ℕ, ◌+◌, ◌<◌, ◌≤◌, ◌==◌, Bool, List, [], ◌∷◌, drop, length, position, refl, subst, arith}
-use Rattle.std.proofs.Common.{length-drop, Option, Some, None, IfSome}
-use Rattle.std.proofs.lemmas.List.Quantifiers.{position-Some}
-use Rattle.pp_machine.specs.Prelude.{Machine, over, processor, no_processor, HasAll}
-use Rattle.pp_machine.specs.{NumberLaws.setup-over, Inner.PartWrites.EachPart}
+use Rattle.pp_rig.proofs.Names.{◌≡◌, ℕ, ◌+◌, ◌<◌, ◌≤◌, ◌==◌, Bool, List, [], ◌∷◌, drop, length, position, refl, subst, arith}
+use Rattle.pp_rig.proofs.Names.{Option, Some, None, Machine, over, processor, no_processor, HasAll, setup-over, EachPart}
+use Rattle.pp_rig.proofs.Names.{all-laws, each-append, HasAll-entries, writes, pp_of, processor_step, turn_parts, moved_up}
+use Rattle.pp_rig.proofs.Names.{without_entry, set_list, HasAll-settings, first_fault, deadstart_writes, deadstart_write_list}
+use Rattle.pp_rig.proofs.Names.{device_parts, end_parts, turn_writes, watch_code, Action, IsProcessor}
+use Rattle.std.proofs.{Common.length-drop, Common.IfSome, lemmas.List.Quantifiers.position-Some}
+use Rattle.pp_machine.proofs.Parts.{HasAll-parts}
 use Rattle.pp_step.proofs.StepPlaces.{HasAll-step}
 use Rattle.pp_rig.proofs.{Admitting.settings_fit, Admitting.is_watch, Deadstart.AreSettings-deadstart, Devices.by_models}
-use Rattle.pp_machine.proofs.{AllDevices.all-laws, Parts.HasAll-parts, Parts.each-append}
-use Rattle.pp_actions.proofs.Unwatching.{HasAll-entries}
-use Rattle.pp_rig.specs.{Inner.ActionRecords.writes, IsSetup.IsPanel, Turn.pp_of, Turn.processor_step, Turn.turn_parts}
-use Rattle.pp_actions.specs.{Unwatching.moved_up, Unwatching.without_entry, Settings.set_list, Settings.HasAll-settings}
-use Rattle.pp_actions.specs.{Admitting.first_fault, Deadstart.deadstart_writes, Deadstart.deadstart_write_list}
-use Rattle.pp_rig.specs.Inner.TurnRecords.{device_parts, end_parts, turn_writes}
-use Rattle.pp_actions.specs.{WatchCodes.watch_code, declared.action.Action.Action}
-use Rattle.pp_rig.specs.WellFormed.{IsProcessor, IsWellFormed}
+use Rattle.pp_rig.specs.{IsSetup.IsPanel, WellFormed.IsWellFormed}
 use Rattle.pp_actions.specs.declared.action.Action.TheVariants as action
 
 -- ---- a turn

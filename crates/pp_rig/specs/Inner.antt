@@ -2,9 +2,7 @@
 -- defined without them.
 pub mod ActionRecords
 pub mod IsMachine
-pub mod Lift
 pub mod LiftLaws
-pub mod MachineLaws
 pub mod Marks
 pub mod RigView
 pub mod Short

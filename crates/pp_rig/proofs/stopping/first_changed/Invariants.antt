@@ -1,7 +1,4 @@
-use Rattle.std.proofs.Common.{◌≡◌, drop}
-use Rattle.pp_history.specs.UndoRecord.{whole_record}
-use Rattle.pp_rig.specs.{Inner.ActionRecords.before, Inner.Short.unpacked, Stopping.first_change}
-use Rattle.pp_actions.specs.Watches.{watches_of}
+use Rattle.pp_rig.proofs.Names.{◌≡◌, drop, whole_record, before, unpacked, first_change, watches_of}
 use Rattle.pp_rig.proofs.stopping.first_changed.Given as goal
 
 abbrev pub invariant-loop-i : goal.invariant-loop-i

@@ -1,4 +1,4 @@
-use Rattle.std.proofs.Common.{arith}
+use Rattle.pp_rig.proofs.Names.{arith}
 use Rattle.pp_rig.proofs.Deadstart.{AreSettings-deadstart, deadstarts, short-old}
 use Rattle.pp_rig.proofs.rig.Rig.deadstart.Goals as goal
 

@@ -1,5 +1,4 @@
-use Rattle.pp_machine.proofs.Parts.{both-performed}
-use Rattle.pp_rig.specs.Inner.TurnRecords.{device_parts, end_parts, rest_pairs}
+use Rattle.pp_rig.proofs.Names.{both-performed, device_parts, end_parts, rest_pairs}
 use Rattle.pp_rig.proofs.rig.Rig.finish_turn.Goals as goal
 
 pub returns-clause-performed : goal.returns-clause-performed

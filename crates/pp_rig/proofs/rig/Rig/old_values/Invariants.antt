@@ -1,7 +1,4 @@
-use Rattle.std.proofs.Common.{◌≡◌, take}
-use Rattle.arrayvec.specs.ArrayVec.{array_vec_len}
-use Rattle.pp_machine.specs.Prelude.{old_values, write_list}
-use Rattle.pp_actions.specs.Settings.{AreSettings}
+use Rattle.pp_rig.proofs.Names.{◌≡◌, take, array_vec_len, old_values, write_list, AreSettings}
 use Rattle.pp_rig.proofs.rig.Rig.old_values.Given as goal
 
 abbrev pub invariant-loop-pair : goal.invariant-loop-pair

@@ -1,5 +1,4 @@
-use Rattle.std.proofs.Common.{◌≡◌, drop}
-use Rattle.pp_machine.specs.Prelude.{over, write_list}
+use Rattle.pp_rig.proofs.Names.{◌≡◌, drop, over, write_list}
 use Rattle.pp_rig.proofs.rig.Rig.put_all.Given as goal
 
 abbrev pub invariant-loop-i : goal.invariant-loop-i

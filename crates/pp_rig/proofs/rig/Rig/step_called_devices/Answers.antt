@@ -1,7 +1,5 @@
-use Rattle.std.proofs.Common.{◌∙◌, arith, refl, sym}
-use Rattle.pp_machine.proofs.Parts.{over-parts}
-use Rattle.pp_machine.specs.{NumberLaws.setup-over, Inner.PartWrites.parts_writes}
-use Rattle.pp_rig.specs.Inner.{MachineLaws.IsMachine-over, RigView.machine_of, TurnRecords.device_parts}
+use Rattle.pp_rig.proofs.Names.{◌∙◌, arith, refl, sym, over-parts, setup-over, IsMachine-over, machine_of, device_parts}
+use Rattle.pp_machine.specs.Inner.PartWrites.{parts_writes}
 use Rattle.pp_rig.proofs.rig.Rig.step_called_devices.Goals as goal
 
 pub invariant_of-self : goal.invariant_of-self

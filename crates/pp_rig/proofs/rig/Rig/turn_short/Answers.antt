@@ -1,5 +1,4 @@
-use Rattle.pp_step.specs.declared.record.PpRecord.TheVariants.{Step}
-use Rattle.pp_rig.specs.Inner.RigView.{machine_of}
+use Rattle.pp_rig.proofs.Names.{Step, machine_of}
 use Rattle.pp_rig.proofs.Stepped.{IsMachine-short, slot-stepped, turned}
 use Rattle.pp_rig.proofs.rig.Rig.turn_short.Goals as goal
 

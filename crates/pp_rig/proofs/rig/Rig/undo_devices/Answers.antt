@@ -1,6 +1,4 @@
-use Rattle.std.proofs.Common.{arith, refl}
-use Rattle.pp_machine.specs.{Inner.AllDevices.all_model, NumberLaws.setup-over}
-use Rattle.pp_rig.specs.Inner.{MachineLaws.IsMachine-over, RigView.machine_of}
+use Rattle.pp_rig.proofs.Names.{arith, refl, all_model, setup-over, IsMachine-over, machine_of}
 use Rattle.pp_rig.proofs.rig.Rig.undo_devices.Goals as goal
 
 pub undo-requires : goal.undo-requires

@@ -1,6 +1,4 @@
-use Rattle.std.proofs.Common.{◌∙◌}
-use Rattle.pp_step.specs.{Step.pp_pairs, declared.record.PpRecord.TheVariants.Step}
-use Rattle.pp_rig.specs.Inner.{RigView.machine_of, Short.whole_turn}
+use Rattle.pp_rig.proofs.Names.{◌∙◌, pp_pairs, Step, machine_of, whole_turn}
 use Rattle.pp_rig.proofs.Stepped.{IsMachine-over, slot-over, turn-undone}
 use Rattle.pp_rig.proofs.rig.Rig.undo_turn_short.Goals as goal
 

@@ -1,6 +1,5 @@
-use Rattle.std.proofs.{Common.arith, lemmas.Grind.common_steps}
-use Rattle.pp_actions.proofs.Unwatching.{watch_changes, AreWatches-removed, HasAll-entries, length-with_entries}
-use Rattle.pp_actions.proofs.WatchCodes.{words_of-at_most}
+use Rattle.pp_rig.proofs.Names.{arith, common_steps, watch_changes, AreWatches-removed, HasAll-entries, length-with_entries}
+use Rattle.pp_rig.proofs.Names.{words_of-at_most}
 use Rattle.pp_rig.proofs.rig.Rig.unwatch.Goals as goal
 
 pub invariant_of-self : goal.invariant_of-self

@@ -1,7 +1,4 @@
-use Rattle.std.proofs.Common.{◌≡◌, All, take, map}
-use Rattle.arrayvec.specs.ArrayVec.{array_vec_len}
-use Rattle.pp_machine.specs.Machine.{Has}
-use Rattle.pp_actions.specs.Watches.{watched_place, watches_of}
+use Rattle.pp_rig.proofs.Names.{◌≡◌, All, take, map, array_vec_len, Has, watched_place, watches_of}
 use Rattle.pp_rig.proofs.rig.Rig.watched_places.Given as goal
 
 abbrev pub invariant-loop-watched : goal.invariant-loop-watched

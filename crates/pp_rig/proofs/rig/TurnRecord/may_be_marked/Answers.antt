@@ -1,5 +1,4 @@
-use Rattle.std.proofs.Common.{arith}
-use Rattle.pp_machine.specs.CentralSizes.{words_of}
+use Rattle.pp_rig.proofs.Names.{arith, words_of}
 use Rattle.pp_rig.proofs.Marks.{exchange_unmarked, not_in_turn}
 use Rattle.pp_rig.proofs.rig.TurnRecord.may_be_marked.Goals as goal
 

@@ -1,4 +1,4 @@
-use Rattle.std.proofs.Common.{arith}
+use Rattle.pp_rig.proofs.Names.{arith}
 use Rattle.pp_rig.proofs.Marks.{words_unmarked}
 use Rattle.pp_rig.proofs.rig.marks.are_words_marked.Goals as goal
 

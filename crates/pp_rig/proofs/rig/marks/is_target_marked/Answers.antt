@@ -1,5 +1,4 @@
-use Rattle.std.proofs.Common.{arith}
-use Rattle.std.proofs.lemmas.Bool.Decides.{nat_tests}
+use Rattle.pp_rig.proofs.Names.{arith, nat_tests}
 use Rattle.pp_rig.proofs.Marks.{cells_unmarked}
 use Rattle.pp_rig.proofs.rig.marks.is_target_marked.Goals as goal
 

@@ -1,6 +1,4 @@
-use Rattle.std.proofs.Common.{ℕ, ◌<◌, get_or}
-use Rattle.pp_machine.specs.Machine.{no_processor}
-use Rattle.pp_rig.specs.WellFormed.{IsProcessor}
+use Rattle.pp_rig.proofs.Names.{ℕ, ◌<◌, get_or, no_processor, IsProcessor}
 use Rattle.pp_rig.proofs.rig.ranges.keep_ranges.Given as goal
 
 abbrev pub invariant-loop-processor : goal.invariant-loop-processor

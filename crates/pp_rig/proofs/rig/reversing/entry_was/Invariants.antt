@@ -1,6 +1,4 @@
-use Rattle.std.proofs.Common.{◌≡◌, ◌+◌, drop, map}
-use Rattle.pp_machine.specs.{Machine.lookup, declared.place.Place.TheVariants.WatchEntry}
-use Rattle.pp_actions.specs.{WatchCodes.watch_code, WriteLists.writes_from}
+use Rattle.pp_rig.proofs.Names.{◌≡◌, ◌+◌, drop, map, lookup, WatchEntry, watch_code, writes_from}
 use Rattle.pp_rig.proofs.rig.reversing.entry_was.Given as goal
 
 abbrev pub invariant-loop-k : goal.invariant-loop-k

@@ -1,5 +1,4 @@
-use Rattle.std.proofs.Common.{◌≡◌, replicate}
-use Rattle.pp_rig.specs.Starting.{blank_processor}
+use Rattle.pp_rig.proofs.Names.{◌≡◌, replicate, blank_processor}
 use Rattle.pp_rig.proofs.rig.starting.blank_processors.Given as goal
 
 abbrev pub invariant-loop-i : goal.invariant-loop-i
