@@ -5,7 +5,7 @@ import glob
 import os
 import re
 
-from book.sources import VARIANT, Definition, Scope, parsed_rust, parsed_spec
+from book.sources import VARIANT, Constructor, Definition, Scope, parsed_rust, parsed_spec
 
 TOKEN = re.compile(r'"(?:\\.|[^"\\])*"|(?<!\S)(?:--|//)[^\n]*|\[\]|[(){};,\[\]]|[^\s(){};,\[\]"]+')
 VARIABLE = re.compile(r"[^\s(){};,\[\]=.→×λ]+")
@@ -29,6 +29,11 @@ class Unresolved(Exception):
 
 def is_trait(target):
     return isinstance(target, Definition) and target.kind == "trait"
+
+
+def owner(target):
+    """Returns the type of a constructor, and all else as it is."""
+    return target.type if isinstance(target, Constructor) else target
 
 
 class Sources:
@@ -63,11 +68,12 @@ class Sources:
         """Returns the Rust definition of FILE.TYPE.TheVariants.NAME, FILE.TheConstants.NAME, FILE.TYPE.Ghosts or FILE.TYPE.NAME."""
         if parts[-1] == "TheConstants":
             parts = parts[:-1] + [name]
-        *file, name = parts[:-1] if parts[-1] in ("TheVariants", "TheInside") else parts
+        *file, kind = parts[:-1] if parts[-1] in ("TheVariants", "TheInside") else parts
         scope = self.scopes.get((crate, "src", ".".join(file)))
-        if not scope or name not in scope.definitions:
-            raise Unresolved(".".join([crate, *file, name]))
-        return scope.definitions[name]
+        if not scope or kind not in scope.definitions:
+            raise Unresolved(".".join([crate, *file, kind]))
+        found = scope.definitions[kind]
+        return found.members.get(name, found) if parts[-1] == "TheVariants" else found
 
     def rust_type(self, scope, name):
         """Returns the type with a name in a Rust file: that of this file or crate, or of the crate that the file uses it from."""
@@ -103,7 +109,7 @@ class Names:
             return None, fields
         found = self.target(head)
         if isinstance(found, Definition) and fields and fields[0] in found.members:
-            return found, fields[1:]
+            return found.members[fields[0]], fields[1:]
         if not found and head in self.scope.modules and fields:
             return self.sources.find(self.scope.modules[head], fields[0]), fields[1:]
         if not found:
@@ -111,14 +117,14 @@ class Names:
         return found, fields
 
     def constructor(self, word):
-        """Returns the type or the word of the kit whose constructor a word of a pattern is, or None if the word is a variable."""
+        """Returns the constructor or the word of the kit that a word of a pattern is, or None if the word is a variable."""
         try:
             target, fields = self.resolved(word)
         except Unresolved:
             return None
         if isinstance(target, Library):
             return target if target.name[:1].isupper() or target.name in SMALL_CONSTRUCTORS else None
-        return target if target and not fields and word.split(".")[-1] in target.members else None
+        return target if isinstance(target, Constructor) and not fields else None
 
 
 class Walk:
@@ -181,6 +187,7 @@ class Walk:
         """Adds what a word stands for, and the fields that it reads."""
         try:
             target, fields = self.names.resolved(word, set().union(*self.bound))
+            target = owner(target)
         except Unresolved as name:
             self.unresolved.add(str(name))
             return
@@ -232,17 +239,16 @@ class Reading:
 
     def equations(self, bound):
         """Reads a signature and its clauses."""
-        starts = [line.start() for line in re.finditer(r"^(?!--|[\])}])\S", self.text, re.M)] + [len(self.text)]
-        result = self.text[:starts[1]].rpartition("→")[2].rpartition(" : ")[2].split()[0]
+        (_, end), *clauses = self.definition.clauses()
+        result = self.text[:end].rpartition("→")[2].rpartition(" : ")[2].split()[0]
         self.is_guarded = is_trait(self.names.target(result))
-        signature = Walk(self.names, self.text, bound).over(self.text.index(" : "), starts[1])
+        signature = Walk(self.names, self.text, bound).over(self.text.index(" : "), end)
         named = [use if is_trait(use.target) else use._replace(guard=NAMED) for use in signature.uses]
         self.keep(signature, named if self.is_guarded else None)
-        for start, end in zip(starts[1:], starts[2:]):
-            if not self.text.startswith("unfolding ", start):
-                equals = find_token(self.text, start, "=")
-                variables = bound | self.variables(start, equals)
-                self.keep(Walk(self.names, self.text, variables, is_guarded=self.is_guarded).over(equals, end))
+        for start, end in clauses:
+            equals = find_token(self.text, start, "=")
+            variables = bound | self.variables(start, equals)
+            self.keep(Walk(self.names, self.text, variables, is_guarded=self.is_guarded).over(equals, end))
 
     def variables(self, start, end):
         """Reads the patterns of a clause, and returns the names that they bind."""
@@ -250,7 +256,7 @@ class Reading:
         for token in TOKEN.finditer(self.text, start, end):
             word = token.group()
             if word not in own | BUILT_IN and VARIABLE.match(word):
-                target = self.names.constructor(word)
+                target = owner(self.names.constructor(word))
                 self.uses += [Use(token.start(), token.end(), None, target)] if target else []
                 bound |= set() if target else {word}
         return bound

@@ -6,14 +6,26 @@ import re
 from typing import Any, Callable, Dict, Iterator, List, Optional, Tuple
 
 from book.names import Unresolved
-from book.sources import Definition, Scope
-from evaluating.functions import Maker
-from evaluating.kit import CONSTANTS, INLINE, KIT, NONE, OPERATORS, text_of
+from book.sources import Constructor, Definition, Scope
+from evaluating.functions import Maker, tag_of
+from evaluating.kit import KIT, NONE, text_of
 from evaluating.lists import Stuck, items, listed
 
 # Of several definitions with one name, the only one of the first crate has it alone, or else the only one outside of the second;
-# those of inner files don't count there.
+# those of inner files count as the second's, and a definition comes before the constructors with its name.
 MAIN, WORKED = "pp_machine", "pp_worked"
+
+
+def whole_name(one: Any) -> str:
+    """Returns the name of a definition with its file, or of a constructor with its type."""
+    return tag_of(one) if isinstance(one, Constructor) else f"{one.place}:{one.name}"
+
+
+def rank(one: Any) -> int:
+    """Returns the rank of what has a name: the first has it alone, if it is the only one of its rank."""
+    is_constructor, owner = (True, one.type) if isinstance(one, Constructor) else (False, one)
+    is_far = owner.crate == WORKED or "/Inner" in owner.place
+    return 3 * is_constructor + (2 if is_far else owner.crate != MAIN)
 
 
 class Definitions(Maker):
@@ -21,25 +33,19 @@ class Definitions(Maker):
 
     def __init__(self, top: str, hear: Optional[Callable] = None):
         super().__init__(top, hear)
-        self.scope, self.several, self.shared = Scope(("", "specs", ""), ""), {}, set()
-        found: Dict[str, Dict[Definition, None]] = {}
+        self.scope, self.several = Scope(("", "specs", ""), ""), {}
+        found: Dict[str, Dict[Any, int]] = {}
         for scope in self.sources.scopes.values():
-            if "tests" in scope.module[2]:
-                continue
-            for definition in scope.definitions.values():
-                self.scope.definitions[f"{definition.place}:{definition.name}"] = definition
-                for name in (definition.name, *definition.members):
-                    found.setdefault(name, {})[definition] = None
-        for name, definitions in found.items():
-            own = [one for one in definitions if one.name == name] or list(definitions)
-            near = [one for one in own if one.crate != WORKED and "/Inner" not in one.place]
-            self.shared |= {name} if len(near) > 1 else set()
-            alone = [few[0] for few in ([one for one in near if one.crate == MAIN], near, own) if len(few) == 1]
-            if alone:
-                self.scope.definitions[name] = alone[0]
-            else:
-                self.several[name] = sorted(f"{one.place}:{name}" if one.name == name else f"{one.name}.{name}" for one in own)
-        for name in (*KIT, *CONSTANTS, *INLINE, "codes", *(f"◌{name}◌" for name in OPERATORS)):
+            owners = [one for one in scope.definitions.values() if isinstance(one, Definition) and "tests" not in scope.module[2]]
+            for one in [*owners, *(member for owner in owners for member in owner.members.values())]:
+                found.setdefault(one.name, {})[one] = rank(one)
+                self.scope.definitions[whole_name(one)] = one
+        self.shared = {name for name, ranks in found.items() if sum(own % 3 < 2 for own in ranks.values()) > 1}
+        for name, ranks in found.items():
+            first = [one for one, own in ranks.items() if own == min(ranks.values())]
+            self.scope.definitions.update({name: first[0]} if len(first) == 1 else {})
+            self.several.update({name: sorted(map(whole_name, first))} if len(first) > 1 else {})
+        for name in [f"◌{name}◌" if name in self.fixity else name for name in KIT]:
             self.scope.imports[name] = ("Rattle.std.specs.Prelude", name)
             self.scope.definitions.pop(name, None)
 

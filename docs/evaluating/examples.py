@@ -90,7 +90,7 @@ class Recorder:
         self.typed: Dict[Case, List[Example]] = {}
         self.best: Dict[Case, List[Tuple[tuple, Example]]] = {}
         for definition in self.chapter:
-            self.definitions.python_name(definition)
+            self.definitions.word(definition)
         self.definitions.finish()
 
     def is_computed(self, definition: Definition) -> bool:

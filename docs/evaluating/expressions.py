@@ -1,17 +1,16 @@
 """Reads an expression, a pattern or a clause of a definition as a tree."""
 
 from collections import namedtuple
-from typing import Any, Dict, List, Tuple
+from typing import Any, Dict, List, Optional, Tuple
 
 from book.names import NUMBER, TOKEN
 from evaluating.lists import Stuck
 
-Fixity = Dict[str, Tuple]  # of each operator: how strongly it binds, and on which side first
+Fixity = Dict[str, Tuple[int, str]]  # of each operator: how strongly it binds, and on which side first
 
-
-# A name with the fields that are read of it, or a text of Python in a tree that was made; a number and a text as they are written;
-# a function and its arguments; two expressions with an operator between; and so on. A binder has the names of (x y : A).
-Name = namedtuple("Name", "word is_python", defaults=(False,))
+# A name with the fields that are read of it; a number and a text as they are written; a function and its arguments; two expressions
+# with an operator between; and so on. A binder has the names of (x y : A).
+Name = namedtuple("Name", "word")
 Number = namedtuple("Number", "text")
 Text = namedtuple("Text", "text")
 Apply = namedtuple("Apply", "head given")
@@ -25,6 +24,8 @@ Lambda = namedtuple("Lambda", "patterns body")
 Binder = namedtuple("Binder", "names")
 IMPLICIT = Binder([])  # an argument in braces, which is not written by who calls the function
 STOPS = {")", "]", "}", ",", ";", "=", ":", "then", "else", "in", "", ".", "|"}
+# What begins with a keyword: its kind, the words before its second and third part, and how strongly the third binds.
+KEYWORDS = {"let": (Let, "=", "in", 0), "if": (If, "then", "else", 5)}
 
 
 class Parser:
@@ -39,13 +40,22 @@ class Parser:
         """The next word, or nothing at the end."""
         return self.words[self.at]
 
-    def take(self, wanted: Any = None) -> str:
+    def take(self, wanted: Optional[str] = None) -> str:
         """Returns the next word, and goes on behind it."""
         word = self.word
-        if wanted not in (None, word):
-            raise Stuck(f"a text with {word or 'the end'} in place of {wanted or 'its end'}")
-        self.at += 1
+        if word != wanted and (wanted is not None or not word):
+            raise Stuck(f"a text with {word or 'the end'} in place of {wanted or ('more' if wanted is None else 'its end')}")
+        self.at += bool(word)
         return word
+
+    def has(self, word: str) -> bool:
+        """Tells whether this word is the next, and if so goes on behind it."""
+        return self.word == word and bool(self.take())
+
+    def behind(self, word: str, least: int = 0) -> Any:
+        """Reads a word and the expression behind it."""
+        self.take(word)
+        return self.expression(least)
 
     def clause(self) -> Tuple[Any, Any]:
         """Reads a whole clause: what is before the equals sign and what is after it."""
@@ -63,50 +73,36 @@ class Parser:
         """Reads operands with operators between them that bind at least this strongly."""
         left = self.operand()
         while self.word in self.fixity and self.fixity[self.word][0] >= least:
-            word = self.take()
-            strength, side = self.fixity[word][:2]
-            left = Operator(word, left, self.expression(strength + (side != "r")))
+            strength, side = self.fixity[self.word]
+            left = Operator(self.take(), left, self.expression(strength + (side != "r")))
         return left
 
     def operand(self) -> Any:
         """Reads a function with its arguments, or what begins with a keyword."""
-        if self.word in ("λ", "let", "if"):
-            return {"λ": self.function, "let": self.let, "if": self.choice}[self.take()]()
+        if self.has("λ"):
+            return self.function()
+        if self.word in KEYWORDS:
+            kind, second, third, least = KEYWORDS[self.take()]
+            return kind(self.expression(), self.behind(second), self.behind(third, least))
         head, given = self.atom(), []
         while self.word not in self.fixity and self.word not in STOPS:
             given += [part] if (part := self.atom()) is not IMPLICIT else []
         return Apply(head, given) if given else head
-
-    def let(self) -> Let:
-        """Reads what follows `let`."""
-        name = self.take()
-        self.take("=")
-        value = self.expression()
-        self.take("in")
-        return Let(name, value, self.expression())
-
-    def choice(self) -> If:
-        """Reads what follows `if`."""
-        test = self.expression()
-        self.take("then")
-        yes = self.expression()
-        self.take("else")
-        return If(test, yes, self.expression(5))
 
     def function(self) -> Lambda:
         """Reads what follows `λ`. The last pattern ends with a dot."""
         patterns: List = []
         while not self.word.endswith("."):
             pattern = self.atom()
-            patterns += [Name(pattern.names[0])] if isinstance(pattern, Binder) else [pattern]
+            patterns.append(Name(pattern.names[0]) if isinstance(pattern, Binder) else pattern)
         last = self.take()[:-1]
         return Lambda(patterns + ([Name(last)] if last else []), self.expression())
 
     def atom(self) -> Any:
         """Reads a name, a number, a text, a record, or what is in brackets."""
+        if self.word in STOPS:
+            raise Stuck(f"a text with {self.word or 'an end'} in place of an expression")
         word = self.take()
-        if word in STOPS:
-            raise Stuck(f"a text with {word or 'an end'} in place of an expression")
         if word == "{":
             while self.take() != "}":
                 pass
@@ -124,29 +120,21 @@ class Parser:
 
     def record(self) -> Record:
         """Reads what follows `record`."""
-        base = self.atom() if self.word != "{" else None
+        base, fields = self.atom() if self.word != "{" else None, []
         self.take("{")
-        fields = []
-        while self.word != "}":
-            name = self.take()
-            self.take("=")
-            fields.append((name, self.expression()))
-            if self.word == ";":
-                self.take()
-        self.take("}")
+        while not self.has("}"):
+            fields.append((self.take(), self.behind("=")))
+            self.has(";")
         return Record(base, fields)
 
     def bracket(self) -> Any:
         """Reads what follows an opening bracket."""
         parts = [self.expression()]
         if self.word == ":":
-            self.take()
-            self.expression()
+            self.behind(":")
             self.take(")")
-            names = parts[0]
-            return Binder([names.word] if isinstance(names, Name) else [one.word for one in (names.head, *names.given)])
-        while self.word == ",":
-            self.take()
+            return Binder([one.word for one in (parts[0].head, *parts[0].given)] if isinstance(parts[0], Apply) else parts[0][:1])
+        while self.has(","):
             parts += [self.expression()] if self.word != ")" else []
         self.take(")")
         return parts[0] if len(parts) == 1 else Pair(parts)

@@ -8,27 +8,31 @@ and some functions remember their results. Types are not checked.
 
 import functools
 import re
-from typing import Any, Callable, Dict, List, NamedTuple, Optional, Tuple
+from typing import Any, Callable, Dict, FrozenSet, List, NamedTuple, Optional, Sequence
 
 from book.names import Library, Names, Sources, Unresolved
-from book.sources import Definition, Scope
-from evaluating.expressions import (Apply, Binder, Field, Fixity, If, Lambda, Let, Name, Number, Operator, Pair, Parser, Record,
-                                    Text)
-from evaluating.kit import CONSTANTS, INLINE, KIT, NONE, OPERATORS
-from evaluating.lists import NIL, Cons, Lazy, Partial, Relation, Stuck, append, force, is_same, listed
+from book.sources import Constructor, Definition, Scope
+from evaluating import lists
+from evaluating.expressions import Apply, Binder, If, Lambda, Let, Name, Operator, Pair, Parser
+from evaluating.kit import FIXITIES, KIT, NONE
+from evaluating.lists import Relation, Stuck, listed
 
 # Without memory a session of n turns would take n * n steps, since each definition replays it from its start.
 REMEMBERED = ("replay", "turn", "finished", "lines_of_file")
 ESCAPES = {"n": "\n", "t": "\t", "r": "\r"}
+# The constructors that are not tuples with their names: the test of each, and its parts.
+PATTERNS = {"zero": ["{} == 0"], "suc": ["{} > 0", "({} - 1)"], "true": ["{}"], "false": ["not {}"],
+            "[]": ["{} is NIL"], "∷": ["{} is not NIL", "{}.head", "{}.tail"]}
+BUILT_AGAIN = re.compile(r"Cons\(([\w.\[\]]+)\.head, \1\.tail\)")
+
+Locals = Dict[str, str]  # what each name that is bound is in Python
 
 
-class Constructor(NamedTuple):
-    """A constructor: its type and name with a dot between, and how many arguments it takes."""
-    tag: str
-    arity: int
+class Tag(str):
+    """The function of a constructor: its type and its name with a dot between."""
 
     def __call__(self, *given: Any) -> tuple:
-        return (self.tag, *given)
+        return (str(self), *given)
 
 
 class Case:
@@ -38,7 +42,15 @@ class Case:
         self.definition, self.tree = definition, tree
 
 
-def stuck(what: str) -> None:
+class Word(NamedTuple):
+    """What a name is in Python: its function, the number of arguments, a call with {0}, {1} .. for these, and which are lazy."""
+    function: str
+    arity: int
+    call: str
+    lazy: FrozenSet[int] = frozenset()
+
+
+def stuck(what: Any) -> None:
     """Says that something can't be computed."""
     raise Stuck(what)
 
@@ -54,17 +66,6 @@ def remembering(memory: Dict, function: Callable) -> Callable:
     return remembered
 
 
-def constructor(definition: Definition, name: str) -> Constructor:
-    """Returns a constructor of a type: of data it takes what its arrows say, of an enum of Rust the fields."""
-    if definition.kind == "data":
-        signature = re.search(rf"^  (?:pub )?{re.escape(name)} : ((?:.*\n?)(?:^ {{4,}}.*\n?)*)", definition.text, re.M)
-        outer = re.sub(r"\([^()]*\)", "", re.sub(r"\([^()]*\)", "", signature[1]))
-        return Constructor(f"{definition.name}.{name}", outer.count("→"))
-    text = re.sub(r"//.*", "", definition.text)
-    fields = re.search(rf"^    {name}\b\s*(?:\{{([^}}]*)\}}|\(([^)]*)\))?", text, re.M)
-    return Constructor(f"{definition.name}.{name}", len([one for one in (fields[1] or fields[2] or "").split(",") if one.strip()]))
-
-
 def reads(tree: Any, name: str) -> bool:
     """Tells whether a name occurs in an expression."""
     if isinstance(tree, Name):
@@ -72,23 +73,57 @@ def reads(tree: Any, name: str) -> bool:
     return isinstance(tree, (tuple, list)) and any(reads(part, name) for part in tree)
 
 
+def word_of(function: str, arity: int, lazy: FrozenSet[int] = frozenset()) -> Word:
+    """Returns the word of a function."""
+    return Word(function, arity, f"{function}({', '.join(f'{{{at}}}' for at in range(arity))})", lazy)
+
+
+def tag_of(what: Any) -> str:
+    """Returns the tag of a constructor: those of the kit have no type."""
+    return what.name if isinstance(what, Library) else f"{what.type.name}.{what.name}"
+
+
+def kit_word(name: str) -> Word:
+    """Returns what a word of the kit is."""
+    meaning = KIT.get(name, f"stuck('the word {name} of the kit')")
+    if callable(meaning):
+        return word_of(f"kit_{name}", meaning.__code__.co_argcount)
+    names = [f"x{at}" for at in sorted(set(re.findall(r"{(\d)}", meaning)))]
+    return Word(f"(lambda {', '.join(names)}: {meaning.format(*names)})", len(names), meaning)
+
+
+def block(head: str, lines: List[str]) -> List[str]:
+    """Returns lines of Python below the line that they belong to."""
+    return [head, *("    " + line for line in lines)]
+
+
+def applied(text: str, given: Sequence[str]) -> str:
+    """Returns the text of a function that takes its arguments one by one."""
+    return text + "".join(f"({one})" for one in given)
+
+
+def fields_text(fields: List[str]) -> str:
+    """Returns the text of fields that are read, by their names or, of a pair, their numbers."""
+    return "".join(f"[{field}]" if field.isdigit() else f"[{field!r}]" for field in fields if field)
+
+
 class Function:
     """What is known of a definition before it is made: its arguments and its clauses."""
 
-    def __init__(self, definition: Definition, names: Names, fixity: Fixity):
+    def __init__(self, definition: Definition, names: Names, fixity: Dict):
+        (_, end), *clauses = definition.clauses()
         self.definition, self.names, text = definition, names, definition.text
-        starts = [line.start() for line in re.finditer(r"^(?!--|[\])}])\S", text, re.M)] + [len(text)]
-        parts = [text[start:end] for start, end in zip(starts[1:], starts[2:]) if not text.startswith("unfolding ", start)]
-        self.clauses = [(self.patterns(left), body) for left, body in (Parser(part, fixity).clause() for part in parts)]
+        parsed = [Parser(text[start:stop], fixity).clause() for start, stop in clauses]
+        self.clauses = [(self.patterns(left), body) for left, body in parsed]
         self.module = [name for binder in re.findall(r"\(([^:()]+) :", definition.header) for name in binder.split()]
-        self.result, arrows = Parser(text[text.index(" : ") + 3:starts[1]], fixity).expression(), 0
+        self.result, arrows = Parser(text[text.index(" : ") + 3:end], fixity).expression(), 0
         while isinstance(self.result, Operator) and self.result.word == "→":
             left = self.result.left
             arrows += len(left.names) if isinstance(left, Binder) else 1
             self.result = self.result.right
-        self.arity = len(self.module) + max(arrows, *(len(patterns) for patterns, _ in self.clauses))
-        shortest = min(len(patterns) for patterns, _ in self.clauses)
-        self.lazy = {len(self.module) + at for at in range(shortest) if self.is_lazy(at)}
+        counts = [len(patterns) for patterns, _ in self.clauses]
+        self.arity = len(self.module) + max(arrows, *counts)
+        self.lazy = frozenset(at + len(self.module) for at in range(min(counts)) if self.is_lazy(at))
 
     def patterns(self, left: Any) -> List:
         """Returns the patterns of a clause."""
@@ -107,39 +142,19 @@ class Maker:
 
     def __init__(self, top: str, hear: Optional[Callable] = None):
         self.sources, self.hear = Sources(top), hear  # hear(case, arguments, value) is called for each value, if it is there
-        self.fixity: Fixity = dict(OPERATORS)
-        for scope in self.sources.scopes.values():
-            for definition in scope.definitions.values():
-                for side, strength, name in re.findall(r"infix([lr]?) (\d+) ◌(\S+)◌", definition.fixity):
-                    self.fixity[name] = (int(strength), side or "n")
+        declared = [getattr(one, "fixity", "") for scope in self.sources.scopes.values() for one in scope.definitions.values()]
+        self.fixity = {name: (int(strength), side or "n")
+                       for side, strength, names in re.findall(r"infix([lr]?) (\d+)((?: ◌\S+◌)+)", "\n".join([FIXITIES, *declared]))
+                       for name in names.replace("◌", "").split()}
+        self.names = functools.lru_cache(None)(functools.partial(Names, self.sources))  # what the names of a scope stand for
+        self.function = functools.lru_cache(None)(lambda one: Function(one, self.names(one.scope), self.fixity))
         self.memory: Dict = {}  # what remembered functions have returned
-        self.python = {**{f"kit_{name}": function for name, (_, function) in KIT.items()}, "NIL": NIL, "NONE": NONE, "Cons": Cons,
-                       "Lazy": Lazy, "Partial": Partial, "Constructor": Constructor, "append": append, "force": force,
-                       "is_same": is_same, "stuck": stuck, "once": functools.lru_cache(None),
-                       "remembered": functools.partial(remembering, self.memory)}
-        self.known: Dict[Scope, Names] = {}
-        self.functions: Dict[Definition, Function] = {}
-        self.made: Dict[Definition, str] = {}
+        self.python = {**vars(lists), **{f"kit_{name}": function for name, function in KIT.items()}, "NONE": NONE, "Tag": Tag,
+                       "stuck": stuck, "once": functools.lru_cache(None), "remembered": functools.partial(remembering, self.memory)}
+        self.made: Dict[Definition, str] = {}  # the name of the function of each definition
         self.texts: Dict[Definition, str] = {}
         self.cases: Dict[Definition, List[Case]] = {}
         self.queue: List[Definition] = []
-
-    def names(self, scope: Scope) -> Names:
-        """Returns what the names of a scope stand for."""
-        return self.known.setdefault(scope, self.known.get(scope) or Names(self.sources, scope))
-
-    def function(self, definition: Definition) -> Function:
-        """Returns what is known of a definition."""
-        if definition not in self.functions:
-            self.functions[definition] = Function(definition, self.names(definition.scope), self.fixity)
-        return self.functions[definition]
-
-    def python_name(self, definition: Definition) -> str:
-        """Returns the name of a definition's function, which is made before anything is computed."""
-        if definition not in self.made:
-            self.made[definition] = re.sub(r"\W", "_", f"{definition.name}_{len(self.made)}")
-            self.queue.append(definition)
-        return self.made[definition]
 
     def constant(self, value: Any) -> str:
         """Returns the name of a value in the functions that are made."""
@@ -147,12 +162,27 @@ class Maker:
         self.python[name] = value
         return name
 
+    def word(self, definition: Definition) -> Word:
+        """Returns what a definition is. Its function is made before anything is computed."""
+        if definition.kind == "const":
+            return Word("", 0, re.search(r"= ([\d_]+);", definition.text)[1])
+        if definition.kind != "function":
+            return Word("", 0, self.constant(Relation(definition.name)))
+        try:
+            function = self.function(definition)
+        except (Unresolved, Stuck) as what:
+            return Word("", 0, f"stuck({f'{definition.name}: {what}'!r})")
+        if definition not in self.made:
+            self.made[definition] = re.sub(r"\W", "_", f"{definition.name}_{len(self.made)}")
+            self.queue.append(definition)
+        return word_of(self.made[definition], function.arity, function.lazy)
+
     def finish(self) -> None:
         """Makes the functions that have names only."""
         while self.queue:
             definition = self.queue.pop()
             try:
-                text = Body(self, self.function(definition).names, self.function(definition)).whole()
+                text = Body(self, self.names(definition.scope), self.function(definition)).whole()
             except (Unresolved, Stuck) as what:
                 text = f"def {self.made[definition]}(*given):\n    stuck({f'{definition.name}: {what}'!r})\n"
             self.texts[definition] = text
@@ -160,72 +190,78 @@ class Maker:
 
     def find(self, definition: Definition) -> Callable:
         """Returns the function of a definition."""
-        name = self.python_name(definition)
+        name = self.word(definition).function
         self.finish()
         return self.python[name]
 
     def value(self, text: str, scope: Scope) -> Any:
         """Returns the value of an expression, with the names of a scope."""
-        made = Body(self, self.names(scope)).expression(Parser(text, self.fixity).whole(), {})
+        made = Body(self, self.names(scope)).text(Parser(text, self.fixity).whole(), {})
         self.finish()
         return eval(made, self.python)  # pylint: disable=eval-used
-
-
-Locals = Dict[str, str]  # what each name that is bound is in Python
 
 
 class Body:
     """Writes the text of Python for a definition or for an expression."""
 
     def __init__(self, maker: Maker, names: Names, function: Optional[Function] = None):
-        self.maker, self.names, self.function, self.count, self.constant = maker, names, function, 0, maker.constant
-        self.given = [f"a{at}" for at in range(function.arity)] if function else []
-        self.pairs: Dict[Tuple[str, str], str] = {}  # a list that a pattern took apart, by its head and its tail
+        self.maker, self.names, self.function, self.count = maker, names, function, 0
+        self.given = [f"_{at}" for at in range(function.arity)] if function else []
 
     def fresh(self, name: str) -> str:
         """Returns a new name in Python."""
         self.count += 1
         return re.sub(r"\W", "_", f"{name}_{self.count}")
 
+    # ---- a definition
+
     def whole(self) -> str:
         """Returns the function of the definition."""
-        function = self.function
-        kind = "@once\n" if not self.given else "@remembered\n" if function.definition.name in REMEMBERED else ""
-        lines = [f"{kind}def {self.maker.made[function.definition]}({', '.join(self.given)}):"]
-        for patterns, body in function.clauses:
-            tests, inner = self.clause(patterns, body)
-            lines += [f"    if {' and '.join(tests)}:"] if tests else []
-            lines += [("        " if tests else "    ") + line for line in inner]
-            if not tests:
-                return "\n".join(lines) + "\n"
-        return "\n".join([*lines, f"    stuck('no clause of {function.definition.name} fits')\n"])
+        name = self.function.definition.name
+        kind = ["@once"] if not self.given else ["@remembered"] if name in REMEMBERED else []
+        lines = [line for patterns, body in self.function.clauses for line in self.clause(patterns, body)]
+        lines.append(f"stuck({f'no clause of {name} fits'!r})")
+        head = f"def {self.maker.made[self.function.definition]}({', '.join(self.given)}):"
+        return "\n".join([*kind, *block(head, lines), ""])
 
-    def clause(self, patterns: List, body: Any) -> Tuple[List[str], List[str]]:
-        """Returns the tests of a clause, and the lines that return its value."""
-        function, self.pairs = self.function, {}
-        count = len(function.module)
-        found = Match(self)
-        for at, pattern in enumerate(patterns, count):
-            found.match(pattern, f"force({self.given[at]})" if at in function.lazy else self.given[at])
-        scope, lines = {**dict(zip(function.module, self.given)), **found.bound}, []
-        for name, text in found.bound.items():
-            if "[" in text or "." in text or " " in text:
-                scope[name] = self.fresh(name)
-                lines.append(f"{scope[name]} = {text}")
-        for head, tail, text in found.lists:
-            self.pairs[scope.get(head, ""), scope.get(tail, "")] = text
-        rest = [Name(text, True) for text in self.given[count + len(patterns):]]
-        return found.tests, [*lines, *self.statements(Apply(body, rest) if rest else body, scope)]
+    def clause(self, patterns: List, body: Any) -> List[str]:
+        """Returns the lines of a clause."""
+        first, tests = len(self.function.module), []
+        scope = dict(zip(self.function.module, self.given))
+        for at, pattern in enumerate(patterns, first):
+            value = f"force({self.given[at]})" if at in self.function.lazy else self.given[at]
+            tests += self.match(pattern, value, scope)
+        return block(f"if {' and '.join(tests) or True}:", self.lines(body, scope, self.given[first + len(patterns):]))
 
-    def statements(self, tree: Any, scope: Locals) -> List[str]:
-        """Returns the lines that return the value of an expression."""
+    def match(self, pattern: Any, value: str, scope: Locals) -> List[str]:
+        """Returns what a pattern tests of a value of this text, and adds the names that it binds to the scope."""
+        given = pattern.parts if isinstance(pattern, Pair) else pattern[1] if isinstance(pattern, Apply) else pattern[1:]
+        word = getattr(pattern[0], "word", pattern[0])
+        if isinstance(pattern, Pair):
+            test, *places = "", *(f"{{}}[{at}]" for at in range(len(given)))
+        elif word in PATTERNS:
+            test, *places = PATTERNS[word]
+        elif self.names.constructor(word):
+            test = f"{{}}[0] == {tag_of(self.names.constructor(word))!r}"
+            places = [f"{{}}[{at}]" for at in range(1, len(given) + 1)]
+        else:
+            scope.update({word: value})
+            return []
+        tests = [test.format(value)] if test else []
+        for part, place in zip(given, places):
+            tests += self.match(part, place.format(value), scope)
+        return tests
+
+    def lines(self, tree: Any, scope: Locals, rest: Sequence[str] = ()) -> List[str]:
+        """Returns the lines that return the value of an expression with the other arguments of the definition."""
         if isinstance(tree, Let):
-            name = self.fresh(tree.name)
-            return [f"{name} = {self.expression(tree.value, scope)}", *self.statements(tree.body, {**scope, tree.name: name})]
+            name = self.fresh(tree.name.word)
+            return [f"{name} = {self.text(tree.value, scope)}", *self.lines(tree.body, {**scope, tree.name.word: name}, rest)]
         if isinstance(tree, If):
-            inner = ["    " + line for line in self.statements(tree.yes, scope)]
-            return [f"if {self.expression(tree.test, scope)}:", *inner, *self.statements(tree.no, scope)]
-        return ["return " + self.heard(tree, self.expression(tree, scope))]
+            yes = block(f"if {self.text(tree.test, scope)}:", self.lines(tree.yes, scope, rest))
+            return yes + self.lines(tree.no, scope, rest)
+        whole = Apply(tree, list(map(Name, rest))) if rest else tree
+        return ["return " + self.heard(whole, self.text(whole, {**scope, **dict(zip(rest, rest))}))]
 
     def heard(self, tree: Any, text: str) -> str:
         """Returns the text of a value, which is passed on to who wants to hear of each case."""
@@ -233,181 +269,97 @@ class Body:
             return text
         case = Case(self.function.definition, tree)
         self.maker.cases.setdefault(case.definition, []).append(case)
-        return f"{self.constant(functools.partial(self.maker.hear, case))}([{', '.join(self.given)}], {text})"
+        return f"{self.maker.constant(functools.partial(self.maker.hear, case))}([{', '.join(self.given)}], {text})"
 
-    def meaning(self, word: str) -> Tuple[Any, List[str]]:
-        """Returns what a word stands for, a constructor, a definition or a word of the kit, and the fields that are read of it."""
-        scope = self.names.scope
-        target, fields = self.names.resolved(word)
-        name = self.names.whole.get(word, word)
-        name = (scope.imports[name][1] if name in scope.imports and name not in scope.definitions else name).split(".")[-1]
-        if target is None:
-            return word.split(".")[0], fields
-        if isinstance(target, Library):
-            return target.name.strip("◌"), fields
-        if name in target.members and name != target.name:
-            return constructor(target, name), fields
-        return target, fields
+    # ---- an expression: of_KIND returns the text of a tree of this kind, with these parts
 
-    # ---- expressions
-
-    def expression(self, tree: Any, scope: Locals) -> str:
+    def text(self, tree: Any, scope: Locals) -> str:
         """Returns the text of an expression."""
-        if isinstance(tree, Name):
-            return tree.word if tree.is_python else self.call(tree.word, [], scope)
-        if isinstance(tree, Number):
-            return str(int(tree.text, 0))
-        if isinstance(tree, Text):
-            return self.constant(listed(map(ord, re.sub(r"\\(.)", lambda one: ESCAPES.get(one[1], one[1]), tree.text[1:-1]))))
-        if isinstance(tree, Binder):
-            return "stuck('a statement about each or some x')"
-        if isinstance(tree, Field):
-            return self.expression(tree.base, scope) + fields_text(tree.fields)
-        if isinstance(tree, Pair):
-            return f"({', '.join(self.expression(one, scope) for one in tree.parts)})"
-        if isinstance(tree, If):
-            return "({1} if {0} else {2})".format(*(self.expression(one, scope) for one in tree))
-        if isinstance(tree, Let):
-            return f"({self.of_lambda(Lambda([Name(tree.name)], tree.body), scope)})({self.expression(tree.value, scope)})"
-        kinds = {Apply: self.of_apply, Record: self.of_record, Lambda: self.of_lambda, Operator: self.of_operator}
-        return kinds[type(tree)](tree, scope)
+        return getattr(self, f"of_{type(tree).__name__.lower()}")(scope, *tree)
 
-    def applied(self, text: str, given: List, scope: Locals) -> str:
-        """Returns the text of a function that takes its arguments one by one."""
-        return text + "".join(f"({self.expression(one, scope)})" for one in given)
+    def texts(self, trees: Sequence, scope: Locals) -> List[str]:
+        """Returns the texts of some expressions."""
+        return [self.text(tree, scope) for tree in trees]
 
-    def of_apply(self, tree: Apply, scope: Locals) -> str:
-        """Returns the text of a function with arguments."""
-        head, given = tree
-        if isinstance(head, Apply):
-            return self.of_apply(Apply(head.head, head.given + given), scope)
-        if isinstance(head, Name) and not head.is_python:
-            return self.call(head.word, given, scope)
-        if isinstance(head, Let):  # the arguments go inside
-            return self.expression(head._replace(body=Apply(head.body, given)), scope)
-        if isinstance(head, If):
-            return self.expression(If(head.test, Apply(head.yes, given), Apply(head.no, given)), scope)
-        return self.applied(self.expression(head, scope), given, scope)
+    def of_name(self, scope: Locals, word: str) -> str:
+        return self.call(scope, word, [])
 
-    def of_record(self, tree: Record, scope: Locals) -> str:
-        """Returns the text of a record."""
-        parts = [f"**{self.expression(tree.base, scope)}"] if tree.base is not None else []
-        return "{" + ", ".join(parts + [f"{name!r}: {self.expression(value, scope)}" for name, value in tree.fields]) + "}"
+    def of_number(self, _: Locals, text: str) -> str:
+        return str(int(text, 0))
 
-    def of_lambda(self, tree: Lambda, scope: Locals) -> str:
-        """Returns the text of a function."""
-        found, names = Match(self), [self.fresh("x") for _ in tree.patterns]
-        for pattern, name in zip(tree.patterns, names):
-            found.match(pattern, name)
-        return "(" + "".join(f"lambda {name}: " for name in names) + self.expression(tree.body, {**scope, **found.bound}) + ")"
+    def of_text(self, _: Locals, text: str) -> str:
+        return self.maker.constant(listed(map(ord, re.sub(r"\\(.)", lambda one: ESCAPES.get(one[1], one[1]), text[1:-1]))))
 
-    def of_operator(self, tree: Operator, scope: Locals) -> str:
-        """Returns the text of an operator of the kit or of a definition."""
-        word, left, right = tree
-        if word not in OPERATORS or isinstance(self.names.target(word), Definition):
-            return self.call(word, [left, right], scope)
+    def of_binder(self, *_: Any) -> str:
+        return "stuck('a statement about each or some x')"
+
+    def of_field(self, scope: Locals, base: Any, fields: List[str]) -> str:
+        return self.text(base, scope) + fields_text(fields)
+
+    def of_pair(self, scope: Locals, parts: List) -> str:
+        return f"({', '.join(self.texts(parts, scope))})"
+
+    def of_record(self, scope: Locals, base: Any, fields: List) -> str:
+        parts = [f"**{self.text(base, scope)}"] if base is not None else []
+        return f"{{{', '.join(parts + [f'{name!r}: {self.text(value, scope)}' for name, value in fields])}}}"
+
+    def of_if(self, scope: Locals, *parts: Any) -> str:
+        return "({1} if {0} else {2})".format(*self.texts(parts, scope))
+
+    def of_let(self, scope: Locals, name: Name, value: Any, body: Any) -> str:
+        return applied(self.of_lambda(scope, [name], body), [self.text(value, scope)])
+
+    def of_lambda(self, scope: Locals, patterns: List, body: Any) -> str:
+        names, scope = [self.fresh("x") for _ in patterns], dict(scope)
+        for pattern, name in zip(patterns, names):
+            self.match(pattern, name, scope)
+        return f"({''.join(f'lambda {name}: ' for name in names)}{self.text(body, scope)})"
+
+    def of_operator(self, scope: Locals, word: str, left: Any, right: Any) -> str:
         if word == "→" or isinstance(left, Binder):
-            return self.expression(Binder([]), scope)
-        parts = self.expression(left, scope), self.expression(right, scope)
-        return self.pairs[parts] if word == "∷" and parts in self.pairs else f"({OPERATORS[word][2].format(*parts)})"
+            return self.of_binder()
+        return BUILT_AGAIN.sub(r"\1", self.call(scope, word, [left, right]))
+
+    def of_apply(self, scope: Locals, head: Any, given: List) -> str:
+        if isinstance(head, Apply):
+            return self.of_apply(scope, head.head, head.given + given)
+        if isinstance(head, Name):
+            return self.call(scope, head.word, given)
+        return applied(self.text(head, scope), self.texts(given, scope))
 
     # ---- calls
 
-    def call(self, word: str, given: List, scope: Locals) -> str:
-        """Returns the text of a name that is applied to arguments."""
-        head, *fields = word.split(".") if word not in self.names.whole else [word]
+    def call(self, scope: Locals, word: str, given: List) -> str:
+        """Returns the text of a name, of which fields may be read, with arguments."""
+        head, *fields = [word] if word in self.names.whole else word.split(".")
         if head in scope:
-            return self.applied(scope[head] + fields_text(fields), given, scope)
-        what, fields = self.meaning(word)
-        if isinstance(what, Constructor):
-            return self.saturated(repr(what), what.arity, given, scope, what.tag) if what.arity else self.constant((what.tag,))
-        if isinstance(what, str):
-            return self.of_kit(what, given, scope) + fields_text(fields)
-        if what.scope.module[1] == "src" and what.kind == "const":
-            return re.search(r"= ([\d_]+);", what.text)[1].replace("_", "")
-        if what.kind != "function":
-            return self.applied(self.constant(Relation(what.name)), given, scope)
-        return self.of_definition(what, given, scope) + fields_text(fields)
+            return applied(scope[head] + fields_text(fields), self.texts(given, scope))
+        target, fields = self.names.resolved(word)
+        what, own = self.word(target, word), self.own(target)
+        parts = own + [self.later(one, scope) if at in what.lazy else self.text(one, scope)
+                       for at, one in enumerate([] if fields else given, len(own))]
+        if len(parts) < what.arity:
+            return f"Partial({', '.join([what.function, str(what.arity - len(parts)), *parts])})"
+        text = applied(what.call.format(*parts) if what.arity else what.call, parts[what.arity:])
+        return applied(text + fields_text(fields), self.texts(given if fields else [], scope))
 
-    def of_definition(self, what: Definition, given: List, scope: Locals) -> str:
-        """Returns the text of a call of a definition. In its own module its first arguments are not written."""
-        try:
-            function = self.maker.function(what)
-        except (Unresolved, Stuck) as fault:
-            return f"stuck({f'{what.name}: {fault}'!r})"
-        own = self.function.definition if self.function else None
-        if own and function.module and (what.scope, what.header) == (own.scope, own.header):
-            given = [Name(text, True) for text in self.given[:len(function.module)]] + given
-        given = [self.later(one, scope) if at in function.lazy else one for at, one in enumerate(given)]
-        return self.saturated(self.maker.python_name(what), function.arity, given, scope)
+    def word(self, target: Any, word: str) -> Word:
+        """Returns what a name is that stands for something, or that is built in."""
+        if isinstance(target, Constructor):
+            call = f"({', '.join([repr(tag_of(target)), *(f'{{{at}}}' for at in range(target.arity))])},)"
+            return Word(f"Tag({tag_of(target)!r})", target.arity, call)
+        if isinstance(target, Definition):
+            return self.maker.word(target)
+        return kit_word(target.name.strip("◌") if target else word.split(".")[0])
 
-    def later(self, tree: Any, scope: Locals) -> Name:
-        """Returns an argument that is computed when it is read."""
-        text = self.expression(tree, scope)
-        return Name(f"Lazy(lambda: {text})" if "(" in text and not isinstance(tree, Lambda) else text, True)
+    def own(self, target: Any) -> List[str]:
+        """Returns the arguments of the module that a definition has in common with the one that calls it: they are not written."""
+        own = self.function
+        if own and isinstance(target, Definition) and (target.scope, target.header) == (own.definition.scope, own.definition.header):
+            return self.given[:len(own.module)]
+        return []
 
-    def saturated(self, name: str, arity: int, given: List, scope: Locals, tag: str = "") -> str:
-        """Returns the text of a call with all its arguments, or of what waits for the others."""
-        parts = [self.expression(one, scope) for one in given]
-        if len(parts) < arity:
-            return f"Partial({', '.join([name, str(arity - len(parts)), *parts])})"
-        first = ", ".join(parts[:arity])
-        return (f"({tag!r}, {first})" if tag else f"{name}({first})") + "".join(f"({one})" for one in parts[arity:])
-
-    def of_kit(self, name: str, given: List, scope: Locals) -> str:
-        """Returns the text of a word of the kit."""
-        if name == "codes" or name in CONSTANTS:
-            return self.expression(given[0], scope) if name == "codes" else CONSTANTS[name]
-        if name in INLINE:
-            arity, text = INLINE[name]
-            if len(given) == arity:
-                return text.format(*(self.expression(one, scope) for one in given))
-            names = [f"x{at}" for at in range(arity)]
-            return self.applied("(" + "".join(f"lambda {one}: " for one in names) + text.format(*names) + ")", given, scope)
-        return self.saturated(f"kit_{name}", KIT[name][0], given, scope) if name in KIT else f"stuck('the word {name} of the kit')"
-
-
-class Match:
-    """What patterns test, and the names that they bind."""
-
-    def __init__(self, body: Body):
-        self.body, self.tests, self.bound = body, [], {}
-        self.lists: List[Tuple[Any, Any, str]] = []  # the names of head and tail of a list, and the list
-
-    def match(self, pattern: Any, value: str) -> None:
-        """Adds what one pattern tests and binds, of a value of this text."""
-        head, given = pattern if isinstance(pattern, Apply) else (pattern, [])
-        if isinstance(pattern, Pair):
-            self.parts(pattern.parts, value, 0)
-        elif isinstance(pattern, Operator) and pattern.word == "∷":
-            self.tests.append(f"{value} is not NIL")
-            self.match(pattern.left, f"{value}.head")
-            self.match(pattern.right, f"{value}.tail")
-            self.lists.append((*(getattr(one, "word", "") for one in pattern[1:]), value))
-        elif isinstance(pattern, Operator):
-            self.tagged(pattern.word, pattern[1:], value)
-        elif not self.body.names.constructor(head.word):
-            self.bound.update({head.word: value} if head.word != "_" else {})
-        elif head.word in ("zero", "true", "false", "[]"):
-            self.tests.append({"zero": f"{value} == 0", "true": value, "false": f"not {value}", "[]": f"{value} is NIL"}[head.word])
-        elif head.word == "suc":
-            self.tests.append(f"{value} > 0")
-            self.match(given[0], f"({value} - 1)")
-        else:
-            self.tagged(head.word, given, value)
-
-    def tagged(self, word: str, given: Any, value: str) -> None:
-        """Adds the test of a constructor, and what its arguments are."""
-        what = self.body.meaning(word)[0]
-        self.tests.append(f"{value}[0] == {(what if isinstance(what, str) else what.tag)!r}")
-        self.parts(given, value, 1)
-
-    def parts(self, patterns: Any, value: str, first: int) -> None:
-        """Adds what the patterns of a tuple test and bind."""
-        for at, part in enumerate(patterns, first):
-            self.match(part, f"{value}[{at}]")
-
-
-def fields_text(fields: List[str]) -> str:
-    """Returns the text of fields that are read, by their names or, of a pair, their numbers."""
-    return "".join(f"[{field}]" if field.isdigit() else f"[{field!r}]" for field in fields if field)
+    def later(self, tree: Any, scope: Locals) -> str:
+        """Returns the text of an argument that is computed when it is read."""
+        text = self.text(tree, scope)
+        return f"Lazy(lambda: {text})" if "(" in text and not isinstance(tree, Lambda) else text

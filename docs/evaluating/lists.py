@@ -2,10 +2,10 @@
 
 A number is an int, a pair a tuple, a record a dict, and a constructor a tuple that begins with its name. A list is NIL, or has a
 head and a tail. No definition can tell in which way a list is kept: as pairs (Cons), as two lists that were appended and not yet
-read (Cat), or as a tree of 64 branches (Tree), so that a memory with one new number shares all others with the old one.
+read (Cat), or as rows (Table), so that a memory with one new number shares all other rows with the old one.
 """
 
-from itertools import islice
+from itertools import chain, islice
 from typing import Any, Callable, Iterable, Iterator
 
 NIL = None
@@ -58,42 +58,26 @@ class Cat(Kept):
         self.pairs, self.left, self.right = NIL, left, right
 
 
-class Tree(Kept):
-    """A list of at least one element as a tree: element i is below branch `i >> shift & 63` of the root."""
+class Table(Kept):
+    """A list of at least one element in rows of one width; the last row may be shorter."""
 
-    __slots__ = ("size", "shift", "root")
+    __slots__ = ("size", "width", "rows")
 
-    def __init__(self, size: int, shift: int, root: tuple):
-        self.pairs, self.size, self.shift, self.root = NIL, size, shift, root
+    def __init__(self, size: int, width: int, rows: tuple):
+        self.pairs, self.size, self.width, self.rows = NIL, size, width, rows
 
-    def __getitem__(self, i: int) -> Any:
-        node = self.root
-        for shift in range(self.shift, -1, -6):
-            node = node[i >> shift & 63]
-        return node
-
-    def replaced(self, i: int, x: Any) -> "Tree":
+    def replaced(self, i: int, x: Any) -> "Table":
         """Returns the list with element i replaced."""
-        def copy(node: tuple, shift: int) -> tuple:
-            k = i >> shift & 63
-            return node[:k] + ((copy(node[k], shift - 6) if shift else x),) + node[k + 1:]
-        return Tree(self.size, self.shift, copy(self.root, self.shift))
-
-
-def uniform(x: Any, shift: int) -> tuple:
-    """Returns a tree that has x everywhere."""
-    return ((uniform(x, shift - 6) if shift else x),) * 64
-
-
-ZEROS = {shift: uniform(0, shift) for shift in range(0, 36, 6)}
+        k, at = divmod(i, self.width)
+        row = self.rows[k]
+        return Table(self.size, self.width, self.rows[:k] + (row[:at] + (x,) + row[at + 1:],) + self.rows[k + 1:])
 
 
 def replicate(n: int, x: Any) -> Any:
     """Returns a list of n copies."""
-    shift = 0
-    while n > 64 << shift:
-        shift += 6
-    return Tree(n, shift, ZEROS[shift] if x == 0 else uniform(x, shift)) if n else NIL
+    width = 1 << (n.bit_length() + 1) // 2
+    count, left = divmod(n, width)
+    return Table(n, width, ((x,) * width,) * count + ((x,) * left,) * bool(left)) if n else NIL
 
 
 def items(xs: Any) -> Iterator[Any]:
@@ -105,12 +89,12 @@ def items(xs: Any) -> Iterator[Any]:
             if type(xs) is Cons:
                 yield xs.head
                 xs = xs.tail
-            elif type(xs) is Cat and xs.pairs is NIL:
+            elif type(xs) is Table:
+                yield from chain.from_iterable(xs.rows)
+                xs = NIL
+            elif xs.pairs is NIL:
                 later.append(xs.right)
                 xs = xs.left
-            elif type(xs) is Tree:
-                yield from map(xs.__getitem__, range(xs.size))
-                xs = NIL
             else:
                 xs = xs.pairs
 
@@ -129,30 +113,21 @@ def append(xs: Any, ys: Any) -> Any:
 
 def length(xs: Any) -> int:
     """Returns the number of elements."""
-    return xs.size if type(xs) is Tree else sum(1 for _ in items(xs))
+    return xs.size if type(xs) is Table else sum(1 for _ in items(xs))
 
 
 def element(xs: Any, i: int, default: Any) -> Any:
     """Returns element i, or the default past the end."""
-    if type(xs) is Tree:
-        return xs[i] if i < xs.size else default
-    while xs is not NIL:
-        if not i:
-            return xs.head
-        xs, i = xs.tail, i - 1
-    return default
+    if type(xs) is Table:
+        return xs.rows[i // xs.width][i % xs.width] if i < xs.size else default
+    return next(islice(items(xs), i, None), default)
 
 
 def with_element(xs: Any, i: int, x: Any) -> Any:
     """Returns the list with element i replaced; past the end nothing changes."""
-    if type(xs) is Tree:
+    if type(xs) is Table:
         return xs.replaced(i, x) if i < xs.size else xs
     return listed(x if k == i else y for k, y in enumerate(items(xs)))
-
-
-def take(n: int, xs: Any) -> Any:
-    """Returns the first n elements."""
-    return listed(islice(items(xs), n))
 
 
 def drop(n: int, xs: Any) -> Any:
@@ -166,15 +141,14 @@ def is_same(x: Any, y: Any) -> bool:
     """Tells whether two values of data are the same."""
     if x is y:
         return True
-    if isinstance(x, (Cons, Kept)) and isinstance(y, (Cons, Kept)):
-        xs, ys = list(items(x)), list(items(y))
-        return len(xs) == len(ys) and all(map(is_same, xs, ys))
-    if type(x) is tuple and type(y) is tuple:
-        return len(x) == len(y) and all(map(is_same, x, y))
-    if type(x) is dict and type(y) is dict:
-        return x.keys() == y.keys() and all(is_same(x[field], y[field]) for field in x)
     if callable(x) or callable(y):
         raise Stuck("whether two functions are the same")
+    if isinstance(x, (Cons, Kept)) and isinstance(y, (Cons, Kept)):
+        x, y = tuple(items(x)), tuple(items(y))
+    if type(x) is dict and type(y) is dict:
+        x, y = tuple(sorted(x.items())), tuple(sorted(y.items()))
+    if type(x) is tuple and type(y) is tuple:
+        return len(x) == len(y) and all(map(is_same, x, y))
     return x == y
 
 

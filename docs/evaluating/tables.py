@@ -71,7 +71,7 @@ class Tables:
         tree, lets = self.body(name)
         rows = [[cell(guard) if guard else "otherwise", cell(effect) if effect != "nothing" else effect]
                 for guard, effect in self.guards(tree)]
-        said = ", ".join(f"`{one.name}` is {cell(self.writer.text(one.value))}" for one in lets)
+        said = ", ".join(f"`{one.name.word}` is {cell(self.writer.text(one.value))}" for one in lets)
         made = table(["If", "it writes"], rows)
         return f"{made}\n\nHere {re.sub(r'_mode_number (?=[A-Z])', '_mode_number ', said)}." if said else made
 

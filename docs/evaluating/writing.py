@@ -38,7 +38,7 @@ class Writer:
         if isinstance(tree, Lambda):
             return f"λ {' '.join(self.text(one, 99) for one in tree.patterns)}. {self.text(tree.body)}", 0
         if isinstance(tree, Let):
-            return f"let {tree.name} = {self.text(tree.value)} in {self.text(tree.body)}", 0
+            return f"let {tree.name.word} = {self.text(tree.value)} in {self.text(tree.body)}", 0
         return "..", 99
 
 
