@@ -3,7 +3,7 @@
 import functools
 import os
 import re
-from typing import Any, Callable, Dict, Iterator, List, Optional, Tuple
+from typing import Any, Callable, Dict, Iterator, List, Tuple
 
 from book.names import Unresolved
 from book.sources import Constructor, Definition, Scope
@@ -31,8 +31,8 @@ def rank(one: Any) -> int:
 class Definitions(Maker):
     """Every definition of the repository by its name: NAME, CRATE/FILE:NAME or, of a constructor, TYPE.NAME."""
 
-    def __init__(self, top: str, hear: Optional[Callable] = None):
-        super().__init__(top, hear)
+    def __init__(self, top: str):
+        super().__init__(top)
         self.scope, self.several = Scope(("", "specs", ""), ""), {}
         found: Dict[str, Dict[Any, int]] = {}
         for scope in self.sources.scopes.values():

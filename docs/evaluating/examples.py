@@ -5,17 +5,18 @@ are to be preferred; the worked rows of pp_worked come after them. While these a
 one case the one that reads best is kept. An example is an expression, so it can be typed and computed again.
 """
 
+import functools
 import os
 import re
 import tempfile
-from typing import Any, Dict, Iterator, List, NamedTuple, Optional, Tuple
+from typing import Any, Callable, Dict, Iterator, List, NamedTuple, Optional, Tuple
 
 from book.names import Names, Unresolved, find_token
 from book.pages import Book, Text
 from book.sources import Definition
 from evaluating.asking import Definitions, performed
-from evaluating.expressions import Name, Operator, Parser
-from evaluating.functions import Case
+from evaluating.expressions import Apply, Name, Parser
+from evaluating.functions import Function, Locals
 from evaluating.lists import Stuck
 from evaluating.showing import Shower
 from evaluating.writing import Writer
@@ -75,11 +76,38 @@ def worked(top: str, definitions: Definitions) -> Iterator[Tuple[str, str, Any]]
                     yield f"{module[2]}.{function[1]}.{clause[1]}", " ".join(function[0][clause.end():end].split()), scope
 
 
+class Case:
+    """A clause of a definition, or a branch of it, with the expression that it returns."""
+
+    def __init__(self, definition: Definition, tree: Any):
+        self.definition, self.tree = definition, tree
+
+
+class HeardFunction(Function):
+    """A function that tells the definitions which case of it returned what."""
+
+    def returned(self, tree: Any, scope: Locals) -> str:
+        case = Case(self.definition, tree)
+        self.maker.cases.setdefault(self.definition, []).append(case)
+        hear = self.maker.constant(functools.partial(self.maker.hear, case))
+        return f"{hear}([{', '.join(self.given)}], {super().returned(tree, scope)})"
+
+
+class HeardDefinitions(Definitions):
+    """Definitions of which each call is heard: hear(case, arguments, value)."""
+
+    kind = HeardFunction
+
+    def __init__(self, top: str, hear: Callable):
+        super().__init__(top)
+        self.hear, self.cases = hear, {}  # the cases of each definition
+
+
 class Recorder:
     """Hears each call, and keeps the best ones of each case."""
 
     def __init__(self, top: str):
-        self.top, self.definitions = top, Definitions(top, self.hear)
+        self.top, self.definitions = top, HeardDefinitions(top, self.hear)
         with open(os.path.join(top, "docs", "definitions.txt"), encoding="utf-8") as file:
             book = Book(self.definitions.sources, Text(file.read()))
         titles = [chapter.title for chapter in book.text.chapters]
@@ -90,7 +118,7 @@ class Recorder:
         self.typed: Dict[Case, List[Example]] = {}
         self.best: Dict[Case, List[Tuple[tuple, Example]]] = {}
         for definition in self.chapter:
-            self.definitions.word(definition)
+            self.definitions.function(definition)
         self.definitions.finish()
 
     def is_computed(self, definition: Definition) -> bool:
@@ -157,7 +185,7 @@ class Recorder:
     def head(self, text: str) -> Definition:
         """Returns the definition that an expression calls."""
         tree = Parser(text, self.definitions.fixity).whole()
-        word = tree.word if isinstance(tree, (Operator, Name)) else tree.head.word
+        word = tree.head.word if isinstance(tree, Apply) else tree.word
         return Names(self.definitions.sources, self.definitions.scope).target(word)
 
     def value(self, text: str) -> Tuple[Case, Example]:

@@ -1,20 +1,18 @@
 """Reads an expression, a pattern or a clause of a definition as a tree."""
 
+import re
 from collections import namedtuple
 from typing import Any, Dict, List, Optional, Tuple
 
-from book.names import NUMBER, TOKEN
+from book.names import TOKEN
 from evaluating.lists import Stuck
 
 Fixity = Dict[str, Tuple[int, str]]  # of each operator: how strongly it binds, and on which side first
 
-# A name with the fields that are read of it; a number and a text as they are written; a function and its arguments; two expressions
-# with an operator between; and so on. A binder has the names of (x y : A).
+# A name with the fields that are read of it, a number or a text in quotes, as it is written; a function or an operator and its
+# arguments; and so on. A binder has the names of (x y : A).
 Name = namedtuple("Name", "word")
-Number = namedtuple("Number", "text")
-Text = namedtuple("Text", "text")
 Apply = namedtuple("Apply", "head given")
-Operator = namedtuple("Operator", "word left right")
 Pair = namedtuple("Pair", "parts")
 Field = namedtuple("Field", "base fields")
 Record = namedtuple("Record", "base fields")  # the base is a record of which some fields are replaced, or None
@@ -74,7 +72,7 @@ class Parser:
         left = self.operand()
         while self.word in self.fixity and self.fixity[self.word][0] >= least:
             strength, side = self.fixity[self.word]
-            left = Operator(self.take(), left, self.expression(strength + (side != "r")))
+            left = Apply(Name(self.take()), [left, self.expression(strength + (side != "r"))])
         return left
 
     def operand(self) -> Any:
@@ -99,7 +97,7 @@ class Parser:
         return Lambda(patterns + ([Name(last)] if last else []), self.expression())
 
     def atom(self) -> Any:
-        """Reads a name, a number, a text, a record, or what is in brackets."""
+        """Reads a name, a record, or what is in brackets."""
         if self.word in STOPS:
             raise Stuck(f"a text with {self.word or 'an end'} in place of an expression")
         word = self.take()
@@ -109,14 +107,8 @@ class Parser:
             return IMPLICIT
         if word == "record":
             return self.record()
-        if word == "(":
-            found = self.bracket()
-            while self.word.startswith(".") and len(self.word) > 1:
-                found = Field(found, self.take()[1:].split("."))
-            return found
-        if word.startswith('"'):
-            return Text(word)
-        return Number(word) if NUMBER.fullmatch(word) else Name(word)
+        found = self.bracket() if word == "(" else Name(word)
+        return Field(found, self.take()[1:].split(".")) if re.match(r"\..", self.word) else found
 
     def record(self) -> Record:
         """Reads what follows `record`."""
@@ -133,7 +125,8 @@ class Parser:
         if self.word == ":":
             self.behind(":")
             self.take(")")
-            return Binder([one.word for one in (parts[0].head, *parts[0].given)] if isinstance(parts[0], Apply) else parts[0][:1])
+            names = [parts[0].head, *parts[0].given] if isinstance(parts[0], Apply) else parts
+            return Binder([name.word for name in names])
         while self.has(","):
             parts += [self.expression()] if self.word != ")" else []
         self.take(")")

@@ -34,19 +34,15 @@ class Cons:
         self.head, self.tail = head, tail
 
 
-class Kept:
-    """A list that becomes pairs when its head or its tail is read."""
+class Kept(Cons):
+    """A list that becomes a pair when its head or its tail is read."""
 
-    __slots__ = ("pairs",)
+    __slots__ = ()
 
-    def read(self) -> Cons:
-        """Returns the list as pairs."""
-        if self.pairs is NIL:
-            self.pairs = listed(items(self))
-        return self.pairs
-
-    head = property(lambda self: self.read().head)
-    tail = property(lambda self: self.read().tail)
+    def __getattr__(self, name: str) -> Any:
+        pairs = listed(items(self))
+        self.head, self.tail = pairs.head, pairs.tail
+        return getattr(pairs, name)
 
 
 class Cat(Kept):
@@ -54,8 +50,8 @@ class Cat(Kept):
 
     __slots__ = ("left", "right")
 
-    def __init__(self, left: Any, right: Any):
-        self.pairs, self.left, self.right = NIL, left, right
+    def __init__(self, left: Any, right: Any):  # pylint: disable=super-init-not-called
+        self.left, self.right = left, right
 
 
 class Table(Kept):
@@ -63,8 +59,8 @@ class Table(Kept):
 
     __slots__ = ("size", "width", "rows")
 
-    def __init__(self, size: int, width: int, rows: tuple):
-        self.pairs, self.size, self.width, self.rows = NIL, size, width, rows
+    def __init__(self, size: int, width: int, rows: tuple):  # pylint: disable=super-init-not-called
+        self.size, self.width, self.rows = size, width, rows
 
     def replaced(self, i: int, x: Any) -> "Table":
         """Returns the list with element i replaced."""
@@ -89,14 +85,12 @@ def items(xs: Any) -> Iterator[Any]:
             if type(xs) is Cons:
                 yield xs.head
                 xs = xs.tail
-            elif type(xs) is Table:
-                yield from chain.from_iterable(xs.rows)
-                xs = NIL
-            elif xs.pairs is NIL:
+            elif type(xs) is Cat:
                 later.append(xs.right)
                 xs = xs.left
             else:
-                xs = xs.pairs
+                yield from chain.from_iterable(xs.rows)
+                xs = NIL
 
 
 def listed(elements: Iterable, end: Any = NIL) -> Any:
@@ -143,7 +137,7 @@ def is_same(x: Any, y: Any) -> bool:
         return True
     if callable(x) or callable(y):
         raise Stuck("whether two functions are the same")
-    if isinstance(x, (Cons, Kept)) and isinstance(y, (Cons, Kept)):
+    if isinstance(x, Cons) and isinstance(y, Cons):
         x, y = tuple(items(x)), tuple(items(y))
     if type(x) is dict and type(y) is dict:
         x, y = tuple(sorted(x.items())), tuple(sorted(y.items()))

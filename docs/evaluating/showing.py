@@ -5,7 +5,7 @@ from typing import Any, Iterable, Iterator, List, Tuple
 
 from evaluating.asking import Definitions
 from evaluating.functions import Tag, tag_of
-from evaluating.lists import NIL, Cons, Kept, Lazy, Partial, Relation, Stuck, Table, items, length, listed
+from evaluating.lists import NIL, Cons, Lazy, Partial, Relation, Stuck, Table, items, length, listed
 
 Shown = Tuple[str, int]  # a text, and how strongly it binds
 ATOM, CALL, CONS, APPENDED = 99, 98, 67, 65
@@ -26,7 +26,7 @@ ESCAPES = {**{code: chr(code) for code in range(32, 127)}, 9: "\\t", 10: "\\n", 
 
 def is_list(value: Any) -> bool:
     """Tells whether a value is a list."""
-    return value is NIL or isinstance(value, (Cons, Kept))
+    return value is NIL or isinstance(value, Cons)
 
 
 def not_zero(xs: Any) -> Iterator[Tuple[int, Any]]:
@@ -42,7 +42,7 @@ class Shower:
 
     def __init__(self, definitions: Definitions, has_texts: bool = False, most: int = 10 ** 6):
         self.definitions, self.has_texts, self.left = definitions, has_texts, most
-        self.names = {python: definition for definition, python in definitions.made.items()}
+        self.names = {function.name: definition for definition, function in definitions.functions.items()}
         self.at_rest = definitions.call("at_rest")
 
     def text(self, value: Any) -> str:
