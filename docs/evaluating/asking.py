@@ -5,11 +5,14 @@ import os
 import re
 from typing import Any, Callable, Dict, Iterator, List, Tuple
 
-from book.names import Unresolved
+from book.names import Names, Sources, Unresolved
 from book.sources import Constructor, Definition, Scope
-from evaluating.functions import Maker, tag_of
-from evaluating.kit import KIT, NONE, text_of
+from evaluating import lists
+from evaluating.functions import Function, Tag, remembering, tag_of
+from evaluating.kit import FIXITIES, KIT, NONE, text_of
 from evaluating.lists import Stuck, items, listed
+
+FIXITY = re.compile(r"infix([lr]?) (\d+)((?: ◌\S+◌)+)")
 
 # Of several definitions with one name, the only one of the first crate has it alone, or else the only one outside of the second;
 # those of inner files count as the second's, and a definition comes before the constructors with its name.
@@ -28,38 +31,81 @@ def rank(one: Any) -> int:
     return 3 * is_constructor + (2 if is_far else owner.crate != MAIN)
 
 
-class Definitions(Maker):
+class Definitions:
     """Every definition of the repository by its name: NAME, CRATE/FILE:NAME or, of a constructor, TYPE.NAME."""
 
+    kind = Function
+
     def __init__(self, top: str):
-        super().__init__(top)
-        self.scope, self.several = Scope(("", "specs", ""), ""), {}
+        self.sources, self.scope, self.fixity = Sources(top), Scope(("", "specs", ""), ""), {}
+        scopes = [scope for scope in self.sources.scopes.values() if "tests" not in scope.module[2]]
+        owners = [one for scope in scopes for one in scope.definitions.values() if isinstance(one, Definition)]
         found: Dict[str, Dict[Any, int]] = {}
-        for scope in self.sources.scopes.values():
-            owners = [one for one in scope.definitions.values() if isinstance(one, Definition) and "tests" not in scope.module[2]]
-            for one in [*owners, *(member for owner in owners for member in owner.members.values())]:
-                found.setdefault(one.name, {})[one] = rank(one)
-                self.scope.definitions[whole_name(one)] = one
+        for one in [*owners, *(member for owner in owners for member in owner.members.values())]:
+            found.setdefault(one.name, {})[one] = rank(one)
+            self.scope.definitions[whole_name(one)] = one
+        self.first = {name: [one for one, own in ranks.items() if own == min(ranks.values())] for name, ranks in found.items()}
         self.shared = {name for name, ranks in found.items() if sum(own % 3 < 2 for own in ranks.values()) > 1}
-        for name, ranks in found.items():
-            first = [one for one, own in ranks.items() if own == min(ranks.values())]
-            self.scope.definitions.update({name: first[0]} if len(first) == 1 else {})
-            self.several.update({name: sorted(map(whole_name, first))} if len(first) > 1 else {})
+        self.scope.definitions.update((name, first[0]) for name, first in self.first.items() if len(first) == 1)
+        for side, strength, names in FIXITY.findall("\n".join([FIXITIES, *(owner.fixity for owner in owners)])):
+            self.fixity.update(dict.fromkeys(names.replace("◌", "").split(), (int(strength), side)))
         for name in [f"◌{name}◌" if name in self.fixity else name for name in KIT]:
             self.scope.imports[name] = ("Rattle.std.specs.Prelude", name)
             self.scope.definitions.pop(name, None)
+        self.names = functools.lru_cache(None)(functools.partial(Names, self.sources))  # what the names of a scope stand for
+        self.memory: Dict = {}  # what remembered functions have returned
+        self.python = {**vars(lists), **{f"kit_{name}": function for name, function in KIT.items()}, "NONE": NONE, "Tag": Tag,
+                       "once": functools.lru_cache(None), "remembered": functools.partial(remembering, self.memory)}
+        self.functions: Dict[Definition, Function] = {}
+        self.queue: List[Function] = []
 
     def named(self, name: str) -> Definition:
         """Returns the definition of a name."""
-        if name not in self.scope.definitions:
-            several = self.several.get(name)
-            raise Unresolved(f"{name} is one of {', '.join(several)}" if several else f"{name} stands for nothing")
-        return self.scope.definitions[name]
+        if name in self.scope.definitions:
+            return self.scope.definitions[name]
+        several = ", ".join(sorted(map(whole_name, self.first.get(name, []))))
+        raise Unresolved(f"{name} is one of {several}" if several else f"{name} stands for nothing")
 
     def name_of(self, definition: Definition) -> str:
         """Returns the shortest name of a definition."""
         is_alone = self.scope.definitions.get(definition.name) is definition
         return definition.name if is_alone else f"{definition.place}:{definition.name}"
+
+    def constant(self, value: Any) -> str:
+        """Returns the name of a value in the functions that are made."""
+        name = f"constant_{len(self.python)}"
+        self.python[name] = value
+        return name
+
+    def function(self, definition: Definition) -> Function:
+        """Returns the function of a definition, which is made before anything is computed."""
+        if definition not in self.functions:
+            self.functions[definition] = self.kind(self, definition)
+            self.queue.append(self.functions[definition])
+        return self.functions[definition]
+
+    def finish(self) -> None:
+        """Makes the functions that are used, and those that they use."""
+        while self.queue:
+            function = self.queue.pop()
+            try:
+                text = function.whole()
+            except (Unresolved, Stuck) as what:
+                text = f"def {function.name}(*_):\n    stuck({f'{function.definition.name}: {what}'!r})\n"
+            exec(compile(text, f"<{function.name}>", "exec"), self.python)  # pylint: disable=exec-used
+
+    def find(self, definition: Definition) -> Callable:
+        """Returns the function of Python of a definition."""
+        name = self.function(definition).name
+        self.finish()
+        return self.python[name]
+
+    def value(self, text: str, scope: Scope) -> Any:
+        """Returns the value of an expression, with the names of a scope."""
+        asked = self.kind(self, Definition("function", "asked", scope, 0, "", "asked : Type\nasked = " + text.replace("\n", "\n ")))
+        made = asked.text(asked.clauses[0][1], {})
+        self.finish()
+        return eval(made, self.python)  # pylint: disable=eval-used
 
     def call(self, name: str, *given: Any) -> Any:
         """Returns the value of a definition with these arguments."""

@@ -11,12 +11,11 @@ import re
 from collections import namedtuple
 from typing import Any, Callable, Dict, List, Sequence
 
-from book.names import NUMBER, Library, Names, Sources, Unresolved
-from book.sources import Constructor, Definition, Scope
-from evaluating import lists
+from book.names import NUMBER, Library, Unresolved
+from book.sources import Constructor, Definition
 from evaluating.expressions import Apply, Binder, If, Lambda, Let, Name, Pair, Parser
-from evaluating.kit import FIXITIES, KIT, NONE
-from evaluating.lists import Relation, Stuck, listed
+from evaluating.kit import KIT
+from evaluating.lists import Stuck, listed
 
 # Without memory a session of n turns would take n * n steps, since each definition replays it from its start.
 REMEMBERED = ("replay", "turn", "finished", "lines_of_file")
@@ -37,11 +36,6 @@ class Tag(str):
 
     def __call__(self, *given: Any) -> tuple:
         return (str(self), *given)
-
-
-def stuck(what: Any) -> None:
-    """Says that something can't be computed."""
-    raise Stuck(what)
 
 
 def remembering(memory: Dict, function: Callable) -> Callable:
@@ -92,7 +86,7 @@ def fields_text(fields: List[str]) -> str:
 class Function:
     """A definition, which becomes a function of Python with the arguments _0, _1 .."""
 
-    def __init__(self, maker: "Maker", definition: Definition):
+    def __init__(self, maker: Any, definition: Definition):
         self.maker, self.definition, self.names, self.count = maker, definition, maker.names(definition.scope), 0
         (_, end), *clauses = definition.clauses()
         sides = [Parser(definition.text[start:stop], maker.fixity).clause() for start, stop in clauses]
@@ -126,7 +120,7 @@ class Function:
         scope, tests = dict(zip(self.module, self.given)), []
         for at, pattern in enumerate(patterns, len(self.module)):
             is_lazy = LAZY.get(self.definition.name) == at
-            tests += self.match(pattern, f"force({self.given[at]})" if is_lazy else self.given[at], scope)
+            tests += self.match(pattern, f"{self.given[at]}()" if is_lazy else self.given[at], scope)
         rest = self.given[len(self.module) + len(patterns):]
         return block(f"if {' and '.join(tests) or True}:", self.lines(body, scope, rest))
 
@@ -222,7 +216,7 @@ class Function:
         what, parts = self.word(scope, word, target), self.own(target)
         for at, one in enumerate(given, len(parts)):
             is_lazy = isinstance(target, Definition) and LAZY.get(target.name) == at
-            parts.append(f"Lazy(lambda: {self.text(one, scope)})" if is_lazy else self.text(one, scope))
+            parts.append(f"once(lambda: {self.text(one, scope)})" if is_lazy else self.text(one, scope))
         if len(parts) < what.arity:
             return f"Partial({', '.join([what.function, str(what.arity - len(parts)), *parts])})"
         return applied(what.call.format(*parts) if what.arity else what.call, parts[what.arity:])
@@ -233,76 +227,21 @@ class Function:
             given = "".join(f", {{{at}}}" for at in range(target.arity))
             return Word(f"Tag({tag_of(target)!r})", target.arity, f"({tag_of(target)!r}{given or ','})")
         if isinstance(target, Definition):
-            return self.maker.word(target)
+            return self.defined(target)
         return Word("", 0, scope[word]) if word in scope else kit_word(target.name.strip("◌") if target else word)
+
+    def defined(self, target: Definition) -> Word:
+        """Returns what a definition is."""
+        if target.kind == "const":
+            return Word("", 0, re.search(r"= ([\d_]+);", target.text)[1])
+        if target.kind != "function":
+            return Word("", 0, f"Partial(stuck, 1, '{target.name}, which is a type or a relation')")
+        try:
+            return word_of(self.maker.function(target).name, len(self.maker.function(target).given))
+        except (Unresolved, Stuck) as what:
+            return Word("", 0, f"stuck({f'{target.name}: {what}'!r})")
 
     def own(self, target: Any) -> List[str]:
         """Returns the arguments of the module that a definition has in common with this one: they are not written."""
         is_own = isinstance(target, Definition) and (target.scope, target.header) == (self.definition.scope, self.definition.header)
         return self.given[:len(self.module)] if is_own else []
-
-
-class Maker:
-    """Makes the functions of all definitions that are used, and of what is asked for."""
-
-    kind = Function
-
-    def __init__(self, top: str):
-        self.sources = Sources(top)
-        self.names = functools.lru_cache(None)(functools.partial(Names, self.sources))  # what the names of a scope stand for
-        declared = [getattr(one, "fixity", "") for scope in self.sources.scopes.values() for one in scope.definitions.values()]
-        self.fixity = {}
-        for side, strength, names in re.findall(r"infix([lr]?) (\d+)((?: ◌\S+◌)+)", "\n".join([FIXITIES, *declared])):
-            self.fixity.update(dict.fromkeys(names.replace("◌", "").split(), (int(strength), side or "n")))
-        self.memory: Dict = {}  # what remembered functions have returned
-        self.python = {**vars(lists), **{f"kit_{name}": function for name, function in KIT.items()}, "NONE": NONE, "Tag": Tag,
-                       "stuck": stuck, "once": functools.lru_cache(None), "remembered": functools.partial(remembering, self.memory)}
-        self.functions: Dict[Definition, Function] = {}
-        self.queue: List[Function] = []
-
-    def constant(self, value: Any) -> str:
-        """Returns the name of a value in the functions that are made."""
-        name = f"constant_{len(self.python)}"
-        self.python[name] = value
-        return name
-
-    def function(self, definition: Definition) -> Function:
-        """Returns the function of a definition, which is made before anything is computed."""
-        if definition not in self.functions:
-            self.functions[definition] = self.kind(self, definition)
-            self.queue.append(self.functions[definition])
-        return self.functions[definition]
-
-    def word(self, definition: Definition) -> Word:
-        """Returns what a definition is."""
-        if definition.kind == "const":
-            return Word("", 0, re.search(r"= ([\d_]+);", definition.text)[1])
-        if definition.kind != "function":
-            return Word("", 0, self.constant(Relation(definition.name)))
-        try:
-            return word_of(self.function(definition).name, len(self.function(definition).given))
-        except (Unresolved, Stuck) as what:
-            return Word("", 0, f"stuck({f'{definition.name}: {what}'!r})")
-
-    def finish(self) -> None:
-        """Makes the functions that are used, and those that they use."""
-        while self.queue:
-            function = self.queue.pop()
-            try:
-                text = function.whole()
-            except (Unresolved, Stuck) as what:
-                text = f"def {function.name}(*_):\n    stuck({f'{function.definition.name}: {what}'!r})\n"
-            exec(compile(text, f"<{function.name}>", "exec"), self.python)  # pylint: disable=exec-used
-
-    def find(self, definition: Definition) -> Callable:
-        """Returns the function of Python of a definition."""
-        name = self.function(definition).name
-        self.finish()
-        return self.python[name]
-
-    def value(self, text: str, scope: Scope) -> Any:
-        """Returns the value of an expression, with the names of a scope."""
-        asked = self.kind(self, Definition("function", "asked", scope, 0, "", "asked : Type\nasked = " + text.replace("\n", "\n ")))
-        made = asked.text(asked.clauses[0][1], {})
-        self.finish()
-        return eval(made, self.python)  # pylint: disable=eval-used

@@ -15,14 +15,9 @@ class Stuck(Exception):
     """What can't be computed."""
 
 
-class Relation:
-    """A type, or a relation: it may be passed on, but not computed."""
-
-    def __init__(self, name: str):
-        self.name = name
-
-    def __call__(self, *_: Any) -> None:
-        raise Stuck(f"{self.name}, which is a type or a relation")
+def stuck(what: str, *_: Any) -> None:
+    """Says that something can't be computed."""
+    raise Stuck(what)
 
 
 class Cons:
@@ -61,12 +56,6 @@ class Table(Kept):
 
     def __init__(self, size: int, width: int, rows: tuple):  # pylint: disable=super-init-not-called
         self.size, self.width, self.rows = size, width, rows
-
-    def replaced(self, i: int, x: Any) -> "Table":
-        """Returns the list with element i replaced."""
-        k, at = divmod(i, self.width)
-        row = self.rows[k]
-        return Table(self.size, self.width, self.rows[:k] + (row[:at] + (x,) + row[at + 1:],) + self.rows[k + 1:])
 
 
 def replicate(n: int, x: Any) -> Any:
@@ -119,9 +108,13 @@ def element(xs: Any, i: int, default: Any) -> Any:
 
 def with_element(xs: Any, i: int, x: Any) -> Any:
     """Returns the list with element i replaced; past the end nothing changes."""
-    if type(xs) is Table:
-        return xs.replaced(i, x) if i < xs.size else xs
-    return listed(x if k == i else y for k, y in enumerate(items(xs)))
+    if type(xs) is not Table:
+        return listed(x if k == i else y for k, y in enumerate(items(xs)))
+    if i >= xs.size:
+        return xs
+    k, at = divmod(i, xs.width)
+    row = xs.rows[k]
+    return Table(xs.size, xs.width, xs.rows[:k] + (row[:at] + (x,) + row[at + 1:],) + xs.rows[k + 1:])
 
 
 def drop(n: int, xs: Any) -> Any:
@@ -144,24 +137,6 @@ def is_same(x: Any, y: Any) -> bool:
     if type(x) is tuple and type(y) is tuple:
         return len(x) == len(y) and all(map(is_same, x, y))
     return x == y
-
-
-class Lazy:
-    """An argument that is computed when it is read, and once."""
-
-    __slots__ = ("make", "value")
-
-    def __init__(self, make: Callable):
-        self.make, self.value = make, None
-
-
-def force(x: Any) -> Any:
-    """Returns the value of an argument."""
-    if type(x) is not Lazy:
-        return x
-    if x.make:
-        x.value, x.make = x.make(), None
-    return x.value
 
 
 class Partial:

@@ -5,7 +5,7 @@ from typing import Any, Iterable, Iterator, List, Tuple
 
 from evaluating.asking import Definitions
 from evaluating.functions import Tag, tag_of
-from evaluating.lists import NIL, Cons, Lazy, Partial, Relation, Stuck, Table, items, length, listed
+from evaluating.lists import NIL, Cons, Partial, Stuck, Table, items, length, listed, stuck
 
 Shown = Tuple[str, int]  # a text, and how strongly it binds
 ATOM, CALL, CONS, APPENDED = 99, 98, 67, 65
@@ -76,8 +76,6 @@ class Shower:
             return self.record(value)
         if is_list(value):
             return self.list(value)
-        if isinstance(value, Lazy) and not value.make:
-            return self.shown(value.value)
         return self.function(value)
 
     def constructor(self, tag: str) -> str:
@@ -94,8 +92,8 @@ class Shower:
             return self.called(self.constructor(function), given)
         if definition:
             return self.called(self.definitions.name_of(definition), given)
-        if isinstance(value, Relation):
-            value()
+        if function is stuck:
+            stuck(*given)
         raise Stuck("the text of a function")
 
     # ---- lists
