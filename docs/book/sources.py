@@ -1,6 +1,5 @@
 """Reads the definitions of the sources: those of specs/*.antt, and the types, constants and ghost members of src/*.rt."""
 
-import collections
 import re
 
 from book.facts import MARKS, marks_in
@@ -18,8 +17,6 @@ VARIANT = re.compile(r"^    ([A-Z]\w*)(?:\s*\{([^}]*)\}|\(([^)]*)\))?", re.M)
 BRACKETS = re.compile(r"\([^()]*\)")
 CLAUSE = re.compile(r"^(?!--|[\])}])\S", re.M)
 
-# A constructor of a type, and how many arguments it takes.
-Constructor = collections.namedtuple("Constructor", "type name arity")
 
 
 class Scope:
@@ -61,6 +58,13 @@ def used_names(module, names):
         part = ""
 
 
+class Constructor:
+    """A constructor of a type, and how many arguments it takes."""
+
+    def __init__(self, owner, name, arity):
+        self.type, self.name, self.arity, self.whole_name = owner, name, arity, f"{owner.name}.{name}"
+
+
 class Definition:
     """A definition as it is written, without the attributes for the compiler."""
 
@@ -72,6 +76,7 @@ class Definition:
 
     crate = property(lambda self: self.scope.path.split("/")[1])
     place = property(lambda self: re.sub(r"^crates/(\w+)/(?:specs/)?(.*)\.\w+$", r"\1/\2", self.scope.path))
+    whole_name = property(lambda self: f"{self.place}:{self.name}")
 
     def clauses(self):
         """Yields where the signature and each clause begins and ends."""

@@ -225,11 +225,6 @@ class Recorder:
             return False
 
 
-def name_of(definition: Definition) -> str:
-    """Returns the name of a definition in docs/examples.txt."""
-    return f"{definition.place}:{definition.name}"
-
-
 def load(text: str) -> Dict[str, List[Example]]:
     """Returns the examples of docs/examples.txt by their definitions."""
     found: Dict[str, List[Example]] = {}
@@ -261,9 +256,9 @@ def record(top: str) -> int:
     lines, without = [HEAD], []
     for definition in recorder.chapter:
         found = recorder.examples(definition)
-        lines.append(f"== {name_of(definition)}")
+        lines.append(f"== {definition.whole_name}")
         lines += [f"without: {one.without}" if one.without else f"{one.text}\n  = {one.value}" for one in found]
-        without += [f"{name_of(definition)}: {one.without}" for one in found if one.without]
+        without += [f"{definition.whole_name}: {one.without}" for one in found if one.without]
     with open(os.path.join(top, FILE), "w", encoding="utf-8") as file:
         file.write("\n".join(lines) + "\n")
     count = sum(len(recorder.definitions.cases[definition]) for definition in recorder.chapter)
@@ -276,9 +271,9 @@ def faults_of(top: str, text: str) -> List[str]:
     recorder, examples, faults = Recorder(top), load(text), []
     for definition in recorder.chapter:
         left = list(recorder.definitions.cases[definition])
-        for example in examples.pop(name_of(definition), []):
+        for example in examples.pop(definition.whole_name, []):
             faults += recorder.fault(example, left)
-        faults += [f"{name_of(definition)}: no line for the case {recorder.returns(case)}" for case in left]
+        faults += [f"{definition.whole_name}: no line for the case {recorder.returns(case)}" for case in left]
     return faults + [f"{name}: no computable definition on the page" for name in examples]
 
 

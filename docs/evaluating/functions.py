@@ -27,15 +27,9 @@ PATTERNS = {"zero": ["{} == 0"], "suc": ["{} > 0", "({} - 1)"], "true": ["{}"], 
 BUILT_AGAIN = re.compile(r"Cons\(([\w.\[\]]+)\.head, \1\.tail\)")
 
 Locals = Dict[str, str]  # what each name that is bound is in Python
-# What a name is in Python: its function, how many arguments it takes, and a call with {0}, {1} .. in their places.
-Word = namedtuple("Word", "function arity call")
-
-
-class Tag(str):
-    """The function of a constructor: its type and its name with a dot between."""
-
-    def __call__(self, *given: Any) -> tuple:
-        return (str(self), *given)
+# What a name is in Python: its function, how many arguments it takes, a call with {0}, {1} .. in their places, and the arguments that
+# are not written: a constructor's name, and those of the module of a definition in a definition of this module.
+Word = namedtuple("Word", "function arity call own", defaults=[()])
 
 
 def remembering(memory: Dict, function: Callable) -> Callable:
@@ -49,14 +43,9 @@ def remembering(memory: Dict, function: Callable) -> Callable:
     return remembered
 
 
-def tag_of(what: Any) -> str:
-    """Returns the tag of a constructor: those of the kit have no type."""
-    return what.name if isinstance(what, Library) else f"{what.type.name}.{what.name}"
-
-
-def word_of(function: str, arity: int) -> Word:
-    """Returns the word of a function."""
-    return Word(function, arity, f"{function}({', '.join(f'{{{at}}}' for at in range(arity))})")
+def word_of(function: str, arity: int, own: Sequence[str] = (), call: str = "{}({})") -> Word:
+    """Returns the word of a function, of which a call is written so."""
+    return Word(function, arity, call.format(function, ", ".join(f"{{{at}}}" for at in range(arity))), own)
 
 
 def kit_word(name: str) -> Word:
@@ -132,8 +121,8 @@ class Function:
             test, places = "", ["{}[0]", *places]
         elif head.word in PATTERNS:
             test, *places = PATTERNS[head.word]
-        elif self.names.constructor(head.word):
-            test = f"{{}}[0] == {tag_of(self.names.constructor(head.word))!r}"
+        elif what := self.names.constructor(head.word):
+            test = f"{{}}[0] == {getattr(what, 'whole_name', what.name)!r}"  # a word of the kit has no type
         else:
             scope[head.word] = value
             return []
@@ -213,35 +202,28 @@ class Function:
         if fields:
             base = word[:-len(".".join(["", *fields]))]
             return applied(self.call(scope, base, []) + fields_text(fields), self.texts(given, scope))
-        what, parts = self.word(scope, word, target), self.own(target)
+        what = self.word(target) if target else Word("", 0, scope[word]) if word in scope else kit_word(word)
+        parts = list(what.own)
         for at, one in enumerate(given, len(parts)):
-            is_lazy = isinstance(target, Definition) and LAZY.get(target.name) == at
+            is_lazy = target and LAZY.get(target.name) == at
             parts.append(f"once(lambda: {self.text(one, scope)})" if is_lazy else self.text(one, scope))
         if len(parts) < what.arity:
             return f"Partial({', '.join([what.function, str(what.arity - len(parts)), *parts])})"
         return applied(what.call.format(*parts) if what.arity else what.call, parts[what.arity:])
 
-    def word(self, scope: Locals, word: str, target: Any) -> Word:
-        """Returns what a name is, that is bound or has a target, or is built in."""
+    def word(self, target: Any) -> Word:
+        """Returns what a word of the kit, a constructor or a definition is."""
+        if isinstance(target, Library):
+            return kit_word(target.name.strip("◌"))
         if isinstance(target, Constructor):
-            given = "".join(f", {{{at}}}" for at in range(target.arity))
-            return Word(f"Tag({tag_of(target)!r})", target.arity, f"({tag_of(target)!r}{given or ','})")
-        if isinstance(target, Definition):
-            return self.defined(target)
-        return Word("", 0, scope[word]) if word in scope else kit_word(target.name.strip("◌") if target else word)
-
-    def defined(self, target: Definition) -> Word:
-        """Returns what a definition is."""
+            return word_of("together", 1 + target.arity, [repr(target.whole_name)], "({1},)")
         if target.kind == "const":
             return Word("", 0, re.search(r"= ([\d_]+);", target.text)[1])
         if target.kind != "function":
             return Word("", 0, f"Partial(stuck, 1, '{target.name}, which is a type or a relation')")
+        is_near = (target.scope, target.header) == (self.definition.scope, self.definition.header)
         try:
-            return word_of(self.maker.function(target).name, len(self.maker.function(target).given))
+            function = self.maker.function(target)
         except (Unresolved, Stuck) as what:
             return Word("", 0, f"stuck({f'{target.name}: {what}'!r})")
-
-    def own(self, target: Any) -> List[str]:
-        """Returns the arguments of the module that a definition has in common with this one: they are not written."""
-        is_own = isinstance(target, Definition) and (target.scope, target.header) == (self.definition.scope, self.definition.header)
-        return self.given[:len(self.module)] if is_own else []
+        return word_of(function.name, len(function.given), self.given[:len(self.module)] if is_near else [])

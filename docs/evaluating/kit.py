@@ -9,7 +9,7 @@ import re
 from itertools import islice
 from typing import Any, Dict, Tuple
 
-from evaluating.lists import NIL, Cons, append, drop, element, items, length, listed, replicate, with_element
+from evaluating.lists import NIL, Cons, append, drop, element, items, listed, replicate, with_element
 
 NONE = ("None",)
 
@@ -73,7 +73,7 @@ KIT: Dict[str, Any] = {
     "All": lambda test, xs: all(map(test, items(xs))),
 
     "[]": "NIL", "∷": "Cons({0}, {1})", "++": "append({0}, {1})", "codes": "{0}", "slice_index": "element({0}, {1}, 0)",
-    "length": length,
+    "length": lambda xs: getattr(xs, "size", 0) or sum(1 for _ in items(xs)),
     "take": lambda n, xs: listed(islice(items(xs), n)),
     "drop": drop,
     "replicate": replicate,

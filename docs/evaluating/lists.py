@@ -1,11 +1,11 @@
 """The values of the definitions: lists, which share what did not change, and what is computed only when it is read.
 
 A number is an int, a pair a tuple, a record a dict, and a constructor a tuple that begins with its name. A list is NIL, or has a
-head and a tail. No definition can tell in which way a list is kept: as pairs (Cons), as two lists that were appended and not yet
-read (Cat), or as rows (Table), so that a memory with one new number shares all other rows with the old one.
+head and a tail. No definition can tell in which way a list is kept: as a pair (Cons), or in parts that were not yet read. These are
+two lists that were appended, or rows, so that a memory with one new number shares all other rows with the old one.
 """
 
-from itertools import chain, islice
+from itertools import islice
 from typing import Any, Callable, Iterable, Iterator
 
 NIL = None
@@ -20,19 +20,28 @@ def stuck(what: str, *_: Any) -> None:
     raise Stuck(what)
 
 
+def together(*given: Any) -> tuple:
+    """Returns a constructor with its arguments."""
+    return given
+
+
 class Cons:
     """A list with a head and a tail."""
 
     __slots__ = ("head", "tail")
+    width = 0
 
     def __init__(self, head: Any, tail: Any):
         self.head, self.tail = head, tail
 
 
-class Kept(Cons):
-    """A list that becomes a pair when its head or its tail is read."""
+class Parts(Cons):
+    """A list in parts, which becomes a pair when its head or its tail is read. Rows are tuples of one width, only the last is shorter."""
 
-    __slots__ = ()
+    __slots__ = ("parts", "width", "size")
+
+    def __init__(self, parts: tuple, width: int = 0, size: int = 0):  # pylint: disable=super-init-not-called
+        self.parts, self.width, self.size = parts, width, size
 
     def __getattr__(self, name: str) -> Any:
         pairs = listed(items(self))
@@ -40,46 +49,18 @@ class Kept(Cons):
         return getattr(pairs, name)
 
 
-class Cat(Kept):
-    """Two lists, one after the other; neither is empty."""
-
-    __slots__ = ("left", "right")
-
-    def __init__(self, left: Any, right: Any):  # pylint: disable=super-init-not-called
-        self.left, self.right = left, right
-
-
-class Table(Kept):
-    """A list of at least one element in rows of one width; the last row may be shorter."""
-
-    __slots__ = ("size", "width", "rows")
-
-    def __init__(self, size: int, width: int, rows: tuple):  # pylint: disable=super-init-not-called
-        self.size, self.width, self.rows = size, width, rows
-
-
-def replicate(n: int, x: Any) -> Any:
-    """Returns a list of n copies."""
-    width = 1 << (n.bit_length() + 1) // 2
-    count, left = divmod(n, width)
-    return Table(n, width, ((x,) * width,) * count + ((x,) * left,) * bool(left)) if n else NIL
-
-
 def items(xs: Any) -> Iterator[Any]:
     """Yields the elements of a list."""
     later = [xs]
     while later:
         xs = later.pop()
-        while xs is not NIL:
-            if type(xs) is Cons:
-                yield xs.head
-                xs = xs.tail
-            elif type(xs) is Cat:
-                later.append(xs.right)
-                xs = xs.left
-            else:
-                yield from chain.from_iterable(xs.rows)
-                xs = NIL
+        while type(xs) is Cons:
+            yield xs.head
+            xs = xs.tail
+        if type(xs) is Parts:
+            later += reversed(xs.parts)
+        elif xs is not NIL:
+            yield from xs
 
 
 def listed(elements: Iterable, end: Any = NIL) -> Any:
@@ -91,30 +72,32 @@ def listed(elements: Iterable, end: Any = NIL) -> Any:
 
 def append(xs: Any, ys: Any) -> Any:
     """Returns one list after the other."""
-    return ys if xs is NIL else xs if ys is NIL else Cat(xs, ys)
+    return ys if xs is NIL else xs if ys is NIL else Parts((xs, ys))
 
 
-def length(xs: Any) -> int:
-    """Returns the number of elements."""
-    return xs.size if type(xs) is Table else sum(1 for _ in items(xs))
+def replicate(n: int, x: Any) -> Any:
+    """Returns a list of n copies."""
+    width = 1 << (n.bit_length() + 1) // 2
+    rows = ((x,) * width,) * (n // width)
+    return Parts(rows + ((x,) * (n % width),), width, n) if n else NIL
 
 
 def element(xs: Any, i: int, default: Any) -> Any:
     """Returns element i, or the default past the end."""
-    if type(xs) is Table:
-        return xs.rows[i // xs.width][i % xs.width] if i < xs.size else default
+    if xs is not NIL and xs.width:
+        return xs.parts[i // xs.width][i % xs.width] if i < xs.size else default
     return next(islice(items(xs), i, None), default)
 
 
 def with_element(xs: Any, i: int, x: Any) -> Any:
     """Returns the list with element i replaced; past the end nothing changes."""
-    if type(xs) is not Table:
+    if xs is NIL or not xs.width:
         return listed(x if k == i else y for k, y in enumerate(items(xs)))
+    k, at = divmod(i, xs.width)
     if i >= xs.size:
         return xs
-    k, at = divmod(i, xs.width)
-    row = xs.rows[k]
-    return Table(xs.size, xs.width, xs.rows[:k] + (row[:at] + (x,) + row[at + 1:],) + xs.rows[k + 1:])
+    row = xs.parts[k][:at] + (x,) + xs.parts[k][at + 1:]
+    return Parts(xs.parts[:k] + (row,) + xs.parts[k + 1:], xs.width, xs.size)
 
 
 def drop(n: int, xs: Any) -> Any:

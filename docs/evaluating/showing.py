@@ -3,9 +3,8 @@
 from itertools import groupby
 from typing import Any, Iterable, Iterator, List, Tuple
 
-from evaluating.asking import Definitions
-from evaluating.functions import Tag, tag_of
-from evaluating.lists import NIL, Cons, Partial, Stuck, Table, items, length, listed, stuck
+from evaluating.asking import PLACES, Definitions
+from evaluating.lists import NIL, Cons, Partial, Stuck, items, listed, stuck, together
 
 Shown = Tuple[str, int]  # a text, and how strongly it binds
 ATOM, CALL, CONS, APPENDED = 99, 98, 67, 65
@@ -18,9 +17,7 @@ MACHINE = [("processors", PROCESSOR), ("channels", [("states", "Place.ChannelMod
            ("reader", [("card", "Place.Card"), ("column", "Place.CardColumn"), ("mode", "Place.ReaderMode")]),
            ("printer", [("length", "Place.PaperLength"), ("column", "Place.PaperColumn"), ("mode", "Place.PrinterMode")]),
            ("channels", [("clock", "Place.Clock")]), ("slot", "Place.Slot")]
-VIEW = [("p", "PpPlace.P"), ("a", "PpPlace.A"), ("q", "PpPlace.Q"), ("phase", "PpPlace.Phase"), ("cells", "PpPlace.Cell"),
-        ("states", "PpPlace.State"), ("registers", "PpPlace.Register"), ("central", "PpPlace.Central"),
-        ("frame", "PpPlace.FrameWord")]
+VIEW = [(field, f"PpPlace.{name}") for _, name, field, *_ in PLACES]
 ESCAPES = {**{code: chr(code) for code in range(32, 127)}, 9: "\\t", 10: "\\n", 13: "\\r", 34: '\\"', 92: "\\\\"}
 
 
@@ -31,19 +28,23 @@ def is_list(value: Any) -> bool:
 
 def not_zero(xs: Any) -> Iterator[Tuple[int, Any]]:
     """Yields the elements of a list that are not 0, with their indices."""
-    rows, width = (xs.rows, xs.width) if isinstance(xs, Table) else ([tuple(items(xs))], 0)
-    for k, row in enumerate(rows):
+    width = getattr(xs, "width", 0)
+    for k, row in enumerate(xs.parts if width else [tuple(items(xs))]):
         if any(row):
             yield from ((k * width + at, x) for at, x in enumerate(row) if x != 0)
+
+
+def inside(shown: Shown, least: int) -> str:
+    """Returns a text in brackets if it binds less strongly than this."""
+    return shown[0] if shown[1] >= least else f"({shown[0]})"
 
 
 class Shower:
     """Shows values; lists of numbers as texts if that is wanted; at most so many parts."""
 
     def __init__(self, definitions: Definitions, has_texts: bool = False, most: int = 10 ** 6):
-        self.definitions, self.has_texts, self.left = definitions, has_texts, most
+        self.definitions, self.has_texts, self.left, self.at_rest = definitions, has_texts, most, definitions.call("at_rest")
         self.names = {function.name: definition for definition, function in definitions.functions.items()}
-        self.at_rest = definitions.call("at_rest")
 
     def text(self, value: Any) -> str:
         """Returns a value as an expression."""
@@ -51,8 +52,7 @@ class Shower:
 
     def part(self, value: Any) -> str:
         """Returns a value as an argument."""
-        text, strength = self.shown(value)
-        return text if strength == ATOM else f"({text})"
+        return inside(self.shown(value), ATOM)
 
     def called(self, name: str, given: Iterable) -> Shown:
         """Returns a name with arguments."""
@@ -82,45 +82,43 @@ class Shower:
         """Returns the name of a constructor, with its type if several types have one of this name."""
         name = tag.split(".")[-1]
         owner = self.definitions.scope.definitions.get(name)
-        return name if hasattr(owner, "type") and tag_of(owner) == tag and name not in self.definitions.shared else tag
+        return name if owner and owner.whole_name == tag and name not in self.definitions.shared else tag
 
     def function(self, value: Any) -> Shown:
         """Returns a definition or a constructor with some of its arguments."""
         function, given = (value.function, value.given) if isinstance(value, Partial) else (value, ())
         definition = self.names.get(getattr(function, "__name__", ""))
-        if isinstance(function, Tag):
-            return self.called(self.constructor(function), given)
-        if definition:
-            return self.called(self.definitions.name_of(definition), given)
+        if function is together:
+            return self.called(self.constructor(given[0]), given[1:])
         if function is stuck:
             stuck(*given)
-        raise Stuck("the text of a function")
+        if not definition:
+            raise Stuck("the text of a function")
+        return self.called(self.definitions.name_of(definition), given)
 
     # ---- lists
 
     def list(self, value: Any) -> Shown:
         """Returns a list: a text, or its elements, with long runs of one of them as copies."""
-        codes = list(items(value)) if self.has_texts and value is not NIL and not isinstance(value, Table) else [0]
-        if all(type(code) is int and code in ESCAPES for code in codes) and (codes == [10] or max(codes) >= 32):
+        codes = list(items(value)) if self.has_texts and not getattr(value, "width", 0) else []
+        if codes and all(type(code) is int and code in ESCAPES for code in codes) and (codes == [10] or max(codes) >= 32):
             self.left -= len(codes) // 8
             return f'codes "{"".join(map(ESCAPES.get, codes))}"', CALL
         parts: List[Shown] = []
-        row: List[str] = []
-        for (text, strength), count in self.runs(value):
-            if count < 6:
-                row += [text if strength > CONS else f"({text})"] * count
-                continue
-            parts += [(" ∷ ".join([*row, "[]"]), CONS)] * bool(row)
-            parts.append((f"replicate {self.part(count)} {text if strength == ATOM else f'({text})'}", CALL))
-            row = []
-        parts += [(" ∷ ".join([*row, "[]"]), CONS if row else ATOM)] if row or not parts else []
-        return parts[0] if len(parts) == 1 else (" ++ ".join(text for text, _ in parts), APPENDED)
+        for is_long, runs in groupby(self.runs(value), lambda run: run[1] > 5):
+            if is_long:
+                parts += [(f"replicate {self.part(count)} {inside(shown, ATOM)}", CALL) for shown, count in runs]
+            else:
+                row = [inside(shown, CONS + 1) for shown, count in runs for _ in range(count)]
+                parts.append((" ∷ ".join([*row, "[]"]), CONS))
+        return (" ++ ".join(text for text, _ in parts), APPENDED) if len(parts) > 1 else parts[0] if parts else ("[]", ATOM)
 
     def runs(self, value: Any) -> Iterator[Tuple[Shown, int]]:
         """Yields the elements as they are shown, each with the number of those that follow each other and are shown so."""
         same = [list(group) for _, group in groupby(items(value), id)]
-        for found, groups in groupby(same, lambda group: self.shown(group[0])):
-            yield found, sum(map(len, groups))
+        self.left -= 0 if getattr(value, "width", 0) else sum(map(len, same)) - len(same)
+        for shown, groups in groupby(same, lambda group: self.shown(group[0])):
+            yield shown, sum(map(len, groups))
 
     # ---- records
 
@@ -132,7 +130,7 @@ class Shower:
         if "processors" in value:
             return self.over("over", self.base(value["setup"], value["reader"]["deck"]), self.writes(value, MACHINE))
         is_view = "states" in value and "cells" in value
-        if is_view and value["clock"] == 0 and length(value["central"]) == 0o2000:
+        if is_view and value["clock"] == 0 and len(list(items(value["central"]))) == 0o2000:
             return self.over("pp_step/View:over", "pp_worked/Processors:blank", self.writes(value, VIEW))
         if is_view:
             channels = {name: value[name] for name in ("states", "registers", "clock")}
