@@ -9,10 +9,8 @@ from book.names import Names, Sources, Unresolved
 from book.sources import Definition, Scope
 from evaluating import lists
 from evaluating.functions import Function, remembering
-from evaluating.kit import FIXITIES, KIT, NONE, text_of
+from evaluating.kit import KIT, NONE, text_of
 from evaluating.lists import Stuck, items, listed
-
-FIXITY = re.compile(r"infix([lr]?) (\d+)((?: ◌\S+◌)+)")
 
 # Of several definitions with one name, the only one of the first crate has it alone, or else the only one outside of the second;
 # those of inner files count as the second's, and a definition comes before the constructors with its name.
@@ -32,7 +30,8 @@ class Definitions:
     kind = Function
 
     def __init__(self, top: str):
-        self.sources, self.scope, self.fixity = Sources(top), Scope(("", "specs", ""), ""), {}
+        self.sources, self.scope = Sources(top), Scope(("", "specs", ""), "")
+        self.fixity = self.sources.fixity
         scopes = [scope for scope in self.sources.scopes.values() if "tests" not in scope.module[2]]
         owners = [one for scope in scopes for one in scope.definitions.values() if isinstance(one, Definition)]
         found: Dict[str, Dict[Any, int]] = {}
@@ -42,8 +41,6 @@ class Definitions:
         self.first = {name: [one for one, own in ranks.items() if own == min(ranks.values())] for name, ranks in found.items()}
         self.shared = {name for name, ranks in found.items() if sum(own % 3 < 2 for own in ranks.values()) > 1}
         self.scope.definitions.update((name, first[0]) for name, first in self.first.items() if len(first) == 1)
-        for side, strength, names in FIXITY.findall("\n".join([FIXITIES, *(owner.fixity for owner in owners)])):
-            self.fixity.update(dict.fromkeys(names.replace("◌", "").split(), (int(strength), side)))
         for name in [f"◌{name}◌" if name in self.fixity else name for name in KIT]:
             self.scope.imports[name] = ("Rattle.std.specs.Prelude", name)
             self.scope.definitions.pop(name, None)
@@ -159,8 +156,8 @@ def performed(definitions: Definitions, words: List[str], read: Callable[[], byt
 
 # ---- the steps of a processor
 
-# The places of a processor: how they are typed, their names in PpPlace, where their numbers are in what it sees of the machine, and the
-# digits of their addresses and of their numbers.
+# The places of a processor: how they are typed, their names in PpPlace, the fields with their numbers in what it sees of the machine,
+# and the digits of their addresses and of their numbers.
 PLACES = (("P", "P", "p", 0, 4), ("A", "A", "a", 0, 6), ("Q", "Q", "q", 0, 4), ("PHASE", "Phase", "phase", 0, 4),
           ("M", "Cell", "cells", 4, 4), ("S", "State", "states", 2, 1), ("H", "Register", "registers", 2, 4),
           ("C", "Central", "central", 6, 20), ("XP", "FrameWord", "frame", 2, 20))

@@ -11,11 +11,11 @@ import re
 import tempfile
 from typing import Any, Callable, Dict, Iterator, List, NamedTuple, Optional, Tuple
 
+from book.expressions import Apply, Name, Parser
 from book.names import Names, Unresolved, find_token
 from book.pages import Book, Text
 from book.sources import Definition
 from evaluating.asking import Definitions, performed
-from evaluating.expressions import Apply, Name, Parser
 from evaluating.functions import Function, Locals
 from evaluating.lists import Stuck
 from evaluating.showing import Shower

@@ -11,9 +11,9 @@ import re
 from collections import namedtuple
 from typing import Any, Callable, Dict, List, Sequence
 
+from book.expressions import Apply, Binder, If, Let, Name, Pair, Parser
 from book.names import NUMBER, Library, Unresolved
 from book.sources import Constructor, Definition
-from evaluating.expressions import Apply, Binder, If, Lambda, Let, Name, Pair, Parser
 from evaluating.kit import KIT
 from evaluating.lists import Stuck, listed
 
@@ -27,8 +27,8 @@ PATTERNS = {"zero": ["{} == 0"], "suc": ["{} > 0", "({} - 1)"], "true": ["{}"], 
 BUILT_AGAIN = re.compile(r"Cons\(([\w.\[\]]+)\.head, \1\.tail\)")
 
 Locals = Dict[str, str]  # what each name that is bound is in Python
-# What a name is in Python: its function, how many arguments it takes, a call with {0}, {1} .. in their places, and the arguments that
-# are not written: a constructor's name, and those of the module of a definition in a definition of this module.
+# What a name is in Python: its function, how many arguments it takes, a call with {0}, {1} .. in their places, and its first
+# arguments if they are not written: of a constructor its name, of a definition of the same module those of the module.
 Word = namedtuple("Word", "function arity call own", defaults=[()])
 
 

@@ -108,6 +108,3 @@ KIT: Dict[str, Any] = {
     "first_of": lambda name, values: ("Some", values[text_of(name)]) if text_of(name) in values else NONE,
     "fault_of": lambda app, words: listed((f"ErrorKind.{fault}",) for fault in read_words(app, words)[1:] if fault),
 }
-# How strongly each operator binds, and on which side first.
-FIXITIES = """infixr 75 ◌^◌  infixl 70 ◌*◌ ◌/◌ ◌%◌  infixr 67 ◌∷◌  infixl 65 ◌+◌ ◌-◌ ◌++◌  infix 50 ◌≤◌ ◌<◌  infix 40 ◌==◌
-    infixl 35 ◌&&◌  infixl 30 ◌||◌  infix 4 ◌≡◌ ◌≢◌  infixr 2 ◌×◌  infixr 1 ◌⊎◌  infixr 0 ◌→◌"""

@@ -8,11 +8,9 @@ two lists that were appended, or rows, so that a memory with one new number shar
 from itertools import islice
 from typing import Any, Callable, Iterable, Iterator
 
+from book.expressions import Stuck
+
 NIL = None
-
-
-class Stuck(Exception):
-    """What can't be computed."""
 
 
 def stuck(what: str, *_: Any) -> None:
@@ -36,7 +34,7 @@ class Cons:
 
 
 class Parts(Cons):
-    """A list in parts, which becomes a pair when its head or its tail is read. Rows are tuples of one width, only the last is shorter."""
+    """A list in parts, which becomes a pair when its head or its tail is read. Rows are tuples of one width, or less at the end."""
 
     __slots__ = ("parts", "width", "size")
 

@@ -8,9 +8,9 @@ import functools
 import re
 from typing import Any, Container, Iterator, List, Tuple
 
+from book.expressions import Apply, Lambda, Let, Name, Pair
 from book.sources import Definition
 from evaluating.asking import Definitions, stepped, written
-from evaluating.expressions import Apply, Lambda, Let, Name, Pair
 from evaluating.lists import items
 from evaluating.writing import Writer, cases, put_in
 

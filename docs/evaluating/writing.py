@@ -2,7 +2,7 @@
 
 from typing import Any, Dict, Iterator, List, Tuple
 
-from evaluating.expressions import Apply, Field, Fixity, If, Lambda, Let, Name, Pair, Record
+from book.expressions import Apply, Field, Fixity, If, Lambda, Let, Name, Pair, Record
 
 
 class Writer:
@@ -22,8 +22,8 @@ class Writer:
             return tree.word, 99
         if isinstance(tree, Apply) and getattr(tree.head, "word", "") in self.fixity:
             strength, side = self.fixity[tree.head.word]
-            left, right = tree.given
-            return f"{self.text(left, strength + (side == 'r'))} {tree.head.word} {self.text(right, strength + (side != 'r'))}", strength
+            left, right = self.text(tree.given[0], strength + (side == "r")), self.text(tree.given[1], strength + (side != "r"))
+            return f"{left} {tree.head.word} {right}", strength
         if isinstance(tree, Apply):
             return " ".join(self.text(one, 99) for one in (tree.head, *tree.given)), 98
         if isinstance(tree, Pair):

@@ -1,13 +1,16 @@
-"""Reads an expression, a pattern or a clause of a definition as a tree."""
+"""Reads an expression, a pattern or a clause of a definition as a tree, and keeps each word of it that may be a name."""
 
 import re
 from collections import namedtuple
-from typing import Any, Dict, List, Optional, Tuple
+from typing import Any, Dict, FrozenSet, Iterable, List, Optional, Tuple
 
-from book.names import TOKEN
-from evaluating.lists import Stuck
-
+TOKEN = re.compile(r'"(?:\\.|[^"\\])*"|(?<!\S)(?:--|//)[^\n]*|\[\]|[(){};,\[\]]|[^\s(){};,\[\]"]+')
+NO_NAME = re.compile(r'"|[(){};,\[\]]$')  # a text, a bracket or a mark
+FIXITY = re.compile(r"infix([lr]?) (\d+)((?: ◌\S+◌)+)")
 Fixity = Dict[str, Tuple[int, str]]  # of each operator: how strongly it binds, and on which side first
+# The operators of the kit.
+FIXITIES = """infixr 75 ◌^◌  infixl 70 ◌*◌ ◌/◌ ◌%◌  infixr 67 ◌∷◌  infixl 65 ◌+◌ ◌-◌ ◌++◌  infix 50 ◌≤◌ ◌<◌  infix 40 ◌==◌
+    infixl 35 ◌&&◌  infixl 30 ◌||◌  infix 4 ◌≡◌ ◌≢◌  infixr 2 ◌×◌  infixr 1 ◌⊎◌  infixr 0 ◌→◌"""
 
 # A name with the fields that are read of it, a number or a text in quotes, as it is written; a function or an operator and its
 # arguments; and so on. A binder has the names of (x y : A).
@@ -26,12 +29,24 @@ STOPS = {")", "]", "}", ",", ";", "=", ":", "then", "else", "in", "", ".", "|"}
 KEYWORDS = {"let": (Let, "=", "in", 0), "if": (If, "then", "else", 5)}
 
 
-class Parser:
-    """Reads the tokens of one text."""
+# A word with its place in the text, the names that are bound there, and the field of the outermost record in which it is.
+Seen = namedtuple("Seen", "word place bound guard")
 
-    def __init__(self, text: str, fixity: Fixity):
-        self.words = [word for word in TOKEN.findall(text) if not word.startswith(("--", "//"))] + [""]
-        self.at, self.fixity = 0, fixity
+
+class Stuck(Exception):
+    """What can't be read or computed."""
+
+
+class Parser:
+    """Reads the tokens of a text from one place to another, with names that are bound before."""
+
+    def __init__(self, text: str, fixity: Fixity, start: int = 0, end: Optional[int] = None, bound: Iterable[str] = ()):
+        tokens = [token for token in TOKEN.finditer(text, start, len(text) if end is None else end)
+                  if not token.group().startswith(("--", "//"))]
+        self.words, self.places = [token.group() for token in tokens] + [""], [token.start() for token in tokens]
+        self.at, self.fixity, self.depth, self.guard = 0, fixity, 0, None
+        self.bound: FrozenSet[str] = frozenset(bound)
+        self.seen: List[Seen] = []
 
     @property
     def word(self) -> str:
@@ -43,8 +58,15 @@ class Parser:
         word = self.word
         if word != wanted and (wanted is not None or not word):
             raise Stuck(f"a text with {word or 'the end'} in place of {wanted or ('more' if wanted is None else 'its end')}")
+        if word and not NO_NAME.match(word):
+            self.seen.append(Seen(word, self.places[self.at], self.bound, self.guard))
         self.at += bool(word)
         return word
+
+    def bind(self, since: int) -> None:
+        """Binds the words that were seen since then: they are no uses of names."""
+        self.bound |= {seen.word.rstrip(".") for seen in self.seen[since:]}
+        del self.seen[since:]
 
     def has(self, word: str) -> bool:
         """Tells whether this word is the next, and if so goes on behind it."""
@@ -60,6 +82,13 @@ class Parser:
         left = self.expression()
         self.take("=")
         return left, self.whole()
+
+    def binders(self) -> None:
+        """Reads brackets that bind names, and the type behind a colon, if there is one."""
+        while self.word in ("(", "{"):
+            self.atom()
+        if self.word == ":":
+            self.behind(":")
 
     def whole(self) -> Any:
         """Reads an expression to the end of the text."""
@@ -81,7 +110,10 @@ class Parser:
             return self.function()
         if self.word in KEYWORDS:
             kind, second, third, least = KEYWORDS[self.take()]
-            return kind(self.expression(), self.behind(second), self.behind(third, least))
+            since, first = len(self.seen), self.expression()
+            if kind is Let:
+                self.bind(since)
+            return kind(first, self.behind(second), self.behind(third, least))
         head, given = self.atom(), []
         while self.word not in self.fixity and self.word not in STOPS:
             given += [part] if (part := self.atom()) is not IMPLICIT else []
@@ -91,9 +123,14 @@ class Parser:
         """Reads what follows `λ`. The last pattern ends with a dot."""
         patterns: List = []
         while not self.word.endswith("."):
-            pattern = self.atom()
-            patterns.append(Name(pattern.names[0]) if isinstance(pattern, Binder) else pattern)
-        last = self.take()[:-1]
+            since, pattern = len(self.seen), self.atom()
+            if isinstance(pattern, Binder):
+                pattern = Name(pattern.names[0])
+            else:
+                self.bind(since)
+            patterns.append(pattern)
+        since, last = len(self.seen), self.take()[:-1]
+        self.bind(since)
         return Lambda(patterns + ([Name(last)] if last else []), self.expression())
 
     def atom(self) -> Any:
@@ -102,32 +139,39 @@ class Parser:
             raise Stuck(f"a text with {self.word or 'an end'} in place of an expression")
         word = self.take()
         if word == "{":
-            while self.take() != "}":
-                pass
+            self.bracket("}")
             return IMPLICIT
         if word == "record":
             return self.record()
-        found = self.bracket() if word == "(" else Name(word)
+        found = self.bracket(")") if word == "(" else Name(word)
         return Field(found, self.take()[1:].split(".")) if re.match(r"\..", self.word) else found
 
     def record(self) -> Record:
         """Reads what follows `record`."""
         base, fields = self.atom() if self.word != "{" else None, []
         self.take("{")
+        outer, self.depth = self.bound, self.depth + 1
         while not self.has("}"):
-            fields.append((self.take(), self.behind("=")))
+            name = self.take()
+            self.seen.pop()
+            self.guard = name if self.depth == 1 else self.guard
+            fields.append((name, self.behind("=")))
+            self.bound = outer
             self.has(";")
+        self.depth -= 1
+        self.guard = self.guard if self.depth else None
         return Record(base, fields)
 
-    def bracket(self) -> Any:
-        """Reads what follows an opening bracket."""
-        parts = [self.expression()]
+    def bracket(self, end: str) -> Any:
+        """Reads what follows an opening bracket, up to this end. Names before a colon are bound from there on."""
+        outer, since, self.depth = self.bound, len(self.seen), self.depth + 1
+        parts, names = [self.expression()], []
         if self.word == ":":
+            names = [name.word for name in ([parts[0].head, *parts[0].given] if isinstance(parts[0], Apply) else parts)]
+            self.bind(since)
             self.behind(":")
-            self.take(")")
-            names = [parts[0].head, *parts[0].given] if isinstance(parts[0], Apply) else parts
-            return Binder([name.word for name in names])
         while self.has(","):
-            parts += [self.expression()] if self.word != ")" else []
-        self.take(")")
-        return parts[0] if len(parts) == 1 else Pair(parts)
+            parts += [self.expression()] if self.word != end else []
+        self.take(end)
+        self.bound, self.depth = outer.union(names), self.depth - 1
+        return Binder(names) if names else parts[0] if len(parts) == 1 else Pair(parts)
