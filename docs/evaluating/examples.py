@@ -12,7 +12,7 @@ import tempfile
 from typing import Any, Callable, Dict, Iterator, List, NamedTuple, Optional, Tuple
 
 from book.expressions import Apply, Name, Parser
-from book.names import Names, Unresolved, find_token
+from book.names import Unresolved, find_token
 from book.pages import Book, Text
 from book.sources import Definition
 from evaluating.asking import Definitions, performed
@@ -186,7 +186,7 @@ class Recorder:
         """Returns the definition that an expression calls."""
         tree = Parser(text, self.definitions.fixity).whole()
         word = tree.head.word if isinstance(tree, Apply) else tree.word
-        return Names(self.definitions.sources, self.definitions.scope).target(word)
+        return self.definitions.names(self.definitions.scope).target(word)
 
     def value(self, text: str) -> Tuple[Case, Example]:
         """Returns the value of an expression as an example, and the case of the call that it is."""

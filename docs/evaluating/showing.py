@@ -44,7 +44,6 @@ class Shower:
 
     def __init__(self, definitions: Definitions, has_texts: bool = False, most: int = 10 ** 6):
         self.definitions, self.has_texts, self.left, self.at_rest = definitions, has_texts, most, definitions.call("at_rest")
-        self.names = {function.name: definition for definition, function in definitions.functions.items()}
 
     def text(self, value: Any) -> str:
         """Returns a value as an expression."""
@@ -87,14 +86,14 @@ class Shower:
     def function(self, value: Any) -> Shown:
         """Returns a definition or a constructor with some of its arguments."""
         function, given = (value.function, value.given) if isinstance(value, Partial) else (value, ())
-        definition = self.names.get(getattr(function, "__name__", ""))
         if function is together:
             return self.called(self.constructor(given[0]), given[1:])
         if function is stuck:
             stuck(*given)
-        if not definition:
-            raise Stuck("the text of a function")
-        return self.called(self.definitions.name_of(definition), given)
+        for definition, made in self.definitions.functions.items():
+            if made.name == getattr(function, "__name__", ""):
+                return self.called(self.definitions.name_of(definition), given)
+        raise Stuck("the text of a function")
 
     # ---- lists
 
