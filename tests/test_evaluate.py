@@ -128,6 +128,9 @@ class Command(Case):
                              ("1 +", "a text with an end in place of an expression"),
                              ("(1", "a text with the end in place of )"),
                              ("suc None", "an argument has another type than its definition says"),
+                             ("record {", "a text with the end in place of more"),
+                             ("--python", "IsRun", "IsRun, which is no function"),
+                             ("--python", "Place.RegP", "Place.RegP, which is no function"),
                              ("--step", "3520", "B=1", "'B=1': write an instruction word, as 3520, or a place and its number, "
                                                        "as A=777777 or 'M 20=5'"),
                              ("--script", folder, "a run that a failed read cuts short: IsCut says what that is, "

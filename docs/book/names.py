@@ -5,9 +5,9 @@ import glob
 import os
 import re
 
-from book.sources import VARIANT, Definition, Scope, parsed_rust, parsed_spec
+from book.expressions import FIXITIES, FIXITY, TOKEN, Parser, Stuck
+from book.sources import VARIANT, Constructor, Definition, Scope, parsed_rust, parsed_spec
 
-TOKEN = re.compile(r'"(?:\\.|[^"\\])*"|(?<!\S)(?:--|//)[^\n]*|\[\]|[(){};,\[\]]|[^\s(){};,\[\]"]+')
 VARIABLE = re.compile(r"[^\s(){};,\[\]=.→×λ]+")
 NUMBER = re.compile(r"(?:0o)?\d+")
 OURS = re.compile(r"Rattle\.(pp_\w+)\.specs\.(?:declared\.)?(.*)")
@@ -31,6 +31,11 @@ def is_trait(target):
     return isinstance(target, Definition) and target.kind == "trait"
 
 
+def owner(target):
+    """Returns the type of a constructor, and all else as it is."""
+    return target.type if isinstance(target, Constructor) else target
+
+
 class Sources:
     """Every definition of the repository."""
 
@@ -44,6 +49,10 @@ class Sources:
                 with open(path, encoding="utf-8") as file:
                     parsed(file.read(), scope)
                 self.scopes[scope.module] = scope
+        declared = [getattr(one, "fixity", "") for scope in self.scopes.values() for one in scope.definitions.values()]
+        # how strongly each operator binds, and on which side first
+        self.fixity = {name: (int(strength), side) for side, strength, names in FIXITY.findall("\n".join([FIXITIES, *declared]))
+                       for name in names.replace("◌", "").split()}
 
     def find(self, module, name):
         """Returns what a name of a module stands for."""
@@ -63,11 +72,12 @@ class Sources:
         """Returns the Rust definition of FILE.TYPE.TheVariants.NAME, FILE.TheConstants.NAME, FILE.TYPE.Ghosts or FILE.TYPE.NAME."""
         if parts[-1] == "TheConstants":
             parts = parts[:-1] + [name]
-        *file, name = parts[:-1] if parts[-1] in ("TheVariants", "TheInside") else parts
+        *file, kind = parts[:-1] if parts[-1] in ("TheVariants", "TheInside") else parts
         scope = self.scopes.get((crate, "src", ".".join(file)))
-        if not scope or name not in scope.definitions:
-            raise Unresolved(".".join([crate, *file, name]))
-        return scope.definitions[name]
+        if not scope or kind not in scope.definitions:
+            raise Unresolved(".".join([crate, *file, kind]))
+        found = scope.definitions[kind]
+        return found.members.get(name, found) if parts[-1] == "TheVariants" else found
 
     def rust_type(self, scope, name):
         """Returns the type with a name in a Rust file: that of this file or crate, or of the crate that the file uses it from."""
@@ -103,7 +113,7 @@ class Names:
             return None, fields
         found = self.target(head)
         if isinstance(found, Definition) and fields and fields[0] in found.members:
-            return found, fields[1:]
+            return found.members[fields[0]], fields[1:]
         if not found and head in self.scope.modules and fields:
             return self.sources.find(self.scope.modules[head], fields[0]), fields[1:]
         if not found:
@@ -111,82 +121,14 @@ class Names:
         return found, fields
 
     def constructor(self, word):
-        """Returns the type or the word of the kit whose constructor a word of a pattern is, or None if the word is a variable."""
+        """Returns the constructor or the word of the kit that a word of a pattern is, or None if the word is a variable."""
         try:
             target, fields = self.resolved(word)
         except Unresolved:
             return None
         if isinstance(target, Library):
             return target if target.name[:1].isupper() or target.name in SMALL_CONSTRUCTORS else None
-        return target if target and not fields and word.split(".")[-1] in target.members else None
-
-
-class Walk:
-    """A walk over a part of a text, which keeps the names that are bound at each place."""
-
-    def __init__(self, names, text, bound, has_members=False, is_guarded=False):
-        self.names, self.text, self.has_members, self.is_guarded = names, text, has_members, is_guarded
-        self.bound = [set(bound)]  # one set for each open bracket
-        self.outside = self.guard = None  # what is bound outside the present member; the present field
-        self.lambda_depth = 0  # the number of brackets around the arguments of a λ, while they are read
-        self.uses, self.unresolved = [], set()
-
-    def over(self, start, end):
-        """Walks from one place to another."""
-        tokens = [token for token in TOKEN.finditer(self.text, start, end) if not re.match(r'"|--|//', token.group())]
-        words = ["", *(token.group() for token in tokens), ""]
-        for at, token in enumerate(tokens, 1):
-            self.step(token, words, at)
-        return self
-
-    def step(self, token, words, at):
-        """Reads one word; those before and after it say whether it is a label."""
-        word, depth = words[at], len(self.bound)
-        if word in ("(", "[", "{"):
-            self.bound[-1].update(self.binder(words[at + 1:]))
-            self.bound.append(set())
-        elif word in (")", "]", "}"):
-            self.bound.pop()
-            self.guard = self.guard if len(self.bound) > 1 else None
-        elif word == ";":
-            self.bound[-1] = set()
-        elif word == "λ":
-            self.lambda_depth = depth
-        elif self.lambda_depth == depth:
-            self.bound[-1].add(word.rstrip("."))
-            self.lambda_depth = 0 if word.endswith(".") else depth
-        elif words[at - 1] == "let":
-            self.bound[-1].add(word)
-        elif words[at + 1] == "=" and words[at - 1] in ("{", ";"):
-            self.guard = word if self.is_guarded and depth == 2 else self.guard
-        elif self.has_members and depth == 1 and words[at + 1] == ":":
-            self.outside = (self.outside or self.bound[0]) | {word}
-            self.bound[0] = set(self.outside)
-        else:
-            self.add(token, word)
-
-    def binder(self, words):
-        """Returns the names that a bracket binds: those before a colon, as in (x y : A), or all of a pattern, as in λ (x, y)."""
-        is_pattern = self.lambda_depth == len(self.bound)
-        names = []
-        for word in words:
-            if word == ":" or word == ")" and is_pattern:
-                return names
-            if word != "," and not VARIABLE.fullmatch(word) or word == "," and not is_pattern:
-                return []
-            names.append(word)
-        return []
-
-    def add(self, token, word):
-        """Adds what a word stands for, and the fields that it reads."""
-        try:
-            target, fields = self.names.resolved(word, set().union(*self.bound))
-        except Unresolved as name:
-            self.unresolved.add(str(name))
-            return
-        end = token.end() - sum(len(field) + 1 for field in fields)
-        self.uses += [Use(token.start(), end, self.guard, target)] if target else []
-        self.uses += [Use(end, token.end(), self.guard, Field(field)) for field in fields if field and not field.isdigit()]
+        return target if isinstance(target, Constructor) and not fields else None
 
 
 def find_token(text, start, wanted):
@@ -203,46 +145,73 @@ class Reading:
     """What a definition uses, and the names in it that stand for nothing."""
 
     def __init__(self, sources, definition):
-        self.definition, self.text = definition, definition.text
+        self.definition, self.text, self.fixity = definition, definition.text, sources.fixity
         self.names = Names(sources, definition.scope)
         self.uses, self.unresolved, self.is_guarded = [], set(), False
-        header = Walk(self.names, definition.header, ()).over(0, len(definition.header))
-        self.keep(header, [use._replace(start=0, end=0) for use in header.uses])
-        bound = header.bound[0]
+        bound = self.keep(Parser(definition.header.replace("module _", ""), self.fixity), Parser.binders)
+        self.uses = [use._replace(start=0, end=0) for use in self.uses]
         if definition.kind == "contract":
             self.contract()
         elif definition.kind == "ghost":
-            self.keep(Walk(self.names, self.text, {"Self"}).over(self.text.index("{"), len(self.text)))
+            self.read(self.text.index("{") + 1, self.text.rindex("}"), {"Self"})
         elif definition.kind in ("record", "data"):
-            self.keep(Walk(self.names, self.text, bound, has_members=True).over(0, len(self.text)))
+            self.members(bound)
         elif definition.scope.module[1] == "specs":
             self.equations(bound)
         elif not is_trait(definition):
             self.rust(sources)
 
-    def keep(self, walk, uses=None):
-        self.uses += walk.uses if uses is None else uses
-        self.unresolved |= walk.unresolved
+    def read(self, start, end, bound):
+        """Reads an expression from one place to another, where names are bound."""
+        self.keep(Parser(self.text, self.fixity, start, end, bound), Parser.whole)
+
+    def keep(self, parser, read):
+        """Keeps the uses in what a parser reads, and returns the names that are bound after it."""
+        try:
+            read(parser)
+        except Stuck as what:
+            self.unresolved.add(str(what))
+        for seen in parser.seen:
+            try:
+                target, fields = self.names.resolved(seen.word, seen.bound)
+            except Unresolved as name:
+                self.unresolved.add(str(name))
+                continue
+            guard, place = seen.guard if self.is_guarded else None, seen.place + len(seen.word)
+            end = place - sum(len(field) + 1 for field in fields)
+            self.uses += [Use(seen.place, end, guard, owner(target))] if target else []
+            self.uses += [Use(end, place, guard, Field(field)) for field in fields if field and not field.isdigit()]
+        return parser.bound
 
     def contract(self):
         """Reads the clauses of a function."""
         bound = {"result", "self", *re.findall(r"\b(\w+):", self.text)}
         for clause in re.finditer(r"^ +(?:ensures|requires)\*? *\w* \{", self.text, re.M):
-            self.keep(Walk(self.names, self.text, bound).over(clause.end(), find_token(self.text, clause.end(), "}")))
+            self.read(clause.end(), find_token(self.text, clause.end(), "}"), bound)
+
+    def members(self, bound):
+        """Reads the arguments of a type, and its fields or constructors."""
+        name = re.search(r"\b(?:record|data) (\S+)", self.text)
+        labels = list(re.finditer(r"^  (?:pub )?(\S+) :", self.text, re.M))
+        starts = [label.start() for label in labels] + [len(self.text)]
+        self.uses.append(Use(*name.span(1), None, self.definition))
+        bound = self.keep(Parser(self.text, self.fixity, name.end(), starts[0], bound), Parser.binders)
+        for label, end in zip(labels, starts[1:]):
+            bound |= {label[1]}
+            self.read(label.end(), end, bound)
 
     def equations(self, bound):
         """Reads a signature and its clauses."""
-        starts = [line.start() for line in re.finditer(r"^(?!--|[\])}])\S", self.text, re.M)] + [len(self.text)]
-        result = self.text[:starts[1]].rpartition("→")[2].rpartition(" : ")[2].split()[0]
+        (_, end), *clauses = self.definition.clauses()
+        result = self.text[:end].rpartition("→")[2].rpartition(" : ")[2].split()[0]
         self.is_guarded = is_trait(self.names.target(result))
-        signature = Walk(self.names, self.text, bound).over(self.text.index(" : "), starts[1])
-        named = [use if is_trait(use.target) else use._replace(guard=NAMED) for use in signature.uses]
-        self.keep(signature, named if self.is_guarded else None)
-        for start, end in zip(starts[1:], starts[2:]):
-            if not self.text.startswith("unfolding ", start):
-                equals = find_token(self.text, start, "=")
-                variables = bound | self.variables(start, equals)
-                self.keep(Walk(self.names, self.text, variables, is_guarded=self.is_guarded).over(equals, end))
+        first = len(self.uses)
+        self.read(self.text.index(" : ") + 3, end, bound)
+        if self.is_guarded:
+            self.uses[first:] = [use if is_trait(use.target) else use._replace(guard=NAMED) for use in self.uses[first:]]
+        for start, end in clauses:
+            equals = find_token(self.text, start, "=")
+            self.read(equals + 1, end, bound | self.variables(start, equals))
 
     def variables(self, start, end):
         """Reads the patterns of a clause, and returns the names that they bind."""
@@ -250,7 +219,7 @@ class Reading:
         for token in TOKEN.finditer(self.text, start, end):
             word = token.group()
             if word not in own | BUILT_IN and VARIABLE.match(word):
-                target = self.names.constructor(word)
+                target = owner(self.names.constructor(word))
                 self.uses += [Use(token.start(), token.end(), None, target)] if target else []
                 bound |= set() if target else {word}
         return bound
@@ -260,7 +229,7 @@ class Reading:
         text = re.sub(r"//[^\n]*", lambda comment: " " * len(comment.group()), self.text)
         for ghost in re.finditer(r"\bghost \w+: \{", text):
             end = find_token(text, ghost.end(), "}")
-            self.keep(Walk(self.names, self.text, {"Self"}).over(ghost.end(), end))
+            self.read(ghost.end(), end, {"Self"})
             text = text[:ghost.start()] + " " * (end - ghost.start()) + text[end:]
         generics = re.match(r"[^({;]*?\w+<([^>]*)>", text)
         known = {self.definition.name, *RUST, *re.findall(r"\w+", generics[1] if generics else "")}

@@ -136,7 +136,7 @@ class Book:
 
     def named(self, name):
         """Returns the entry of a name in the text, as `load` or `pp_step/Rows:load`, or None if there is not exactly one."""
-        found = [entry for one, entry in self.entries.items() if name in (one.name, f"{one.place}:{one.name}")]
+        found = [entry for one, entry in self.entries.items() if name in (one.name, one.whole_name)]
         return found[0] if len(found) == 1 else None
 
 
@@ -194,7 +194,7 @@ def fact_links(entry, book):
 
 def examples_of(entry, book):
     """Returns the examples of a definition, and what the cases return that have none."""
-    found = book.examples.get(f"{entry.definition.place}:{entry.definition.name}", [])
+    found = book.examples.get(entry.definition.whole_name, [])
     return "\n".join(f"-- no example of {one.without}" if one.without else f"{one.text}\n    = {one.value}" for one in found)
 
 

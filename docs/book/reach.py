@@ -75,7 +75,7 @@ class Reach:
         """Returns the definitions of each chapter: by the longest pattern that fits, but none in a chapter before all its users."""
         number = {}
         for definition in self.ordered():
-            places = (definition.place, f"{definition.place}:{definition.name}")
+            places = (definition.place, definition.whole_name)
             fitting = [(len(pattern), at) for at, wanted in enumerate(patterns) for pattern in wanted
                        if any(fnmatch.fnmatchcase(place, pattern) for place in places)]
             own = max(fitting)[1] if fitting else len(patterns)

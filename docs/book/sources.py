@@ -9,11 +9,14 @@ BLOCK_COMMENT = re.compile(r"^ *(?:--|//+)!? ?", re.M)
 USE = re.compile(r"^\s*(?:ghost )?((?:unfoldable )?pub )?(?:ghost )?use ([^\s;{]+?)(?:\.\{(.*)\})?(?: as (\S+?))?;?$")
 START = re.compile(r"(?=(?:abbrev|unfoldable|irreducible|pub|record|data) |\S+ : )"
                    r"(?:(?:abbrev|unfoldable|irreducible) )?(?:pub )?(?:(record|data) )?(\S+)")
-MEMBER = re.compile(r"^  (?:pub )?(\S+) :", re.M)
+MEMBER = re.compile(r"^  (?:pub )?(\S+) : (.*\n?(?: {4,}.*\n?)*)", re.M)
 RUST_ITEM = re.compile(r"(?P<above>(?:^(?:///|#\[).*\n)*)^(?:pub(?:\([^)\n]*\))? )?"
                        r"(?P<kind>enum|struct|trait|type|const) (?P<name>\w+)", re.M)
 GHOST = re.compile(r"(?P<above>(?:^ +//.*\n)*)^ +(?P<text>ghost (?P<name>\w+):[^;]*;)$", re.M)
-VARIANT = re.compile(r"^    ([A-Z]\w*)", re.M)
+VARIANT = re.compile(r"^    ([A-Z]\w*)(?:\s*\{([^}]*)\}|\(([^)]*)\))?", re.M)
+BRACKETS = re.compile(r"\([^()]*\)")
+CLAUSE = re.compile(r"^(?!--|[\])}])\S", re.M)
+
 
 
 class Scope:
@@ -55,17 +58,39 @@ def used_names(module, names):
         part = ""
 
 
+class Constructor:
+    """A constructor of a type, and how many arguments it takes."""
+
+    def __init__(self, owner, name, arity):
+        self.type, self.name, self.arity, self.whole_name = owner, name, arity, f"{owner.name}.{name}"
+
+
 class Definition:
     """A definition as it is written, without the attributes for the compiler."""
 
     def __init__(self, kind, name, scope, line, comment, text, header="", fixity=""):
         self.kind, self.name, self.scope, self.line = kind, name, scope, line
         self.comment, self.text, self.header, self.fixity = comment, text, header, fixity
-        self.members = ()  # constructors of a type
+        self.members = {}  # constructors of a type by their names
         self.ghosts = {}  # ghost members of a trait
 
     crate = property(lambda self: self.scope.path.split("/")[1])
     place = property(lambda self: re.sub(r"^crates/(\w+)/(?:specs/)?(.*)\.\w+$", r"\1/\2", self.scope.path))
+    whole_name = property(lambda self: f"{self.place}:{self.name}")
+
+    def clauses(self):
+        """Yields where the signature and each clause begins and ends."""
+        starts = [line.start() for line in CLAUSE.finditer(self.text)] + [len(self.text)]
+        yield from (part for part in zip(starts, starts[1:]) if not self.text.startswith("unfolding ", part[0]))
+
+    def add_members(self):
+        """Reads the constructors. Those of data take what the arrows outside of brackets say, and those of an enum their fields."""
+        text = re.sub(r"//.*", "", self.text)
+        if self.kind == "data":
+            arities = {name: BRACKETS.sub("", BRACKETS.sub("", signature)).count("→") for name, signature in MEMBER.findall(text)}
+        else:
+            arities = {name: len(re.findall(r"\w[^,]*", inner or outer)) for name, inner, outer in VARIANT.findall(text)}
+        self.members = {name: Constructor(self, name, arity) for name, arity in arities.items()}
 
     def marks(self):
         """Returns the marks of facts in the comment above the definition."""
@@ -112,8 +137,8 @@ def parsed_spec(text, scope):
     for definition in list(scope.definitions.values()):
         definition.text = indented(definition.text)
         if definition.kind == "data":
-            definition.members = tuple(MEMBER.findall(definition.text))
-            scope.definitions.update(dict.fromkeys(definition.members, definition))
+            definition.add_members()
+            scope.definitions.update(definition.members)
 
 
 def rust_end(text, start):
@@ -136,7 +161,7 @@ def parsed_rust(text, scope):
         found = Definition(item["kind"], item["name"], scope, text.count("\n", 0, start) + 1, comment, written)
         scope.definitions[found.name] = found
         if found.kind == "enum":
-            found.members = tuple(VARIANT.findall(written))
+            found.add_members()
         for ghost in GHOST.finditer(text, start, end) if found.kind == "trait" else ():
             at = text.count("\n", 0, ghost.start("text")) + 1
             written = re.sub(r"^    ", "", ghost["text"], flags=re.M)

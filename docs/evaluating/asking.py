@@ -3,61 +3,101 @@
 import functools
 import os
 import re
-from typing import Any, Callable, Dict, Iterator, List, Optional, Tuple
+from typing import Any, Callable, Dict, Iterator, List, Tuple
 
-from book.names import Unresolved
+from book.names import Names, Sources, Unresolved
 from book.sources import Definition, Scope
-from evaluating.functions import Maker
-from evaluating.kit import CONSTANTS, INLINE, KIT, NONE, OPERATORS, text_of
+from evaluating import lists
+from evaluating.functions import Function, remembering
+from evaluating.kit import KIT, NONE, text_of
 from evaluating.lists import Stuck, items, listed
 
 # Of several definitions with one name, the only one of the first crate has it alone, or else the only one outside of the second;
-# those of inner files don't count there.
+# those of inner files count as the second's, and a definition comes before the constructors with its name.
 MAIN, WORKED = "pp_machine", "pp_worked"
 
 
-class Definitions(Maker):
+def rank(one: Any) -> int:
+    """Returns the rank of what has a name: the first has it alone, if it is the only one of its rank."""
+    owner = getattr(one, "type", one)
+    is_far = owner.crate == WORKED or "/Inner" in owner.place
+    return 3 * (owner is not one) + (2 if is_far else owner.crate != MAIN)
+
+
+class Definitions:
     """Every definition of the repository by its name: NAME, CRATE/FILE:NAME or, of a constructor, TYPE.NAME."""
 
-    def __init__(self, top: str, hear: Optional[Callable] = None):
-        super().__init__(top, hear)
-        self.scope, self.several, self.shared = Scope(("", "specs", ""), ""), {}, set()
-        found: Dict[str, Dict[Definition, None]] = {}
-        for scope in self.sources.scopes.values():
-            if "tests" in scope.module[2]:
-                continue
-            for definition in scope.definitions.values():
-                self.scope.definitions[f"{definition.place}:{definition.name}"] = definition
-                for name in (definition.name, *definition.members):
-                    found.setdefault(name, {})[definition] = None
-        for name, definitions in found.items():
-            own = [one for one in definitions if one.name == name] or list(definitions)
-            near = [one for one in own if one.crate != WORKED and "/Inner" not in one.place]
-            self.shared |= {name} if len(near) > 1 else set()
-            alone = [few[0] for few in ([one for one in near if one.crate == MAIN], near, own) if len(few) == 1]
-            if alone:
-                self.scope.definitions[name] = alone[0]
-            else:
-                self.several[name] = sorted(f"{one.place}:{name}" if one.name == name else f"{one.name}.{name}" for one in own)
-        for name in (*KIT, *CONSTANTS, *INLINE, "codes", *(f"◌{name}◌" for name in OPERATORS)):
+    kind = Function
+
+    def __init__(self, top: str):
+        self.sources, self.scope = Sources(top), Scope(("", "specs", ""), "")
+        self.fixity = self.sources.fixity
+        scopes = [scope for scope in self.sources.scopes.values() if "tests" not in scope.module[2]]
+        owners = [one for scope in scopes for one in scope.definitions.values() if isinstance(one, Definition)]
+        found: Dict[str, Dict[Any, int]] = {}
+        for one in [*owners, *(member for owner in owners for member in owner.members.values())]:
+            found.setdefault(one.name, {})[one] = rank(one)
+            self.scope.definitions[one.whole_name] = one
+        self.first = {name: [one for one, own in ranks.items() if own == min(ranks.values())] for name, ranks in found.items()}
+        self.shared = {name for name, ranks in found.items() if sum(own % 3 < 2 for own in ranks.values()) > 1}
+        self.scope.definitions.update((name, first[0]) for name, first in self.first.items() if len(first) == 1)
+        for name in [f"◌{name}◌" if name in self.fixity else name for name in KIT]:
             self.scope.imports[name] = ("Rattle.std.specs.Prelude", name)
             self.scope.definitions.pop(name, None)
+        self.names = functools.lru_cache(None)(functools.partial(Names, self.sources))  # what the names of a scope stand for
+        self.memory: Dict = {}  # what remembered functions have returned
+        self.python = {**vars(lists), **{f"kit_{name}": function for name, function in KIT.items()}, "NONE": NONE,
+                       "once": functools.lru_cache(None), "remembered": functools.partial(remembering, self.memory)}
+        self.functions: Dict[Definition, Function] = {}
+        self.queue: List[Function] = []
 
     def named(self, name: str) -> Definition:
         """Returns the definition of a name."""
-        if name not in self.scope.definitions:
-            several = self.several.get(name)
-            raise Unresolved(f"{name} is one of {', '.join(several)}" if several else f"{name} stands for nothing")
-        return self.scope.definitions[name]
+        if name in self.scope.definitions:
+            return self.scope.definitions[name]
+        several = ", ".join(sorted(one.whole_name for one in self.first.get(name, [])))
+        raise Unresolved(f"{name} is one of {several}" if several else f"{name} stands for nothing")
 
     def name_of(self, definition: Definition) -> str:
         """Returns the shortest name of a definition."""
         is_alone = self.scope.definitions.get(definition.name) is definition
-        return definition.name if is_alone else f"{definition.place}:{definition.name}"
+        return definition.name if is_alone else definition.whole_name
+
+    def constant(self, value: Any) -> str:
+        """Returns the name of a value in the functions that are made."""
+        name = f"constant_{len(self.python)}"
+        self.python[name] = value
+        return name
+
+    def function(self, definition: Definition) -> Function:
+        """Returns the function of a definition, which is made before anything is computed."""
+        if definition not in self.functions:
+            self.functions[definition] = self.kind(self, definition)
+            self.queue.append(self.functions[definition])
+        return self.functions[definition]
+
+    def finish(self) -> None:
+        """Makes the functions that are used, and those that they use."""
+        while self.queue:
+            function = self.queue.pop()
+            try:
+                text = function.whole()
+            except (Unresolved, Stuck) as what:
+                text = f"def {function.name}(*_):\n    stuck({f'{function.definition.name}: {what}'!r})\n"
+            exec(compile(text, f"<{function.name}>", "exec"), self.python)  # pylint: disable=exec-used
+
+    def value(self, text: str, scope: Scope) -> Any:
+        """Returns the value of an expression, with the names of a scope."""
+        asked = self.kind(self, Definition("function", "asked", scope, 0, "", "asked : Type\nasked = " + text.replace("\n", "\n ")))
+        made = asked.text(asked.clauses[0][1], {})
+        self.finish()
+        return eval(made, self.python)  # pylint: disable=eval-used
 
     def call(self, name: str, *given: Any) -> Any:
         """Returns the value of a definition with these arguments."""
-        return self.find(self.named(name))(*given)
+        function = self.function(self.named(name))
+        self.finish()
+        return self.python[function.name](*given)
 
     def ask(self, text: str) -> Any:
         """Returns the value of an expression."""
@@ -116,15 +156,17 @@ def performed(definitions: Definitions, words: List[str], read: Callable[[], byt
 
 # ---- the steps of a processor
 
-# The places that --step knows: how they are typed, their names in PpPlace, and the digits of their addresses and of their numbers.
-PLACES = (("A", "A", 0, 6), ("P", "P", 0, 4), ("Q", "Q", 0, 4), ("PHASE", "Phase", 0, 4), ("M", "Cell", 4, 4), ("S", "State", 2, 1),
-          ("H", "Register", 2, 4), ("C", "Central", 6, 20), ("XP", "FrameWord", 2, 20))
+# The places of a processor: how they are typed, their names in PpPlace, the fields with their numbers in what it sees of the machine,
+# and the digits of their addresses and of their numbers.
+PLACES = (("P", "P", "p", 0, 4), ("A", "A", "a", 0, 6), ("Q", "Q", "q", 0, 4), ("PHASE", "Phase", "phase", 0, 4),
+          ("M", "Cell", "cells", 4, 4), ("S", "State", "states", 2, 1), ("H", "Register", "registers", 2, 4),
+          ("C", "Central", "central", 6, 20), ("XP", "FrameWord", "frame", 2, 20))
 
 
 def place_and_number(word: str) -> Tuple[tuple, int]:
     """Returns what A=5 or `M 20=5` says."""
     found = re.fullmatch(r"([A-Z]+)(?: +([0-7]+))?=([0-7]+)", word.upper())
-    for short, name, digits, _ in PLACES:
+    for short, name, _, digits, _ in PLACES:
         if found and found[1] == short and bool(digits) == bool(found[2]):
             return (f"PpPlace.{name}", *([int(found[2], 8)] if found[2] else [])), int(found[3], 8)
     raise Stuck(f"{word!r}: write an instruction word, as 3520, or a place and its number, as A=777777 or 'M 20=5'")
@@ -135,16 +177,15 @@ def stepped(definitions: Definitions, words: List[str], steps: int) -> Iterator[
     program = [int(word, 8) for word in words if re.fullmatch("[0-7]{1,4}", word)]
     others = [place_and_number(word) for word in words if not re.fullmatch("[0-7]{1,4}", word)]
     cells = definitions.call("cells_from", 0o100, listed(program))
-    over = definitions.find(definitions.named("pp_step/View:over"))
-    view = over(definitions.call("pp_worked/Processors:blank"), listed([*others, (("PpPlace.P",), 0o100), *items(cells)]))
+    view, writes = definitions.call("pp_worked/Processors:blank"), listed([*others, (("PpPlace.P",), 0o100), *items(cells)])
     for _ in range(steps):
+        view = definitions.call("pp_step/View:over", view, writes)
         writes = definitions.call("pp_writes", view)
         yield writes
-        view = over(view, writes)
 
 
 def written(write: Tuple[tuple, int]) -> str:
     """Returns a place with its number, as A = 000005 or M 0020 = 0005."""
     (name, *address), number = write
-    short, _, digits, width = next(place for place in PLACES if name == f"PpPlace.{place[1]}")
+    short, *_, digits, width = next(place for place in PLACES if name == f"PpPlace.{place[1]}")
     return f"{' '.join([short, *(f'{one:0{digits}o}' for one in address)])} = {number:0{width}o}"

@@ -5,17 +5,18 @@ are to be preferred; the worked rows of pp_worked come after them. While these a
 one case the one that reads best is kept. An example is an expression, so it can be typed and computed again.
 """
 
+import functools
 import os
 import re
 import tempfile
-from typing import Any, Dict, Iterator, List, NamedTuple, Optional, Tuple
+from typing import Any, Callable, Dict, Iterator, List, NamedTuple, Optional, Tuple
 
-from book.names import Names, Unresolved, find_token
+from book.expressions import Apply, Name, Parser
+from book.names import Unresolved, find_token
 from book.pages import Book, Text
 from book.sources import Definition
 from evaluating.asking import Definitions, performed
-from evaluating.expressions import Name, Operator, Parser
-from evaluating.functions import Case
+from evaluating.functions import Function, Locals
 from evaluating.lists import Stuck
 from evaluating.showing import Shower
 from evaluating.writing import Writer
@@ -75,11 +76,38 @@ def worked(top: str, definitions: Definitions) -> Iterator[Tuple[str, str, Any]]
                     yield f"{module[2]}.{function[1]}.{clause[1]}", " ".join(function[0][clause.end():end].split()), scope
 
 
+class Case:
+    """A clause of a definition, or a branch of it, with the expression that it returns."""
+
+    def __init__(self, definition: Definition, tree: Any):
+        self.definition, self.tree = definition, tree
+
+
+class HeardFunction(Function):
+    """A function that tells the definitions which case of it returned what."""
+
+    def returned(self, tree: Any, scope: Locals) -> str:
+        case = Case(self.definition, tree)
+        self.maker.cases.setdefault(self.definition, []).append(case)
+        hear = self.maker.constant(functools.partial(self.maker.hear, case))
+        return f"{hear}([{', '.join(self.given)}], {super().returned(tree, scope)})"
+
+
+class HeardDefinitions(Definitions):
+    """Definitions of which each call is heard: hear(case, arguments, value)."""
+
+    kind = HeardFunction
+
+    def __init__(self, top: str, hear: Callable):
+        super().__init__(top)
+        self.hear, self.cases = hear, {}  # the cases of each definition
+
+
 class Recorder:
     """Hears each call, and keeps the best ones of each case."""
 
     def __init__(self, top: str):
-        self.top, self.definitions = top, Definitions(top, self.hear)
+        self.top, self.definitions = top, HeardDefinitions(top, self.hear)
         with open(os.path.join(top, "docs", "definitions.txt"), encoding="utf-8") as file:
             book = Book(self.definitions.sources, Text(file.read()))
         titles = [chapter.title for chapter in book.text.chapters]
@@ -90,7 +118,7 @@ class Recorder:
         self.typed: Dict[Case, List[Example]] = {}
         self.best: Dict[Case, List[Tuple[tuple, Example]]] = {}
         for definition in self.chapter:
-            self.definitions.python_name(definition)
+            self.definitions.function(definition)
         self.definitions.finish()
 
     def is_computed(self, definition: Definition) -> bool:
@@ -157,8 +185,8 @@ class Recorder:
     def head(self, text: str) -> Definition:
         """Returns the definition that an expression calls."""
         tree = Parser(text, self.definitions.fixity).whole()
-        word = tree.word if isinstance(tree, (Operator, Name)) else tree.head.word
-        return Names(self.definitions.sources, self.definitions.scope).target(word)
+        word = tree.head.word if isinstance(tree, Apply) else tree.word
+        return self.definitions.names(self.definitions.scope).target(word)
 
     def value(self, text: str) -> Tuple[Case, Example]:
         """Returns the value of an expression as an example, and the case of the call that it is."""
@@ -197,11 +225,6 @@ class Recorder:
             return False
 
 
-def name_of(definition: Definition) -> str:
-    """Returns the name of a definition in docs/examples.txt."""
-    return f"{definition.place}:{definition.name}"
-
-
 def load(text: str) -> Dict[str, List[Example]]:
     """Returns the examples of docs/examples.txt by their definitions."""
     found: Dict[str, List[Example]] = {}
@@ -233,9 +256,9 @@ def record(top: str) -> int:
     lines, without = [HEAD], []
     for definition in recorder.chapter:
         found = recorder.examples(definition)
-        lines.append(f"== {name_of(definition)}")
+        lines.append(f"== {definition.whole_name}")
         lines += [f"without: {one.without}" if one.without else f"{one.text}\n  = {one.value}" for one in found]
-        without += [f"{name_of(definition)}: {one.without}" for one in found if one.without]
+        without += [f"{definition.whole_name}: {one.without}" for one in found if one.without]
     with open(os.path.join(top, FILE), "w", encoding="utf-8") as file:
         file.write("\n".join(lines) + "\n")
     count = sum(len(recorder.definitions.cases[definition]) for definition in recorder.chapter)
@@ -248,9 +271,9 @@ def faults_of(top: str, text: str) -> List[str]:
     recorder, examples, faults = Recorder(top), load(text), []
     for definition in recorder.chapter:
         left = list(recorder.definitions.cases[definition])
-        for example in examples.pop(name_of(definition), []):
+        for example in examples.pop(definition.whole_name, []):
             faults += recorder.fault(example, left)
-        faults += [f"{name_of(definition)}: no line for the case {recorder.returns(case)}" for case in left]
+        faults += [f"{definition.whole_name}: no line for the case {recorder.returns(case)}" for case in left]
     return faults + [f"{name}: no computable definition on the page" for name in examples]
 
 

@@ -1,46 +1,35 @@
 """Makes a function of Python from each definition that is used.
 
 A clause becomes an `if`, and a function that is passed on takes its arguments one by one. Definitions are total and have no
-effects, so when and how often one is computed can't be seen. Four things rest on that: a constant is computed once; an argument
-that some clause does not read is computed when it is read; a pattern `x ∷ xs` that is built again is the list that it took apart;
-and some functions remember their results. Types are not checked.
+effects, so when and how often one is computed can't be seen. Four things rest on that: a constant is computed once; some functions
+remember their results; an argument of some is computed when it is read; and a pattern `x ∷ xs` that is built again is the list that
+it took apart. Types are not checked.
 """
 
 import functools
 import re
-from typing import Any, Callable, Dict, List, NamedTuple, Optional, Tuple
+from collections import namedtuple
+from typing import Any, Callable, Dict, List, Sequence
 
-from book.names import Library, Names, Sources, Unresolved
-from book.sources import Definition, Scope
-from evaluating.expressions import (Apply, Binder, Field, Fixity, If, Lambda, Let, Name, Number, Operator, Pair, Parser, Record,
-                                    Text)
-from evaluating.kit import CONSTANTS, INLINE, KIT, NONE, OPERATORS
-from evaluating.lists import NIL, Cons, Lazy, Partial, Relation, Stuck, append, force, is_same, listed
+from book.expressions import Apply, Binder, If, Let, Name, Pair, Parser
+from book.names import NUMBER, Library, Unresolved
+from book.sources import Constructor, Definition
+from evaluating.kit import KIT
+from evaluating.lists import Stuck, listed
 
 # Without memory a session of n turns would take n * n steps, since each definition replays it from its start.
 REMEMBERED = ("replay", "turn", "finished", "lines_of_file")
+LAZY = {"hit_or": 1}  # the argument that is computed when it is read: the rest of a run of turns, which may stop early
 ESCAPES = {"n": "\n", "t": "\t", "r": "\r"}
+# The constructors that are not tuples with their names: the test of each, and its parts.
+PATTERNS = {"zero": ["{} == 0"], "suc": ["{} > 0", "({} - 1)"], "true": ["{}"], "false": ["not {}"],
+            "[]": ["{} is NIL"], "∷": ["{} is not NIL", "{}.head", "{}.tail"]}
+BUILT_AGAIN = re.compile(r"Cons\(([\w.\[\]]+)\.head, \1\.tail\)")
 
-
-class Constructor(NamedTuple):
-    """A constructor: its type and name with a dot between, and how many arguments it takes."""
-    tag: str
-    arity: int
-
-    def __call__(self, *given: Any) -> tuple:
-        return (self.tag, *given)
-
-
-class Case:
-    """A clause of a definition, or a branch of it, with the expression that it returns."""
-
-    def __init__(self, definition: Definition, tree: Any):
-        self.definition, self.tree = definition, tree
-
-
-def stuck(what: str) -> None:
-    """Says that something can't be computed."""
-    raise Stuck(what)
+Locals = Dict[str, str]  # what each name that is bound is in Python
+# What a name is in Python: its function, how many arguments it takes, a call with {0}, {1} .. in their places, and its first
+# arguments if they are not written: of a constructor its name, of a definition of the same module those of the module.
+Word = namedtuple("Word", "function arity call own", defaults=[()])
 
 
 def remembering(memory: Dict, function: Callable) -> Callable:
@@ -54,360 +43,187 @@ def remembering(memory: Dict, function: Callable) -> Callable:
     return remembered
 
 
-def constructor(definition: Definition, name: str) -> Constructor:
-    """Returns a constructor of a type: of data it takes what its arrows say, of an enum of Rust the fields."""
-    if definition.kind == "data":
-        signature = re.search(rf"^  (?:pub )?{re.escape(name)} : ((?:.*\n?)(?:^ {{4,}}.*\n?)*)", definition.text, re.M)
-        outer = re.sub(r"\([^()]*\)", "", re.sub(r"\([^()]*\)", "", signature[1]))
-        return Constructor(f"{definition.name}.{name}", outer.count("→"))
-    text = re.sub(r"//.*", "", definition.text)
-    fields = re.search(rf"^    {name}\b\s*(?:\{{([^}}]*)\}}|\(([^)]*)\))?", text, re.M)
-    return Constructor(f"{definition.name}.{name}", len([one for one in (fields[1] or fields[2] or "").split(",") if one.strip()]))
+def word_of(function: str, arity: int, own: Sequence[str] = (), call: str = "{}({})") -> Word:
+    """Returns the word of a function, of which a call is written so."""
+    return Word(function, arity, call.format(function, ", ".join(f"{{{at}}}" for at in range(arity))), own)
 
 
-def reads(tree: Any, name: str) -> bool:
-    """Tells whether a name occurs in an expression."""
-    if isinstance(tree, Name):
-        return tree.word.split(".")[0] == name
-    return isinstance(tree, (tuple, list)) and any(reads(part, name) for part in tree)
+def kit_word(name: str) -> Word:
+    """Returns what a word of the kit is."""
+    meaning = KIT.get(name, f"stuck('the word {name} of the kit')")
+    if callable(meaning):
+        return word_of(f"kit_{name}", meaning.__code__.co_argcount)
+    names = [f"x{at}" for at in sorted(set(re.findall(r"{(\d)}", meaning)))]
+    return Word(f"(lambda {', '.join(names)}: {meaning.format(*names)})", len(names), meaning)
+
+
+def block(head: str, lines: List[str]) -> List[str]:
+    """Returns lines of Python below the line that they belong to."""
+    return [head, *("    " + line for line in lines)]
+
+
+def applied(text: str, given: Sequence[str]) -> str:
+    """Returns the text of a function that takes its arguments one by one."""
+    return text + "".join(f"({one})" for one in given)
+
+
+def fields_text(fields: List[str]) -> str:
+    """Returns the text of fields that are read, by their names or, of a pair, their numbers."""
+    return "".join(f"[{field}]" if field.isdigit() else f"[{field!r}]" for field in fields if field)
 
 
 class Function:
-    """What is known of a definition before it is made: its arguments and its clauses."""
+    """A definition, which becomes a function of Python with the arguments _0, _1 .."""
 
-    def __init__(self, definition: Definition, names: Names, fixity: Fixity):
-        self.definition, self.names, text = definition, names, definition.text
-        starts = [line.start() for line in re.finditer(r"^(?!--|[\])}])\S", text, re.M)] + [len(text)]
-        parts = [text[start:end] for start, end in zip(starts[1:], starts[2:]) if not text.startswith("unfolding ", start)]
-        self.clauses = [(self.patterns(left), body) for left, body in (Parser(part, fixity).clause() for part in parts)]
+    def __init__(self, maker: Any, definition: Definition):
+        self.maker, self.definition, self.names, self.count = maker, definition, maker.names(definition.scope), 0
+        (_, end), *clauses = definition.clauses()
+        sides = [Parser(definition.text[start:stop], maker.fixity).clause() for start, stop in clauses]
+        self.clauses = [(left.given if isinstance(left, Apply) else [], body) for left, body in sides]
         self.module = [name for binder in re.findall(r"\(([^:()]+) :", definition.header) for name in binder.split()]
-        self.result, arrows = Parser(text[text.index(" : ") + 3:starts[1]], fixity).expression(), 0
-        while isinstance(self.result, Operator) and self.result.word == "→":
-            left = self.result.left
+        self.result = Parser(definition.text[definition.text.index(" : ") + 3:end], maker.fixity).expression()
+        arrows, counts = 0, [len(patterns) for patterns, _ in self.clauses]
+        while isinstance(self.result, Apply) and self.result.head == Name("→"):
+            left, self.result = self.result.given
             arrows += len(left.names) if isinstance(left, Binder) else 1
-            self.result = self.result.right
-        self.arity = len(self.module) + max(arrows, *(len(patterns) for patterns, _ in self.clauses))
-        shortest = min(len(patterns) for patterns, _ in self.clauses)
-        self.lazy = {len(self.module) + at for at in range(shortest) if self.is_lazy(at)}
-
-    def patterns(self, left: Any) -> List:
-        """Returns the patterns of a clause."""
-        if isinstance(left, Operator) and left.word in self.definition.name.split("◌"):
-            return [left.left, left.right]
-        return left.given if isinstance(left, Apply) else []
-
-    def is_lazy(self, at: int) -> bool:
-        """Tells whether every clause takes the argument as it is, and some clause does not read it."""
-        plain = [isinstance(own[at], Name) and not self.names.constructor(own[at].word) for own, _ in self.clauses]
-        return all(plain) and not all(reads(body, own[at].word) for own, body in self.clauses)
-
-
-class Maker:
-    """Makes the functions of all definitions that are used, and of what is asked for."""
-
-    def __init__(self, top: str, hear: Optional[Callable] = None):
-        self.sources, self.hear = Sources(top), hear  # hear(case, arguments, value) is called for each value, if it is there
-        self.fixity: Fixity = dict(OPERATORS)
-        for scope in self.sources.scopes.values():
-            for definition in scope.definitions.values():
-                for side, strength, name in re.findall(r"infix([lr]?) (\d+) ◌(\S+)◌", definition.fixity):
-                    self.fixity[name] = (int(strength), side or "n")
-        self.memory: Dict = {}  # what remembered functions have returned
-        self.python = {**{f"kit_{name}": function for name, (_, function) in KIT.items()}, "NIL": NIL, "NONE": NONE, "Cons": Cons,
-                       "Lazy": Lazy, "Partial": Partial, "Constructor": Constructor, "append": append, "force": force,
-                       "is_same": is_same, "stuck": stuck, "once": functools.lru_cache(None),
-                       "remembered": functools.partial(remembering, self.memory)}
-        self.known: Dict[Scope, Names] = {}
-        self.functions: Dict[Definition, Function] = {}
-        self.made: Dict[Definition, str] = {}
-        self.texts: Dict[Definition, str] = {}
-        self.cases: Dict[Definition, List[Case]] = {}
-        self.queue: List[Definition] = []
-
-    def names(self, scope: Scope) -> Names:
-        """Returns what the names of a scope stand for."""
-        return self.known.setdefault(scope, self.known.get(scope) or Names(self.sources, scope))
-
-    def function(self, definition: Definition) -> Function:
-        """Returns what is known of a definition."""
-        if definition not in self.functions:
-            self.functions[definition] = Function(definition, self.names(definition.scope), self.fixity)
-        return self.functions[definition]
-
-    def python_name(self, definition: Definition) -> str:
-        """Returns the name of a definition's function, which is made before anything is computed."""
-        if definition not in self.made:
-            self.made[definition] = re.sub(r"\W", "_", f"{definition.name}_{len(self.made)}")
-            self.queue.append(definition)
-        return self.made[definition]
-
-    def constant(self, value: Any) -> str:
-        """Returns the name of a value in the functions that are made."""
-        name = f"constant_{len(self.python)}"
-        self.python[name] = value
-        return name
-
-    def finish(self) -> None:
-        """Makes the functions that have names only."""
-        while self.queue:
-            definition = self.queue.pop()
-            try:
-                text = Body(self, self.function(definition).names, self.function(definition)).whole()
-            except (Unresolved, Stuck) as what:
-                text = f"def {self.made[definition]}(*given):\n    stuck({f'{definition.name}: {what}'!r})\n"
-            self.texts[definition] = text
-            exec(compile(text, f"<{definition.name}>", "exec"), self.python)  # pylint: disable=exec-used
-
-    def find(self, definition: Definition) -> Callable:
-        """Returns the function of a definition."""
-        name = self.python_name(definition)
-        self.finish()
-        return self.python[name]
-
-    def value(self, text: str, scope: Scope) -> Any:
-        """Returns the value of an expression, with the names of a scope."""
-        made = Body(self, self.names(scope)).expression(Parser(text, self.fixity).whole(), {})
-        self.finish()
-        return eval(made, self.python)  # pylint: disable=eval-used
-
-
-Locals = Dict[str, str]  # what each name that is bound is in Python
-
-
-class Body:
-    """Writes the text of Python for a definition or for an expression."""
-
-    def __init__(self, maker: Maker, names: Names, function: Optional[Function] = None):
-        self.maker, self.names, self.function, self.count, self.constant = maker, names, function, 0, maker.constant
-        self.given = [f"a{at}" for at in range(function.arity)] if function else []
-        self.pairs: Dict[Tuple[str, str], str] = {}  # a list that a pattern took apart, by its head and its tail
+        self.given = [f"_{at}" for at in range(len(self.module) + max(arrows, *counts))]
+        self.name = self.fresh(f"{definition.name}_{len(maker.functions)}")
 
     def fresh(self, name: str) -> str:
         """Returns a new name in Python."""
         self.count += 1
         return re.sub(r"\W", "_", f"{name}_{self.count}")
 
+    # ---- the whole function
+
     def whole(self) -> str:
-        """Returns the function of the definition."""
-        function = self.function
-        kind = "@once\n" if not self.given else "@remembered\n" if function.definition.name in REMEMBERED else ""
-        lines = [f"{kind}def {self.maker.made[function.definition]}({', '.join(self.given)}):"]
-        for patterns, body in function.clauses:
-            tests, inner = self.clause(patterns, body)
-            lines += [f"    if {' and '.join(tests)}:"] if tests else []
-            lines += [("        " if tests else "    ") + line for line in inner]
-            if not tests:
-                return "\n".join(lines) + "\n"
-        return "\n".join([*lines, f"    stuck('no clause of {function.definition.name} fits')\n"])
+        """Returns the text of the function."""
+        name = self.definition.name
+        kind = ["@once"] if not self.given else ["@remembered"] if name in REMEMBERED else []
+        lines = [line for patterns, body in self.clauses for line in self.clause(patterns, body)]
+        lines.append(f"stuck({f'no clause of {name} fits'!r})")
+        return "\n".join([*kind, *block(f"def {self.name}({', '.join(self.given)}):", lines), ""])
 
-    def clause(self, patterns: List, body: Any) -> Tuple[List[str], List[str]]:
-        """Returns the tests of a clause, and the lines that return its value."""
-        function, self.pairs = self.function, {}
-        count = len(function.module)
-        found = Match(self)
-        for at, pattern in enumerate(patterns, count):
-            found.match(pattern, f"force({self.given[at]})" if at in function.lazy else self.given[at])
-        scope, lines = {**dict(zip(function.module, self.given)), **found.bound}, []
-        for name, text in found.bound.items():
-            if "[" in text or "." in text or " " in text:
-                scope[name] = self.fresh(name)
-                lines.append(f"{scope[name]} = {text}")
-        for head, tail, text in found.lists:
-            self.pairs[scope.get(head, ""), scope.get(tail, "")] = text
-        rest = [Name(text, True) for text in self.given[count + len(patterns):]]
-        return found.tests, [*lines, *self.statements(Apply(body, rest) if rest else body, scope)]
+    def clause(self, patterns: List, body: Any) -> List[str]:
+        """Returns the lines of a clause."""
+        scope, tests = dict(zip(self.module, self.given)), []
+        for at, pattern in enumerate(patterns, len(self.module)):
+            is_lazy = LAZY.get(self.definition.name) == at
+            tests += self.match(pattern, f"{self.given[at]}()" if is_lazy else self.given[at], scope)
+        rest = self.given[len(self.module) + len(patterns):]
+        return block(f"if {' and '.join(tests) or True}:", self.lines(body, scope, rest))
 
-    def statements(self, tree: Any, scope: Locals) -> List[str]:
-        """Returns the lines that return the value of an expression."""
-        if isinstance(tree, Let):
-            name = self.fresh(tree.name)
-            return [f"{name} = {self.expression(tree.value, scope)}", *self.statements(tree.body, {**scope, tree.name: name})]
-        if isinstance(tree, If):
-            inner = ["    " + line for line in self.statements(tree.yes, scope)]
-            return [f"if {self.expression(tree.test, scope)}:", *inner, *self.statements(tree.no, scope)]
-        return ["return " + self.heard(tree, self.expression(tree, scope))]
-
-    def heard(self, tree: Any, text: str) -> str:
-        """Returns the text of a value, which is passed on to who wants to hear of each case."""
-        if not self.maker.hear:
-            return text
-        case = Case(self.function.definition, tree)
-        self.maker.cases.setdefault(case.definition, []).append(case)
-        return f"{self.constant(functools.partial(self.maker.hear, case))}([{', '.join(self.given)}], {text})"
-
-    def meaning(self, word: str) -> Tuple[Any, List[str]]:
-        """Returns what a word stands for, a constructor, a definition or a word of the kit, and the fields that are read of it."""
-        scope = self.names.scope
-        target, fields = self.names.resolved(word)
-        name = self.names.whole.get(word, word)
-        name = (scope.imports[name][1] if name in scope.imports and name not in scope.definitions else name).split(".")[-1]
-        if target is None:
-            return word.split(".")[0], fields
-        if isinstance(target, Library):
-            return target.name.strip("◌"), fields
-        if name in target.members and name != target.name:
-            return constructor(target, name), fields
-        return target, fields
-
-    # ---- expressions
-
-    def expression(self, tree: Any, scope: Locals) -> str:
-        """Returns the text of an expression."""
-        if isinstance(tree, Name):
-            return tree.word if tree.is_python else self.call(tree.word, [], scope)
-        if isinstance(tree, Number):
-            return str(int(tree.text, 0))
-        if isinstance(tree, Text):
-            return self.constant(listed(map(ord, re.sub(r"\\(.)", lambda one: ESCAPES.get(one[1], one[1]), tree.text[1:-1]))))
-        if isinstance(tree, Binder):
-            return "stuck('a statement about each or some x')"
-        if isinstance(tree, Field):
-            return self.expression(tree.base, scope) + fields_text(tree.fields)
-        if isinstance(tree, Pair):
-            return f"({', '.join(self.expression(one, scope) for one in tree.parts)})"
-        if isinstance(tree, If):
-            return "({1} if {0} else {2})".format(*(self.expression(one, scope) for one in tree))
-        if isinstance(tree, Let):
-            return f"({self.of_lambda(Lambda([Name(tree.name)], tree.body), scope)})({self.expression(tree.value, scope)})"
-        kinds = {Apply: self.of_apply, Record: self.of_record, Lambda: self.of_lambda, Operator: self.of_operator}
-        return kinds[type(tree)](tree, scope)
-
-    def applied(self, text: str, given: List, scope: Locals) -> str:
-        """Returns the text of a function that takes its arguments one by one."""
-        return text + "".join(f"({self.expression(one, scope)})" for one in given)
-
-    def of_apply(self, tree: Apply, scope: Locals) -> str:
-        """Returns the text of a function with arguments."""
-        head, given = tree
-        if isinstance(head, Apply):
-            return self.of_apply(Apply(head.head, head.given + given), scope)
-        if isinstance(head, Name) and not head.is_python:
-            return self.call(head.word, given, scope)
-        if isinstance(head, Let):  # the arguments go inside
-            return self.expression(head._replace(body=Apply(head.body, given)), scope)
-        if isinstance(head, If):
-            return self.expression(If(head.test, Apply(head.yes, given), Apply(head.no, given)), scope)
-        return self.applied(self.expression(head, scope), given, scope)
-
-    def of_record(self, tree: Record, scope: Locals) -> str:
-        """Returns the text of a record."""
-        parts = [f"**{self.expression(tree.base, scope)}"] if tree.base is not None else []
-        return "{" + ", ".join(parts + [f"{name!r}: {self.expression(value, scope)}" for name, value in tree.fields]) + "}"
-
-    def of_lambda(self, tree: Lambda, scope: Locals) -> str:
-        """Returns the text of a function."""
-        found, names = Match(self), [self.fresh("x") for _ in tree.patterns]
-        for pattern, name in zip(tree.patterns, names):
-            found.match(pattern, name)
-        return "(" + "".join(f"lambda {name}: " for name in names) + self.expression(tree.body, {**scope, **found.bound}) + ")"
-
-    def of_operator(self, tree: Operator, scope: Locals) -> str:
-        """Returns the text of an operator of the kit or of a definition."""
-        word, left, right = tree
-        if word not in OPERATORS or isinstance(self.names.target(word), Definition):
-            return self.call(word, [left, right], scope)
-        if word == "→" or isinstance(left, Binder):
-            return self.expression(Binder([]), scope)
-        parts = self.expression(left, scope), self.expression(right, scope)
-        return self.pairs[parts] if word == "∷" and parts in self.pairs else f"({OPERATORS[word][2].format(*parts)})"
-
-    # ---- calls
-
-    def call(self, word: str, given: List, scope: Locals) -> str:
-        """Returns the text of a name that is applied to arguments."""
-        head, *fields = word.split(".") if word not in self.names.whole else [word]
-        if head in scope:
-            return self.applied(scope[head] + fields_text(fields), given, scope)
-        what, fields = self.meaning(word)
-        if isinstance(what, Constructor):
-            return self.saturated(repr(what), what.arity, given, scope, what.tag) if what.arity else self.constant((what.tag,))
-        if isinstance(what, str):
-            return self.of_kit(what, given, scope) + fields_text(fields)
-        if what.scope.module[1] == "src" and what.kind == "const":
-            return re.search(r"= ([\d_]+);", what.text)[1].replace("_", "")
-        if what.kind != "function":
-            return self.applied(self.constant(Relation(what.name)), given, scope)
-        return self.of_definition(what, given, scope) + fields_text(fields)
-
-    def of_definition(self, what: Definition, given: List, scope: Locals) -> str:
-        """Returns the text of a call of a definition. In its own module its first arguments are not written."""
-        try:
-            function = self.maker.function(what)
-        except (Unresolved, Stuck) as fault:
-            return f"stuck({f'{what.name}: {fault}'!r})"
-        own = self.function.definition if self.function else None
-        if own and function.module and (what.scope, what.header) == (own.scope, own.header):
-            given = [Name(text, True) for text in self.given[:len(function.module)]] + given
-        given = [self.later(one, scope) if at in function.lazy else one for at, one in enumerate(given)]
-        return self.saturated(self.maker.python_name(what), function.arity, given, scope)
-
-    def later(self, tree: Any, scope: Locals) -> Name:
-        """Returns an argument that is computed when it is read."""
-        text = self.expression(tree, scope)
-        return Name(f"Lazy(lambda: {text})" if "(" in text and not isinstance(tree, Lambda) else text, True)
-
-    def saturated(self, name: str, arity: int, given: List, scope: Locals, tag: str = "") -> str:
-        """Returns the text of a call with all its arguments, or of what waits for the others."""
-        parts = [self.expression(one, scope) for one in given]
-        if len(parts) < arity:
-            return f"Partial({', '.join([name, str(arity - len(parts)), *parts])})"
-        first = ", ".join(parts[:arity])
-        return (f"({tag!r}, {first})" if tag else f"{name}({first})") + "".join(f"({one})" for one in parts[arity:])
-
-    def of_kit(self, name: str, given: List, scope: Locals) -> str:
-        """Returns the text of a word of the kit."""
-        if name == "codes" or name in CONSTANTS:
-            return self.expression(given[0], scope) if name == "codes" else CONSTANTS[name]
-        if name in INLINE:
-            arity, text = INLINE[name]
-            if len(given) == arity:
-                return text.format(*(self.expression(one, scope) for one in given))
-            names = [f"x{at}" for at in range(arity)]
-            return self.applied("(" + "".join(f"lambda {one}: " for one in names) + text.format(*names) + ")", given, scope)
-        return self.saturated(f"kit_{name}", KIT[name][0], given, scope) if name in KIT else f"stuck('the word {name} of the kit')"
-
-
-class Match:
-    """What patterns test, and the names that they bind."""
-
-    def __init__(self, body: Body):
-        self.body, self.tests, self.bound = body, [], {}
-        self.lists: List[Tuple[Any, Any, str]] = []  # the names of head and tail of a list, and the list
-
-    def match(self, pattern: Any, value: str) -> None:
-        """Adds what one pattern tests and binds, of a value of this text."""
-        head, given = pattern if isinstance(pattern, Apply) else (pattern, [])
+    def match(self, pattern: Any, value: str, scope: Locals) -> List[str]:
+        """Returns what a pattern tests of a value of this text, and adds the names that it binds to the scope."""
+        head, given = pattern if isinstance(pattern, Apply) else (pattern, getattr(pattern, "parts", []))
+        places = [f"{{}}[{at}]" for at in range(1, len(given) + 1)]
         if isinstance(pattern, Pair):
-            self.parts(pattern.parts, value, 0)
-        elif isinstance(pattern, Operator) and pattern.word == "∷":
-            self.tests.append(f"{value} is not NIL")
-            self.match(pattern.left, f"{value}.head")
-            self.match(pattern.right, f"{value}.tail")
-            self.lists.append((*(getattr(one, "word", "") for one in pattern[1:]), value))
-        elif isinstance(pattern, Operator):
-            self.tagged(pattern.word, pattern[1:], value)
-        elif not self.body.names.constructor(head.word):
-            self.bound.update({head.word: value} if head.word != "_" else {})
-        elif head.word in ("zero", "true", "false", "[]"):
-            self.tests.append({"zero": f"{value} == 0", "true": value, "false": f"not {value}", "[]": f"{value} is NIL"}[head.word])
-        elif head.word == "suc":
-            self.tests.append(f"{value} > 0")
-            self.match(given[0], f"({value} - 1)")
+            test, places = "", ["{}[0]", *places]
+        elif head.word in PATTERNS:
+            test, *places = PATTERNS[head.word]
+        elif what := self.names.constructor(head.word):
+            test = f"{{}}[0] == {getattr(what, 'whole_name', what.name)!r}"  # a word of the kit has no type
         else:
-            self.tagged(head.word, given, value)
+            scope[head.word] = value
+            return []
+        tests = [test.format(value)] if test else []
+        for part, place in zip(given, places):
+            tests += self.match(part, place.format(value), scope)
+        return tests
 
-    def tagged(self, word: str, given: Any, value: str) -> None:
-        """Adds the test of a constructor, and what its arguments are."""
-        what = self.body.meaning(word)[0]
-        self.tests.append(f"{value}[0] == {(what if isinstance(what, str) else what.tag)!r}")
-        self.parts(given, value, 1)
+    def lines(self, tree: Any, scope: Locals, rest: List[str]) -> List[str]:
+        """Returns the lines that return the value of an expression with the other arguments of the definition."""
+        if isinstance(tree, Let):
+            name = self.fresh(tree.name.word)
+            return [f"{name} = {self.text(tree.value, scope)}", *self.lines(tree.body, {**scope, tree.name.word: name}, rest)]
+        if isinstance(tree, If):
+            yes = block(f"if {self.text(tree.test, scope)}:", self.lines(tree.yes, scope, rest))
+            return yes + self.lines(tree.no, scope, rest)
+        return ["return " + self.returned(Apply(tree, list(map(Name, rest))) if rest else tree, {**scope, **dict(zip(rest, rest))})]
 
-    def parts(self, patterns: Any, value: str, first: int) -> None:
-        """Adds what the patterns of a tuple test and bind."""
-        for at, part in enumerate(patterns, first):
-            self.match(part, f"{value}[{at}]")
+    def returned(self, tree: Any, scope: Locals) -> str:
+        """Returns the text of what a clause or a branch of it returns."""
+        return self.text(tree, scope)
 
+    # ---- an expression: of_KIND returns the text of a tree of this kind, with these parts
 
-def fields_text(fields: List[str]) -> str:
-    """Returns the text of fields that are read, by their names or, of a pair, their numbers."""
-    return "".join(f"[{field}]" if field.isdigit() else f"[{field!r}]" for field in fields if field)
+    def text(self, tree: Any, scope: Locals) -> str:
+        """Returns the text of an expression."""
+        return getattr(self, f"of_{type(tree).__name__.lower()}")(scope, *tree)
+
+    def texts(self, trees: Sequence, scope: Locals) -> List[str]:
+        """Returns the texts of some expressions."""
+        return [self.text(tree, scope) for tree in trees]
+
+    def of_name(self, scope: Locals, word: str) -> str:
+        if word.startswith('"'):
+            return self.maker.constant(listed(map(ord, re.sub(r"\\(.)", lambda one: ESCAPES.get(one[1], one[1]), word[1:-1]))))
+        return str(int(word, 0)) if NUMBER.fullmatch(word) else self.call(scope, word, [])
+
+    def of_binder(self, *_: Any) -> str:
+        return "stuck('a statement about each or some x')"
+
+    def of_field(self, scope: Locals, base: Any, fields: List[str]) -> str:
+        return self.text(base, scope) + fields_text(fields)
+
+    def of_pair(self, scope: Locals, parts: List) -> str:
+        return f"({', '.join(self.texts(parts, scope))})"
+
+    def of_record(self, scope: Locals, base: Any, fields: List) -> str:
+        parts = [f"**{self.text(base, scope)}"] if base is not None else []
+        return f"{{{', '.join(parts + [f'{name!r}: {self.text(value, scope)}' for name, value in fields])}}}"
+
+    def of_if(self, scope: Locals, *parts: Any) -> str:
+        return "({1} if {0} else {2})".format(*self.texts(parts, scope))
+
+    def of_let(self, scope: Locals, name: Name, value: Any, body: Any) -> str:
+        return applied(self.of_lambda(scope, [name], body), [self.text(value, scope)])
+
+    def of_lambda(self, scope: Locals, patterns: List, body: Any) -> str:
+        names, scope = [self.fresh("x") for _ in patterns], dict(scope)
+        for pattern, name in zip(patterns, names):
+            self.match(pattern, name, scope)
+        return f"({''.join(f'lambda {name}: ' for name in names)}{self.text(body, scope)})"
+
+    def of_apply(self, scope: Locals, head: Any, given: List) -> str:
+        if head == Name("→") or isinstance(given[0], Binder):
+            return self.of_binder()
+        if isinstance(head, Apply):
+            return self.of_apply(scope, head.head, head.given + given)
+        if isinstance(head, Name):
+            return BUILT_AGAIN.sub(r"\1", self.call(scope, head.word, given))
+        return applied(self.text(head, scope), self.texts(given, scope))
+
+    # ---- names
+
+    def call(self, scope: Locals, word: str, given: List) -> str:
+        """Returns the text of a name with arguments; where fields are read of it, these come first."""
+        target, fields = self.names.resolved(word, scope)
+        if fields:
+            base = word[:-len(".".join(["", *fields]))]
+            return applied(self.call(scope, base, []) + fields_text(fields), self.texts(given, scope))
+        what = self.word(target) if target else Word("", 0, scope[word]) if word in scope else kit_word(word)
+        parts = list(what.own)
+        for at, one in enumerate(given, len(parts)):
+            is_lazy = target and LAZY.get(target.name) == at
+            parts.append(f"once(lambda: {self.text(one, scope)})" if is_lazy else self.text(one, scope))
+        if len(parts) < what.arity:
+            return f"Partial({', '.join([what.function, str(what.arity - len(parts)), *parts])})"
+        return applied(what.call.format(*parts) if what.arity else what.call, parts[what.arity:])
+
+    def word(self, target: Any) -> Word:
+        """Returns what a word of the kit, a constructor or a definition is."""
+        if isinstance(target, Library):
+            return kit_word(target.name.strip("◌"))
+        if isinstance(target, Constructor):
+            return word_of("together", 1 + target.arity, [repr(target.whole_name)], "({1},)")
+        if target.kind == "const":
+            return Word("", 0, re.search(r"= ([\d_]+);", target.text)[1])
+        if target.kind != "function":
+            return Word("", 0, f"Partial(stuck, 1, '{target.name}, which is a type or a relation')")
+        is_near = (target.scope, target.header) == (self.definition.scope, self.definition.header)
+        try:
+            function = self.maker.function(target)
+        except (Unresolved, Stuck) as what:
+            return Word("", 0, f"stuck({f'{target.name}: {what}'!r})")
+        return word_of(function.name, len(function.given), self.given[:len(self.module)] if is_near else [])

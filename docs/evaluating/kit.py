@@ -6,9 +6,10 @@ each element, which is the same for a list at hand.
 
 import functools
 import re
-from typing import Any, Callable, Dict, Tuple
+from itertools import islice
+from typing import Any, Dict, Tuple
 
-from evaluating.lists import NIL, Cons, append, drop, element, items, length, listed, replicate, take, with_element
+from evaluating.lists import NIL, Cons, append, drop, element, items, listed, replicate, with_element
 
 NONE = ("None",)
 
@@ -36,19 +37,19 @@ def read_words(app: dict, words: Any) -> Tuple[Dict[str, Any], str]:
     rules = list(items(app["rules"]))
     options = {"--" + text_of(rule["long"][1]): text_of(rule["id"]) for rule in rules if rule["long"] != NONE}
     unnamed = next(text_of(rule["id"]) for rule in rules if rule["long"] == NONE)
-    values: Dict[str, Any] = {}
-    later, has_ended = iter(list(map(text_of, items(words)))[1:]), False
+    values, has_ended = {}, False  # type: Dict[str, Any], bool
+    later = iter(list(map(text_of, items(words)))[1:])
     for word in later:
         if word == "--" and not has_ended:
             has_ended = True
             continue
-        is_flag = not has_ended and re.match("-.", word)
-        option, equals, value = word.partition("=") if is_flag else (word, "=", word)
-        fault = fault_of_flag(word, options) if is_flag else ""
-        if not fault and not equals:
-            value = next(later, "--")
-            fault = (fault_of_flag(value, options).replace("DisplayHelp", "") or "InvalidValue") if re.match("-.", value) else ""
-        name = options.get(option, "") if is_flag else unnamed
+        name, value, fault = unnamed, word, ""
+        if not has_ended and re.match("-.", word):
+            option, equals, value = word.partition("=")
+            name, fault = options.get(option, ""), fault_of_flag(word, options)
+            value = value if equals or fault else next(later, "--")
+            if not fault and not equals and re.match("-.", value):
+                fault = fault_of_flag(value, options).replace("DisplayHelp", "") or "InvalidValue"
         if not fault and name in values:
             fault = "UnknownArgument" if name == unnamed else "ArgumentConflict"
         if fault:
@@ -57,69 +58,53 @@ def read_words(app: dict, words: Any) -> Tuple[Dict[str, Any], str]:
     return values, ""
 
 
-def fault_of(app: dict, words: Any) -> Any:
-    """Returns the kinds of error that the command may report for the words: here one at most."""
-    fault = read_words(app, words)[1]
-    return Cons((f"ErrorKind.{fault}",), NIL) if fault else NIL
+# ---- The words: each a function, or a text of Python in which {0}, {1} .. are the arguments.
 
+KIT: Dict[str, Any] = {
+    "zero": "0", "suc": "({0} + 1)", "+": "({0} + {1})", "-": "max({0} - {1}, 0)", "*": "({0} * {1})", "/": "({0} // {1})",
+    "%": "({0} % {1})", "^": "({0} ** {1})", "min": "min({0}, {1})", "max": "max({0}, {1})",
+    "bit_and": "({0} & {1})", "bit_xor": "({0} ^ {1})",
+    "true": "True", "false": "False", "not": "(not {0})", "&&": "({0} and {1})", "||": "({0} or {1})", "==": "({0} == {1})",
+    "nat_lt": "({0} < {1})", "nat_le": "({0} <= {1})", "is_ascii_digit": "(48 <= {0} <= 57)", "cond": "({1} if {0} else {2})",
+    "⊤": "True", "⊥": "False", "Unit": "True", "tt": "True", "×": "({0} and {1})", "⊎": "({0} or {1})", "<": "({0} < {1})",
+    "≤": "({0} <= {1})", "≡": "is_same({0}, {1})", "≢": "(not is_same({0}, {1}))",
+    "IfOk": lambda x, fact: x[0] != "Ok" or fact(x[1]),
+    "IfSome": lambda x, fact: x[0] != "Some" or fact(x[1]),
+    "All": lambda test, xs: all(map(test, items(xs))),
 
-# ---- The tables: the number of arguments of each word, and what it means.
+    "[]": "NIL", "∷": "Cons({0}, {1})", "++": "append({0}, {1})", "codes": "{0}", "slice_index": "element({0}, {1}, 0)",
+    "length": lambda xs: getattr(xs, "size", 0) or sum(1 for _ in items(xs)),
+    "take": lambda n, xs: listed(islice(items(xs), n)),
+    "drop": drop,
+    "replicate": replicate,
+    "range_with_len": lambda start, n: listed(range(start, start + n)),
+    "reverse": lambda xs: listed(list(items(xs))[::-1]),
+    "concat": lambda xs: functools.reduce(append, items(xs), NIL),
+    "map": lambda f, xs: listed(map(f, items(xs))),
+    "flat_map": lambda f, xs: functools.reduce(append, map(f, items(xs)), NIL),
+    "fold": lambda f, start, xs: functools.reduce(lambda found, x: f(found)(x), items(xs), start),
+    "position": lambda test, xs: next((("Some", i) for i, x in enumerate(items(xs)) if test(x)), NONE),
+    "list_all": lambda test, xs: all(map(test, items(xs))),
+    "list_any": lambda test, xs: any(map(test, items(xs))),
+    "slice_index_or": element,
+    "get_or": element,
+    "set": with_element,
+    "slice_set": with_element,
+    "decimal": lambda n: listed(str(n).encode()),
+    "digits_value": lambda base, digits: functools.reduce(lambda n, digit: n * base + digit - 48, items(digits), 0),
+    "str_eq_ignore_ascii_case": lambda a, b: bytes(items(a)).lower() == bytes(items(b)).lower(),
 
-KIT: Dict[str, Tuple[int, Callable]] = {
-    "new_app": (1, lambda name: {"rules": NIL}),
-    "new_rule": (1, lambda name: {"id": name, "long": NONE, "action": NONE}),
-    "with_rule": (2, lambda app, rule: {"rules": append(app["rules"], Cons(rule, NIL))}),
-    "matches_of": (2, lambda app, words: read_words(app, words)[0]),
-    "first_of": (2, lambda name, values: ("Some", values[text_of(name)]) if text_of(name) in values else NONE),
-    "fault_of": (2, fault_of),
-    "length": (1, length),
-    "take": (2, take),
-    "drop": (2, drop),
-    "replicate": (2, replicate),
-    "reverse": (1, lambda xs: listed(list(items(xs))[::-1])),
-    "concat": (1, lambda xs: functools.reduce(append, items(xs), NIL)),
-    "map": (2, lambda f, xs: listed(map(f, items(xs)))),
-    "flat_map": (2, lambda f, xs: functools.reduce(append, map(f, items(xs)), NIL)),
-    "fold": (3, lambda f, start, xs: functools.reduce(lambda found, x: f(found)(x), items(xs), start)),
-    "position": (2, lambda test, xs: next((("Some", i) for i, x in enumerate(items(xs)) if test(x)), NONE)),
-    "list_all": (2, lambda test, xs: all(map(test, items(xs)))),
-    "list_any": (2, lambda test, xs: any(map(test, items(xs)))),
-    "All": (2, lambda test, xs: all(map(test, items(xs)))),
-    "range_with_len": (2, lambda a, n: listed(range(a, a + n))),
-    "set": (3, with_element),
-    "slice_set": (3, with_element),
-    "slice_index": (2, lambda xs, i: element(xs, i, 0)),
-    "slice_index_or": (3, element),
-    "get_or": (3, element),
-    "option_map": (2, lambda f, x: ("Some", f(x[1])) if x[0] == "Some" else NONE),
-    "option_and_then": (2, lambda f, x: f(x[1]) if x[0] == "Some" else NONE),
-    "option_to_list": (1, lambda x: Cons(x[1], NIL) if x[0] == "Some" else NIL),
-    "is_none": (1, lambda x: x[0] == "None"),
-    "result_map_both": (3, lambda f, g, x: ("Ok", f(x[1])) if x[0] == "Ok" else ("Err", g(x[1]))),
-    "IfOk": (2, lambda x, fact: x[0] != "Ok" or fact(x[1])),
-    "IfSome": (2, lambda x, fact: x[0] != "Some" or fact(x[1])),
-    "min": (2, min),
-    "max": (2, max),
-    "bit_and": (2, lambda a, b: a & b),
-    "bit_xor": (2, lambda a, b: a ^ b),
-    "decimal": (1, lambda n: listed(str(n).encode())),
-    "digits_value": (2, lambda base, digits: functools.reduce(lambda n, digit: n * base + digit - 48, items(digits), 0)),
-    "is_ascii_digit": (1, lambda code: 48 <= code <= 57),
-    "str_eq_ignore_ascii_case": (2, lambda a, b: bytes(items(a)).lower() == bytes(items(b)).lower()),
-    "suc": (1, lambda n: n + 1),
-    "Some": (1, lambda x: ("Some", x)),
-    "Ok": (1, lambda x: ("Ok", x)),
-    "Err": (1, lambda x: ("Err", x)),
+    "None": "NONE", "Some": "('Some', {0})", "Ok": "('Ok', {0})", "Err": "('Err', {0})", "is_none": "({0} == NONE)",
+    "option_map": lambda f, x: ("Some", f(x[1])) if x[0] == "Some" else NONE,
+    "option_and_then": lambda f, x: f(x[1]) if x[0] == "Some" else NONE,
+    "option_to_list": lambda x: Cons(x[1], NIL) if x[0] == "Some" else NIL,
+    "result_map_both": lambda f, g, x: ("Ok", f(x[1])) if x[0] == "Ok" else ("Err", g(x[1])),
+
+    "Set": "('Set',)",
+    "new_app": lambda name: {"rules": NIL},
+    "new_rule": lambda name: {"id": name, "long": NONE, "action": NONE},
+    "with_rule": lambda app, rule: {"rules": append(app["rules"], Cons(rule, NIL))},
+    "matches_of": lambda app, words: read_words(app, words)[0],
+    "first_of": lambda name, values: ("Some", values[text_of(name)]) if text_of(name) in values else NONE,
+    "fault_of": lambda app, words: listed((f"ErrorKind.{fault}",) for fault in read_words(app, words)[1:] if fault),
 }
-CONSTANTS = {"zero": "0", "true": "True", "false": "False", "[]": "NIL", "None": "NONE", "⊤": "True", "⊥": "False",
-             "tt": "True", "Unit": "True", "Set": "('Set',)"}
-# How each operator is written in Python, how strongly it binds, and on which side first, as infix, infixl and infixr in the kit.
-OPERATORS = {
-    "^": (75, "r", "{} ** {}"), "*": (70, "l", "{} * {}"), "/": (70, "l", "{} // {}"), "%": (70, "l", "{} % {}"),
-    "∷": (67, "r", "Cons({}, {})"), "+": (65, "l", "{} + {}"), "-": (65, "l", "max({} - {}, 0)"),
-    "++": (65, "l", "append({}, {})"), "≤": (50, "n", "{} <= {}"), "<": (50, "n", "{} < {}"), "==": (40, "n", "{} == {}"),
-    "&&": (35, "l", "{} and {}"),
-    "||": (30, "l", "{} or {}"), "≡": (4, "n", "is_same({}, {})"), "≢": (4, "n", "not is_same({}, {})"),
-    "×": (2, "r", "{} and {}"), "⊎": (1, "r", "{} or {}"), "→": (0, "r", "")}
-# Words that are written in line: in place of {0}, {1} .. are the arguments.
-INLINE = {"nat_lt": (2, "({} < {})"), "nat_le": (2, "({} <= {})"), "not": (1, "(not {})"), "cond": (3, "({1} if {0} else {2})")}

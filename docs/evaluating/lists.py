@@ -1,99 +1,50 @@
 """The values of the definitions: lists, which share what did not change, and what is computed only when it is read.
 
 A number is an int, a pair a tuple, a record a dict, and a constructor a tuple that begins with its name. A list is NIL, or has a
-head and a tail. No definition can tell in which way a list is kept: as pairs (Cons), as two lists that were appended and not yet
-read (Cat), or as a tree of 64 branches (Tree), so that a memory with one new number shares all others with the old one.
+head and a tail. No definition can tell in which way a list is kept: as a pair (Cons), or in parts that were not yet read. These are
+two lists that were appended, or rows, so that a memory with one new number shares all other rows with the old one.
 """
 
 from itertools import islice
 from typing import Any, Callable, Iterable, Iterator
 
+from book.expressions import Stuck
+
 NIL = None
 
 
-class Stuck(Exception):
-    """What can't be computed."""
+def stuck(what: str, *_: Any) -> None:
+    """Says that something can't be computed."""
+    raise Stuck(what)
 
 
-class Relation:
-    """A type, or a relation: it may be passed on, but not computed."""
-
-    def __init__(self, name: str):
-        self.name = name
-
-    def __call__(self, *_: Any) -> None:
-        raise Stuck(f"{self.name}, which is a type or a relation")
+def together(*given: Any) -> tuple:
+    """Returns a constructor with its arguments."""
+    return given
 
 
 class Cons:
     """A list with a head and a tail."""
 
     __slots__ = ("head", "tail")
+    width = 0
 
     def __init__(self, head: Any, tail: Any):
         self.head, self.tail = head, tail
 
 
-class Kept:
-    """A list that becomes pairs when its head or its tail is read."""
+class Parts(Cons):
+    """A list in parts, which becomes a pair when its head or its tail is read. Rows are tuples of one width, or less at the end."""
 
-    __slots__ = ("pairs",)
+    __slots__ = ("parts", "width", "size")
 
-    def read(self) -> Cons:
-        """Returns the list as pairs."""
-        if self.pairs is NIL:
-            self.pairs = listed(items(self))
-        return self.pairs
+    def __init__(self, parts: tuple, width: int = 0, size: int = 0):  # pylint: disable=super-init-not-called
+        self.parts, self.width, self.size = parts, width, size
 
-    head = property(lambda self: self.read().head)
-    tail = property(lambda self: self.read().tail)
-
-
-class Cat(Kept):
-    """Two lists, one after the other; neither is empty."""
-
-    __slots__ = ("left", "right")
-
-    def __init__(self, left: Any, right: Any):
-        self.pairs, self.left, self.right = NIL, left, right
-
-
-class Tree(Kept):
-    """A list of at least one element as a tree: element i is below branch `i >> shift & 63` of the root."""
-
-    __slots__ = ("size", "shift", "root")
-
-    def __init__(self, size: int, shift: int, root: tuple):
-        self.pairs, self.size, self.shift, self.root = NIL, size, shift, root
-
-    def __getitem__(self, i: int) -> Any:
-        node = self.root
-        for shift in range(self.shift, -1, -6):
-            node = node[i >> shift & 63]
-        return node
-
-    def replaced(self, i: int, x: Any) -> "Tree":
-        """Returns the list with element i replaced."""
-        def copy(node: tuple, shift: int) -> tuple:
-            k = i >> shift & 63
-            return node[:k] + ((copy(node[k], shift - 6) if shift else x),) + node[k + 1:]
-        return Tree(self.size, self.shift, copy(self.root, self.shift))
-
-
-def uniform(x: Any, shift: int) -> tuple:
-    """Returns a tree that has x everywhere."""
-    return ((uniform(x, shift - 6) if shift else x),) * 64
-
-
-ZEROS = {shift: uniform(0, shift) for shift in range(0, 36, 6)}
-
-
-def replicate(n: int, x: Any) -> Any:
-    """Returns a list of n copies."""
-    shift = 0
-    while n > 64 << shift:
-        shift += 6
-    return Tree(n, shift, ZEROS[shift] if x == 0 else uniform(x, shift)) if n else NIL
+    def __getattr__(self, name: str) -> Any:
+        pairs = listed(items(self))
+        self.head, self.tail = pairs.head, pairs.tail
+        return getattr(pairs, name)
 
 
 def items(xs: Any) -> Iterator[Any]:
@@ -101,18 +52,13 @@ def items(xs: Any) -> Iterator[Any]:
     later = [xs]
     while later:
         xs = later.pop()
-        while xs is not NIL:
-            if type(xs) is Cons:
-                yield xs.head
-                xs = xs.tail
-            elif type(xs) is Cat and xs.pairs is NIL:
-                later.append(xs.right)
-                xs = xs.left
-            elif type(xs) is Tree:
-                yield from map(xs.__getitem__, range(xs.size))
-                xs = NIL
-            else:
-                xs = xs.pairs
+        while type(xs) is Cons:
+            yield xs.head
+            xs = xs.tail
+        if type(xs) is Parts:
+            later += reversed(xs.parts)
+        elif xs is not NIL:
+            yield from xs
 
 
 def listed(elements: Iterable, end: Any = NIL) -> Any:
@@ -124,35 +70,32 @@ def listed(elements: Iterable, end: Any = NIL) -> Any:
 
 def append(xs: Any, ys: Any) -> Any:
     """Returns one list after the other."""
-    return ys if xs is NIL else xs if ys is NIL else Cat(xs, ys)
+    return ys if xs is NIL else xs if ys is NIL else Parts((xs, ys))
 
 
-def length(xs: Any) -> int:
-    """Returns the number of elements."""
-    return xs.size if type(xs) is Tree else sum(1 for _ in items(xs))
+def replicate(n: int, x: Any) -> Any:
+    """Returns a list of n copies."""
+    width = 1 << (n.bit_length() + 1) // 2
+    rows = ((x,) * width,) * (n // width)
+    return Parts(rows + ((x,) * (n % width),), width, n) if n else NIL
 
 
 def element(xs: Any, i: int, default: Any) -> Any:
     """Returns element i, or the default past the end."""
-    if type(xs) is Tree:
-        return xs[i] if i < xs.size else default
-    while xs is not NIL:
-        if not i:
-            return xs.head
-        xs, i = xs.tail, i - 1
-    return default
+    if xs is not NIL and xs.width:
+        return xs.parts[i // xs.width][i % xs.width] if i < xs.size else default
+    return next(islice(items(xs), i, None), default)
 
 
 def with_element(xs: Any, i: int, x: Any) -> Any:
     """Returns the list with element i replaced; past the end nothing changes."""
-    if type(xs) is Tree:
-        return xs.replaced(i, x) if i < xs.size else xs
-    return listed(x if k == i else y for k, y in enumerate(items(xs)))
-
-
-def take(n: int, xs: Any) -> Any:
-    """Returns the first n elements."""
-    return listed(islice(items(xs), n))
+    if xs is NIL or not xs.width:
+        return listed(x if k == i else y for k, y in enumerate(items(xs)))
+    k, at = divmod(i, xs.width)
+    if i >= xs.size:
+        return xs
+    row = xs.parts[k][:at] + (x,) + xs.parts[k][at + 1:]
+    return Parts(xs.parts[:k] + (row,) + xs.parts[k + 1:], xs.width, xs.size)
 
 
 def drop(n: int, xs: Any) -> Any:
@@ -166,34 +109,15 @@ def is_same(x: Any, y: Any) -> bool:
     """Tells whether two values of data are the same."""
     if x is y:
         return True
-    if isinstance(x, (Cons, Kept)) and isinstance(y, (Cons, Kept)):
-        xs, ys = list(items(x)), list(items(y))
-        return len(xs) == len(ys) and all(map(is_same, xs, ys))
-    if type(x) is tuple and type(y) is tuple:
-        return len(x) == len(y) and all(map(is_same, x, y))
-    if type(x) is dict and type(y) is dict:
-        return x.keys() == y.keys() and all(is_same(x[field], y[field]) for field in x)
     if callable(x) or callable(y):
         raise Stuck("whether two functions are the same")
+    if isinstance(x, Cons) and isinstance(y, Cons):
+        x, y = tuple(items(x)), tuple(items(y))
+    if type(x) is dict and type(y) is dict:
+        x, y = tuple(sorted(x.items())), tuple(sorted(y.items()))
+    if type(x) is tuple and type(y) is tuple:
+        return len(x) == len(y) and all(map(is_same, x, y))
     return x == y
-
-
-class Lazy:
-    """An argument that is computed when it is read, and once."""
-
-    __slots__ = ("make", "value")
-
-    def __init__(self, make: Callable):
-        self.make, self.value = make, None
-
-
-def force(x: Any) -> Any:
-    """Returns the value of an argument."""
-    if type(x) is not Lazy:
-        return x
-    if x.make:
-        x.value, x.make = x.make(), None
-    return x.value
 
 
 class Partial:

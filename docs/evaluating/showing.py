@@ -1,42 +1,49 @@
 """Shows a value as an expression that has this value: of a machine, what is not as in the machine at rest."""
 
 from itertools import groupby
-from typing import Any, Iterator, List, Tuple
+from typing import Any, Iterable, Iterator, List, Tuple
 
-from evaluating.asking import Definitions
-from evaluating.functions import Constructor
-from evaluating.lists import NIL, ZEROS, Cons, Kept, Lazy, Partial, Relation, Stuck, Tree, items, length, listed
+from evaluating.asking import PLACES, Definitions
+from evaluating.lists import NIL, Cons, Partial, Stuck, items, listed, stuck, together
 
 Shown = Tuple[str, int]  # a text, and how strongly it binds
 ATOM, CALL, CONS, APPENDED = 99, 98, 67, 65
-NAMED = ("rules", "turn_parts", "pp6600")  # constants that are shown by their names
-REGISTERS = (("Place.RegP", "p"), ("Place.RegA", "a"), ("Place.RegQ", "q"), ("Place.Phase", "phase"))
-VIEW = (("PpPlace.P", "p"), ("PpPlace.A", "a"), ("PpPlace.Q", "q"), ("PpPlace.Phase", "phase"))
-OTHERS = (("reader", (("Place.Card", "card"), ("Place.CardColumn", "column"), ("Place.ReaderMode", "mode"))),
-          ("printer", (("Place.PaperLength", "length"), ("Place.PaperColumn", "column"), ("Place.PrinterMode", "mode"))),
-          ("channels", (("Place.Clock", "clock"),)), ("", (("Place.Slot", "slot"),)))
+NAMED = ("rules", "pp6600")  # constants that are shown by their names
+# The numbers of a machine, and of what a processor sees of one: each field with its place, or with the fields that it has.
+PROCESSOR = [("p", "Place.RegP"), ("a", "Place.RegA"), ("q", "Place.RegQ"), ("phase", "Place.Phase"), ("cells", "Place.Cell")]
+MACHINE = [("processors", PROCESSOR), ("channels", [("states", "Place.ChannelMode"), ("registers", "Place.ChannelWord")]),
+           ("central", "Place.Central"), ("frame", "Place.FrameWord"), ("printer", [("symbols", "Place.PaperSymbol")]),
+           ("watches", "Place.WatchEntry"),
+           ("reader", [("card", "Place.Card"), ("column", "Place.CardColumn"), ("mode", "Place.ReaderMode")]),
+           ("printer", [("length", "Place.PaperLength"), ("column", "Place.PaperColumn"), ("mode", "Place.PrinterMode")]),
+           ("channels", [("clock", "Place.Clock")]), ("slot", "Place.Slot")]
+VIEW = [(field, f"PpPlace.{name}") for _, name, field, *_ in PLACES]
 ESCAPES = {**{code: chr(code) for code in range(32, 127)}, 9: "\\t", 10: "\\n", 13: "\\r", 34: '\\"', 92: "\\\\"}
 
 
+def is_list(value: Any) -> bool:
+    """Tells whether a value is a list."""
+    return value is NIL or isinstance(value, Cons)
+
+
 def not_zero(xs: Any) -> Iterator[Tuple[int, Any]]:
-    """Yields the elements of a list that are not 0, with their indices; of a tree without a look at what is 0 everywhere."""
-    def below(node: tuple, shift: int, start: int) -> Iterator[Tuple[int, Any]]:
-        for k, part in enumerate(node if node is not ZEROS[shift] else ()):
-            if shift:
-                yield from below(part, shift - 6, start + (k << shift))
-            elif part != 0:
-                yield start + k, part
-    found = below(xs.root, xs.shift, 0) if isinstance(xs, Tree) else ((i, x) for i, x in enumerate(items(xs)) if x != 0)
-    return ((i, x) for i, x in found if not isinstance(xs, Tree) or i < xs.size)
+    """Yields the elements of a list that are not 0, with their indices."""
+    width = getattr(xs, "width", 0)
+    for k, row in enumerate(xs.parts if width else [tuple(items(xs))]):
+        if any(row):
+            yield from ((k * width + at, x) for at, x in enumerate(row) if x != 0)
+
+
+def inside(shown: Shown, least: int) -> str:
+    """Returns a text in brackets if it binds less strongly than this."""
+    return shown[0] if shown[1] >= least else f"({shown[0]})"
 
 
 class Shower:
     """Shows values; lists of numbers as texts if that is wanted; at most so many parts."""
 
     def __init__(self, definitions: Definitions, has_texts: bool = False, most: int = 10 ** 6):
-        self.definitions, self.has_texts, self.left = definitions, has_texts, most
-        self.names = {python: definition for definition, python in definitions.made.items()}
-        self.at_rest = definitions.call("at_rest")
+        self.definitions, self.has_texts, self.left, self.at_rest = definitions, has_texts, most, definitions.call("at_rest")
 
     def text(self, value: Any) -> str:
         """Returns a value as an expression."""
@@ -44,10 +51,9 @@ class Shower:
 
     def part(self, value: Any) -> str:
         """Returns a value as an argument."""
-        text, strength = self.shown(value)
-        return text if strength == ATOM else f"({text})"
+        return inside(self.shown(value), ATOM)
 
-    def called(self, name: str, given: Any) -> Shown:
+    def called(self, name: str, given: Iterable) -> Shown:
         """Returns a name with arguments."""
         parts = list(map(self.part, given))
         return " ".join([name, *parts]), CALL if parts else ATOM
@@ -67,63 +73,51 @@ class Shower:
             return f"({', '.join(map(self.text, value))})", ATOM
         if isinstance(value, dict):
             return self.record(value)
-        if value is NIL or isinstance(value, (Cons, Kept)):
+        if is_list(value):
             return self.list(value)
-        if isinstance(value, Lazy) and not value.make:
-            return self.shown(value.value)
         return self.function(value)
 
     def constructor(self, tag: str) -> str:
         """Returns the name of a constructor, with its type if several types have one of this name."""
-        kind, _, name = tag.partition(".")
+        name = tag.split(".")[-1]
         owner = self.definitions.scope.definitions.get(name)
-        return name if owner is not None and owner.name == kind and name not in self.definitions.shared else tag
+        return name if owner and owner.whole_name == tag and name not in self.definitions.shared else tag
 
     def function(self, value: Any) -> Shown:
         """Returns a definition or a constructor with some of its arguments."""
         function, given = (value.function, value.given) if isinstance(value, Partial) else (value, ())
-        definition = self.names.get(getattr(function, "__name__", ""))
-        if isinstance(function, Constructor):
-            return self.called(self.constructor(function.tag), given)
-        if definition:
-            return self.called(self.definitions.name_of(definition), given)
-        if isinstance(value, Relation):
-            value()
+        if function is together:
+            return self.called(self.constructor(given[0]), given[1:])
+        if function is stuck:
+            stuck(*given)
+        for definition, made in self.definitions.functions.items():
+            if made.name == getattr(function, "__name__", ""):
+                return self.called(self.definitions.name_of(definition), given)
         raise Stuck("the text of a function")
 
     # ---- lists
 
     def list(self, value: Any) -> Shown:
         """Returns a list: a text, or its elements, with long runs of one of them as copies."""
-        if self.has_texts and value is not NIL and not isinstance(value, Tree):
-            codes = list(items(value))
-            if all(type(code) is int and code in ESCAPES for code in codes) and (codes == [10] or max(codes) >= 32):
-                self.left -= len(codes) // 8
-                return f'codes "{"".join(map(ESCAPES.get, codes))}"', CALL
-        parts: List[str] = []
-        row: List[str] = []
-        for count, (text, strength) in self.runs(value):
-            text = text if strength > CONS else f"({text})"
-            if count < 6:
-                row += [text] * count
+        codes = list(items(value)) if self.has_texts and not getattr(value, "width", 0) else []
+        if codes and all(type(code) is int and code in ESCAPES for code in codes) and (codes == [10] or max(codes) >= 32):
+            self.left -= len(codes) // 8
+            return f'codes "{"".join(map(ESCAPES.get, codes))}"', CALL
+        parts: List[Shown] = []
+        for is_long, runs in groupby(self.runs(value), lambda run: run[1] > 5):
+            if is_long:
+                parts += [(f"replicate {self.part(count)} {inside(shown, ATOM)}", CALL) for shown, count in runs]
             else:
-                parts += [" ∷ ".join([*row, "[]"])] * bool(row)
-                parts.append(f"replicate {self.part(count)} {text if strength == ATOM else f'({text})'}")
-                row = []
-        parts += [" ∷ ".join([*row, "[]"])] if row or not parts else []
-        return " ++ ".join(parts), APPENDED if len(parts) > 1 else CONS if row else CALL if parts != ["[]"] else ATOM
+                row = [inside(shown, CONS + 1) for shown, count in runs for _ in range(count)]
+                parts.append((" ∷ ".join([*row, "[]"]), CONS))
+        return (" ++ ".join(text for text, _ in parts), APPENDED) if len(parts) > 1 else parts[0] if parts else ("[]", ATOM)
 
-    def runs(self, value: Any) -> Iterator[Tuple[int, Shown]]:
-        """Yields the runs of equal elements, each with its length."""
-        if not isinstance(value, Tree) or value.size <= 64 or value[0] != 0:
-            for found, same in groupby(map(self.shown, items(value))):
-                yield len(list(same)), found
-            return
-        before = 0
-        for i, x in not_zero(value):
-            yield from [(i - before, ("0", ATOM))] * (i > before) + [(1, self.shown(x))]
-            before = i + 1
-        yield from [(value.size - before, ("0", ATOM))] * (value.size > before)
+    def runs(self, value: Any) -> Iterator[Tuple[Shown, int]]:
+        """Yields the elements as they are shown, each with the number of those that follow each other and are shown so."""
+        same = [list(group) for _, group in groupby(items(value), id)]
+        self.left -= 0 if getattr(value, "width", 0) else sum(map(len, same)) - len(same)
+        for shown, groups in groupby(same, lambda group: self.shown(group[0])):
+            yield shown, sum(map(len, groups))
 
     # ---- records
 
@@ -133,58 +127,40 @@ class Shower:
             if value is self.definitions.call(name):
                 return name, ATOM
         if "processors" in value:
-            return self.over("over", *self.machine(value))
-        if "states" in value and "cells" in value and value["clock"] == 0 and length(value["central"]) == 0o2000:
-            return self.over("pp_step/View:over", "pp_worked/Processors:blank", self.view(value))
-        if "states" in value and "cells" in value:
+            return self.over("over", self.base(value["setup"], value["reader"]["deck"]), self.writes(value, MACHINE))
+        is_view = "states" in value and "cells" in value
+        if is_view and value["clock"] == 0 and len(list(items(value["central"]))) == 0o2000:
+            return self.over("pp_step/View:over", "pp_worked/Processors:blank", self.writes(value, VIEW))
+        if is_view:
             channels = {name: value[name] for name in ("states", "registers", "clock")}
-            machine = {**self.at_rest, **value, "processors": listed([value]), "channels": channels}
-            return self.called("pp_of 0", [machine])
+            return self.called("pp_of 0", [{**self.at_rest, **value, "processors": listed([value]), "channels": channels}])
         if "standing" in value and value["ahead"] is NIL and self.text(value["start"]) == "at_rest":
             actions = list(items(value["standing"]))[::-1]
             if value["kept"] == min(value["capacity"], len(actions)):
                 return self.called("session", [value["capacity"], listed(actions)])
         return "record { " + "; ".join(f"{field} = {self.text(part)}" for field, part in value.items()) + " }", CALL
 
+    def base(self, setup: dict, deck: Any) -> str:
+        """Returns the machine at its start with a setup and a deck."""
+        if setup != {**self.at_rest["setup"], "panel": setup["panel"]}:
+            return f"(starting_machine {self.part(setup)} {self.part(deck)})"
+        if deck is not NIL or setup["panel"] != ("None",):
+            return f"(pp_worked/Machines:blank {self.part(deck)} {self.part(setup['panel'])})"
+        return "at_rest"
+
     @staticmethod
-    def over(over: str, base: str, writes: List[str]) -> Shown:
+    def over(over: str, base: str, writes: Iterable[str]) -> Shown:
         """Returns what has a write list put in."""
-        return (f"{over} {base} ({' ∷ '.join([*writes, '[]'])})", CALL) if writes else (base, CALL if " " in base else ATOM)
+        writes = [*writes, "[]"]
+        return (f"{over} {base} ({' ∷ '.join(writes)})", CALL) if writes[1:] else (base, CALL if " " in base else ATOM)
 
-    def machine(self, value: dict) -> Tuple[str, List[str]]:
-        """Returns the machine at the start with the same setup and deck, and what is written in the other."""
-        setup, deck = value["setup"], value["reader"]["deck"]
-        base, channels, writes = "at_rest", value["channels"], []
-        if setup != self.at_rest["setup"] and setup != {**self.at_rest["setup"], "panel": setup["panel"]}:
-            base = f"(starting_machine {self.part(setup)} {self.part(deck)})"
-        elif deck is not NIL or setup["panel"] != ("None",):
-            base = f"(pp_worked/Machines:blank {self.part(deck)} {self.part(setup['panel'])})"
-        for n, x in enumerate(items(value["processors"])):
-            writes += self.numbers(x, REGISTERS, (n,)) + self.elements("Place.Cell", x["cells"], (n,))
-        for name, xs in (("ChannelMode", channels["states"]), ("ChannelWord", channels["registers"]), ("Central", value["central"]),
-                         ("FrameWord", value["frame"]), ("PaperSymbol", value["printer"]["symbols"]),
-                         ("WatchEntry", value["watches"])):
-            writes += self.elements(f"Place.{name}", xs)
-        for part, fields in OTHERS:
-            writes += self.numbers(value[part] if part else value, fields)
-        return base, writes
-
-    def view(self, value: dict) -> List[str]:
-        """Returns what is written in what a processor sees."""
-        writes = self.numbers(value, VIEW)
-        for name, field in (("Cell", "cells"), ("State", "states"), ("Register", "registers"), ("Central", "central"),
-                            ("FrameWord", "frame")):
-            writes += self.elements(f"PpPlace.{name}", value[field])
-        return writes
-
-    def write(self, tag: str, given: tuple, number: int) -> str:
-        """Returns a place with its number."""
-        return f"({self.called(self.constructor(tag), given)[0]}, {self.part(number)})"
-
-    def numbers(self, value: dict, fields: Tuple, given: tuple = ()) -> List[str]:
-        """Returns the fields of a record that are not 0, with their places."""
-        return [self.write(tag, given, value[field]) for tag, field in fields if value[field]]
-
-    def elements(self, tag: str, xs: Any, given: tuple = ()) -> List[str]:
-        """Returns the elements of a list that are not 0, with their places."""
-        return [self.write(tag, (*given, i), x) for i, x in not_zero(xs)]
+    def writes(self, value: Any, fields: Any, given: tuple = ()) -> Iterator[str]:
+        """Yields the numbers of a record, or at a place, that are not 0, each with its place."""
+        if is_list(value):
+            for i, x in not_zero(value):
+                yield from self.writes(x, fields, (*given, i))
+        elif isinstance(fields, list):
+            for name, inner in fields:
+                yield from self.writes(value[name], inner, given)
+        elif value:
+            yield f"({self.called(self.constructor(fields), given)[0]}, {self.part(value)})"

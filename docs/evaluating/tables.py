@@ -6,11 +6,11 @@ steps that were computed.
 
 import functools
 import re
-from typing import Any, Iterator, List, Tuple
+from typing import Any, Container, Iterator, List, Tuple
 
+from book.expressions import Apply, Lambda, Let, Name, Pair
 from book.sources import Definition
 from evaluating.asking import Definitions, stepped, written
-from evaluating.expressions import Apply, Lambda, Let, Name, Operator, Pair
 from evaluating.lists import items
 from evaluating.writing import Writer, cases, put_in
 
@@ -33,6 +33,16 @@ def table(heads: List[str], rows: List[List[str]]) -> str:
     return "\n".join(f"| {' | '.join(row)} |" for row in [heads, ["---"] * len(heads), *rows])
 
 
+def is_operator(tree: Any, words: Container) -> bool:
+    """Tells whether an expression is one of these operators with its two sides."""
+    return isinstance(tree, Apply) and isinstance(tree.head, Name) and tree.head.word in words
+
+
+def is_cons(tree: Any) -> bool:
+    """Tells whether an expression is a list with a head and a tail."""
+    return is_operator(tree, ["∷"])
+
+
 class Tables:
     """The tables, from the definitions."""
 
@@ -53,10 +63,10 @@ class Tables:
     def effect(self, tree: Any) -> str:
         """Returns a write list as assignments, or what else it is."""
         parts = []
-        while isinstance(tree, Operator) and tree.word == "∷" and isinstance(tree.left, Pair):
-            place, number = map(self.writer.text, tree.left.parts)
+        while is_cons(tree) and isinstance(tree.given[0], Pair):
+            place, number = map(self.writer.text, tree.given[0].parts)
             parts.append(f"{place} := {number}")
-            tree = tree.right
+            tree = tree.given[1]
         parts += [self.writer.text(tree)] * (tree != Name("[]"))
         return re.sub(r"\b(?:state_number|\w+_mode_number) (\w+)", r"\1", "; ".join(parts)) or "nothing"
 
@@ -71,7 +81,7 @@ class Tables:
         tree, lets = self.body(name)
         rows = [[cell(guard) if guard else "otherwise", cell(effect) if effect != "nothing" else effect]
                 for guard, effect in self.guards(tree)]
-        said = ", ".join(f"`{one.name}` is {cell(self.writer.text(one.value))}" for one in lets)
+        said = ", ".join(f"`{one.name.word}` is {cell(self.writer.text(one.value))}" for one in lets)
         made = table(["If", "it writes"], rows)
         return f"{made}\n\nHere {re.sub(r'_mode_number (?=[A-Z])', '_mode_number ', said)}." if said else made
 
@@ -83,7 +93,8 @@ class Tables:
         found = self.definitions.scope.definitions.get(head.word) if isinstance(head, Name) else None
         if isinstance(found, Definition) and found.kind == "function" and found.place in ("pp_step/Rows", "pp_step/Blocks"):
             patterns, body = self.definitions.function(found).clauses[0]
-            if len(patterns) == len(given) and (not isinstance(body, (Apply, Let)) or self.is_word(body)):
+            is_opened = self.is_word(body) or not isinstance(body, (Apply, Let)) or is_operator(body, self.definitions.fixity)
+            if len(patterns) == len(given) and is_opened:
                 return self.opened(put_in(body, dict(zip((one.word for one in patterns), given))))
         return tree._replace(yes=self.opened(tree.yes), no=self.opened(tree.no)) if hasattr(tree, "yes") else tree
 
@@ -98,14 +109,14 @@ class Tables:
         tree, _ = self.body("rows")
         comments = dict(MNEMONIC.findall(self.definitions.named("rows").text))
         found = []
-        while isinstance(tree, Operator):
-            code, (*name, mode, effect) = f"{len(found):02o}", tree.left.given
+        while is_cons(tree):
+            code, (*name, mode, effect) = f"{len(found):02o}", tree.given[0].given
             mnemonic = re.findall(r"[A-Za-z]\w*", self.writer.text(name[0]))[-1][:3].upper() if name else comments[code]
             inner = effect.body if isinstance(effect, Lambda) else Apply(effect, [Name("i"), Name("s")])
             parts = [(guard, what.replace(f"{NEXT}; ", "")) for guard, what in self.guards(self.opened(inner))]
             parts = [f"{guard}: {what}" if guard else what for guard, what in parts]
             found.append((code, mnemonic, mode.word, " / ".join(parts)))
-            tree = tree.right
+            tree = tree.given[1]
         return found
 
     def step(self, code: str, mode: str, channel: int = 5, state: int = 2, is_move: bool = False) -> str:

@@ -2,7 +2,7 @@
 
 from typing import Any, Dict, Iterator, List, Tuple
 
-from evaluating.expressions import Apply, Field, Fixity, If, Lambda, Let, Name, Number, Operator, Pair, Record, Text
+from book.expressions import Apply, Field, Fixity, If, Lambda, Let, Name, Pair, Record
 
 
 class Writer:
@@ -18,14 +18,14 @@ class Writer:
 
     def written(self, tree: Any) -> Tuple[str, int]:
         """Returns the text of an expression, and how strongly it binds."""
-        if isinstance(tree, (Name, Number, Text)):
-            return tree[0], 99
+        if isinstance(tree, Name):
+            return tree.word, 99
+        if isinstance(tree, Apply) and getattr(tree.head, "word", "") in self.fixity:
+            strength, side = self.fixity[tree.head.word]
+            left, right = self.text(tree.given[0], strength + (side == "r")), self.text(tree.given[1], strength + (side != "r"))
+            return f"{left} {tree.head.word} {right}", strength
         if isinstance(tree, Apply):
             return " ".join(self.text(one, 99) for one in (tree.head, *tree.given)), 98
-        if isinstance(tree, Operator):
-            strength, side = self.fixity[tree.word][:2]
-            parts = self.text(tree.left, strength + (side == "r")), self.text(tree.right, strength + (side != "r"))
-            return f" {tree.word} ".join(parts), strength
         if isinstance(tree, Pair):
             return f"({', '.join(map(self.text, tree.parts))})", 99
         if isinstance(tree, Field):
@@ -38,7 +38,7 @@ class Writer:
         if isinstance(tree, Lambda):
             return f"λ {' '.join(self.text(one, 99) for one in tree.patterns)}. {self.text(tree.body)}", 0
         if isinstance(tree, Let):
-            return f"let {tree.name} = {self.text(tree.value)} in {self.text(tree.body)}", 0
+            return f"let {tree.name.word} = {self.text(tree.value)} in {self.text(tree.body)}", 0
         return "..", 99
 
 
@@ -50,7 +50,7 @@ def put_in(tree: Any, values: Dict[str, Any]) -> Any:
         if value is None or not fields:
             return tree if value is None else value
         return Name(".".join([value.word, *fields])) if isinstance(value, Name) else Field(value, fields)
-    if isinstance(tree, (Number, Text)) or not isinstance(tree, (tuple, list)):
+    if not isinstance(tree, (tuple, list)):
         return tree
     parts = [put_in(part, values) for part in tree]
     made = type(tree)(*parts) if hasattr(tree, "_fields") else type(tree)(parts)

@@ -38,8 +38,14 @@ module _ {progress : Progress} {session : State} {written : Written} {origin : O
         ap (λ all. (bytes ++ all) ++ rest) (sym (take-append-drop room text)) ∙ simp append_assoc,
         simp (length-append, length-drop) (omega (arith, over)),
         record {
-          lines_within = omega (arith, lines-count kept, last_line-one (unfinished kept), ap length same,
-              has_read.ended.counts_lines, lines_within);
+          lines_within = omega (
+            arith,
+            lines-count kept,
+            last_line-one (unfinished kept),
+            ap length same,
+            has_read.ended.counts_lines,
+            lines_within,
+          );
           bytes_within = omega (arith, size);
         },
         inl size,
