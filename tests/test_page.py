@@ -103,8 +103,8 @@ class Served:
         """Asks as a page that has all that came before, and is at its last moment. Returns the reply."""
         reply = self.post(path, {"have": self.have, "at": max(self.last, 0), **asked})
         if reply.status == 200:
-            self.have += len(reply.news["lines"]) + (self.have == 0)
-            self.last += len(reply.moments)
+            self.have = reply.news["have"]
+            self.last = len(reply.moments) - 1 if "layout" in reply.news else self.last + len(reply.moments)
         return reply
 
     def act(self, *lines):
@@ -178,6 +178,56 @@ class Session(ServedCase):
         served.act("STEP 3")
         self.assert_same_end(served, ["SET M 0 100 2000 2 6320 200 2001 3 6020 300", "SET P 0 100", "STEP 75003"])
         self.assertIn("this moment is gone", served.post("/act", {"have": served.have, "at": 20, "lines": ["STEP"]}).text)
+
+    def test_skipped_turns_that_are_filmed(self):
+        """They come to be the moments of the film of the same script, and the session is where it was."""
+        for seed in range(2):
+            more = ("STEP 200" if number % 16 == 0 else "BACK 3" for number in range(10000))
+            lines, served = [part for pair in zip(random_session(seed), more) for part in pair], self.serve(*DEVICES)
+            with mock.patch.object(live, "MOST_FILMED", 0o100):
+                served.session.perform_script(lines)
+                reply, run = served.ask("/news"), served.session.simulator
+                before = [run.position, run.history.kept, run.history.ahead, list(run.tape.runs), list(run.sent)]
+                self.assertGreater(len(reply.news["skips"]), 2)
+                while reply.news["skips"]:
+                    reply = served.ask("/skipped", at=reply.news["skips"][-1][0])
+            wanted = self.film_of(lines, *DEVICES)
+            with self.subTest(seed=seed):
+                self.assertEqual(decode(film_text(wanted))[1], reply.moments)
+                for name in ("jumps", "watches", "papers", "next", "constants", "central", "unseen", "lines"):
+                    self.assertEqual(about(wanted)[name], reply.news[name], name)
+                self.assertEqual(before, [run.position, run.history.kept, run.history.ahead, list(run.tape.runs), list(run.sent)])
+
+    def test_a_part_of_what_was_skipped(self):
+        """The numbers at its turns are those of the film of the same script; the session goes on, with what was ahead."""
+        served, lines = self.serve(), ["SET M 0 100 2000 2 6320 200 2001 3 6020 300", "SET P 0 100", "STEP 6000", "BACK 3"]
+        served.act(*lines)
+        reply = served.ask("/skipped", at=3)
+        self.assertEqual(["2000 more turns are filmed, and 2000 before them are one moment", [[3, 0o2000]]],
+                         [reply.news["said"], reply.news["skips"]])
+        moments = [3 + at for at in (0, 1, 2, 0o1777, 0o2000, 0o2001, 0o4000, 0o4001)]
+        got, count = numbers_at(served.post("/film", {}).text, moments)
+        wanted, _ = numbers_at(self.film_of(lines), [moment + 0o1777 for moment in moments])
+        last = LAYOUT["next"]  # from there on there are numbers of tables
+        self.assertEqual((0o4000 + 5, [row[:last] for row in wanted.values()]), (count, [row[:last] for row in got.values()]))
+        self.assertEqual(["FORWARD 3 SLOT 02"], served.act("FORWARD 3").news["lines"][0]["answer"])
+        self.assertEqual([], served.ask("/skipped", at=3).news["skips"])
+        self.assertIn("no turns were skipped", served.ask("/skipped", at=3).text)
+
+    def test_a_page_that_has_the_film_before(self):
+        """It gets all of the film anew, and what it asks for is not done: its moments have other numbers."""
+        served = self.serve()
+        served.act("STEP 6000")
+        have = served.have
+        whole = served.ask("/skipped", at=1)
+        for path, asked in (("/act", {"lines": ["STEP"]}), ("/until", {"text": "A 0 = 1"}), ("/skipped", {})):
+            reply = served.post(path, {"have": have, "at": 1, **asked})
+            self.assertEqual([True, whole.moments], [reply.news["behind"], reply.moments])
+        self.assertEqual([False, whole.moments, 1], ["behind" in served.post("/news", {"have": have}).news,
+                                                     served.post("/news", {"have": have}).moments, len(whole.news["lines"])])
+        self.assertEqual([["TURNS 1 SLOT 03"]], [line["answer"] for line in served.act("STEP").news["lines"]])
+        with mock.patch.object(session, "MOST_MOMENTS", 0o4000):
+            self.assertIn("this session is full", served.ask("/skipped", at=1).text)
 
     def test_central_words_that_are_dumped(self):
         """A DUMP C makes the words known that a page shows of its answer; it moves nothing, and what follows is as without it."""
@@ -326,7 +376,7 @@ class Security(ServedCase):
 
     def test_key(self):
         self.assertEqual([200, 403, 403, 403], [self.status(X_Key=key) for key in (self.served.key, None, "", self.served.key[:-1])])
-        self.assertEqual([403] * 6, [self.status(path=path, X_Key="other") for path in routes.ROUTES])
+        self.assertEqual([403] * 7, [self.status(path=path, X_Key="other") for path in routes.ROUTES])
         page = self.served.request("GET", "/", X_Key=None)
         self.assertEqual((200, False), (page.status, self.served.key in page.text + str(page.headers)))
         self.assertGreaterEqual(len(self.served.key), 22)  # 128 bits
@@ -567,6 +617,43 @@ class Walked(PageCase):
         self.type("DUMP C 100 101")
         self.assertEqual(["0" * 20, [0o2000 + 4, 0o2000 + 4, 0o100000], "The line DUMP C 100 101 shows words that were not known."], self.value(
             f"[{word}, {WHERE}, byId('action').innerText]"))
+
+    def test_into_what_was_skipped(self):
+        """By ← onto it, and by ← again; or by staying there. The next part before it likewise."""
+        served = self.serve()
+        self.open(served)
+        self.type("SET M 0 100 2000 2 6320 200 2001 3 6020 300")
+        self.type("SET P 0 100")
+        self.type("STEP 10000")
+        self.value("choose(placeNamed('C 2')), moveTo(4), document.activeElement.blur()")
+        self.browser.key("ArrowLeft")
+        self.assertEqual(["?", 3, 6], self.value("[textAt(shown.chosen), film.at, film.kinds[film.at]]"))
+        self.browser.key("ArrowLeft")
+        self.browser.wait_for("!live.unskipping && film.at > 3")
+        self.assertEqual(["2000 more turns are filmed, and 4000 before them are one moment", [0o2002, 0o4003, 0o5777], 0o4000], self.value(
+            f"[{SAID}, {WHERE}, film.skips.get(3)]"))
+        self.value("moveTo(3)")
+        self.browser.wait_for("film.skips.get(3) === 0o2000")
+        self.assertEqual([0o2002, 0o6003, 0o4000], self.value(WHERE.replace("film.at,", "film.at - 1,", 1)))
+
+    def test_a_drag_onto_what_was_skipped(self):
+        """It is filmed, but nothing changes until the pointer is let go."""
+        served = self.serve()
+        self.open(served)
+        self.type("STEP 4000")
+        self.value("addEventListener('pointerup', () => { window.held = film.count; }, true)")
+        x, y = self.value("(() => { const box = byId('canvas').getBoundingClientRect(); return [box.x + LABEL + 1, box.y + 8]; })()")
+        for kind, x, buttons in (("mousePressed", x + 100, 1), ("mouseMoved", x, 1)):
+            self.browser.ask("Input.dispatchMouseEvent", type=kind, x=x, y=y, button="left", buttons=buttons, clickCount=1)
+        self.browser.wait_for("film.at <= 1")
+        self.value("moveTo(1)")
+        while len(served.session.film.skips):
+            self.value("new Promise((done) => setTimeout(done, 50))")
+        self.value("new Promise((done) => setTimeout(done, 200))")
+        self.assertEqual([1, 0o2001, 0o4000], self.value(WHERE.replace("film.turn[film.at]", "film.highestTurn")))
+        self.browser.ask("Input.dispatchMouseEvent", type="mouseReleased", x=x, y=y, button="left", buttons=0, clickCount=1)
+        self.browser.wait_for("!live.unskipping")
+        self.assertEqual([0o2001, [0o2000, 0o4000, 0o2000], 0], self.value(f"[held - 1, {WHERE}, film.skips.size]"))
 
     def test_lines_of_a_source(self):
         """The line where the processor is moves on, and a line that has been performed can be clicked."""

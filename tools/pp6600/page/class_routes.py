@@ -111,6 +111,11 @@ def until(classroom, seat, asked):
     return TEXT, classroom.until(seat, number(asked, "have"), number(asked, "at"), text(asked, "text"), back).encode()
 
 
+def skipped(classroom, seat, asked):
+    check_session(seat, asked)
+    return TEXT, classroom.skipped(seat, number(asked, "have"), number(asked, "at")).encode()
+
+
 def check_session(seat, asked):
     """Refuses a page that shows a session that this seat has no more."""
     if number(asked, "session") != seat.begun:
@@ -125,8 +130,8 @@ def script(classroom, seat, asked):
     return routes.script(seat.session, asked)
 
 
-OF_SEAT = {"/about": about, "/name": name, "/begin": begin, "/check": check, "/news": news, "/act": act, "/until": until, "/film": film,
-           "/script": script}
+OF_SEAT = {"/about": about, "/name": name, "/begin": begin, "/check": check, "/news": news, "/act": act, "/until": until,
+           "/skipped": skipped, "/film": film, "/script": script}
 LOOKS = ("/about", "/news", "/film", "/script")  # which change nothing, so the lecturer may ask them of each seat
 
 

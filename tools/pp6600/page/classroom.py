@@ -207,6 +207,11 @@ class Classroom:
         with seat.lock, self.searching.entered():
             return seat.session.until(have, at, text, back)
 
+    def skipped(self, seat, have, at):
+        """Films more of the turns that were skipped in the session of a seat. Returns the news."""
+        with seat.lock, self.searching.entered():
+            return seat.session.skipped(have, at)
+
     @staticmethod
     def _check_room(seat):
         film = seat.session.film

@@ -110,12 +110,14 @@ function moveTo(moment) {
   setAddress();
 }
 
-// Keeps the moment and the chosen place in the address, so that a link leads to them.
+// Keeps the moment and the chosen place in the address, so that a link leads to them; and fills in what was skipped at the moment. Both
+// wait until nothing was asked for a while.
 function setAddress() {
   clearTimeout(shown.timer);
   shown.timer = setTimeout(() => {
     const place = shown.chosen ? `&place=${shown.chosen.name.replace(/ /g, "+")}` : "";
     history.replaceState(null, "", `#moment=${octal(film.at)}${place}`);
+    if (live.isAtSkipped()) live.unskip();
   }, 300);
 }
 
@@ -206,9 +208,16 @@ function onwards(moment, turns) {
   else moveTo(moment);
 }
 
+// From turns that were skipped one goes back into them.
+function backwards(find) {
+  if (live.isAtSkipped()) live.unskip().then(() => moveTo(find()));
+  else moveTo(find());
+}
+
 const KEYS = {
-  ArrowLeft: byHand(() => moveTo(film.at - 1)), ArrowRight: byHand(() => onwards(film.at + 1, 1)),
-  "Shift+ArrowLeft": byHand(() => moveTo(aRound(-1))), "Shift+ArrowRight": byHand(() => onwards(aRound(1), ROUND)),
+  ArrowLeft: byHand(() => backwards(() => film.at - 1)), ArrowRight: byHand(() => onwards(film.at + 1, 1)),
+  "Shift+ArrowLeft": byHand(() => backwards(() => aRound(-1))),
+  "Shift+ArrowRight": byHand(() => onwards(aRound(1), ROUND)),
   Home: byHand(() => moveTo(0)), End: byHand(() => moveTo(film.count - 1)),
   " ": () => play(!shown.playing), "+": () => changeRate(1), "=": () => changeRate(1), "-": () => changeRate(-1),
   ",": byHand(() => moveLine(-1)), ".": byHand(() => moveLine(1)),
@@ -246,6 +255,7 @@ function pressed(event) {
   event.preventDefault();
   if (key) key();
   else chooseMemory(Number(event.key));
+  setAddress();
 }
 
 function buildControls() {
@@ -318,8 +328,7 @@ async function openFilm() {
   const text = byId("film").textContent;
   live.isOn = text.trim() === "";
   const [about, ...rows] = await unpack(live.isOn ? await live.open() : text);
-  film = { ...about, ...emptyRows() };
-  grow(about, ...rows);
+  openRows(about, rows);
   build();
   grew(0);
   setView();

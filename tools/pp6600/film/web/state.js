@@ -78,6 +78,12 @@ function emptyRows() {
   };
 }
 
+// Makes the film of its rows.
+function openRows(about, rows) {
+  film = { ...about, ...emptyRows() };
+  grow(about, ...rows);
+}
+
 // Adds what has come: lines and tables, then the moments; `news` has the lists, and the rows are numbers.
 function grow(news, heads, places, growths, writes) {
   if (film.count) goTo(film.count - 1);
@@ -207,13 +213,14 @@ function changeAfter(marks, moment) {
   return [0, 0];
 }
 
-// A round to or fro: ten turns.
+// A round to or fro: ten turns, or up to those that were skipped.
 function aRound(direction) {
   let moment = film.at;
   for (let turns = 0; turns < ROUND && moment + direction >= 0 && moment + direction < film.count;) {
     if (direction > 0) moment++;
     if (isTurn(moment)) turns++;
     if (direction < 0) moment--;
+    if (film.kinds[moment] === SKIP) break;
   }
   return moment;
 }
