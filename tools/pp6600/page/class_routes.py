@@ -1,7 +1,7 @@
 """The server of a class: the page of a seat, which is the live page with a few things more, and that of the lecturer.
 
 A request has the key of a seat, which reaches this seat's session alone, or the lecturer's, which reads every session and changes none.
-Only taking a seat needs no key."""
+Only taking a seat needs no key; taking it up again needs a ticket, which the lecturer gives."""
 
 import collections
 import hmac
@@ -13,7 +13,7 @@ import threading
 from ..film.page import page
 from ..options import BadWord
 from . import routes
-from .classroom import FREE, LONGEST_NAME
+from .classroom import FREE, LONGEST_NAME, TICKET_LASTS
 from .routes import TEXT, line_of, lines, number, text
 from .security import Refused
 from .server import NO_ADDRESS, Server
@@ -145,7 +145,11 @@ def end(classroom, asked):
     return seats(classroom, asked)
 
 
-OF_LECTURER = {"/class": seats, "/class/end": end}
+def ticket(classroom, asked):
+    return json_of({"ticket": classroom.ticket(number(asked, "seat")), "minutes": TICKET_LASTS // 60})
+
+
+OF_LECTURER = {"/class": seats, "/class/end": end, "/class/ticket": ticket}
 
 
 class ClassServer(Server):
@@ -168,11 +172,12 @@ class ClassServer(Server):
 
     # ---- who asks what
 
-    def answering(self, path, headers):
-        """Returns the function that answers a request: of what it asks."""
-        if path == "/seat":
-            return self.take
+    def answering(self, path, headers, address):
         key = headers.get("X-Key", "")
+        if path == "/seat":
+            return lambda asked: self.seated(self.classroom.take(address))
+        if path == "/seat/again":
+            return lambda asked: self.seated(self.classroom.come_back(text(asked, "ticket"), self.classroom.with_key(key)))
         is_lecturer = hmac.compare_digest(key.encode("utf-8", "replace"), self.key.encode())
         if path in OF_LECTURER:
             if not is_lecturer:
@@ -193,8 +198,8 @@ class ClassServer(Server):
             raise Refused(403, "the lecturer looks at a session, and changes nothing in it")
         return lambda asked: OF_SEAT[path](self.classroom, self.classroom.seat(number(asked, "seat")), asked)
 
-    def take(self, asked):
-        seat = self.classroom.take()
+    @staticmethod
+    def seated(seat):
         return json_of({"seat": seat.number, "key": seat.key})
 
     # ---- connections

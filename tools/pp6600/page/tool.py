@@ -39,6 +39,8 @@ def add_class(parser):
     parser.add_argument("--class", dest="is_class", action="store_true", help="seat a class, with --listen")
     parser.add_argument("--listen", metavar="ADDRESS:PORT", type=listen_address, help="what the class opens: the address of this machine in its network")
     parser.add_argument("--seats", metavar="N", type=seats, help=f"how many, decimal ({SEATS})")
+    parser.add_argument("--seats-of-address", metavar="N", type=seats,
+                        help=f"how many of them browsers of one address may take, decimal ({SEATS})")
     parser.add_argument("--exercises", metavar="DIR", help="a folder with exercises of your own, beside those that are here")
 
 
@@ -50,7 +52,8 @@ def serve_class(asked):
         raise Failure("a class has no script, title, port, symbols, source or simulator options: each exercise has its own")
     if "program" in getattr(asked, "given_options", ()):
         os.environ["PP6600"] = asked.program  # of the checks too
-    classroom = Classroom(asked.program, exercises(asked.exercises), asked.seats or SEATS)
+    most = asked.seats or SEATS
+    classroom = Classroom(asked.program, exercises(asked.exercises), most, of_address=asked.seats_of_address or SEATS)
     with contextlib.closing(classroom):
         server = ClassServer(classroom, *asked.listen)
         write(f"The class opens {server.address} and the lecturer {server.lecturer}. This is plain HTTP: whoever is in the network can read "
@@ -68,8 +71,8 @@ def main():
     asked = parser.parse()
     if asked.is_class:
         return serve_class(asked)
-    if asked.listen or asked.seats or asked.exercises:
-        raise Failure("--listen, --seats and --exercises are of a class: give --class too")
+    if asked.listen or asked.seats or asked.seats_of_address or asked.exercises:
+        raise Failure("--listen, --seats, --seats-of-address and --exercises are of a class: give --class too")
     (asked.script,) = words_after(asked.script, 1, "give one script")
     title = heading(asked.title or (None if asked.script else "a session"), asked.script)
     symbols = symbols_of(asked)
