@@ -150,7 +150,7 @@ class Seats(ClassCase):
         self.assertIn("your address has 40 (decimal) seats", of_class.post("/seat", {})[1])
 
     def test_coming_back(self):
-        """By a ticket, once and within ten minutes; the seat's session is where it was. A seat that was taken meanwhile ends if it is fresh."""
+        """By a ticket, once and within ten minutes; the session is where it was. A seat that was taken meanwhile ends if it is fresh."""
         of_class = self.open()
         student = Student(of_class)
         student.act("STEP 3")
@@ -239,8 +239,9 @@ class Seats(ClassCase):
                 for _ in range(sum(gates)):
                     gate.room.release()
         self.assertEqual([], student.news(1)["lines"])
-        with mock.patch.object(class_routes, "MOST_OF_ADDRESS", 0), socket.create_connection(("127.0.0.1", of_class.server.server_port), 60) as one:
-            self.assertIn(b"503", one.recv(100))
+        with mock.patch.object(class_routes, "MOST_OF_ADDRESS", 0):
+            with socket.create_connection(("127.0.0.1", of_class.server.server_port), 60) as one:
+                self.assertIn(b"503", one.recv(100))
 
     def test_side_by_side(self):
         """Sixty sessions make a turn each, at once, and each is answered."""
@@ -332,7 +333,8 @@ class Lecturer(ClassCase):
         first.act("STEP 3", "SET M 0 9 1")
         of_class.now += 60
         second.act("STEP 11")
-        got = [[seat[name] for name in ("seat", "name", "exercise", "turn", "line", "answer", "refused", "why", "idle")] for seat in of_class.seats()]
+        names = "seat", "name", "exercise", "turn", "line", "answer", "refused", "why", "idle"
+        got = [[seat[name] for name in names] for seat in of_class.seats()]
         self.assertEqual([[1, "Ada <b>", "first-program", 3, "SET M 0 9 1", "ERR 03 NUMBER", True, "word 4: 9 is not octal", 60],
                           [2, "", "no exercise", 9, "STEP 11", "TURNS 11 SLOT 11", False, "", 0]], got)
 
@@ -350,7 +352,8 @@ class Lecturer(ClassCase):
 
     def test_words_of_the_tool(self):
         for words, said in ((["--class"], "--listen"), (["--class", "--listen", "0.0.0.0:80"], "address of this machine"),
-                            (["--class", "--listen", "127.0.0.1"], "no address"), (["--class", "--listen", "127.0.0.1:99999"], "no address"),
+                            (["--class", "--listen", "127.0.0.1"], "no address"),
+                            (["--class", "--listen", "127.0.0.1:99999"], "no address"),
                             (["--listen", "127.0.0.1:0"], "give --class"), (["--class", "--listen", "127.0.0.1:0", "script"], "no script"),
                             (["--class", "--listen", "127.0.0.1:0", "--source", "0", "file"], "no script"),
                             (["--class", "--listen", "127.0.0.1:0", "--seats", "0"], "seats"),
@@ -409,7 +412,8 @@ class Walked(PageCase):
         self.value("(byId('exercise').value = 'first-program', byId('begin').click())")
         self.browser.wait_for("document.body && document.body.dataset.open === 'yes' && film.lines.length === 4")
         self.assertIn("stores their sum in cell 0022", self.value("byId('task').textContent"))
-        for line, wanted in ((HALF, "first-program: not solved"), ("STEP 12", "first-program: not solved"), (SOLVED, "first-program: solved")):
+        not_solved, solved = "first-program: not solved", "first-program: solved"
+        for line, wanted in ((HALF, not_solved), ("STEP 12", not_solved), (SOLVED, solved)):
             self.value(f"live.send('{line}')")
             self.browser.click("#check")
             self.browser.wait_for(f"byId('class-say').textContent.split('\\n')[0] === '{wanted}'")
@@ -420,8 +424,8 @@ class Walked(PageCase):
         """The lecturer sees the seat in the list, and its session, which only the student goes on with."""
         self.open(of_class, f"/lecturer#key={of_class.server.key}")
         self.browser.wait_for("document.querySelectorAll('.seat').length === 1")
-        self.assertEqual([SOLVED, "1", ""], self.value("['.line', '.done'].map((name) => document.querySelector('.seat ' + name).textContent)"
-                                                      ".concat(location.hash)"))
+        texts = "['.line', '.done'].map((name) => document.querySelector('.seat ' + name).textContent)"
+        self.assertEqual([SOLVED, "1", ""], self.value(f"{texts}.concat(location.hash)"))
         self.open(of_class, f"/#key={of_class.server.key}&seat=1")
         self.opened()
         self.assertEqual([0o12, True, True], self.value("[film.turn[film.at], byId('console').hidden, byId('begin').hidden]"))
@@ -429,7 +433,8 @@ class Walked(PageCase):
         of_class.room.act(seat, len(seat.session.counts) - 1, len(seat.session.film.rows) - 1, ["STEP 3"])
         self.browser.wait_for("film.turn[film.at] === 0o15")
         of_class.room.begin(seat, "exchange", None)
-        self.browser.wait_for("document.body && document.body.dataset.open === 'yes' && byId('task').textContent.includes('exchange packages')")
+        self.browser.wait_for("document.body && document.body.dataset.open === 'yes'"
+                              " && byId('task').textContent.includes('exchange packages')")
 
 
 class InFirefox(ClassCase):
@@ -475,7 +480,7 @@ class InFirefox(ClassCase):
         self.browser.open(f"{site}/#key={of_class.server.key}&seat=1")
         self.browser.wait_for(self.OPEN)
         self.assertEqual(["Seat 1: looked at, not to be changed", True, True], self.browser.evaluate(
-            "[...['seat', 'console', 'begin'].map((id) => document.getElementById(id))].map((one, at) => at ? one.hidden : one.textContent)"))
+            "['seat', 'console', 'begin'].map((id) => document.getElementById(id)).map((one, at) => at ? one.hidden : one.textContent)"))
         seat = of_class.room.seat(1)
         of_class.room.act(seat, len(seat.session.counts) - 1, len(seat.session.film.rows) - 1, ["STEP 3"])
         self.browser.wait_for("document.getElementById('position').textContent.startsWith('After turn 3.')")

@@ -69,7 +69,8 @@ def about(classroom, seat, asked):
     """What a page of a seat has to know that is not of the film."""
     exercise = seat.exercise
     return json_of({"seat": seat.number, "name": seat.name, "session": seat.begun, "solved": seat.solved, "free": FREE, "panel": seat.panel,
-                    "exercises": list(classroom.exercises), "exercise": exercise.name if exercise else "", "task": exercise.task if exercise else ""})
+                    "exercises": list(classroom.exercises), "exercise": exercise.name if exercise else "",
+                    "task": exercise.task if exercise else ""})
 
 
 def name(classroom, seat, asked):
@@ -137,7 +138,8 @@ LOOKS = ("/about", "/news", "/film", "/script")  # which change nothing, so the 
 
 def seats(classroom, asked):
     now = classroom.clock()
-    return json_of({"most": classroom.most, "exercises": list(classroom.exercises), "seats": [seat.overview(now) for seat in classroom.taken()]})
+    return json_of({"most": classroom.most, "exercises": list(classroom.exercises),
+                    "seats": [seat.overview(now) for seat in classroom.taken()]})
 
 
 def end(classroom, asked):

@@ -36,7 +36,8 @@ class Server(http.server.ThreadingHTTPServer):
         try:
             super().__init__((address, port), Handler)
         except OSError as error:
-            raise Failure(f"can't listen at {'' if address == ADDRESS else address + ', '}port {port} (decimal): {error.strerror}") from error
+            where = "" if address == ADDRESS else f"{address}, "
+            raise Failure(f"can't listen at {where}port {port} (decimal): {error.strerror}") from error
         self.key = secrets.token_urlsafe(16)
         self.pages = {path: text.encode() for path, text in pages.items()}
         self.policies = {path: policy(text) for path, text in pages.items()}

@@ -37,7 +37,8 @@ def seats(text):
 
 def add_class(parser):
     parser.add_argument("--class", dest="is_class", action="store_true", help="seat a class, with --listen")
-    parser.add_argument("--listen", metavar="ADDRESS:PORT", type=listen_address, help="what the class opens: the address of this machine in its network")
+    parser.add_argument("--listen", metavar="ADDRESS:PORT", type=listen_address,
+                        help="what the class opens: the address of this machine in its network")
     parser.add_argument("--seats", metavar="N", type=seats, help=f"how many, decimal ({SEATS})")
     parser.add_argument("--seats-of-address", metavar="N", type=seats,
                         help=f"how many of them browsers of one address may take, decimal ({SEATS})")
@@ -56,8 +57,8 @@ def serve_class(asked):
     classroom = Classroom(asked.program, exercises(asked.exercises), most, of_address=asked.seats_of_address or SEATS)
     with contextlib.closing(classroom):
         server = ClassServer(classroom, *asked.listen)
-        write(f"The class opens {server.address} and the lecturer {server.lecturer}. This is plain HTTP: whoever is in the network can read "
-              "it. Ctrl-C ends all sessions.", at_once=True)
+        write(f"The class opens {server.address} and the lecturer {server.lecturer}. This is plain HTTP: whoever is in the network "
+              "can read it. Ctrl-C ends all sessions.", at_once=True)
         server.serve_forever()
 
 

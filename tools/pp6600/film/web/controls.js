@@ -167,7 +167,8 @@ function wrongTurn(text) {
   if (!/^[0-7]+$/.test(text)) return "not an octal number";
   const turn = parseInt(text, 8);
   if (film.turn.includes(turn)) return "";
-  return turn < film.turn[0] ? `the film begins at turn ${octal(film.turn[0])}` : `no turn ${text}: the highest is ${octal(film.highestTurn)}`;
+  if (turn < film.turn[0]) return `the film begins at turn ${octal(film.turn[0])}`;
+  return `no turn ${text}: the highest is ${octal(film.highestTurn)}`;
 }
 
 // ---- playing
@@ -224,7 +225,8 @@ const KEYS = {
   "[": byHand(() => moveToChange(-1)), "]": byHand(() => moveToChange(1)),
   o: () => findOrigin(), "/": () => byId("place").select(), g: () => byId("turn").select(), "?": () => showHelp(byId("help").hidden),
   n: byHand(() => live.byLine(1)), p: byHand(() => live.byLine(-1)),
-  i: () => nextForm(), f: () => followTurns(), b: () => foldBarrel(), z: () => project(), Enter: () => live.isOn && byId("typed").focus(), Escape: () => (byId("help").hidden ? chooseNone() : showHelp(false)),
+  i: () => nextForm(), f: () => followTurns(), b: () => foldBarrel(), z: () => project(),
+  Enter: () => live.isOn && byId("typed").focus(), Escape: () => (byId("help").hidden ? chooseNone() : showHelp(false)),
 };
 
 // The look for a projector: large, and without what a whole class can't read.
@@ -265,7 +267,8 @@ function buildControls() {
   byId("rate").value = 1;
   byId("rate").onchange = () => changeRate(0);
   const buttons = { first: "Home", "round-back": "Shift+ArrowLeft", back: "ArrowLeft", play: " ", forward: "ArrowRight",
-    "round-forward": "Shift+ArrowRight", last: "End", "previous-change": "[", "next-change": "]", "came-from": "o", "line-before": "p", "next-line": "n", "help-button": "?" };
+    "round-forward": "Shift+ArrowRight", last: "End", "previous-change": "[", "next-change": "]", "came-from": "o",
+    "line-before": "p", "next-line": "n", "help-button": "?" };
   for (const [id, key] of Object.entries(buttons)) byId(id).onclick = KEYS[key];
   byId("choose-none").onclick = chooseNone;
   byId("go-turn").onsubmit = (event) => { event.preventDefault(); goToTyped(); };
@@ -300,8 +303,8 @@ function chooseTyped() {
 }
 
 function build() {
-  for (const part of [buildControls, buildProcessors, buildChannels, buildMemory, buildProgram, buildSource, buildPictures, buildCentral, buildFrame, buildReader,
-    buildPrinter, buildFiles, buildLanes, buildBarrel, buildSigns, buildLive]) part();
+  for (const part of [buildControls, buildProcessors, buildChannels, buildMemory, buildProgram, buildSource, buildPictures, buildCentral,
+    buildFrame, buildReader, buildPrinter, buildFiles, buildLanes, buildBarrel, buildSigns, buildLive]) part();
   byId("panel").hidden = !film.panel.length;
   document.querySelector("#panel p").textContent = film.panel.map(four).join(" ");
   const redraw = () => { drawLegend(); drawLanes(); showHead(); showSigns(); showBarrel(); };

@@ -73,8 +73,8 @@ function emptyRows() {
     turn: new Int32Array(0), // how many turns are in effect
     depth: new Int32Array(0), // how many actions of the film are in effect
     lineAt: new Int32Array(0), // the number of its line, -1 before the first
-    lines: [], papers: [], watches: [], next: [], constants: [], central: [], unseen: [], marks: [], centralIndex: new Map(), jumps: new Map(),
-    skips: new Map(), highestTurn: 0, writes: emptyWrites(),
+    lines: [], papers: [], watches: [], next: [], constants: [], central: [], unseen: [], marks: [], centralIndex: new Map(),
+    jumps: new Map(), skips: new Map(), highestTurn: 0, writes: emptyWrites(),
   };
 }
 
@@ -89,7 +89,9 @@ function grow(news, heads, places, growths, writes) {
   if (film.count) goTo(film.count - 1);
   const firstLine = film.lines.length;
   film.turns_before = news.turns_before;
-  for (const name of ["lines", "papers", "watches", "constants", "unseen", "marks"]) for (const one of news[name] || []) film[name].push(one);
+  for (const name of ["lines", "papers", "watches", "constants", "unseen", "marks"]) {
+    for (const one of news[name] || []) film[name].push(one);
+  }
   for (const [name, second, block, waits, sentence, line] of news.next) {
     film.next.push({ name, second, block: block && { issued: block[0], address: block[1], back: block[2] }, waits, sentence,
       line: line ? { number: line[0], note: line[1] } : { number: 0, note: "" } });

@@ -14,7 +14,8 @@ function takeKey() {
 }
 
 async function ask(address, body) {
-  const reply = await fetch(address, { method: "POST", headers: { "X-Key": key, "Content-Type": "application/json" }, body: JSON.stringify(body) });
+  const headers = { "X-Key": key, "Content-Type": "application/json" };
+  const reply = await fetch(address, { method: "POST", headers, body: JSON.stringify(body) });
   if (!reply.ok) throw new Error(await reply.text());
   return reply.json();
 }
