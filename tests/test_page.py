@@ -21,6 +21,7 @@ from tests.fixtures import DECK, OVERWRITTEN
 from tests.support import PYTHON, TOP, Case, program, read, run, tool
 
 from pp6600.core.state import central_of
+from pp6600.device_options import device_of
 from pp6600.film.page import carried
 from pp6600.film.places import LAYOUT
 from pp6600.listing import AllSymbols
@@ -65,11 +66,11 @@ class Reply:
 class Served:
     """A server in this process, and a client that has its key."""
 
-    def __init__(self, *options, symbols=None):
+    def __init__(self, *options, symbols=None, devices=()):
         symbols = symbols or AllSymbols()
         asked = argparse.Namespace(script=None, **{name: None for name in OPTIONS})
         vars(asked).update({name[2:]: value for name, value in zip(options[::2], options[1::2])})
-        self.session = session.Session([program(), *options], "a session", carried(asked, b""), symbols)
+        self.session = session.Session([program(), *options], "a session", carried(asked, b""), symbols, list(map(device_of, devices)))
         self.session.perform_script(list(symbols.loading(())))
         self.server = server.Server(self.session, 0)
         self.port, self.key = self.server.server_port, self.server.key
@@ -112,21 +113,21 @@ class Served:
 
 
 class ServedCase(Case):
-    def serve(self, *options):
-        served = Served(*options)
+    def serve(self, *options, **more):
+        served = Served(*options, **more)
         self.addCleanup(served.close)
         served.ask("/news")
         return served
-
-
-class Session(ServedCase):
-    """What a session does."""
 
     def film_of(self, lines, *options):
         """Returns the page of the film of the same lines."""
         path = self.path("film.html")
         tool("film", *options, "-o", path, script="".join(f"{line}\n" for line in lines))
         return read(path)
+
+
+class Session(ServedCase):
+    """What a session does."""
 
     def test_it_is_the_same_film(self):
         """Line by line, a session has the moments of the film of its script."""
@@ -361,6 +362,49 @@ class Session(ServedCase):
             self.assertIn("this session is full", served.act("STEP").text)
         with mock.patch.object(session, "MOST_LINES", 1):
             self.assertIn("this session is full", served.act("STEP").text)
+
+
+class WithDevices(ServedCase):
+    """A session with devices of one's own."""
+
+    DISPLAY = "console_display@10"
+
+    def serve(self, *options):
+        return super().serve(*options, devices=[self.DISPLAY])
+
+    def test_it_is_the_film_with_the_device(self):
+        """With its replies and pictures; a page that asks after each line has the same as one that asks at the end."""
+        served, script = self.serve(), read("examples", "console-display", "script").splitlines()[:-1]
+        lines = [*script, "STEP 2000", "BACK 30", "STEP 100", "BACK 5"]
+        parts = [served.post("/news", {"have": 0}).news["pictures"], *(served.act(line).news["pictures"] for line in lines)]
+        got, page = served.post("/news", {"have": 0}), self.film_of(lines, "--device", self.DISPLAY)
+        wanted = about(page)
+        self.assertEqual(decode(film_text(page))[1], got.moments)
+        for name in ("jumps", "next", "lines", "pictures", "devices"):
+            self.assertEqual(wanted[name], got.news[name], name)
+        (display,) = wanted["pictures"]["devices"]
+        self.assertEqual(display["shown"], [one for part in parts for one in part["devices"][0]["shown"]])
+        self.assertEqual(wanted["pictures"]["lines"], [line for part in parts for line in part["lines"]])
+        self.assertEqual([line["text"] for line in wanted["lines"]], served.post("/script", {}).text.splitlines())
+
+    def test_what_is_refused(self):
+        """Nothing is done then. BACK counts what the user did: a turn with the replies after it is one."""
+        served = self.serve()
+        served.act("SET M 0 100 7710 7002 7410 300", "SET P 0 100")
+        served.act("STEP 30")
+        self.assertEqual([["ERR 07 TOO FEW KEPT"], 0], [served.act("BACK 1000").news["lines"][0]["answer"], len(served.ask("/news").moments)])
+        self.assertIn("with devices a line makes at most 20000 turns", served.act("STEP 20001").text)
+        self.assertEqual("BACK 30 SLOT 00", served.act("BACK 30").news["said"])
+        self.assertEqual(0, served.session.film.run.turn)
+        self.assertEqual("FORWARD 2 SLOT 02", served.act("FORWARD 2").news["said"])
+        self.assertEqual(["BACK 3", "STEP 1", "* DEVICE ConsoleDisplay", "SET H 10 I"], [
+            line["text"] for line in served.ask("/act", at=2, lines=["STEP 1"]).news["lines"]])
+
+    def test_words_of_the_tool(self):
+        for words, said in ((["--device", "console_display@12"], "the card reader is on it"), (["--device", "nothing@1"], "no device"),
+                            (["--class", "--listen", "127.0.0.1:0", "--device", self.DISPLAY], "no script")):
+            done = tool("page", *words)
+            self.assertEqual(("", 2, 1, True), (done.out, done.status, done.err.count("\n"), said in done.err), done.err)
 
 
 class Security(ServedCase):
@@ -654,6 +698,19 @@ class Walked(PageCase):
         self.browser.ask("Input.dispatchMouseEvent", type="mouseReleased", x=x, y=y, button="left", buttons=0, clickCount=1)
         self.browser.wait_for("!live.unskipping")
         self.assertEqual([0o2001, [0o2000, 0o4000, 0o2000], 0], self.value(f"[held - 1, {WHERE}, film.skips.size]"))
+
+    def test_pictures_of_a_device(self):
+        """They are those of the moment that is seen, and come with the moments."""
+        served = self.serve(devices=["console_display@10"])
+        served.session.perform_script(read("examples", "console-display", "script").splitlines()[:-1])
+        self.open(served)
+        marks = "document.querySelectorAll('#pictures svg *').length"
+        before = self.value(marks)
+        self.type("STEP 2700")
+        drawn = self.value(marks)
+        self.value("moveTo(0)")
+        self.assertEqual([True, before, "ConsoleDisplay on channel 10"], [drawn > before + 10, self.value(marks), self.value(
+            "document.querySelector('#pictures figcaption').textContent")])
 
     def test_lines_of_a_source(self):
         """The line where the processor is moves on, and a line that has been performed can be clicked."""

@@ -34,11 +34,23 @@ class LiveFilm(Film):
     turn_line, turn_answer = "FORWARD 1", "FORWARD 1 "
     most_filmed = None  # fewer turns of one line, of a session in a class
 
-    def __init__(self, words, sources=()):
+    def __init__(self, words, sources=(), devices=()):
         run, log = Timeline(words), Log()
         log.size = run.central_size
-        super().__init__(run, log, run.reader_channel, run.printer_channel, sources)
+        super().__init__(run, log, run.reader_channel, run.printer_channel, sources, devices)
         self._open()
+
+    @property
+    def session(self):
+        """Whose BACK and FORWARD are those of the user."""
+        return self.run
+
+    def units(self, position):
+        """Returns how many actions these count up to a position."""
+        return position
+
+    def close(self):
+        self.run.close()
 
     @property
     def at_once(self):

@@ -12,6 +12,7 @@ from ..line_search import turn_of_line_before, turn_of_next_line
 from ..moments import text_of
 from ..searches import MOST_NEW, last_before, next_found
 from ..timeline import lines_to
+from .device_film import DeviceFilm
 from .film import LiveFilm
 
 MOST_MOMENTS = 0o200000  # of a session
@@ -24,17 +25,17 @@ FULL = "this session is full: save it as a film or a script, and begin another o
 class Session:
     """A film that grows, for one user with one or more pages."""
 
-    def __init__(self, words, title, given, symbols):
-        """The simulator's words, the heading, what a page carries of the files with the script the first of them, and the symbols."""
+    def __init__(self, words, title, given, symbols, devices=()):
+        """The simulator's words, the heading, what a page carries of the files with the script the first of them, the symbols, and devices of
+        one's own."""
         self.title, self.given, self.symbols = title, given, symbols
-        self.film = LiveFilm(words, symbols.sources())
+        self.film = DeviceFilm(words, symbols.sources(), devices) if devices else LiveFilm(words, symbols.sources())
+        self.most_new = 0 if devices else MOST_NEW  # a search has no devices
         self.lock = threading.Lock()
         # What the film had: nothing, with its opening, and after each line. Of a film that was made anew no page has anything.
         self.counts = [Counts(), Counts.of(self.film)]
 
     # ---- what searches need of a session
-
-    most_new = MOST_NEW
 
     @property
     def simulator(self):
@@ -105,7 +106,7 @@ class Session:
                 if not lines:
                     raise
                 turn, said = None, str(failure)  # the page must have what was performed
-            for line in () if turn is None else lines_to(self.film.run, turn):
+            for line in () if turn is None else lines_to(self.film.session, turn):
                 self._perform(line)
             return self._news(have, said=said, is_refused=turn is None)
 
@@ -140,7 +141,7 @@ class Session:
 
     def close(self):
         with self.lock:
-            self.film.run.close()
+            self.film.close()
 
     # ---- lines
 
@@ -168,7 +169,7 @@ class Session:
         position = film.positions.position_of(moment)
         if position is None:
             raise Failure("this moment is gone: an action before it has taken its place. Go to one that is in effect or ahead")
-        count = position - film.run.position
+        count = film.units(position) - film.units(film.run.position)
         return [f"{'BACK' if count < 0 else 'FORWARD'} {abs(count):o}"] if count else []
 
     def _said(self, answer):

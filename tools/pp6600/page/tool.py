@@ -5,6 +5,7 @@ import os
 import re
 
 from ..command_line import arguments, script_lines, simulator, words_after, write
+from ..device_options import add_devices, devices_of
 from ..failure import Failure
 from ..film.page import carried, heading
 from ..options import OPTIONS, BadWord
@@ -49,8 +50,8 @@ def serve_class(asked):
     """Seats a class until it is interrupted."""
     if asked.listen is None:
         raise Failure("a class needs --listen ADDRESS:PORT, which its browsers open")
-    if any(getattr(asked, name) for name in ("script", "title", "port", "symbols", "source", *OPTIONS)):
-        raise Failure("a class has no script, title, port, symbols, source or simulator options: each exercise has its own")
+    if any(getattr(asked, name) for name in ("script", "title", "port", "symbols", "source", "device", *OPTIONS)):
+        raise Failure("a class has no script, title, port, symbols, source, device or simulator options: each exercise has its own")
     if "program" in getattr(asked, "given_options", ()):
         os.environ["PP6600"] = asked.program  # of the checks too
     most = asked.seats or SEATS
@@ -67,6 +68,7 @@ def main():
     parser.add_argument("--port", metavar="N", type=port, default=0, help="the port, decimal (else one that is free)")
     parser.add_argument("--title", metavar="TEXT", help="the heading of the page (else the name of the script's file or folder)")
     add_symbols(parser)
+    add_devices(parser)
     add_class(parser)
     parser.add_argument("script", metavar="SCRIPT", nargs="*", help="lines of the console to begin with")
     asked = parser.parse()
@@ -78,7 +80,7 @@ def main():
     title = heading(asked.title or (None if asked.script else "a session"), asked.script)
     symbols = symbols_of(asked)
     lines = list(symbols.loading([] if asked.script is None else script_lines(asked.script)))
-    session = Session(simulator(asked), title, carried(asked, b""), symbols)
+    session = Session(simulator(asked), title, carried(asked, b""), symbols, devices_of(asked))
     server = Server(session, asked.port)
     session.perform_script(lines)
     write(f"Open {server.address} in a browser of this machine. Ctrl-C ends the session.", at_once=True)

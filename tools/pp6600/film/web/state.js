@@ -74,7 +74,7 @@ function emptyRows() {
     depth: new Int32Array(0), // how many actions of the film are in effect
     lineAt: new Int32Array(0), // the number of its line, -1 before the first
     lines: [], papers: [], watches: [], next: [], constants: [], central: [], unseen: [], marks: [], centralIndex: new Map(),
-    jumps: new Map(), skips: new Map(), highestTurn: 0, writes: emptyWrites(),
+    jumps: new Map(), skips: new Map(), highestTurn: 0, writes: emptyWrites(), pictures: null,
   };
 }
 
@@ -98,6 +98,7 @@ function grow(news, heads, places, growths, writes) {
   }
   for (const [moment, target, turn] of news.jumps) film.jumps.set(moment, [target, turn]);
   for (const [moment, turns] of news.skips) film.skips.set(moment, turns);
+  if (news.pictures) addPictures(news.pictures);
   addCentral(news.central, new Set(news.unseen));
   addMoments(heads, places, growths);
   news.lines.forEach((line, at) => line.acts && film.lineAt.fill(firstLine + at, line.first, line.moment + 1));
