@@ -392,7 +392,8 @@ class WithDevices(ServedCase):
         served = self.serve()
         served.act("SET M 0 100 7710 7002 7410 300", "SET P 0 100")
         served.act("STEP 30")
-        self.assertEqual([["ERR 07 TOO FEW KEPT"], 0], [served.act("BACK 1000").news["lines"][0]["answer"], len(served.ask("/news").moments)])
+        refused = served.act("BACK 1000")
+        self.assertEqual((["ERR 07 TOO FEW KEPT"], []), (refused.news["lines"][0]["answer"], refused.moments))
         self.assertIn("with devices a line makes at most 20000 turns", served.act("STEP 20001").text)
         self.assertEqual("BACK 30 SLOT 00", served.act("BACK 30").news["said"])
         self.assertEqual(0, served.session.film.run.turn)
@@ -698,6 +699,24 @@ class Walked(PageCase):
         self.browser.ask("Input.dispatchMouseEvent", type="mouseReleased", x=x, y=y, button="left", buttons=0, clickCount=1)
         self.browser.wait_for("!live.unskipping")
         self.assertEqual([0o2001, [0o2000, 0o4000, 0o2000], 0], self.value(f"[held - 1, {WHERE}, film.skips.size]"))
+
+    def test_a_film_made_anew(self):
+        """When another page has filmed what was skipped, this one stays where it was, and what leads to a moment still leads there."""
+        served = self.serve("--deck", DECK, symbols=loader())
+        self.open(served)
+        self.type("STEP 4000")
+        self.type("SET A 0 5")
+        self.value("choose(placeNamed('M 0 106')), moveTo(8), findOrigin()")
+        here = "[film.turn[film.at], byId('position').innerText.split('. ')[0], textAt(shown.chosen)]"
+        before, has = self.value(here), self.value("film.have")
+        self.assertEqual(400, served.post("/skipped", {"have": has, "at": 8}).status)  # no turns were skipped there
+        (skip, _), = served.post("/news", {"have": 0}).news["skips"]
+        have = served.post("/skipped", {"have": has, "at": skip}).news["have"]
+        self.value("live.looking || live.do('/news', {})")
+        self.assertEqual([before, have, 0, True], self.value(f"[{here}, film.have, film.skips.size, byId('origin').hidden]"))
+        self.assertEqual(0o4000, self.value("(lineRows.at(-2).querySelector('button').click(), film.turn[film.at])"))
+        line = "[...document.querySelectorAll('#source tbody .line')].find((one) => !one.disabled)"
+        self.assertEqual([True, True], self.value(f"({line}.click(), [isTurn(film.at), film.turn[film.at] < 0o100])"))
 
     def test_pictures_of_a_device(self):
         """They are those of the moment that is seen, and come with the moments."""
