@@ -372,6 +372,15 @@ class WithDevices(ServedCase):
     def serve(self, *options):
         return super().serve(*options, devices=[self.DISPLAY])
 
+    def test_few_actions_are_kept(self):
+        """With a short history lines are short, and BACK goes back all the same."""
+        served, lines = self.serve("--history", "20"), ["SET M 0 100 7710 7002 7410 300", "SET P 0 100", "STEP 24", "STEP 3"]
+        served.act(*lines)
+        self.assertIn("at most 24 turns", served.act("STEP 25").text)
+        self.assertEqual("BACK 25 SLOT 02", served.act("BACK 25").news["said"])
+        self.assertEqual(["SET M 0 100 7710 7002 7410 300", "SET P 0 100", "STEP 1", "* DEVICE ConsoleDisplay", "SET H 10 I", "STEP 1"],
+                         served.post("/script", {}).text.splitlines())
+
     def test_it_is_the_film_with_the_device(self):
         """With its replies and pictures; a page that asks after each line has the same as one that asks at the end."""
         served, script = self.serve(), read("examples", "console-display", "script").splitlines()[:-1]

@@ -6,7 +6,7 @@ simulator that is filmed. Both are always at the same position. All turns are fi
 
 from ..attached import COUNTED, Attached
 from ..core.forms import is_refusal
-from ..core.simulator import without_history
+from ..core.tape import room_of
 from ..failure import Failure
 from .film import MOVES, LiveFilm, kind_of
 
@@ -16,12 +16,10 @@ MOST_TURNS = 0o20000  # of a line
 class DeviceFilm(LiveFilm):
     """A session with devices, its lines for the simulator alone with their answers, and its moments."""
 
-    most_filmed = MOST_TURNS
-
     def __init__(self, words, sources, devices):
-        self.front = Attached(words, devices)
+        self.front, self.most_filmed = Attached(words, devices), min(MOST_TURNS, room_of(words))
         try:
-            super().__init__(without_history(words), sources, devices)
+            super().__init__(words, sources, devices)
         except BaseException:
             self.front.close()
             raise
@@ -40,8 +38,8 @@ class DeviceFilm(LiveFilm):
     def perform(self, line):
         """Performs a line in both, films it, and returns its answer."""
         asked, before = COUNTED.fullmatch(line), self.front.position
-        if asked and asked[1].upper() == "STEP" and int(asked[2] or "1", 8) > MOST_TURNS:
-            raise Failure(f"with devices a line makes at most {MOST_TURNS:o} turns, since all of them are filmed")
+        if asked and asked[1].upper() == "STEP" and int(asked[2] or "1", 8) > self.at_once:
+            raise Failure(f"with devices a line makes at most {self.at_once:o} turns, since all of them are filmed")
         answer = self.front.act(line)
         if is_refusal(answer):
             self.transcript.lines.append((line, answer))

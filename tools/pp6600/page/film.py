@@ -124,9 +124,9 @@ class LiveFilm(Film):
         """Returns this film with more of the turns that were skipped at a moment: those before the ones that it has."""
         if moment not in self.skips:
             raise Failure("no turns were skipped at this moment")
-        skipped = {number: self.skips[first] for number, first in self.first_moments.items() if first in self.skips}
-        number = next(number for number, first in self.first_moments.items() if first == moment)
-        skipped[number] = max(skipped[number] - self.at_once, 0)
+        lines = {first: number for number, first in self.first_moments.items()}
+        skipped = {lines[first]: turns for first, turns in self.skips.items()}
+        skipped[lines[moment]] = max(self.skips[moment] - self.at_once, 0)
         film = LiveFilm(without_history(self.run.words), self.source_lines.sources.items())
         film.most_filmed = self.most_filmed
         try:

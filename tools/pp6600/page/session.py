@@ -137,7 +137,7 @@ class Session:
     def script(self):
         """Returns the lines that give the same session again, as bytes."""
         with self.lock:
-            return "".join(f"{line}\n" for line in self.film.run.sent).encode("latin-1")
+            return "".join(f"{line}\n" for line in self.film.session.sent).encode("latin-1")
 
     def close(self):
         with self.lock:
