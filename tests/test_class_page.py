@@ -243,6 +243,16 @@ class Seats(ClassCase):
             with socket.create_connection(("127.0.0.1", of_class.server.server_port), 60) as one:
                 self.assertIn(b"503", one.recv(100))
 
+    def test_skipped_turns(self):
+        """A class films 200 turns of a line, and as many when one goes into what was skipped."""
+        student = Student(self.open())
+        student.act("STEP 1000")
+        news, moments = decode(student.ask("/skipped", have=2, at=1, session=1)[1])
+        self.assertEqual(("200 more turns are filmed, and 400 before them are one moment", 0o402), (news["said"], len(moments)))
+        self.assertEqual(409, student.ask("/skipped", have=3, at=1, session=2)[0])
+        student.have = news["have"]
+        self.assertEqual([["TURNS 1 SLOT 03"]], student.act("STEP"))
+
     def test_side_by_side(self):
         """Sixty sessions make a turn each, at once, and each is answered."""
         of_class = self.open(60, None, 60)

@@ -669,23 +669,23 @@ class Walked(PageCase):
             f"[{word}, (moveTo(1), byId('action').innerText.split(':')[0])]"))
         self.value("moveTo(film.count - 1)")
         self.type("DUMP C 100 101")
-        self.assertEqual(["0" * 20, [0o2000 + 4, 0o2000 + 4, 0o100000], "The line DUMP C 100 101 shows words that were not known."], self.value(
-            f"[{word}, {WHERE}, byId('action').innerText]"))
+        self.assertEqual(["0" * 20, [0o2000 + 4, 0o2000 + 4, 0o100000], "The line DUMP C 100 101 shows words that were not known."],
+                         self.value(f"[{word}, {WHERE}, byId('action').innerText]"))
 
     def test_into_what_was_skipped(self):
-        """By ← onto it, and by ← again; or by staying there. The next part before it likewise."""
+        """By ← onto it, and by ← again; or by staying there. A central word that the turns write is known then."""
         served = self.serve()
         self.open(served)
-        self.type("SET M 0 100 2000 2 6320 200 2001 3 6020 300")
+        self.type("SET M 0 100 1403 6220 375")  # LDN 3, CWD 20, UJN to the LDN
         self.type("SET P 0 100")
         self.type("STEP 10000")
-        self.value("choose(placeNamed('C 2')), moveTo(4), document.activeElement.blur()")
+        self.value("choose(placeNamed('C 3')), moveTo(4), document.activeElement.blur()")
         self.browser.key("ArrowLeft")
         self.assertEqual(["?", 3, 6], self.value("[textAt(shown.chosen), film.at, film.kinds[film.at]]"))
         self.browser.key("ArrowLeft")
         self.browser.wait_for("!live.unskipping && film.at > 3")
-        self.assertEqual(["2000 more turns are filmed, and 4000 before them are one moment", [0o2002, 0o4003, 0o5777], 0o4000], self.value(
-            f"[{SAID}, {WHERE}, film.skips.get(3)]"))
+        self.assertEqual(["2000 more turns are filmed, and 4000 before them are one moment", [0o2002, 0o4003, 0o5777], 0o4000, "0" * 20],
+                         self.value(f"[{SAID}, {WHERE}, film.skips.get(3), textAt(shown.chosen)]"))
         self.value("moveTo(3)")
         self.browser.wait_for("film.skips.get(3) === 0o2000")
         self.assertEqual([0o2002, 0o6003, 0o4000], self.value(WHERE.replace("film.at,", "film.at - 1,", 1)))
@@ -751,7 +751,8 @@ class Walked(PageCase):
         self.assertEqual(["ACN"], self.value(here))
         self.type("STEP 12")
         self.assertEqual(["LDN"], self.value(here))
-        self.assertEqual(["START", "ACN"], self.value(f"{rows}.filter((row) => !row.querySelector('.line').disabled).map((row) => {first})"))
+        self.assertEqual(["START", "ACN"], self.value(
+            f"{rows}.filter((row) => !row.querySelector('.line').disabled).map((row) => {first})"))
 
     def test_steps_by_lines(self):
         """N and P, and the buttons of the source."""
