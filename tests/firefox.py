@@ -12,6 +12,7 @@ import time
 
 NAMES = ("firefox-esr", "firefox")
 PATIENCE = 600  # seconds for one answer
+KEYS = {"ArrowLeft": "\ue012", "ArrowRight": "\ue014", "End": "\ue010", "Home": "\ue011", "Enter": "\ue007"}  # as the protocol names them
 
 
 def found():
@@ -88,6 +89,11 @@ class Firefox:
             if time.monotonic() > end:
                 raise TimeoutError(f"{text} does not come to be so")
             time.sleep(0.05)
+
+    def key(self, key):
+        """Presses a key."""
+        presses = [{"type": kind, "value": KEYS.get(key, key)} for kind in ("keyDown", "keyUp")]
+        self.ask("WebDriver:PerformActions", actions=[{"type": "key", "id": "keys", "actions": presses}])
 
     def look(self, width, height):
         self.ask("WebDriver:SetWindowRect", width=width, height=height)

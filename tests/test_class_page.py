@@ -6,11 +6,13 @@ import concurrent.futures
 import http.client
 import json
 import os
+import re
 import socket
 import threading
 import unittest
 from unittest import mock
 
+from tests import firefox
 from tests.films import PageCase, decode
 from tests.support import Case, program, read, tool
 
@@ -24,9 +26,9 @@ HALF = "SET M 0 100 3020 3422 300"
 class Class:
     """A class in this process, with a clock that the test sets."""
 
-    def __init__(self, most=3, folder=None):
+    def __init__(self, most=3, folder=None, of_address=classroom.SEATS):
         self.now = 1000
-        self.room = classroom.Classroom(program(), exercises(folder), most, lambda: self.now)
+        self.room = classroom.Classroom(program(), exercises(folder), most, lambda: self.now, of_address)
         self.server = class_routes.ClassServer(self.room, "127.0.0.1", 0)
         self.thread = threading.Thread(target=self.server.serve_forever, args=(0.05,))
         self.thread.start()
@@ -41,8 +43,8 @@ class Class:
         """Asks for something, and returns the status and the text of the reply."""
         return self.request("POST", path, json.dumps(asked), {"X-Key": key, "Content-Type": "application/json", **headers})
 
-    def request(self, method, path, body=None, headers={}):
-        connection = http.client.HTTPConnection("127.0.0.1", self.server.server_port, timeout=600)
+    def request(self, method, path, body=None, headers={}, source="127.0.0.1"):
+        connection = http.client.HTTPConnection("127.0.0.1", self.server.server_port, timeout=600, source_address=(source, 0))
         connection.request(method, path, body, headers)
         reply = connection.getresponse()
         done = reply.status, reply.read().decode()
@@ -127,6 +129,48 @@ class Seats(ClassCase):
         self.assertEqual(7, Student(of_class).seat)
         self.assertIn("this seat has ended", students[6].act("STEP"))  # the new one has another key
 
+    def test_seats_of_one_address(self):
+        """Other addresses have seats all the same, and a seat that ended is free for its address again."""
+        of_class = self.open(4, None, 2)
+        students = [Student(of_class) for _ in range(2)]
+        words = {"Content-Type": "application/json"}
+        for source, wanted in (("127.0.0.1", 400), ("127.0.0.2", 200), ("127.0.0.2", 200), ("127.0.0.3", 400)):
+            status, text = of_class.request("POST", "/seat", "{}", words, source)
+            self.assertEqual(wanted, status, text)
+        self.assertIn("all 4 (decimal) seats are taken", text)
+        of_class.lecturer("/class/end", seat=3)
+        self.assertIn("your address has 2 (decimal) seats", of_class.post("/seat", {})[1])
+        of_class.lecturer("/class/end", seat=students[0].seat)
+        self.assertEqual(1, Student(of_class).seat)
+
+    def test_a_class_of_one_address(self):
+        """As behind a router that translates addresses: forty students have a seat each, unless the lecturer says another number."""
+        of_class = self.open(60)
+        self.assertEqual(40, len([Student(of_class) for _ in range(40)]))
+        self.assertIn("your address has 40 (decimal) seats", of_class.post("/seat", {})[1])
+
+    def test_coming_back(self):
+        """By a ticket, once and within ten minutes; the session is where it was. A seat that was taken meanwhile ends if it is fresh."""
+        of_class = self.open()
+        student = Student(of_class)
+        student.act("STEP 3")
+        ticket = lambda: json.loads(of_class.lecturer("/class/ticket", seat=1)[1])["ticket"]
+        first, second = ticket(), ticket()
+        fresh, busy = Student(of_class), Student(of_class)
+        busy.act("STEP")
+        self.assertIn("this address was used", fresh.ask("/seat/again", ticket=first)[1])  # the second one took its place
+        back = {"seat": 1, "key": student.key}
+        self.assertEqual(back, json.loads(fresh.ask("/seat/again", ticket=second)[1]))
+        self.assertEqual([["TURNS 1 SLOT 04"]], student.act("STEP"))
+        self.assertEqual(back, json.loads(busy.ask("/seat/again", ticket=ticket())[1]))
+        self.assertEqual([1, 3], [seat["seat"] for seat in of_class.seats()])
+        late = ticket()
+        of_class.now += 601
+        for wrong in (second, late, "", "None"):
+            self.assertEqual(400, of_class.post("/seat/again", {"ticket": wrong})[0], wrong)
+        self.assertEqual(400, of_class.post("/seat/again", {})[0])
+        self.assertIn("nobody is at seat 2", of_class.lecturer("/class/ticket", seat=2)[1])
+
     def test_keys(self):
         """A seat's key reaches its own session, and nothing of the lecturer's; the lecturer's reads all, and changes nothing."""
         of_class = self.open()
@@ -195,12 +239,23 @@ class Seats(ClassCase):
                 for _ in range(sum(gates)):
                     gate.room.release()
         self.assertEqual([], student.news(1)["lines"])
-        with mock.patch.object(class_routes, "MOST_OF_ADDRESS", 0), socket.create_connection(("127.0.0.1", of_class.server.server_port), 60) as one:
-            self.assertIn(b"503", one.recv(100))
+        with mock.patch.object(class_routes, "MOST_OF_ADDRESS", 0):
+            with socket.create_connection(("127.0.0.1", of_class.server.server_port), 60) as one:
+                self.assertIn(b"503", one.recv(100))
+
+    def test_skipped_turns(self):
+        """A class films 200 turns of a line, and as many when one goes into what was skipped."""
+        student = Student(self.open())
+        student.act("STEP 1000")
+        news, moments = decode(student.ask("/skipped", have=2, at=1, session=1)[1])
+        self.assertEqual(("200 more turns are filmed, and 400 before them are one moment", 0o402), (news["said"], len(moments)))
+        self.assertEqual(409, student.ask("/skipped", have=3, at=1, session=2)[0])
+        student.have = news["have"]
+        self.assertEqual([["TURNS 1 SLOT 03"]], student.act("STEP"))
 
     def test_side_by_side(self):
         """Sixty sessions make a turn each, at once, and each is answered."""
-        of_class = self.open(60)
+        of_class = self.open(60, None, 60)
         with concurrent.futures.ThreadPoolExecutor(60) as pool:
             students = list(pool.map(lambda _: Student(of_class), range(60)))
             answers = list(pool.map(lambda student: [student.act("STEP 1") for _ in range(3)], students))
@@ -288,7 +343,8 @@ class Lecturer(ClassCase):
         first.act("STEP 3", "SET M 0 9 1")
         of_class.now += 60
         second.act("STEP 11")
-        got = [[seat[name] for name in ("seat", "name", "exercise", "turn", "line", "answer", "refused", "why", "idle")] for seat in of_class.seats()]
+        names = "seat", "name", "exercise", "turn", "line", "answer", "refused", "why", "idle"
+        got = [[seat[name] for name in names] for seat in of_class.seats()]
         self.assertEqual([[1, "Ada <b>", "first-program", 3, "SET M 0 9 1", "ERR 03 NUMBER", True, "word 4: 9 is not octal", 60],
                           [2, "", "no exercise", 9, "STEP 11", "TURNS 11 SLOT 11", False, "", 0]], got)
 
@@ -306,10 +362,13 @@ class Lecturer(ClassCase):
 
     def test_words_of_the_tool(self):
         for words, said in ((["--class"], "--listen"), (["--class", "--listen", "0.0.0.0:80"], "address of this machine"),
-                            (["--class", "--listen", "127.0.0.1"], "no address"), (["--class", "--listen", "127.0.0.1:99999"], "no address"),
+                            (["--class", "--listen", "127.0.0.1"], "no address"),
+                            (["--class", "--listen", "127.0.0.1:99999"], "no address"),
                             (["--listen", "127.0.0.1:0"], "give --class"), (["--class", "--listen", "127.0.0.1:0", "script"], "no script"),
                             (["--class", "--listen", "127.0.0.1:0", "--source", "0", "file"], "no script"),
                             (["--class", "--listen", "127.0.0.1:0", "--seats", "0"], "seats"),
+                            (["--class", "--listen", "127.0.0.1:0", "--seats-of-address", "x"], "seats"),
+                            (["--seats-of-address", "4"], "give --class"),
                             (["--class", "--listen", "127.0.0.1:0", "--exercises", "no-such-folder"], "no-such-folder")):
             done = tool("page", *words)
             self.assertEqual(("", 2, 1, True), (done.out, done.status, done.err.count("\n"), said in done.err), done.err)
@@ -329,6 +388,30 @@ class Walked(PageCase):
     def tearDown(self):
         self.browser.log[:] = [line for line in self.browser.log if not line.startswith("asks for http://127.0.0.1:") and "409" not in line]
 
+    def test_coming_back(self):
+        """A closed tab's seat is taken up again by the address that the lecturer's page shows, also in a tab with another seat."""
+        of_class = Class()
+        self.addCleanup(of_class.close)
+        self.open(of_class, "/")
+        self.opened()
+        self.value("live.act(['STEP 5'])")
+        self.value("sessionStorage.clear()")  # as in another tab
+        self.open(of_class, f"/lecturer#key={of_class.server.key}")
+        self.browser.wait_for("document.querySelectorAll('.seat').length === 1")
+        self.value("[...document.querySelectorAll('.seat button')].find((one) => one.textContent === 'back').click()")
+        self.browser.wait_for("byId('back').textContent.includes('#again=')")
+        shown = self.value("byId('back').textContent")
+        address = re.search(r"http://\S+", shown)[0]
+        self.assertEqual(f"Seat 1 again: {address} (once, within 10 minutes)", shown)
+        self.value("sessionStorage.clear()")
+        self.open(of_class, "/")
+        self.opened()
+        self.assertEqual("Seat 2", self.value("byId('seat').textContent"))
+        self.value(f"(location.hash = '{address.split('/')[-1]}', 0)")
+        self.browser.wait_for("document.body && document.body.dataset.open === 'yes' && byId('seat').textContent === 'Seat 1'")
+        self.assertEqual([5, False], self.value("[film.turn[film.at], location.href.includes('again')]"))
+        self.assertEqual([1], [seat["seat"] for seat in of_class.seats()])
+
     def test_a_seat(self):
         """Takes a seat, begins an exercise, steps, and has it checked; the lecturer looks at it."""
         of_class = Class()
@@ -339,7 +422,8 @@ class Walked(PageCase):
         self.value("(byId('exercise').value = 'first-program', byId('begin').click())")
         self.browser.wait_for("document.body && document.body.dataset.open === 'yes' && film.lines.length === 4")
         self.assertIn("stores their sum in cell 0022", self.value("byId('task').textContent"))
-        for line, wanted in ((HALF, "first-program: not solved"), ("STEP 12", "first-program: not solved"), (SOLVED, "first-program: solved")):
+        not_solved, solved = "first-program: not solved", "first-program: solved"
+        for line, wanted in ((HALF, not_solved), ("STEP 12", not_solved), (SOLVED, solved)):
             self.value(f"live.send('{line}')")
             self.browser.click("#check")
             self.browser.wait_for(f"byId('class-say').textContent.split('\\n')[0] === '{wanted}'")
@@ -350,8 +434,8 @@ class Walked(PageCase):
         """The lecturer sees the seat in the list, and its session, which only the student goes on with."""
         self.open(of_class, f"/lecturer#key={of_class.server.key}")
         self.browser.wait_for("document.querySelectorAll('.seat').length === 1")
-        self.assertEqual([SOLVED, "1", ""], self.value("['.line', '.done'].map((name) => document.querySelector('.seat ' + name).textContent)"
-                                                      ".concat(location.hash)"))
+        texts = "['.line', '.done'].map((name) => document.querySelector('.seat ' + name).textContent)"
+        self.assertEqual([SOLVED, "1", ""], self.value(f"{texts}.concat(location.hash)"))
         self.open(of_class, f"/#key={of_class.server.key}&seat=1")
         self.opened()
         self.assertEqual([0o12, True, True], self.value("[film.turn[film.at], byId('console').hidden, byId('begin').hidden]"))
@@ -359,7 +443,57 @@ class Walked(PageCase):
         of_class.room.act(seat, len(seat.session.counts) - 1, len(seat.session.film.rows) - 1, ["STEP 3"])
         self.browser.wait_for("film.turn[film.at] === 0o15")
         of_class.room.begin(seat, "exchange", None)
-        self.browser.wait_for("document.body && document.body.dataset.open === 'yes' && byId('task').textContent.includes('exchange packages')")
+        self.browser.wait_for("document.body && document.body.dataset.open === 'yes'"
+                              " && byId('task').textContent.includes('exchange packages')")
+
+
+class InFirefox(ClassCase):
+    """The pages in the other browser."""
+
+    OPEN = "document.body && document.body.dataset.open === 'yes'"
+
+    @classmethod
+    def setUpClass(cls):
+        super().setUpClass()
+        if not firefox.found():
+            raise unittest.SkipTest("there is no Firefox, so the pages are walked in chromium alone")
+        cls.browser = firefox.Firefox(firefox.found())
+        cls.addClassCleanup(cls.browser.end)
+
+    def text(self, selector):
+        return self.browser.evaluate(f"document.querySelector({json.dumps(selector)}).textContent")
+
+    def click(self, selector):
+        self.browser.evaluate(f"document.querySelector({json.dumps(selector)}).click()")
+
+    def type(self, text):
+        self.browser.evaluate(f"(document.getElementById('typed').value = {json.dumps(text)},"
+                              "document.getElementById('console').requestSubmit())")
+        self.browser.wait_for("document.getElementById('typed').value === ''")
+
+    def test_a_seat(self):
+        """Takes a seat, begins an exercise, types, and has it checked; the lecturer sees the seat, and looks at it."""
+        of_class = self.open()
+        site = f"http://127.0.0.1:{of_class.server.server_port}"
+        self.browser.open(f"{site}/")
+        self.browser.wait_for(self.OPEN)
+        self.browser.evaluate("document.getElementById('exercise').value = 'first-program'")
+        self.click("#begin")
+        self.browser.wait_for(f"{self.OPEN} && document.getElementById('task').textContent.includes('stores their sum')")
+        for line, wanted in ((HALF, "first-program: not solved"), (SOLVED, "first-program: solved")):
+            self.type(line)
+            self.click("#check")
+            self.browser.wait_for(f"document.getElementById('class-say').textContent.split('\\n')[0] === '{wanted}'")
+        self.browser.open(f"{site}/lecturer#key={of_class.server.key}")
+        self.browser.wait_for("document.querySelectorAll('.seat').length === 1")
+        self.assertEqual([SOLVED, "1", ""], [self.text(".seat .line"), self.text(".seat .done"), self.browser.evaluate("location.hash")])
+        self.browser.open(f"{site}/#key={of_class.server.key}&seat=1")
+        self.browser.wait_for(self.OPEN)
+        self.assertEqual(["Seat 1: looked at, not to be changed", True, True], self.browser.evaluate(
+            "['seat', 'console', 'begin'].map((id) => document.getElementById(id)).map((one, at) => at ? one.hidden : one.textContent)"))
+        seat = of_class.room.seat(1)
+        of_class.room.act(seat, len(seat.session.counts) - 1, len(seat.session.film.rows) - 1, ["STEP 3"])
+        self.browser.wait_for("document.getElementById('position').textContent.startsWith('After turn 3.')")
 
 
 if __name__ == "__main__":

@@ -419,7 +419,7 @@ class Films(Case):
         self.assertEqual((2, False), (done.status, os.path.exists(self.path("film.html"))))
 
     def test_without_a_picture(self):
-        self.assertEqual({}, film_pictures.Pictures([PaperTape()]).table())
+        self.assertEqual({}, film_pictures.Pictures([PaperTape()]).table(0, 0))
 
 
 class Page(PageCase):

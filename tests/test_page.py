@@ -21,6 +21,7 @@ from tests.fixtures import DECK, OVERWRITTEN
 from tests.support import PYTHON, TOP, Case, program, read, run, tool
 
 from pp6600.core.state import central_of
+from pp6600.device_options import device_of
 from pp6600.film.page import carried
 from pp6600.film.places import LAYOUT
 from pp6600.listing import AllSymbols
@@ -65,11 +66,11 @@ class Reply:
 class Served:
     """A server in this process, and a client that has its key."""
 
-    def __init__(self, *options, symbols=None):
+    def __init__(self, *options, symbols=None, devices=()):
         symbols = symbols or AllSymbols()
         asked = argparse.Namespace(script=None, **{name: None for name in OPTIONS})
         vars(asked).update({name[2:]: value for name, value in zip(options[::2], options[1::2])})
-        self.session = session.Session([program(), *options], "a session", carried(asked, b""), symbols)
+        self.session = session.Session([program(), *options], "a session", carried(asked, b""), symbols, list(map(device_of, devices)))
         self.session.perform_script(list(symbols.loading(())))
         self.server = server.Server(self.session, 0)
         self.port, self.key = self.server.server_port, self.server.key
@@ -103,8 +104,8 @@ class Served:
         """Asks as a page that has all that came before, and is at its last moment. Returns the reply."""
         reply = self.post(path, {"have": self.have, "at": max(self.last, 0), **asked})
         if reply.status == 200:
-            self.have += len(reply.news["lines"]) + (self.have == 0)
-            self.last += len(reply.moments)
+            self.have = reply.news["have"]
+            self.last = len(reply.moments) - 1 if "layout" in reply.news else self.last + len(reply.moments)
         return reply
 
     def act(self, *lines):
@@ -112,21 +113,21 @@ class Served:
 
 
 class ServedCase(Case):
-    def serve(self, *options):
-        served = Served(*options)
+    def serve(self, *options, **more):
+        served = Served(*options, **more)
         self.addCleanup(served.close)
         served.ask("/news")
         return served
-
-
-class Session(ServedCase):
-    """What a session does."""
 
     def film_of(self, lines, *options):
         """Returns the page of the film of the same lines."""
         path = self.path("film.html")
         tool("film", *options, "-o", path, script="".join(f"{line}\n" for line in lines))
         return read(path)
+
+
+class Session(ServedCase):
+    """What a session does."""
 
     def test_it_is_the_same_film(self):
         """Line by line, a session has the moments of the film of its script."""
@@ -178,6 +179,56 @@ class Session(ServedCase):
         served.act("STEP 3")
         self.assert_same_end(served, ["SET M 0 100 2000 2 6320 200 2001 3 6020 300", "SET P 0 100", "STEP 75003"])
         self.assertIn("this moment is gone", served.post("/act", {"have": served.have, "at": 20, "lines": ["STEP"]}).text)
+
+    def test_skipped_turns_that_are_filmed(self):
+        """They come to be the moments of the film of the same script, and the session is where it was."""
+        for seed in range(2):
+            more = ("STEP 200" if number % 16 == 0 else "BACK 3" for number in range(10000))
+            lines, served = [part for pair in zip(random_session(seed), more) for part in pair], self.serve(*DEVICES)
+            with mock.patch.object(live, "MOST_FILMED", 0o100):
+                served.session.perform_script(lines)
+                reply, run = served.ask("/news"), served.session.simulator
+                before = [run.position, run.history.kept, run.history.ahead, list(run.tape.runs), list(run.sent)]
+                self.assertGreater(len(reply.news["skips"]), 2)
+                while reply.news["skips"]:
+                    reply = served.ask("/skipped", at=reply.news["skips"][-1][0])
+            wanted = self.film_of(lines, *DEVICES)
+            with self.subTest(seed=seed):
+                self.assertEqual(decode(film_text(wanted))[1], reply.moments)
+                for name in ("jumps", "watches", "papers", "next", "constants", "central", "unseen", "lines"):
+                    self.assertEqual(about(wanted)[name], reply.news[name], name)
+                self.assertEqual(before, [run.position, run.history.kept, run.history.ahead, list(run.tape.runs), list(run.sent)])
+
+    def test_a_part_of_what_was_skipped(self):
+        """The numbers at its turns are those of the film of the same script; the session goes on, with what was ahead."""
+        served, lines = self.serve(), ["SET M 0 100 2000 2 6320 200 2001 3 6020 300", "SET P 0 100", "STEP 6000", "BACK 3"]
+        served.act(*lines)
+        reply = served.ask("/skipped", at=3)
+        self.assertEqual(["2000 more turns are filmed, and 2000 before them are one moment", [[3, 0o2000]]],
+                         [reply.news["said"], reply.news["skips"]])
+        moments = [3 + at for at in (0, 1, 2, 0o1777, 0o2000, 0o2001, 0o4000, 0o4001)]
+        got, count = numbers_at(served.post("/film", {}).text, moments)
+        wanted, _ = numbers_at(self.film_of(lines), [moment + 0o1777 for moment in moments])
+        last = LAYOUT["next"]  # from there on there are numbers of tables
+        self.assertEqual((0o4000 + 5, [row[:last] for row in wanted.values()]), (count, [row[:last] for row in got.values()]))
+        self.assertEqual(["FORWARD 3 SLOT 02"], served.act("FORWARD 3").news["lines"][0]["answer"])
+        self.assertEqual([], served.ask("/skipped", at=3).news["skips"])
+        self.assertIn("no turns were skipped", served.ask("/skipped", at=3).text)
+
+    def test_a_page_that_has_the_film_before(self):
+        """It gets all of the film anew, and what it asks for is not done: its moments have other numbers."""
+        served = self.serve()
+        served.act("STEP 6000")
+        have = served.have
+        whole = served.ask("/skipped", at=1)
+        for path, asked in (("/act", {"lines": ["STEP"]}), ("/until", {"text": "A 0 = 1"}), ("/skipped", {})):
+            reply = served.post(path, {"have": have, "at": 1, **asked})
+            self.assertEqual([True, whole.moments], [reply.news["behind"], reply.moments])
+        self.assertEqual([False, whole.moments, 1], ["behind" in served.post("/news", {"have": have}).news,
+                                                     served.post("/news", {"have": have}).moments, len(whole.news["lines"])])
+        self.assertEqual([["TURNS 1 SLOT 03"]], [line["answer"] for line in served.act("STEP").news["lines"]])
+        with mock.patch.object(session, "MOST_MOMENTS", 0o4000):
+            self.assertIn("this session is full", served.ask("/skipped", at=1).text)
 
     def test_central_words_that_are_dumped(self):
         """A DUMP C makes the words known that a page shows of its answer; it moves nothing, and what follows is as without it."""
@@ -313,6 +364,59 @@ class Session(ServedCase):
             self.assertIn("this session is full", served.act("STEP").text)
 
 
+class WithDevices(ServedCase):
+    """A session with devices of one's own."""
+
+    DISPLAY = "console_display@10"
+
+    def serve(self, *options):
+        return super().serve(*options, devices=[self.DISPLAY])
+
+    def test_few_actions_are_kept(self):
+        """With a short history lines are short, and BACK goes back all the same."""
+        served, lines = self.serve("--history", "20"), ["SET M 0 100 7710 7002 7410 300", "SET P 0 100", "STEP 24", "STEP 3"]
+        served.act(*lines)
+        self.assertIn("at most 24 turns", served.act("STEP 25").text)
+        self.assertEqual("BACK 25 SLOT 02", served.act("BACK 25").news["said"])
+        self.assertEqual(["SET M 0 100 7710 7002 7410 300", "SET P 0 100", "STEP 1", "* DEVICE ConsoleDisplay", "SET H 10 I", "STEP 1"],
+                         served.post("/script", {}).text.splitlines())
+
+    def test_it_is_the_film_with_the_device(self):
+        """With its replies and pictures; a page that asks after each line has the same as one that asks at the end."""
+        served, script = self.serve(), read("examples", "console-display", "script").splitlines()[:-1]
+        lines = [*script, "STEP 2000", "BACK 30", "STEP 100", "BACK 5"]
+        parts = [served.post("/news", {"have": 0}).news["pictures"], *(served.act(line).news["pictures"] for line in lines)]
+        got, page = served.post("/news", {"have": 0}), self.film_of(lines, "--device", self.DISPLAY)
+        wanted = about(page)
+        self.assertEqual(decode(film_text(page))[1], got.moments)
+        for name in ("jumps", "next", "lines", "pictures", "devices"):
+            self.assertEqual(wanted[name], got.news[name], name)
+        (display,) = wanted["pictures"]["devices"]
+        self.assertEqual(display["shown"], [one for part in parts for one in part["devices"][0]["shown"]])
+        self.assertEqual(wanted["pictures"]["lines"], [line for part in parts for line in part["lines"]])
+        self.assertEqual([line["text"] for line in wanted["lines"]], served.post("/script", {}).text.splitlines())
+
+    def test_what_is_refused(self):
+        """Nothing is done then. BACK counts what the user did: a turn with the replies after it is one."""
+        served = self.serve()
+        served.act("SET M 0 100 7710 7002 7410 300", "SET P 0 100")
+        served.act("STEP 30")
+        refused = served.act("BACK 1000")
+        self.assertEqual((["ERR 07 TOO FEW KEPT"], []), (refused.news["lines"][0]["answer"], refused.moments))
+        self.assertIn("with devices a line makes at most 20000 turns", served.act("STEP 20001").text)
+        self.assertEqual("BACK 30 SLOT 00", served.act("BACK 30").news["said"])
+        self.assertEqual(0, served.session.film.run.turn)
+        self.assertEqual("FORWARD 2 SLOT 02", served.act("FORWARD 2").news["said"])
+        self.assertEqual(["BACK 3", "STEP 1", "* DEVICE ConsoleDisplay", "SET H 10 I"], [
+            line["text"] for line in served.ask("/act", at=2, lines=["STEP 1"]).news["lines"]])
+
+    def test_words_of_the_tool(self):
+        for words, said in ((["--device", "console_display@12"], "the card reader is on it"), (["--device", "nothing@1"], "no device"),
+                            (["--class", "--listen", "127.0.0.1:0", "--device", self.DISPLAY], "no script")):
+            done = tool("page", *words)
+            self.assertEqual(("", 2, 1, True), (done.out, done.status, done.err.count("\n"), said in done.err), done.err)
+
+
 class Security(ServedCase):
     """Who is answered, and what."""
 
@@ -326,7 +430,7 @@ class Security(ServedCase):
 
     def test_key(self):
         self.assertEqual([200, 403, 403, 403], [self.status(X_Key=key) for key in (self.served.key, None, "", self.served.key[:-1])])
-        self.assertEqual([403] * 6, [self.status(path=path, X_Key="other") for path in routes.ROUTES])
+        self.assertEqual([403] * 7, [self.status(path=path, X_Key="other") for path in routes.ROUTES])
         page = self.served.request("GET", "/", X_Key=None)
         self.assertEqual((200, False), (page.status, self.served.key in page.text + str(page.headers)))
         self.assertGreaterEqual(len(self.served.key), 22)  # 128 bits
@@ -565,8 +669,76 @@ class Walked(PageCase):
             f"[{word}, (moveTo(1), byId('action').innerText.split(':')[0])]"))
         self.value("moveTo(film.count - 1)")
         self.type("DUMP C 100 101")
-        self.assertEqual(["0" * 20, [0o2000 + 4, 0o2000 + 4, 0o100000], "The line DUMP C 100 101 shows words that were not known."], self.value(
-            f"[{word}, {WHERE}, byId('action').innerText]"))
+        self.assertEqual(["0" * 20, [0o2000 + 4, 0o2000 + 4, 0o100000], "The line DUMP C 100 101 shows words that were not known."],
+                         self.value(f"[{word}, {WHERE}, byId('action').innerText]"))
+
+    def test_into_what_was_skipped(self):
+        """By ← onto it, and by ← again; or by staying there. A central word that the turns write is known then."""
+        served = self.serve()
+        self.open(served)
+        self.type("SET M 0 100 1403 6220 375")  # LDN 3, CWD 20, UJN to the LDN
+        self.type("SET P 0 100")
+        self.type("STEP 10000")
+        self.value("choose(placeNamed('C 3')), moveTo(4), document.activeElement.blur()")
+        self.browser.key("ArrowLeft")
+        self.assertEqual(["?", 3, 6], self.value("[textAt(shown.chosen), film.at, film.kinds[film.at]]"))
+        self.browser.key("ArrowLeft")
+        self.browser.wait_for("!live.unskipping && film.at > 3")
+        self.assertEqual(["2000 more turns are filmed, and 4000 before them are one moment", [0o2002, 0o4003, 0o5777], 0o4000, "0" * 20],
+                         self.value(f"[{SAID}, {WHERE}, film.skips.get(3), textAt(shown.chosen)]"))
+        self.value("moveTo(3)")
+        self.browser.wait_for("film.skips.get(3) === 0o2000")
+        self.assertEqual([0o2002, 0o6003, 0o4000], self.value(WHERE.replace("film.at,", "film.at - 1,", 1)))
+
+    def test_a_drag_onto_what_was_skipped(self):
+        """It is filmed, but nothing changes until the pointer is let go."""
+        served = self.serve()
+        self.open(served)
+        self.type("STEP 4000")
+        self.value("addEventListener('pointerup', () => { window.held = film.count; }, true)")
+        x, y = self.value("(() => { const box = byId('canvas').getBoundingClientRect(); return [box.x + LABEL + 1, box.y + 8]; })()")
+        for kind, x, buttons in (("mousePressed", x + 100, 1), ("mouseMoved", x, 1)):
+            self.browser.ask("Input.dispatchMouseEvent", type=kind, x=x, y=y, button="left", buttons=buttons, clickCount=1)
+        self.browser.wait_for("film.at <= 1")
+        self.value("moveTo(1)")
+        while len(served.session.film.skips):
+            self.value("new Promise((done) => setTimeout(done, 50))")
+        self.value("new Promise((done) => setTimeout(done, 200))")
+        self.assertEqual([1, 0o2001, 0o4000], self.value(WHERE.replace("film.turn[film.at]", "film.highestTurn")))
+        self.browser.ask("Input.dispatchMouseEvent", type="mouseReleased", x=x, y=y, button="left", buttons=0, clickCount=1)
+        self.browser.wait_for("!live.unskipping")
+        self.assertEqual([0o2001, [0o2000, 0o4000, 0o2000], 0], self.value(f"[held - 1, {WHERE}, film.skips.size]"))
+
+    def test_a_film_made_anew(self):
+        """When another page has filmed what was skipped, this one stays where it was, and what leads to a moment still leads there."""
+        served = self.serve("--deck", DECK, symbols=loader())
+        self.open(served)
+        self.type("STEP 4000")
+        self.type("SET A 0 5")
+        self.value("choose(placeNamed('M 0 106')), moveTo(8), findOrigin()")
+        here = "[film.turn[film.at], byId('position').innerText.split('. ')[0], textAt(shown.chosen)]"
+        before, has = self.value(here), self.value("film.have")
+        self.assertEqual(400, served.post("/skipped", {"have": has, "at": 8}).status)  # no turns were skipped there
+        (skip, _), = served.post("/news", {"have": 0}).news["skips"]
+        have = served.post("/skipped", {"have": has, "at": skip}).news["have"]
+        self.value("live.looking || live.do('/news', {})")
+        self.assertEqual([before, have, 0, True], self.value(f"[{here}, film.have, film.skips.size, byId('origin').hidden]"))
+        self.assertEqual(0o4000, self.value("(lineRows.at(-2).querySelector('button').click(), film.turn[film.at])"))
+        line = "[...document.querySelectorAll('#source tbody .line')].find((one) => !one.disabled)"
+        self.assertEqual([True, True], self.value(f"({line}.click(), [isTurn(film.at), film.turn[film.at] < 0o100])"))
+
+    def test_pictures_of_a_device(self):
+        """They are those of the moment that is seen, and come with the moments."""
+        served = self.serve(devices=["console_display@10"])
+        served.session.perform_script(read("examples", "console-display", "script").splitlines()[:-1])
+        self.open(served)
+        marks = "document.querySelectorAll('#pictures svg *').length"
+        before = self.value(marks)
+        self.type("STEP 2700")
+        drawn = self.value(marks)
+        self.value("moveTo(0)")
+        self.assertEqual([True, before, "ConsoleDisplay on channel 10"], [drawn > before + 10, self.value(marks), self.value(
+            "document.querySelector('#pictures figcaption').textContent")])
 
     def test_lines_of_a_source(self):
         """The line where the processor is moves on, and a line that has been performed can be clicked."""
@@ -579,7 +751,8 @@ class Walked(PageCase):
         self.assertEqual(["ACN"], self.value(here))
         self.type("STEP 12")
         self.assertEqual(["LDN"], self.value(here))
-        self.assertEqual(["START", "ACN"], self.value(f"{rows}.filter((row) => !row.querySelector('.line').disabled).map((row) => {first})"))
+        self.assertEqual(["START", "ACN"], self.value(
+            f"{rows}.filter((row) => !row.querySelector('.line').disabled).map((row) => {first})"))
 
     def test_steps_by_lines(self):
         """N and P, and the buttons of the source."""

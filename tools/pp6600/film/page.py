@@ -89,17 +89,18 @@ class Counts(NamedTuple):
     central: int = 0
     unseen: int = 0
     marks: int = 0
+    pictures: int = 0
 
     @classmethod
     def of(cls, film):
         machine = film.machine
         return cls(len(film.rows), len(film.transcript.lines), len(machine.papers), len(machine.watches), len(film.upcoming),
-                   len(film.constants), len(machine.central), len(machine.unseen), len(film.source_lines.marks))
+                   len(film.constants), len(machine.central), len(machine.unseen), len(film.source_lines.marks), len(film.pictures.lines))
 
 
 def text_of(film, asked, script, symbols):
     """Returns the text of a film of the script, which is given as bytes, with the options that were asked for and the symbols."""
-    return encode({**fixed(film, symbols, carried(asked, script)), **growth(film, Counts()), **film.pictures.table()}, film.rows.since(0))
+    return encode({**fixed(film, symbols, carried(asked, script)), **growth(film, Counts())}, film.rows.since(0))
 
 
 def fixed(film, symbols, given):
@@ -116,7 +117,7 @@ def growth(film, has):
              "central": machine.central, "unseen": machine.unseen}
     if film.source_lines.sources:
         grown["marks"] = film.source_lines.marks
-    return {"lines": list(lines(film, has.lines)), **of_moments(film, has.moments),
+    return {"lines": list(lines(film, has.lines)), **of_moments(film, has.moments), **film.pictures.table(has.moments, has.pictures),
             **{name: list(islice(things, getattr(has, name), None)) for name, things in grown.items()}}
 
 

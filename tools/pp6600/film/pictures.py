@@ -51,10 +51,10 @@ class Pictures:
             if not shown or shown[-1][1] != lines:
                 shown.append((moment, lines))
 
-    def table(self):
-        """Returns what the page has to know; nothing without pictures."""
+    def table(self, moments, lines):
+        """Returns what a page has to know that has so many moments, and lines of pictures; nothing without pictures."""
         if not self.devices:
             return {}
-        devices = [{"name": type(device).__name__, "channel": device.channel, "shown": shown}
+        devices = [{"name": type(device).__name__, "channel": device.channel, "shown": [one for one in shown if one[0] >= moments]}
                    for device, shown in zip(self.devices, self.shown)]
-        return {"pictures": {"devices": devices, "lines": list(self.lines)}}
+        return {"pictures": {"devices": devices, "lines": list(self.lines)[lines:]}}

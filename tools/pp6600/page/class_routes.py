@@ -1,7 +1,7 @@
 """The server of a class: the page of a seat, which is the live page with a few things more, and that of the lecturer.
 
 A request has the key of a seat, which reaches this seat's session alone, or the lecturer's, which reads every session and changes none.
-Only taking a seat needs no key."""
+Only taking a seat needs no key; taking it up again needs a ticket, which the lecturer gives."""
 
 import collections
 import hmac
@@ -13,7 +13,7 @@ import threading
 from ..film.page import page
 from ..options import BadWord
 from . import routes
-from .classroom import FREE, LONGEST_NAME
+from .classroom import FREE, LONGEST_NAME, TICKET_LASTS
 from .routes import TEXT, line_of, lines, number, text
 from .security import Refused
 from .server import NO_ADDRESS, Server
@@ -69,7 +69,8 @@ def about(classroom, seat, asked):
     """What a page of a seat has to know that is not of the film."""
     exercise = seat.exercise
     return json_of({"seat": seat.number, "name": seat.name, "session": seat.begun, "solved": seat.solved, "free": FREE, "panel": seat.panel,
-                    "exercises": list(classroom.exercises), "exercise": exercise.name if exercise else "", "task": exercise.task if exercise else ""})
+                    "exercises": list(classroom.exercises), "exercise": exercise.name if exercise else "",
+                    "task": exercise.task if exercise else ""})
 
 
 def name(classroom, seat, asked):
@@ -111,6 +112,11 @@ def until(classroom, seat, asked):
     return TEXT, classroom.until(seat, number(asked, "have"), number(asked, "at"), text(asked, "text"), back).encode()
 
 
+def skipped(classroom, seat, asked):
+    check_session(seat, asked)
+    return TEXT, classroom.skipped(seat, number(asked, "have"), number(asked, "at")).encode()
+
+
 def check_session(seat, asked):
     """Refuses a page that shows a session that this seat has no more."""
     if number(asked, "session") != seat.begun:
@@ -125,14 +131,15 @@ def script(classroom, seat, asked):
     return routes.script(seat.session, asked)
 
 
-OF_SEAT = {"/about": about, "/name": name, "/begin": begin, "/check": check, "/news": news, "/act": act, "/until": until, "/film": film,
-           "/script": script}
+OF_SEAT = {"/about": about, "/name": name, "/begin": begin, "/check": check, "/news": news, "/act": act, "/until": until,
+           "/skipped": skipped, "/film": film, "/script": script}
 LOOKS = ("/about", "/news", "/film", "/script")  # which change nothing, so the lecturer may ask them of each seat
 
 
 def seats(classroom, asked):
     now = classroom.clock()
-    return json_of({"most": classroom.most, "exercises": list(classroom.exercises), "seats": [seat.overview(now) for seat in classroom.taken()]})
+    return json_of({"most": classroom.most, "exercises": list(classroom.exercises),
+                    "seats": [seat.overview(now) for seat in classroom.taken()]})
 
 
 def end(classroom, asked):
@@ -140,7 +147,11 @@ def end(classroom, asked):
     return seats(classroom, asked)
 
 
-OF_LECTURER = {"/class": seats, "/class/end": end}
+def ticket(classroom, asked):
+    return json_of({"ticket": classroom.ticket(number(asked, "seat")), "minutes": TICKET_LASTS // 60})
+
+
+OF_LECTURER = {"/class": seats, "/class/end": end, "/class/ticket": ticket}
 
 
 class ClassServer(Server):
@@ -163,11 +174,12 @@ class ClassServer(Server):
 
     # ---- who asks what
 
-    def answering(self, path, headers):
-        """Returns the function that answers a request: of what it asks."""
-        if path == "/seat":
-            return self.take
+    def answering(self, path, headers, address):
         key = headers.get("X-Key", "")
+        if path == "/seat":
+            return lambda asked: self.seated(self.classroom.take(address))
+        if path == "/seat/again":
+            return lambda asked: self.seated(self.classroom.come_back(text(asked, "ticket"), self.classroom.with_key(key)))
         is_lecturer = hmac.compare_digest(key.encode("utf-8", "replace"), self.key.encode())
         if path in OF_LECTURER:
             if not is_lecturer:
@@ -188,8 +200,8 @@ class ClassServer(Server):
             raise Refused(403, "the lecturer looks at a session, and changes nothing in it")
         return lambda asked: OF_SEAT[path](self.classroom, self.classroom.seat(number(asked, "seat")), asked)
 
-    def take(self, asked):
-        seat = self.classroom.take()
+    @staticmethod
+    def seated(seat):
         return json_of({"seat": seat.number, "key": seat.key})
 
     # ---- connections

@@ -21,7 +21,7 @@ from ..reasons import reason
 from .exercises import Exercise
 from .session import Session
 
-SEATS = 40
+SEATS = 40  # and as many of one address, since behind a router that translates addresses a whole class has one
 IDLE = 2 * 60 * 60  # seconds until a seat that asks for nothing ends
 WAIT = 20  # seconds for a turn at what few may do at once
 MOST_LINES = 4000  # of a session
@@ -30,6 +30,8 @@ MOST_TURNS = 0o4000000  # of one request
 MOST_OF_SESSION = 0o100000000  # turns, which a BACK over all of them may have to make again
 MOST_AT_ONCE = 100  # lines of one request
 LONGEST_NAME = 40
+TICKET_LASTS = 10 * 60  # seconds
+LETTERS_OF_TICKET, LETTERS = 8, "abcdefghjkmnpqrstuvwxyz23456789"  # none of which looks like another one
 STEP_LINE = re.compile(r"[ \t]*STEP[ \t]+0*([0-7]{1,20})[ \t\r]*", re.I)
 FREE = "no exercise"
 
@@ -53,14 +55,19 @@ class Gate:
 class Seat:
     """A browser's user in a class."""
 
-    def __init__(self, number, key):
-        self.number, self.key = number, key
+    def __init__(self, number, key, address):
+        self.number, self.key, self.address = number, key, address
+        self.ticket, self.ticket_ends = None, 0
         self.name, self.solved, self.verdict = "", [], []
         self.exercise = self.session = self.panel = None
         self.begun = 0  # sessions, of which the last one goes on
         self.first_line = 0  # after those of the exercise
         self.used = 0
         self.lock = threading.Lock()
+
+    def is_fresh(self):
+        """Returns whether nothing was done here."""
+        return not (self.name or self.begun > 1 or self.session.film.transcript.lines)
 
     def answer(self):
         """Returns the lines that are the answer to the exercise: the settings in effect; and the turns, if the exercise makes turns
@@ -87,8 +94,8 @@ class Seat:
 class Classroom:
     """The seats, and the gates that all of them pass."""
 
-    def __init__(self, program, exercises, most=SEATS, clock=time.monotonic):
-        self.program, self.exercises, self.most, self.clock = program, exercises, most, clock
+    def __init__(self, program, exercises, most=SEATS, clock=time.monotonic, of_address=SEATS):
+        self.program, self.exercises, self.most, self.clock, self.of_address = program, exercises, most, clock, of_address
         self.seats = {}
         self.lock = threading.Lock()
         self.room = tempfile.TemporaryDirectory(prefix="pp6600-class-")
@@ -97,14 +104,17 @@ class Classroom:
 
     # ---- seats
 
-    def take(self):
-        """Returns a new seat, with a session without an exercise."""
+    def take(self, address):
+        """Returns a new seat for a browser at an address, with a session without an exercise."""
         self.end_idle()
         with self.lock:
             number = next((number for number in range(1, self.most + 1) if number not in self.seats), None)
             if number is None:
                 raise Failure(f"all {self.most} (decimal) seats are taken: ask the lecturer to end one")
-            seat = self.seats[number] = Seat(number, secrets.token_urlsafe(16))
+            if sum(seat.address == address for seat in self.seats.values()) >= self.of_address:
+                raise Failure(f"your address has {self.of_address} (decimal) seats, as many as one may have: ask the lecturer to end one, "
+                              "or for the address of a seat that you had")
+            seat = self.seats[number] = Seat(number, secrets.token_urlsafe(16), address)
             seat.used = self.clock()
             seat.lock.acquire()
         try:
@@ -121,6 +131,26 @@ class Classroom:
         given = key.encode("utf-8", "replace")
         with self.lock:
             return next((seat for seat in self.seats.values() if hmac.compare_digest(given, seat.key.encode())), None)
+
+    def ticket(self, number):
+        """Returns a word with which a browser takes a seat up again. It is good once, and not for long."""
+        seat = self.seat(number)
+        seat.ticket = "".join(secrets.choice(LETTERS) for _ in range(LETTERS_OF_TICKET))
+        seat.ticket_ends = self.clock() + TICKET_LASTS
+        return seat.ticket
+
+    def come_back(self, ticket, other):
+        """Returns the seat of a ticket. Another one that the browser has, or None, ends if nothing was done there."""
+        given, now = ticket.encode("utf-8", "replace"), self.clock()
+        with self.lock:
+            seat = next((seat for seat in self.seats.values() if seat.ticket and now <= seat.ticket_ends
+                         and hmac.compare_digest(given, seat.ticket.encode())), None)
+            if seat is None:
+                raise Failure("this address was used, or is too old: ask the lecturer for another one")
+            seat.ticket, seat.used = None, now
+        if other not in (None, seat) and other.is_fresh():
+            self.end(other.number)
+        return seat
 
     def seat(self, number):
         with self.lock:
@@ -206,6 +236,11 @@ class Classroom:
         self._check_room(seat)
         with seat.lock, self.searching.entered():
             return seat.session.until(have, at, text, back)
+
+    def skipped(self, seat, have, at):
+        """Films more of the turns that were skipped in the session of a seat. Returns the news."""
+        with seat.lock, self.searching.entered():
+            return seat.session.skipped(have, at)
 
     @staticmethod
     def _check_room(seat):

@@ -63,6 +63,10 @@ def line(session, asked):
     return TEXT, session.by_line(have, at, processor, asked.get("back") is True).encode()
 
 
+def skipped(session, asked):
+    return TEXT, session.skipped(number(asked, "have"), number(asked, "at")).encode()
+
+
 def film(session, asked):
     return HTML, session.whole_film().encode()
 
@@ -71,4 +75,5 @@ def script(session, asked):
     return TEXT, session.script()
 
 
-ROUTES = {"/news": news, "/act": act, "/until": until, "/line": line, "/film": film, "/script": script}
+ROUTES = {"/news": news, "/act": act, "/until": until, "/line": line, "/skipped": skipped, "/film": film,
+          "/script": script}

@@ -36,7 +36,8 @@ class Server(http.server.ThreadingHTTPServer):
         try:
             super().__init__((address, port), Handler)
         except OSError as error:
-            raise Failure(f"can't listen at {'' if address == ADDRESS else address + ', '}port {port} (decimal): {error.strerror}") from error
+            where = "" if address == ADDRESS else f"{address}, "
+            raise Failure(f"can't listen at {where}port {port} (decimal): {error.strerror}") from error
         self.key = secrets.token_urlsafe(16)
         self.pages = {path: text.encode() for path, text in pages.items()}
         self.policies = {path: policy(text) for path, text in pages.items()}
@@ -47,8 +48,8 @@ class Server(http.server.ThreadingHTTPServer):
     def address(self):
         return f"http://{ADDRESS}:{self.server_port}/#key={self.key}"
 
-    def answering(self, path, headers):
-        """Returns the function that answers a request: of what it asks."""
+    def answering(self, path, headers, address):
+        """Returns the function that answers a request from an address: of what it asks."""
         route = ROUTES.get(path)
         if not route:
             raise NO_ADDRESS
@@ -128,7 +129,7 @@ class Handler(http.server.BaseHTTPRequestHandler):
         return HTML, self.server.pages[self.path]
 
     def reply_to_post(self):
-        answer = self.server.answering(self.path, self.headers)
+        answer = self.server.answering(self.path, self.headers, self.client_address[0])
         length = length_of_body(self.headers)
         body = self.rfile.read(length)
         if len(body) < length:

@@ -12,27 +12,30 @@ from ..line_search import turn_of_line_before, turn_of_next_line
 from ..moments import text_of
 from ..searches import MOST_NEW, last_before, next_found
 from ..timeline import lines_to
+from .device_film import DeviceFilm
 from .film import LiveFilm
 
 MOST_MOMENTS = 0o200000  # of a session
 MOST_LINES = 0o40000
 LONGEST_SEARCH = 10  # seconds
 BEHIND = "another page of this session has acted meanwhile, so nothing was done: look at what is new, and do it again"
+FULL = "this session is full: save it as a film or a script, and begin another one"
 
 
 class Session:
     """A film that grows, for one user with one or more pages."""
 
-    def __init__(self, words, title, given, symbols):
-        """The simulator's words, the heading, what a page carries of the files with the script the first of them, and the symbols."""
+    def __init__(self, words, title, given, symbols, devices=()):
+        """The simulator's words, the heading, what a page carries of the files with the script the first of them, the symbols, and devices of
+        one's own."""
         self.title, self.given, self.symbols = title, given, symbols
-        self.film = LiveFilm(words, symbols.sources())
+        self.film = DeviceFilm(words, symbols.sources(), devices) if devices else LiveFilm(words, symbols.sources())
+        self.most_new = 0 if devices else MOST_NEW  # a search has no devices
         self.lock = threading.Lock()
-        self.counts = [Counts(), Counts.of(self.film)]  # what the film had: nothing, with its opening, and after each line
+        # What the film had: nothing, with its opening, and after each line. Of a film that was made anew no page has anything.
+        self.counts = [Counts(), Counts.of(self.film)]
 
     # ---- what searches need of a session
-
-    most_new = MOST_NEW
 
     @property
     def simulator(self):
@@ -45,7 +48,7 @@ class Session:
     # ---- what a page asks
 
     def news(self, have):
-        """Returns the text of what a page lacks that has so many parts: the opening is one, and each line."""
+        """Returns the text of what a page lacks that has so many parts: the opening is one, and each line, and each film made anew."""
         with self.lock:
             return self._news(have)
 
@@ -54,8 +57,8 @@ class Session:
         if have >= len(self.counts):
             raise Failure("this page has more than the session: load it anew")
         has = self.counts[have]
-        known = fixed(film, self.symbols, {"files": self.given["files"][1:], "again": ""}) if have == 0 else {}
-        return encode({**known, **growth(film, has), **more}, film.rows.since(has.moments))
+        known = {} if has.moments else fixed(film, self.symbols, {"files": self.given["files"][1:], "again": ""})
+        return encode({**known, **growth(film, has), "have": len(self.counts) - 1, **more}, film.rows.since(has.moments))
 
     def act(self, have, at, lines):
         """Performs lines where the page is, at a moment, up to one that is refused or ends with a HIT. Returns the news."""
@@ -103,9 +106,24 @@ class Session:
                 if not lines:
                     raise
                 turn, said = None, str(failure)  # the page must have what was performed
-            for line in () if turn is None else lines_to(self.film.run, turn):
+            for line in () if turn is None else lines_to(self.film.session, turn):
                 self._perform(line)
             return self._news(have, said=said, is_refused=turn is None)
+
+    def skipped(self, have, at):
+        """Films more of the turns that were skipped at a moment. The moments after it have other numbers then, so each page gets the whole
+        film. Returns the news."""
+        with self.lock:
+            if have != len(self.counts) - 1:
+                return self._news(have, behind=True, said=BEHIND)
+            if len(self.film.rows) + self.film.at_once > MOST_MOMENTS:
+                raise Failure(FULL)
+            turns = self.film.skips.get(at, 0)
+            self.film = self.film.with_more(at)
+            self.counts = [Counts()] * len(self.counts) + [Counts.of(self.film)]
+            filmed = min(turns, self.film.at_once)
+            left = f", and {turns - filmed:o} before them are one moment" if filmed < turns else ""
+            return self._news(have, said=f"{filmed:o} more turns are filmed{left}")
 
     def whole_film(self):
         """Returns the film of the session so far, as one page."""
@@ -119,11 +137,11 @@ class Session:
     def script(self):
         """Returns the lines that give the same session again, as bytes."""
         with self.lock:
-            return "".join(f"{line}\n" for line in self.film.run.sent).encode("latin-1")
+            return "".join(f"{line}\n" for line in self.film.session.sent).encode("latin-1")
 
     def close(self):
         with self.lock:
-            self.film.run.close()
+            self.film.close()
 
     # ---- lines
 
@@ -136,7 +154,7 @@ class Session:
     def _perform(self, line):
         film, number = self.film, len(self.film.transcript.lines)
         if len(film.rows) >= MOST_MOMENTS or number >= MOST_LINES:
-            raise Failure("this session is full: save it as a film or a script, and begin another one")
+            raise Failure(FULL)
         answer = film.perform(ScriptLine(line, number + 1))
         self.counts.append(Counts.of(film))
         return answer
@@ -151,7 +169,7 @@ class Session:
         position = film.positions.position_of(moment)
         if position is None:
             raise Failure("this moment is gone: an action before it has taken its place. Go to one that is in effect or ahead")
-        count = position - film.run.position
+        count = film.units(position) - film.units(film.run.position)
         return [f"{'BACK' if count < 0 else 'FORWARD'} {abs(count):o}"] if count else []
 
     def _said(self, answer):

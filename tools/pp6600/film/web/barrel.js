@@ -123,8 +123,8 @@ function drawProcessor(picture, n, sizes) {
 // The mark of the processor whose turn comes next, at the inner side of its circle.
 function drawSlot(picture, n, sizes) {
   const { x, y } = processorAt(n, sizes), degrees = Math.atan2(sizes.cy - y, sizes.isFlat && n % 5 ? 0 : sizes.cx - x) * 180 / Math.PI;
-  drawn(picture, "path", { class: "slot", d: `M ${CIRCLE + 0.15} 0 l 0.9 -0.6 v 1.2 Z`, transform: `translate(${x} ${y}) rotate(${degrees})`,
-    "data-processor": n });
+  const transform = `translate(${x} ${y}) rotate(${degrees})`;
+  drawn(picture, "path", { class: "slot", d: `M ${CIRCLE + 0.15} 0 l 0.9 -0.6 v 1.2 Z`, transform, "data-processor": n });
 }
 
 // The middle of the ring: the action, what it was, and the first cell or word that it changed.
@@ -153,8 +153,8 @@ const inShort = (text, length) => (text.length > length ? `${text.slice(0, lengt
 function drawChannel(picture, c, { x, y }) {
   const state = c < CHANNELS ? film.numbers[film.layout.states + c] : 2, places = placeNamed(`H ${octal(c)}`).places;
   const changed = c < CHANNELS && [...places, film.layout.states + c].some((place) => changedIn(film.at, place, place));
-  const group = drawn(picture, "g", { class: `channel ${STATE_CLASSES[state]}${changed ? " changed" : ""}`, transform: `translate(${x} ${y})`,
-    "data-channel": c });
+  const name = `channel ${STATE_CLASSES[state]}${changed ? " changed" : ""}`;
+  const group = drawn(picture, "g", { class: name, transform: `translate(${x} ${y})`, "data-channel": c });
   group.onclick = () => choose(placeNamed(`H ${octal(c)}`));
   drawn(group, "rect", { width: BOX_WIDTH, height: BOX_HEIGHT, rx: BOX_HEIGHT / 2 });
   drawn(group, "text", { x: 2.1, y: 1.27 }, `H ${two(c)}`);
@@ -178,7 +178,8 @@ function drawLinesOfBarrel(picture, sizes) {
   if (!moved) return;
   const { x, y } = boxOf(moved.channel, sizes), word = four(moved.word), text = moved.isOutput ? `${word}→` : `←${word}`;
   drawn(picture, "path", { class: "moved", d: lineTo(film.processor[film.at], moved.channel) });
-  const group = drawn(picture, "g", { class: "word", transform: `translate(${x - 2.4} ${y + BOX_HEIGHT / 2})`, "data-channel": moved.channel });
+  const transform = `translate(${x - 2.4} ${y + BOX_HEIGHT / 2})`;
+  const group = drawn(picture, "g", { class: "word", transform, "data-channel": moved.channel });
   drawn(group, "rect", { x: -1.9, y: -0.85, width: 3.8, height: 1.7, rx: 0.3 });
   drawn(group, "text", { y: 0.37 }, text);
 }

@@ -110,12 +110,14 @@ function moveTo(moment) {
   setAddress();
 }
 
-// Keeps the moment and the chosen place in the address, so that a link leads to them.
+// Keeps the moment and the chosen place in the address, so that a link leads to them; and fills in what was skipped at the moment. Both
+// wait until nothing was asked for a while.
 function setAddress() {
   clearTimeout(shown.timer);
   shown.timer = setTimeout(() => {
     const place = shown.chosen ? `&place=${shown.chosen.name.replace(/ /g, "+")}` : "";
     history.replaceState(null, "", `#moment=${octal(film.at)}${place}`);
+    if (live.isAtSkipped()) live.unskip();
   }, 300);
 }
 
@@ -165,7 +167,8 @@ function wrongTurn(text) {
   if (!/^[0-7]+$/.test(text)) return "not an octal number";
   const turn = parseInt(text, 8);
   if (film.turn.includes(turn)) return "";
-  return turn < film.turn[0] ? `the film begins at turn ${octal(film.turn[0])}` : `no turn ${text}: the highest is ${octal(film.highestTurn)}`;
+  if (turn < film.turn[0]) return `the film begins at turn ${octal(film.turn[0])}`;
+  return `no turn ${text}: the highest is ${octal(film.highestTurn)}`;
 }
 
 // ---- playing
@@ -206,16 +209,24 @@ function onwards(moment, turns) {
   else moveTo(moment);
 }
 
+// From turns that were skipped one goes back into them.
+function backwards(find) {
+  if (live.isAtSkipped()) live.unskip().then(() => moveTo(find()));
+  else moveTo(find());
+}
+
 const KEYS = {
-  ArrowLeft: byHand(() => moveTo(film.at - 1)), ArrowRight: byHand(() => onwards(film.at + 1, 1)),
-  "Shift+ArrowLeft": byHand(() => moveTo(aRound(-1))), "Shift+ArrowRight": byHand(() => onwards(aRound(1), ROUND)),
+  ArrowLeft: byHand(() => backwards(() => film.at - 1)), ArrowRight: byHand(() => onwards(film.at + 1, 1)),
+  "Shift+ArrowLeft": byHand(() => backwards(() => aRound(-1))),
+  "Shift+ArrowRight": byHand(() => onwards(aRound(1), ROUND)),
   Home: byHand(() => moveTo(0)), End: byHand(() => moveTo(film.count - 1)),
   " ": () => play(!shown.playing), "+": () => changeRate(1), "=": () => changeRate(1), "-": () => changeRate(-1),
   ",": byHand(() => moveLine(-1)), ".": byHand(() => moveLine(1)),
   "[": byHand(() => moveToChange(-1)), "]": byHand(() => moveToChange(1)),
   o: () => findOrigin(), "/": () => byId("place").select(), g: () => byId("turn").select(), "?": () => showHelp(byId("help").hidden),
   n: byHand(() => live.byLine(1)), p: byHand(() => live.byLine(-1)),
-  i: () => nextForm(), f: () => followTurns(), b: () => foldBarrel(), z: () => project(), Enter: () => live.isOn && byId("typed").focus(), Escape: () => (byId("help").hidden ? chooseNone() : showHelp(false)),
+  i: () => nextForm(), f: () => followTurns(), b: () => foldBarrel(), z: () => project(),
+  Enter: () => live.isOn && byId("typed").focus(), Escape: () => (byId("help").hidden ? chooseNone() : showHelp(false)),
 };
 
 // The look for a projector: large, and without what a whole class can't read.
@@ -246,6 +257,7 @@ function pressed(event) {
   event.preventDefault();
   if (key) key();
   else chooseMemory(Number(event.key));
+  setAddress();
 }
 
 function buildControls() {
@@ -255,7 +267,8 @@ function buildControls() {
   byId("rate").value = 1;
   byId("rate").onchange = () => changeRate(0);
   const buttons = { first: "Home", "round-back": "Shift+ArrowLeft", back: "ArrowLeft", play: " ", forward: "ArrowRight",
-    "round-forward": "Shift+ArrowRight", last: "End", "previous-change": "[", "next-change": "]", "came-from": "o", "line-before": "p", "next-line": "n", "help-button": "?" };
+    "round-forward": "Shift+ArrowRight", last: "End", "previous-change": "[", "next-change": "]", "came-from": "o",
+    "line-before": "p", "next-line": "n", "help-button": "?" };
   for (const [id, key] of Object.entries(buttons)) byId(id).onclick = KEYS[key];
   byId("choose-none").onclick = chooseNone;
   byId("go-turn").onsubmit = (event) => { event.preventDefault(); goToTyped(); };
@@ -290,8 +303,8 @@ function chooseTyped() {
 }
 
 function build() {
-  for (const part of [buildControls, buildProcessors, buildChannels, buildMemory, buildProgram, buildSource, buildPictures, buildCentral, buildFrame, buildReader,
-    buildPrinter, buildFiles, buildLanes, buildBarrel, buildSigns, buildLive]) part();
+  for (const part of [buildControls, buildProcessors, buildChannels, buildMemory, buildProgram, buildSource, buildPictures, buildCentral,
+    buildFrame, buildReader, buildPrinter, buildFiles, buildLanes, buildBarrel, buildSigns, buildLive]) part();
   byId("panel").hidden = !film.panel.length;
   document.querySelector("#panel p").textContent = film.panel.map(four).join(" ");
   const redraw = () => { drawLegend(); drawLanes(); showHead(); showSigns(); showBarrel(); };
@@ -318,8 +331,7 @@ async function openFilm() {
   const text = byId("film").textContent;
   live.isOn = text.trim() === "";
   const [about, ...rows] = await unpack(live.isOn ? await live.open() : text);
-  film = { ...about, ...emptyRows() };
-  grow(about, ...rows);
+  openRows(about, rows);
   build();
   grew(0);
   setView();

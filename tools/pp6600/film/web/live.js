@@ -1,6 +1,6 @@
 // ---- a live session: what is typed goes to the server of this page, and what comes back is added to the film
 
-const live = { isOn: false, key: "", typed: [], at: 0, isBusy: false, looking: null };
+const live = { isOn: false, key: "", typed: [], at: 0, isBusy: false, looking: null, unskipping: null, isHeld: false };
 const WATCHED = ["M", "A", "P", "Q", "C", "H"]; // the kinds of places whose changes the server finds
 
 // Asks the server for something, and returns the reply. The key is in a header, which no other page can send.
@@ -35,6 +35,9 @@ live.open = async () => {
 function buildLive() {
   byId("console").hidden = !live.isOn;
   for (const row of document.querySelectorAll(".of-live")) row.hidden = !live.isOn;
+  for (const kind of ["pointerdown", "pointermove", "pointerup", "pointercancel"]) {
+    window.addEventListener(kind, (event) => { live.isHeld = event.buttons > 0; }, true);
+  }
   if (!live.isOn) return;
   setText(document.querySelector("#script h2"), "The session");
   byId("console").onsubmit = (event) => { event.preventDefault(); live.send(byId("typed").value); };
@@ -70,6 +73,14 @@ live.send = async (text) => {
 live.act = (lines) => live.do("/act", { lines, at: film.at });
 live.until = (text, back) => live.do("/until", { text, back, at: film.at });
 
+live.isAtSkipped = () => live.isOn && film.kinds[film.at] === SKIP;
+
+// Films the last of the turns that were skipped at this moment.
+live.unskip = () => {
+  live.unskipping = live.unskipping || live.do("/skipped", { at: film.at }).finally(() => { live.unskipping = null; });
+  return live.unskipping;
+};
+
 // To where the processor of the source that is seen begins another line.
 live.byLine = (direction) => {
   if (live.isOn && film.sources) live.do("/line", { processor: source.processor, back: direction < 0, at: film.at });
@@ -89,7 +100,8 @@ live.do = async (address, body) => {
   live.isBusy = true;
   const slow = address === "/news" ? 0 : setTimeout(() => say("the machine runs ..", false), 300);
   try {
-    const [news, ...rows] = await unpack(await (await ask(address, { ...body, have: 1 + film.lines.length })).text());
+    const [news, ...rows] = await unpack(await (await ask(address, { ...body, have: film.have })).text());
+    await released();
     take(news, rows);
     return !news.behind;
   } catch (error) {
@@ -101,16 +113,39 @@ live.do = async (address, body) => {
   }
 };
 
+// While the pointer drags, the film does not change: another moment would be under the hand.
+async function released() {
+  while (live.isHeld) await new Promise((done) => setTimeout(done, 50));
+}
+
+// Takes what has come. The page goes to the end if there are new lines. A whole film comes if moments have other numbers than before.
 function take(news, rows) {
-  const before = film.count, here = film.at, isNew = news.lines.length > 0;
-  if (isNew) {
+  const before = film.count, lines = film.lines.length, place = placeInLine();
+  if (news.layout) takeWhole(news, rows);
+  else if (news.lines.length) {
     grow(news, ...rows);
     grew(before);
+  }
+  film.have = news.have;
+  if (news.layout || film.lines.length > lines) {
+    const isLonger = film.lines.length > lines && (news.layout || film.count > before), here = momentInLine(place);
     goTo(here);
-    moveTo(film.count > before ? film.count - 1 : here);
+    moveTo(isLonger ? film.count - 1 : here);
   }
   if (news.said !== undefined) say(news.said, news.behind || news.is_refused);
 }
+
+function takeWhole(news, rows) {
+  if (shown.origin) showNoOrigin();
+  openRows(news, rows);
+  forgetPaper();
+  forgetTimes();
+  grew(0);
+}
+
+// Where the moment that is shown is, so that it is found in a film made anew: its line, and how many moments before the end of this.
+const placeInLine = () => ({ line: film.lineAt[film.at], left: film.at && lineOf(film.at).moment - film.at });
+const momentInLine = ({ line, left }) => (line < 0 ? 0 : Math.max(0, film.lines[line].moment - left));
 
 function say(text, isWrong) {
   setText(byId("said"), text);

@@ -159,7 +159,8 @@ function linesOfOrigin(root) {
       continue;
     }
     const number = atMoment(Math.max(0, step.moment), () => textAt(placeNamed(name)));
-    const row = { step, depth, after, text: `${name} ${number}: ${seen.has(step) ? `as above, ${whenText(step.moment)}` : causeText(step)}` };
+    const cause = seen.has(step) ? `as above, ${whenText(step.moment)}` : causeText(step);
+    const row = { step, depth, after, text: `${name} ${number}: ${cause}` };
     rows.push(row);
     if (seen.has(step)) continue;
     seen.add(step);
@@ -206,7 +207,8 @@ function showNoOrigin() {
 // Marks the lines of the script and the columns of the deck from which the number came.
 function markOrigin() {
   const steps = (shown.origin || []).map((row) => row.step);
-  const lines = new Set(steps.filter((step) => step.moment > 0 && film.kinds[step.moment] === LINE).map((step) => film.lineAt[step.moment]));
+  const moments = steps.map((step) => step.moment).filter((moment) => moment > 0 && film.kinds[moment] === LINE);
+  const lines = new Set(moments.map((moment) => film.lineAt[moment]));
   lineRows.forEach((row, at) => row.classList.toggle("origin", lines.has(at)));
   shown.columns = steps.map(columnOf).filter(Boolean);
   showReader();

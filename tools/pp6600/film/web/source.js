@@ -34,6 +34,10 @@ function growSource(first) {
   for (const one of source.of.values()) addTimes(one, Math.max(first, 1));
 }
 
+function forgetTimes() {
+  for (const one of source.of.values()) Object.assign(one, { times: one.rows.map(() => []), last: 0, led: -1 });
+}
+
 // Notes for each line at which moments from the first one on it was begun: a line that waits, or that is in its block, only goes on. A line
 // can be clicked if it was performed.
 function addTimes(one, first) {

@@ -73,9 +73,15 @@ function emptyRows() {
     turn: new Int32Array(0), // how many turns are in effect
     depth: new Int32Array(0), // how many actions of the film are in effect
     lineAt: new Int32Array(0), // the number of its line, -1 before the first
-    lines: [], papers: [], watches: [], next: [], constants: [], central: [], unseen: [], marks: [], centralIndex: new Map(), jumps: new Map(),
-    skips: new Map(), highestTurn: 0, writes: emptyWrites(),
+    lines: [], papers: [], watches: [], next: [], constants: [], central: [], unseen: [], marks: [], centralIndex: new Map(),
+    jumps: new Map(), skips: new Map(), highestTurn: 0, writes: emptyWrites(), pictures: null,
   };
+}
+
+// Makes the film of its rows.
+function openRows(about, rows) {
+  film = { ...about, ...emptyRows() };
+  grow(about, ...rows);
 }
 
 // Adds what has come: lines and tables, then the moments; `news` has the lists, and the rows are numbers.
@@ -83,13 +89,16 @@ function grow(news, heads, places, growths, writes) {
   if (film.count) goTo(film.count - 1);
   const firstLine = film.lines.length;
   film.turns_before = news.turns_before;
-  for (const name of ["lines", "papers", "watches", "constants", "unseen", "marks"]) for (const one of news[name] || []) film[name].push(one);
+  for (const name of ["lines", "papers", "watches", "constants", "unseen", "marks"]) {
+    for (const one of news[name] || []) film[name].push(one);
+  }
   for (const [name, second, block, waits, sentence, line] of news.next) {
     film.next.push({ name, second, block: block && { issued: block[0], address: block[1], back: block[2] }, waits, sentence,
       line: line ? { number: line[0], note: line[1] } : { number: 0, note: "" } });
   }
   for (const [moment, target, turn] of news.jumps) film.jumps.set(moment, [target, turn]);
   for (const [moment, turns] of news.skips) film.skips.set(moment, turns);
+  if (news.pictures) addPictures(news.pictures);
   addCentral(news.central, new Set(news.unseen));
   addMoments(heads, places, growths);
   news.lines.forEach((line, at) => line.acts && film.lineAt.fill(firstLine + at, line.first, line.moment + 1));
@@ -207,13 +216,14 @@ function changeAfter(marks, moment) {
   return [0, 0];
 }
 
-// A round to or fro: ten turns.
+// A round to or fro: ten turns, or up to those that were skipped.
 function aRound(direction) {
   let moment = film.at;
   for (let turns = 0; turns < ROUND && moment + direction >= 0 && moment + direction < film.count;) {
     if (direction > 0) moment++;
     if (isTurn(moment)) turns++;
     if (direction < 0) moment--;
+    if (film.kinds[moment] === SKIP) break;
   }
   return moment;
 }

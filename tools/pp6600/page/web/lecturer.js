@@ -14,7 +14,8 @@ function takeKey() {
 }
 
 async function ask(address, body) {
-  const reply = await fetch(address, { method: "POST", headers: { "X-Key": key, "Content-Type": "application/json" }, body: JSON.stringify(body) });
+  const headers = { "X-Key": key, "Content-Type": "application/json" };
+  const reply = await fetch(address, { method: "POST", headers, body: JSON.stringify(body) });
   if (!reply.ok) throw new Error(await reply.text());
   return reply.json();
 }
@@ -35,7 +36,9 @@ function button(text, action) {
 function cardOf(seat, exercises) {
   const card = element("div", `seat${seat.refused ? " refused" : ""}`, ""), first = element("p", "", "");
   const numbers = exercises.map((name, at) => (seat.solved.includes(name) ? at + 1 : "")).filter(Boolean);
-  first.append(button("show", () => show(seat.seat)), " ", button("end", () => end(seat)), " ",
+  const back = button("back", () => tellTheWayBack(seat));
+  back.title = "an address with which the student takes this seat up again, as after the tab was closed";
+  first.append(button("show", () => show(seat.seat)), " ", back, " ", button("end", () => end(seat)), " ",
     element("span", "name", `${seat.seat} ${seat.name}`), " ", element("span", "done", numbers.join(" ")));
   const idle = seat.idle > IDLE ? `, idle for ${Math.floor(seat.idle / 60)} min` : "";
   card.append(first, element("p", "", `${seat.exercise}, turn ${seat.turn.toString(8)}${seat.checked ? ", checked" : ""}${idle}`),
@@ -47,6 +50,16 @@ function cardOf(seat, exercises) {
 // Shows one seat's session in a tab of its own, which only looks.
 function show(number) {
   window.open(`/#key=${key}&seat=${number}`, "_blank", "noopener");
+}
+
+async function tellTheWayBack({ seat, name }) {
+  try {
+    const { ticket, minutes } = await ask("/class/ticket", { seat });
+    const address = `${location.origin}/#again=${ticket}`;
+    byId("back").textContent = `Seat ${`${seat} ${name}`.trim()} again: ${address} (once, within ${minutes} minutes)`;
+  } catch (error) {
+    byId("back").textContent = error.message;
+  }
 }
 
 async function end(seat) {

@@ -8,12 +8,14 @@ const LOOK_EVERY = 2000; // milliseconds
 live.do = (address, body) => doInSession(address, { ...body, ...seat.more });
 
 live.open = async () => {
-  const looked = new URLSearchParams(location.hash.slice(1)).get("seat");
+  const words = new URLSearchParams(location.hash.slice(1)), looked = words.get("seat"), ticket = words.get("again");
   takeKey();
   if (looked) sessionStorage.setItem("looked", looked);
+  if (ticket) sessionStorage.removeItem("looked");
   seat.number = sessionStorage.getItem("looked");
   seat.isLooked = seat.number !== null;
-  if (!live.key) await takeSeat();
+  if (ticket) await takeSeat("/seat/again", { ticket });
+  else if (!live.key) await takeSeat("/seat", {});
   const about = await ofSeat("/about", seat.isLooked ? { seat: Number(seat.number) } : {});
   buildSeat(about);
   seat.more = { session: about.session, ...(seat.isLooked ? { seat: about.seat } : {}) };
@@ -22,11 +24,15 @@ live.open = async () => {
   return text;
 };
 
-async function takeSeat() {
-  const { key } = await (await ask("/seat", {})).json();
+async function takeSeat(address, body) {
+  history.replaceState(null, "", location.pathname);
+  const { key } = await (await ask(address, body)).json();
   sessionStorage.setItem("key", key);
   live.key = key;
 }
+
+// The lecturer's address leads back to a seat, also in a tab that has another one.
+window.addEventListener("hashchange", () => location.hash.startsWith("#again=") && location.reload());
 
 // Asks for something of the seat. If the seat has ended, its key is forgotten.
 async function ofSeat(address, body) {
@@ -49,7 +55,8 @@ function lookOn() {
 
 function buildSeat(about) {
   byId("class").hidden = false;
-  setText(byId("seat"), `Seat ${about.seat}${seat.isLooked ? ` ${about.name}: looked at, not to be changed` : ""}`);
+  const whose = `Seat ${about.seat} ${seat.isLooked ? about.name : ""}`.trim();
+  setText(byId("seat"), seat.isLooked ? `${whose}: looked at, not to be changed` : whose);
   for (const one of document.querySelectorAll(".of-seat")) one.hidden = seat.isLooked;
   setText(byId("task"), about.task);
   showSolved(about.solved);
