@@ -2,7 +2,6 @@
 
 import os
 import random
-import unittest
 
 from tests.device_law import DUMPS, PANEL, Definition, RandomDevice, random_program
 from tests.support import Case, program
@@ -66,7 +65,3 @@ class Law(Case):
                 walk.move()
                 if walk.choose.random() < 0.3:
                     self.assertIsNone(walk.difference(), f"seed {number}, move {move}")
-
-
-if __name__ == "__main__":
-    unittest.main()

@@ -3,7 +3,6 @@
 import os
 import random
 import re
-import unittest
 from unittest import mock
 
 from tests.films import PageCase
@@ -473,7 +472,3 @@ class Examples(Case):
         self.written("magnetic-tape", "copy.py", "tape")
         found = [(len(block), *block[:1]) for block in read_tape(self.path("magnetic-tape"))]
         self.assertEqual([(14, 0o2410), (5, 0o2410), (13, 0o0116), (0,)], found)
-
-
-if __name__ == "__main__":
-    unittest.main()
