@@ -1,15 +1,16 @@
-"""Dialogues with the debug adapter, as tests/debug/*.txt has them: a case is what it shows, after a #, and then a request on each line with
-its answer after a |. More lines after a | are what is said to the user meanwhile.
+"""Dialogues with the debug adapter, as tests/debug/*.txt has them. A case is what it shows, after a #, then a request on each line
+with its answer after a |. More lines after a | are what is said to the user meanwhile.
 
-    python3 -m tests.debug_dialogue FILE ..     writes each file with the answers that its requests get; read them before they are kept
+    python3 -m tests.debug_dialogue FILE ..   writes each file with the answers that its requests get; read them
 
-A request has the protocol's name, as stepBack, with its arguments as NAME=TEXT or NAME:=JSON; what is sent otherwise is in Dialogue. Files
-are named from a folder with those of tests/debug, which has examples/ too. The scripts there, with turns that are counted by hand:
-loops     PP 00 counts in cell 0020, PP 03 in cell 0021, in loops of three and of two turns
-long      PP 00 counts cell 0021 down from 100, and for each of these counts cell 0020 down to 0 by 4095 (decimal) rounds of two turns. So
-          it comes to 0104 after 64 * 8192 turns of its own, decimal
-loader    the overwritten loader of examples, up to its first question
-counts.pp a turn of PP 00 is every tenth (decimal), so before its turn number n, from 1, there are 10 * (n - 1) turns
+A request has its name in the protocol, as stepBack, and arguments as NAME=TEXT or NAME:=JSON; Dialogue has the others. Files are
+named from a folder with those of tests/debug and with examples/. There are these, with turns that are counted by hand:
+
+    loops       PP 00 counts in cell 0020, PP 03 in cell 0021, in loops of three and of two turns
+    long        PP 00 counts cell 0021 down from 100, and for each of these counts cell 0020 down to 0 by 4095 (decimal) rounds of
+                two turns. So it comes to 0104 after 64 * 8192 turns of its own, decimal
+    loader      the overwritten loader of examples, up to its first question; loader3 has no STEP
+    counts.pp   a turn of PP 00 is every tenth (decimal), so before its turn number n, from 1, there are 10 * (n - 1) turns
 """
 
 import base64
@@ -199,14 +200,15 @@ class Dialogue:
         if number not in self.listings:
             frame = self.client.ask("stackTrace", threadId=int(number, 8) + 1)["stackFrames"][0]
             self.listings[number] = frame["source"]["path"]
-        asked = self.points(rest, lambda word: {"line": int(word, 8) + 1})
-        return self.shown(self.client.ask("setBreakpoints", source={"path": self.listings[number]}, breakpoints=asked)["breakpoints"])
+        return self.set_lines({"path": self.listings[number]}, self.points(rest, lambda word: {"line": int(word, 8) + 1}))
 
     def do_lines(self, rest):
         """lines FILE [LINE ..]: breakpoints at lines of a source."""
         name, _, rest = rest.partition(" ")
-        asked = self.points(rest, lambda word: {"line": int(word)})
         source = {"path": os.path.join(self.folder, name), "name": name}
+        return self.set_lines(source, self.points(rest, lambda word: {"line": int(word)}))
+
+    def set_lines(self, source, asked):
         return self.shown(self.client.ask("setBreakpoints", source=source, breakpoints=asked)["breakpoints"])
 
     def do_watch(self, rest):
@@ -292,7 +294,7 @@ class Dialogue:
         """disassemble REFERENCE OFFSET COUNT"""
         reference, offset, count = rest.split()
         got = self.client.ask("disassemble", memoryReference=reference, instructionOffset=int(offset), instructionCount=int(count))
-        return ", ".join(" ".join([one["instruction"], *([f"in {one['location']['name']}:{one['line']}"] if "location" in one else [])])
+        return ", ".join(one["instruction"] + (f" in {one['location']['name']}:{one['line']}" if "location" in one else "")
                          for one in got["instructions"])
 
 

@@ -12,7 +12,7 @@ WAIT_IN_BLOCK = (0o71, 0o73)
 
 
 def in_effect(words, lines):
-    """Returns the actions in effect at the end of a script, and those that are ahead: STEP for each turn, and other lines as they are."""
+    """Returns the actions in effect at the end of a script, and those ahead: STEP for each turn, and other lines as they are."""
     console, kept, undone = Console(words), [], []
     for line in lines:
         kind, *rest = (console.ask(line) or ["NOTE"])[0].split()

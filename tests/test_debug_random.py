@@ -54,7 +54,7 @@ def places(numbers):
 
 
 class Oracle(Timeline):
-    """A simulator with an endless history, at a position of a run; up to its end there are actions ahead, and then turns that may follow."""
+    """A simulator with an endless history, at a position of a run. Up to its end there are actions ahead, then turns that may follow."""
 
     def __init__(self, lines):
         self.words, self.looks = [program(), "--panel", PANEL], [(0, 0o20, 0o20)]
@@ -354,10 +354,11 @@ class Session(Case):
         """Compares where the machine is, what is ahead and what is watched."""
         oracle = self.oracle
         words = [self.client.typed(f"DUMP PP {one:o}").split() for one in range(PROCESSORS)]
-        history = {one["name"]: int(one["value"], 8) for one in self.client.ask("variables", variablesReference=SCOPES["history"])["variables"]}
-        wanted = {"turns": oracle.turns(oracle.now), "kept": oracle.now, "ahead": oracle.end - oracle.now, "slot": oracle.slot(oracle.now)}
-        registers = [oracle.states[oracle.now].registers(number) for number in range(PROCESSORS)]
-        self.assertEqual((wanted, registers), (history, [one[3:10:2] for one in words]), what)
+        found = self.client.ask("variables", variablesReference=SCOPES["history"])["variables"]
+        history = {one["name"]: int(one["value"], 8) for one in found}
+        state, kept = oracle.states[oracle.now], oracle.now
+        self.assertEqual({"turns": oracle.turns(kept), "kept": kept, "ahead": oracle.end - kept, "slot": state.slot}, history, what)
+        self.assertEqual([state.registers(number) for number in range(PROCESSORS)], [one[3:10:2] for one in words], what)
         watched = [" ".join(["W", *place_text(place)]) for place in oracle.watched(oracle.now)]
         self.assertEqual("\n".join(watched) or "W NONE", self.client.typed("DUMP W"), what)
 

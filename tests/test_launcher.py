@@ -1,5 +1,5 @@
-"""What ./pp6600 adds at a terminal, in the repository of tests/launched. tests/sessions/launcher.txt has what it does elsewhere, the choice
-of the build that it runs, ./prove and ./check."""
+"""What ./pp6600 adds at a terminal, in the repository of tests/launched. tests/sessions/launcher.txt has what it does elsewhere, the
+choice of the build that it runs, ./prove and ./check."""
 
 import os
 import shutil

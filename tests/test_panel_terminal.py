@@ -242,6 +242,13 @@ class Talk(TerminalCase):
         done = run(*self.TALK, script="help\n")
         self.assertEqual("> help\nERR 01 NOT A COMMAND\n", done.out, "over a pipe it is a line like any other")
 
+    def test_after_a_script(self):
+        """An interrupt does nothing; the terminal may show it as ^C."""
+        lines, status = self.talk("STEP 12", "\x03SET M 0 9 1", words=[self.file("STEP 13\n")])
+        self.assertEqual(["> STEP 13", "TURNS 13 SLOT 01", "13> STEP 12", "TURNS 12 SLOT 01", "25> SET M 0 9 1", "ERR 03 NUMBER",
+                          "  word 4: 9 is not octal", "25>"], [line.replace("^C", "") for line in lines])
+        self.assertEqual(1, status)
+
     def test_undo(self):
         """Back without a limit, and forward again; what is lost of what is ahead is said."""
         path = self.path("saved")
