@@ -16,7 +16,7 @@ ADAPTER = os.path.join(TOP, "tools", "debug-adapter")
 
 
 LOADER = [line for line in read("examples", "overwritten-loader", "script").splitlines() if not line.startswith("*")][:4]
-REGISTERS, CHANNELS, DEVICES, WATCHES, HISTORY, CALLS = (scope << 8 for scope in range(1, 7))
+SCOPES = {name: number << 8 for number, name in enumerate(("registers", "channels", "devices", "watches", "history", "calls"), 1)}
 GO = "/usr/share/gocode/src/github.com/google/go-dap"
 HAS_GO = os.path.isdir(GO) and shutil.which("go") is not None
 CHECKER = """package main
@@ -49,10 +49,10 @@ class Refusal(Exception):
 class Client:
     """An adapter at the other end of pipes."""
 
-    def __init__(self, *words, environment=None, lines=None, before=()):
+    def __init__(self, *words, environment=None, lines=None, before=(), folder=TOP):
         """Starts an adapter, whose simulators are told at most so many lines; other words may come before its name."""
         begin = ["-c", WITH_FEW_LINES, str(lines)] if lines else before
-        self.process = subprocess.Popen([*PYTHON, *begin, ADAPTER, *words], stdin=subprocess.PIPE, cwd=TOP,
+        self.process = subprocess.Popen([*PYTHON, *begin, ADAPTER, *words], stdin=subprocess.PIPE, cwd=folder,
                                         stdout=subprocess.PIPE, stderr=subprocess.PIPE,
                                         env={**os.environ, "PP6600": program(), **(environment or {})})
         self.seq = 0
@@ -156,7 +156,7 @@ class DebugCase(Case):
     def setUpClass(cls):
         folder = tempfile.TemporaryDirectory(prefix="pp6600-test-")
         cls.addClassCleanup(folder.cleanup)
-        cls.logs = [os.path.join(folder.name, f"log{number}") for number in range(100)]
+        cls.logs = [os.path.join(folder.name, f"log{number}") for number in range(200)]
 
     @classmethod
     def tearDownClass(cls):
@@ -183,18 +183,12 @@ class DebugCase(Case):
     def loader(self, **arguments):
         return self.session(LOADER, deck=DECK, processor="0", **arguments)
 
-    def values(self, client, reference):
-        return {one["name"]: one["value"] for one in client.ask("variables", variablesReference=reference)["variables"]}
-
     def path(self, client, number=0):
         return client.ask("stackTrace", threadId=number + 1)["stackFrames"][0]["source"]["path"]
 
-    def set_lines(self, client, number, *cells):
-        source = {"path": self.path(client, number)}
-        return client.ask("setBreakpoints", source=source, breakpoints=[{"line": cell + 1} for cell in cells])["breakpoints"]
-
     def turns(self, client):
-        return int(self.values(client, HISTORY)["turns"], 8)
+        found = client.ask("variables", variablesReference=SCOPES["history"])["variables"]
+        return next(int(one["value"], 8) for one in found if one["name"] == "turns")
 
 
 def check_by_go(text, count):

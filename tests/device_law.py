@@ -1,6 +1,5 @@
 """What a session with devices is, `Definition`, and random sessions that are compared with it."""
 
-import inspect
 import itertools
 import random
 
@@ -17,18 +16,6 @@ PANEL = "100 100" + 10 * " 0"  # a jump to cell 0100
 DUMPS = [f"DUMP {what}" for n in range(10) for what in (f"PP {n:o}", f"M {n:o} 0 777")]
 DUMPS += ["DUMP H", "DUMP C 0 77", "DUMP LP", "DUMP W"]
 METHODS = {"X": "function", "F": "word", "I": "disconnected"}
-
-
-class Counts(Device):
-    """A device that counts function codes, and fails at code 2."""
-
-    start = 0
-
-    def function(self, state, event):
-        return state + 1, INACTIVE if event.word < 2 else 5
-
-
-COUNTS = f"from pp6600 import INACTIVE, Device\n\n\n{inspect.getsource(Counts)}"  # a file with it
 
 
 class InPython(Console):

@@ -35,6 +35,7 @@ class Profile:
     actions: tuple = (2, 25)  # the fewest and the most
     lines: tuple = (('step', 45), ('move', 10), ('watched', 5), ('start', 4), ('watch', 4), ('form', 18), ('spoilt', 14))
     dumps: int = 15  # the share of actions that dumps follow
+    is_near: bool = False  # programs use few cells and channels, and nothing is watched at first
 
 
 ALL = Profile()
@@ -45,8 +46,10 @@ BUSY = Profile(codes=(0o02, 0o10, 0o14, 0o16, 0o20, 0o26, 0o27, *range(0o34, 0o4
                lines=(('step', 40), ('move', 12), ('watched', 3), ('start', 3), ('watch', 4), ('form', 36), ('spoilt', 2)))
 # Programs that count, wait and jump round, and settings of what they use.
 LOOPS = Profile(codes=(0o14, 0o16, 0o30, 0o34, 0o36, 0o50, 0o54, 0o55, *range(0o03, 0o10), *range(0o64, 0o76)), parts=0,
-                bases=(0o100,), processors=(1, 2, 3, 4), steps=(0o300,), actions=(2, 10), dumps=0,
+                bases=(0o100,), processors=(1, 2, 3, 4), steps=(0o300,), actions=(2, 10), dumps=0, is_near=True,
                 lines=(('step', 50), ('back', 10), ('setting', 40)))
+# The same, and watches of what they use.
+WATCHED = dataclasses.replace(LOOPS, lines=(('step', 50), ('back', 6), ('setting', 25), ('watch_near', 14), ('start', 5)))
 
 # Parts of programs: r is the reader's channel, p the printer's, c any; k is a small number, m an address, z the
 # upper digits of the central size.
@@ -129,7 +132,7 @@ class Maker:
     def instruction(self):
         """Returns the words of an instruction."""
         code = self.choice(self.profile.codes) if self.chance(90) else self.below(64)
-        if self.profile is LOOPS:
+        if self.profile.is_near:
             return self.near_instruction(code)
         d = self.choice((0, 1, 2, 3, 0o37, 0o40, 0o74, 0o75, 0o76, 0o77, self.below(64), self.below(64), self.below(8)))
         if code >= 0o64:
@@ -188,7 +191,7 @@ class Maker:
         for _ in range(self.below(4)):
             self.add('SET C', self.number() % self.central, self.number() << self.choice((0, 0, 36)) & 2 ** 60 - 1)
             self.add('SET H', self.channel() % 12, self.choice('IEF'), self.below(4))
-        for _ in range(0 if self.profile is LOOPS else self.choice((0, 0, 1, 3, 10))):
+        for _ in range(0 if self.profile.is_near else self.choice((0, 0, 1, 3, 10))):
             self.add(*self.form('WATCH'))
 
     def form(self, command=''):
@@ -273,6 +276,10 @@ class Maker:
         n = self.choice(self.processors)
         self.add(*self.choice((('SET A', n, self.below(100)), ('SET P', n, self.base + self.below(8)),
                                ('SET H', self.below(3), 'E', 5), ('SET M', n, 0o20, self.below(9)))))
+
+    def add_watch_near(self):
+        """Adds a line that watches what programs of LOOPS use, or ends this."""
+        self.add(self.choice(('WATCH', 'UNWATCH')), *self.choice((('H', 1), ('M', 0, 0o20), ('A', self.choice(self.processors)))))
 
     # Options and files
 

@@ -12,7 +12,7 @@ WAIT_IN_BLOCK = (0o71, 0o73)
 
 
 def in_effect(words, lines):
-    """Returns the actions in effect at the end of a script: STEP for each turn, and the other lines as they are."""
+    """Returns the actions in effect at the end of a script, and those ahead: STEP for each turn, and other lines as they are."""
     console, kept, undone = Console(words), [], []
     for line in lines:
         kind, *rest = (console.ask(line) or ["NOTE"])[0].split()
@@ -23,7 +23,7 @@ def in_effect(words, lines):
             kept += [line] if kind == "OK" else ["STEP"] * int(rest[0], 8)
             undone.clear()
     console.end()
-    return kept
+    return kept, undone[::-1]
 
 
 class State:
@@ -49,19 +49,22 @@ class State:
 class Timeline:
     """The states of a run: state 0 is before its first action."""
 
-    def __init__(self, words, lines, looks=(), count=0):
-        """Looks at the cells from `first` to `last` of processors, too. Turns are added to the script, up to `count` actions."""
-        self.actions = in_effect(words, lines)
-        self.now = len(self.actions)
-        self.actions += ["STEP"] * (count - self.now)
+    def __init__(self, words, lines, looks=()):
+        """Looks at the cells from `first` to `last` of processors, too."""
+        self.words, self.looks = words, looks
+        self.actions, _ = in_effect(words, lines)
+        self.look()
+
+    def look(self):
+        """Looks at the machine before the first action and after each."""
         asked = [*(f"DUMP PP {number:o}" for number in range(PROCESSORS)), "DUMP H"]
-        asked += [f"DUMP M {number:o} {first:o} {last:o}" for number, first, last in looks]
+        asked += [f"DUMP M {number:o} {first:o} {last:o}" for number, first, last in self.looks]
         lines = [*asked, *(line for action in self.actions for line in (action, *asked)), "DUMP CR"]
-        console = Console(words)
+        console = Console(self.words)
         answers = [line for line in console.ask_all(lines) if line[:2] not in ("OK", "TU", "HI", "CR")]
         console.end()
         size = len(answers) // (len(self.actions) + 1)
-        self.states = [State(answers[at:at + size], looks) for at in range(0, len(answers), size)]
+        self.states = [State(answers[at:at + size], self.looks) for at in range(0, len(answers), size)]
 
     def is_turn(self, at):
         """Whether the action after a state is a turn."""
@@ -120,58 +123,6 @@ class Timeline:
         any beginning."""
         return [self.turns(at + 1) for at in range(len(self.actions)) if self.is_turn(at) and self.holds(at + 1, condition)
                 and ("changes" in condition or not self.holds(at, condition))]
-
-    # ---- where the debug adapter stops: a state and the reason, or None; `now` is the state that it is in
-
-    def comes(self, at, cells):
-        """Whether the processor whose turn is next has come to a breakpoint, outside a block."""
-        number = self.states[at].slot
-        here = self.registers_p(at, number)
-        if (number, here[0]) not in cells or here[1] != "0000":
-            return False
-        if at and at != self.now and not self.is_turn(at - 1) and self.states[at - 1].slot == number:
-            if self.registers_p(at - 1, number) == here:
-                return False
-        for before in reversed(range(at)):
-            if self.is_turn(before) and self.states[before].slot == number:
-                return self.registers_p(before, number) != here
-        return True
-
-    def registers_p(self, at, number):
-        """Returns P and the phase of a processor."""
-        return self.states[at].registers(number)[::3]
-
-    def forward(self, shown, cells, places):
-        if self.states[self.now].slot != shown and self.comes(self.now, cells):
-            return self.now, "breakpoint"
-        for at in range(self.now + 1, len(self.actions)):
-            if self.differ(at - 1, places):
-                return at, "data breakpoint"
-            if self.comes(at, cells):
-                return at, "breakpoint"
-        return None
-
-    def back(self, cells, places):
-        for at in reversed(range(self.now)):
-            if self.differ(at, places):
-                return at, "data breakpoint"
-            if self.comes(at, cells):
-                return at, "breakpoint"
-        return 0, "entry"
-
-    def step(self, number, places):
-        for at in range(self.now, len(self.actions)):
-            if self.differ(at, places):
-                return at + 1, "data breakpoint"
-            if self.is_turn(at) and self.states[at].slot == number:
-                return at + 1, "step"
-        return None
-
-    def step_back(self, number):
-        for at in reversed(range(self.now)):
-            if self.is_turn(at) and self.states[at].slot == number:
-                return at, "step"
-        return 0, "step"
 
 
 def places_of(words):

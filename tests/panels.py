@@ -26,11 +26,11 @@ def bottom(panel, *keys):
 class PanelCase(Case):
     """A test of panels without a terminal."""
 
-    def panel(self, script="", *options, size=(80, 24), turn=None, symbols=(), sources=()):
+    def panel(self, script="", *options, size=(80, 24), turn=None, symbols=(), sources=(), devices=()):
         """Returns a panel that has performed a script, up to a turn if there is one. Symbols and sources are pairs of a processor and
         a path."""
         names = symbols_from(*([(f"{number:o}", path) for number, path in pairs] for pairs in (symbols, sources)))
-        panel = Panel(Session([PROGRAM, *options]), names)
+        panel = Panel(Session([PROGRAM, *options], devices), names)
         self.addCleanup(panel.session.close)
         panel.resize(*size)
         panel.perform_script(names.loading(script.splitlines()), turn)

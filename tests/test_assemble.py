@@ -1,12 +1,12 @@
 """The assembler: docs/ASSEMBLER.md. The words of instructions come from the tables of docs/MACHINE.md by a second encoder, and all
-others are worked by hand; tests/programs has programs, and files of cases."""
+others are worked by hand; tests/programs has programs, and files of cases. The tool's forms are in tests/sessions/assemble.txt."""
 
 import glob
 import os
 import random
 import re
 
-from .support import EXAMPLES, TOP, Case, add_tests, blocks, names_of_codes, program, read, run, tool
+from .support import TOP, Case, add_tests, blocks, names_of_codes, read, run, tool
 
 from pp6600.listing import Symbols
 from pp6600.source.forms import lines_of
@@ -108,15 +108,6 @@ class Words(Case):
                 with self.subTest(name, number=number):
                     self.assertEqual([5 if one else 6], list(made(lines).values()))
 
-    def test_counters(self):
-        """BSS leaves cells, and LOC moves the location counter alone."""
-        lines = ["  CON 1", "  BSS 3", "  CON 2", "  ORG 300B", "  LOC 10B", "  CON 3", "  CON 4", "  LOC *O", "  CON 5"]
-        self.assertEqual({0o100: 1, 0o104: 2, 0o300: 3, 0o301: 4, 0o302: 5}, made(lines))
-
-    def test_start(self):
-        self.assertEqual(["SET M 3 100 1405 300", "SET P 3 101"],
-                         lines_of(assembled(["  ORG 100B", "  LDN 5", "A UJN *", "  END A"]), "set", 3))
-
 
 class Faults(Case):
     """What is wrong, each once and with its place."""
@@ -198,20 +189,6 @@ class Listings(Case):
             lines += body.get(statement, [])
         return [*lines, "          PSN"]
 
-    def test_form(self):
-        """An address, words and the source line; code for another place has its load address after a >."""
-        source = ["* NOTE", " N EQU 5", "  ORG 100B", "START LDC 123456B", "  DATA H*ABCDEF*", "  LOC 1", "A PSN"]
-        self.assertEqual([
-            "                      * NOTE",
-            "0005                   N EQU 5",
-            "0100                    ORG 100B",
-            "0100       2012 3456  START LDC 123456B",
-            "0102       0102 0304    DATA H*ABCDEF*",
-            "0104       0506",
-            "0001 >0105              LOC 1",
-            "0001 >0105 0000       A PSN"],
-            lines_of(assembled(source), "listing", 0))
-
 
 class Package(Case):
     def test_imports(self):
@@ -222,76 +199,6 @@ class Package(Case):
                  if re.match(r"\s*(from \.\.|import pp6600)", line)}
         self.assertEqual({"machine.py", "forms.py"}, {name for name, _ in found})
         self.assertEqual({"from ..failure import Failure"}, {line for name, line in found if name == "forms.py"})
-
-
-class Forms(Case):
-    SOURCE = "  ORG 100B\nA LDC 5\n  ORG 104B\n  UJN A\n  END A\n"
-
-    def test_forms(self):
-        path = self.file(self.SOURCE, "a.pp")
-        deck = "2000 0005 0000 0000 0373\n"
-        for words, out in (((), "0100 2000\n0101 0005\n0104 0373\n"), (("--words",), "0100 2000\n0101 0005\n0104 0373\n"),
-                           (("--set", "11"), "SET M 11 100 2000 5\nSET M 11 104 373\nSET P 11 100\n"), (("--deck",), deck)):
-            with self.subTest(words):
-                self.assertEqual((out, "", 0), tool("assemble", *words, path))
-                self.assertEqual((out, "", 0), tool("assemble", *words, script=self.SOURCE))
-
-    def test_panel(self):
-        source = read("examples", "dead-start", "panel.pp")
-        path = self.file(tool("assemble", "--panel", script=source).out)
-        wanted_path = os.path.join(EXAMPLES, "dead-start", "panel")
-        session = "DEADSTART\nDUMP M 0 0 15\n"
-        self.assertEqual(run(program(), "--panel", wanted_path, script=session), run(program(), "--panel", path, script=session))
-        self.assertIn("cell 0100 is not on the panel", tool("assemble", "--panel", script=self.SOURCE).err)
-
-    def test_faults(self):
-        """They are on standard error, in the form that editors jump to, and nothing is written."""
-        path = self.file("  LDN 100B\n  LDN Q\n", "a.pp")
-        said = f"{path}:1:7: 100 (octal) does not fit in 6 (decimal) bits; LDC 100B would do\n{path}:2:7: Q is not defined\n"
-        self.assertEqual(("", said, 1), tool("assemble", "--set", "0", path))
-        self.assertEqual("standard input:1:7: Q is not defined\n", tool("assemble", script="  LDN Q\n").err)
-        self.assertEqual(("", "assemble: the source has no word\n", 2), tool("assemble", script="* NOTHING\n"))
-
-    def test_mark_before_a_text(self):
-        self.assertEqual("0000 1405\n", tool("assemble", self.file("\ufeff  LDN 5\r\n")).out)
-
-
-class Programs(Case):
-    """Programs that the simulator runs; the answers are reasoned from docs/MACHINE.md."""
-
-    def answers(self, names, dump, *words, turns=100000):
-        """Returns the answers to dumps after a run of programs, the first in PP 00."""
-        paths = [os.path.join(PROGRAMS, f"{name}.pp") for name in names]
-        lines = [tool("assemble", "--set", str(number), path).out for number, path in enumerate(paths)]
-        done = run(program(), *words, script="".join(lines) + f"STEP {turns:o}\n{dump}\n")
-        return done.out.splitlines()[sum(text.count("\n") for text in lines) + 1:]
-
-    def test_lister(self):
-        """Three cards: HELLO., none, and ABC with a blank. Line ends are symbols: 6 + 1, 1, 4 + 1."""
-        deck = self.file("1005 1414 1757\n0\n0102 0355\n")
-        self.assertEqual(["0050 0001", "LP H 13 SYMBOLS 000015 COLUMN 000 MODE PRINTING", "|HELLO.", "|", "|ABC "],
-                         self.answers(["lister"], "DUMP M 0 50 50\nDUMP LP", "--deck", deck))
-
-    def test_numbers(self):
-        """Five lines of ten symbols, one of eight, and six line ends: 64 (decimal)."""
-        lines = [f"|VALUE {number}" for number in ("0000", "1234", "7777", "7776", "0007")]
-        state = "LP H 13 SYMBOLS 000100 COLUMN 000 MODE PRINTING"
-        self.assertEqual([state, *lines, "|THE END."], self.answers(["numbers"], "DUMP LP"))
-
-    def test_sender_and_receiver(self):
-        """1 + 2 + 4 + 10 + 20 + 40 is 77, in PP 00; both stay at their ends."""
-        self.assertEqual(["0050 0077"], self.answers(["sender", "receiver"], "DUMP M 0 50 50"))
-
-    def test_mover(self):
-        """The program that was moved stores 5 + 2 and the 1234 after it, and stays at 0106. Behind it all is cleared."""
-        got = self.answers(["mover"], "DUMP M 0 50 51\nDUMP M 0 100 117\nDUMP PP 0")
-        self.assertEqual(["0050 0007 1234", "0100 1405 1602 3450 5000 0107 3451 0300 1234", "0110" + " 0000" * 8], got[:3])
-        self.assertEqual("PP 00 P 0106 A 001234", got[3][:21])
-
-    def test_monitor(self):
-        """3, doubled, 3 more is 11; one request is none; then the overlay overwrites the return address: the monitor is lost."""
-        got = self.answers(["monitor"], "DUMP M 0 50 52\nDUMP PP 0")
-        self.assertEqual(["0050 0011 0001 0077", "PP 00 P 0502 A 000077"], [got[0], got[1][:21]])
 
 
 # Each source beside a script: the processor, and the file with its words.

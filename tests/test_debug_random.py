@@ -5,14 +5,14 @@ import os
 import random
 import sys
 import time
-from typing import Callable, NamedTuple
+from typing import NamedTuple
 
-from tests.debug_client import Client
+from tests.debug_client import SCOPES, Client
+from tests.generator import WATCHED, Maker
+from tests.oracle import Timeline, in_effect
 from tests.support import Case, program
 
-from pp6600.core.simulator import Console
-
-SESSIONS = int(os.environ.get("PP6600_DEBUG_SESSIONS", "12"))  # in the gate; by hand 200
+SESSIONS = int(os.environ.get("PP6600_DEBUG_SESSIONS", "20"))  # in the gate; by hand 200
 FIRST = int(os.environ.get("PP6600_DEBUG_SEED", "0"))
 MOVES = 10  # of a session
 ACTIONS = 2500  # of the script and after it that are searched
@@ -22,40 +22,11 @@ PANEL = os.path.join("examples", "dead-start", "panel")
 MOVE_KINDS = ("continue",) * 4 + ("reverseContinue",) * 3 + ("stepIn", "stepIn", "stepBack", "stepBack", "typed", "typed", "typed")
 
 
-def instruction(chance):
-    """Returns the words of an instruction."""
-    kind = chance.randrange(12)
-    channel = chance.randrange(3)
-    if kind < 3:
-        return [f"{chance.choice(('14', '16', '34', '30', '36'))}{chance.randrange(0o20, 0o30):02o}"]
-    if kind < 6:
-        return [f"{chance.choice(('03', '04', '05', '06', '07'))}{chance.choice((1, 2, 3, 0o76, 0o75, 0o74, 0)):02o}"]
-    if kind < 8:
-        return [f"{chance.choice(('70', '72', '74', '75'))}{channel:02o}"]
-    if kind == 8:
-        return [f"{chance.choice(('71', '73'))}{channel:02o}", f"{chance.randrange(0o300, 0o310):04o}"]
-    if kind == 9:
-        return [f"{chance.choice(('64', '66', '65', '67'))}{channel:02o}", f"{PROGRAM + chance.randrange(0o20):04o}"]
-    return [f"{chance.choice(('54', '50', '55'))}00", f"{chance.choice((0o20, PROGRAM + chance.randrange(0o20))):04o}"]
-
-
-class Condition(NamedTuple):
-    """A condition by its text, and whether it holds at a position of an oracle."""
-
-    text: str
-    holds: Callable
-
-
 def condition(chance, numbers):
     """Returns a condition, or none."""
     number, bound = chance.choice(numbers), chance.randrange(0o60)
-    name = f"A {number:o}"
-    return chance.choice((
-        None, None, Condition(f"{name} < {bound:o}", lambda oracle, at: int(oracle.value(at, name), 8) < bound),
-        Condition("M 0 20 != 0 and H 1 is E", lambda oracle, at: oracle.value(at, "M 0 20") != "0000" and oracle.value(at, "S 1") == "E"),
-        Condition(f"P {number:o} inside 100 104", lambda oracle, at: "0100" <= oracle.where(at, number)[0] <= "0104"),
-        Condition(f"{name} changes",
-                  lambda oracle, at: at > 0 and oracle.is_turn(at - 1) and oracle.value(at, name) != oracle.value(at - 1, name))))
+    return chance.choice((None, None, f"A {number:o} < {bound:o}", "M 0 20 != 0 and H 1 is E", f"P {number:o} inside 100 104",
+                          f"A {number:o} changes"))
 
 
 HITS = {None: lambda count: True, "2": lambda count: count == 2, "= 3": lambda count: count == 3, ">=3": lambda count: count >= 3,
@@ -72,17 +43,9 @@ class Point(NamedTuple):
 
     def asked(self, **where):
         """Returns what an editor asks for."""
-        return {**where, **({"condition": self.condition.text} if self.condition else {}),
+        return {**where, **({"condition": self.condition} if self.condition else {}),
                 **({"hitCondition": self.hits} if self.hits else {}),
                 **({"logMessage": f"L {self.at[0]:o} {self.at[1]} {{A}} {{M 0 20}}"} if self.is_log else {})}
-
-
-def setting(chance, numbers):
-    """Returns a line that sets a number, begins or ends a watch, or goes back."""
-    number = chance.choice(numbers)
-    return chance.choice((f"SET A {number:o} {chance.randrange(100):o}", f"SET P {number:o} {PROGRAM + chance.randrange(8):o}",
-                          f"SET H {chance.randrange(3)} E 5", f"SET M {number:o} 20 {chance.randrange(9):o}", "BACK 3",
-                          f"WATCH {chance.choice(places(numbers))}", f"UNWATCH {chance.choice(places(numbers))}", "DEADSTART"))
 
 
 def places(numbers):
@@ -90,40 +53,22 @@ def places(numbers):
     return ["H 1", "M 0 20", *(f"A {number:o}" for number in numbers)]
 
 
-def script(chance):
-    """Returns the lines of a script: programs that loop in some processors, turns, and settings between them."""
-    lines = []
-    numbers = chance.sample(range(PROCESSORS), chance.randrange(1, 5))
-    for number in numbers:
-        words = [word for _ in range(chance.randrange(3, 12)) for word in instruction(chance)] + ["0100", f"{PROGRAM:04o}"]
-        lines += [f"SET M {number:o} {PROGRAM + at:o} {' '.join(words[at:at + 8])}" for at in range(0, len(words), 8)]
-        lines += [f"SET P {number:o} {PROGRAM:o}"]
-    for _ in range(chance.randrange(1, 5)):
-        lines += [f"STEP {chance.randrange(1, 0o300):o}", *(setting(chance, numbers) for _ in range(chance.choice((0, 1, 1, 2))))]
-    return lines, numbers
+class Oracle(Timeline):
+    """A simulator with an endless history, at a position of a run. Up to its end there are actions ahead, then turns that may follow."""
 
-
-class Oracle:
-    """A simulator with an endless history: the machine at each position of the run, by a look after each action."""
-
-    def __init__(self):
-        self.actions, self.states, self.now, self.end = [], [], 0, 0
-        self.run()
+    def __init__(self, lines):
+        self.words, self.looks = [program(), "--panel", PANEL], [(0, 0o20, 0o20)]
+        self.actions, ahead = in_effect(self.words, lines)
+        self.now = len(self.actions)
+        self.actions += ahead
+        self.end = len(self.actions)
+        self.look()
 
     # ---- the run
 
-    def run(self):
-        """Looks at the machine after each action, and after turns that may follow."""
+    def look(self):
         self.actions[self.end:] = ["STEP"] * (ACTIONS - self.end)
-        console = Console([program(), "--panel", PANEL])
-        looks = [*(f"DUMP PP {number:o}" for number in range(PROCESSORS)), "DUMP M 0 20 20", "DUMP H"]
-        lines = [line for action in self.actions for line in ("DUMP XP" if is_watch(action) else action, *looks)]
-        answers = ["first", *(line for line in console.ask_all([*looks, *lines, "DUMP CR"])[:-1] if not line.startswith("XP "))]
-        console.end()
-        self.states, size = [], 1 + PROCESSORS + 1 + 13
-        for action in ["first", *self.actions]:
-            self.states.append(state(answers[:size] if not is_watch(action) else ["watch", *answers[:size - 1]]))
-            del answers[:size - is_watch(action)]
+        super().look()
 
     def act(self, line):
         """Performs a line. Returns its answer, and whether it moved."""
@@ -147,7 +92,7 @@ class Oracle:
     def new(self, line):
         self.actions[self.now:] = [line]
         self.now = self.end = self.now + 1
-        self.run()
+        self.look()
 
     def move(self, word, words):
         if words == ["W"]:
@@ -172,29 +117,24 @@ class Oracle:
         first, watched = self.now, self.watched(self.now)
         if self.end != self.now:
             self.end = self.now
-            self.run()
+            self.look()
         last = next((at + 1 for at in range(first, first + turns) if self.changed(at, watched)), first + turns)
         self.now = self.end = last
         text = f"TURNS {last - first:o} SLOT {self.slot(last):02o}"
         place = self.changed(last - 1, watched)
         if place:
-            was, now = (self.states[at][2][place] for at in (last - 1, last))
+            was, now = (self.value(at, place) for at in (last - 1, last))
             text += f"\nHIT {' '.join(place_text(place))} {was} {now}"
         return text
 
     # ---- what is there
 
     def slot(self, at):
-        return self.states[at][0]
+        return self.states[at].slot
 
     def where(self, at, number):
-        return self.states[at][1][number]
-
-    def is_turn(self, at):
-        return self.actions[at] == "STEP"
-
-    def turns(self, at):
-        return self.actions[:at].count("STEP")
+        """Returns P and the phase of a processor."""
+        return self.states[at].registers(number)[::3]
 
     def watched(self, at):
         """Returns the places that are watched at a position, the oldest first."""
@@ -207,7 +147,7 @@ class Oracle:
         return found
 
     def value(self, at, place):
-        return self.states[at][2][place]
+        return self.states[at].numbers[place]
 
     def changed(self, at, some):
         """Returns the first place of some that the action after a position changes; or None."""
@@ -233,10 +173,13 @@ class Oracle:
             comes = at > 0 and self.changed(at - 1, [point.at])
         else:
             comes = self.comes(at, point.at)
-        return bool(comes) and self.holds(at, point)
+        return bool(comes) and self.meets(at, point)
 
-    def holds(self, at, point):
-        return not point.condition or point.condition.holds(self, at)
+    def meets(self, at, point):
+        """Whether the condition of a breakpoint holds at a position. A number changes by a turn."""
+        if not point.condition or "changes" in point.condition and not (at and self.is_turn(at - 1)):
+            return not point.condition
+        return self.holds(at, point.condition)
 
     def counts(self, at, point):
         """Whether the hit at a position is one that counts, by its number from the beginning."""
@@ -259,7 +202,7 @@ class Oracle:
 
     def forward(self, shown, points):
         now, self.said = self.now, []
-        if self.slot(now) != shown and any(self.comes(now, point.at, True) and self.holds(now, point) and self.counts(now, point)
+        if self.slot(now) != shown and any(self.comes(now, point.at, True) and self.meets(now, point) and self.counts(now, point)
                                            for point in points if not point.is_log and not isinstance(point.at, str)):
             return now, "breakpoint", ""
         watched = self.watched(now)
@@ -316,25 +259,15 @@ def place_text(place):
     return [kind, f"{int(numbers[0], 8):02o}", *(f"{int(number, 8):04o}" for number in numbers[1:])]
 
 
-def state(answers):
-    """Returns the slot, P and phase of the processors, and the numbers at the places, from the answers to an action and looks."""
-    words = [answer.split() for answer in answers[1:1 + PROCESSORS]]
-    channel = answers[3 + PROCESSORS].split()
-    values = {"M 0 20": answers[1 + PROCESSORS].split()[1], "H 1": channel[3], "S 1": channel[2],
-              **{f"A {int(one[1], 8):o}": one[5] for one in words}}
-    return int(words[0][-1], 8), [(one[3], one[9]) for one in words], values
-
-
 class Session(Case):
     """Sessions by the numbers of their seeds."""
 
     def session(self, seed):
         self.chance = chance = random.Random(seed)
-        lines, self.numbers = script(chance)
-        self.oracle = Oracle()
-        for line in lines:
-            self.oracle.act(line)
-        self.client = Client()
+        self.maker = Maker(seed, WATCHED)
+        lines, self.numbers = self.maker.script(), self.maker.processors
+        self.oracle = Oracle(lines)
+        self.client = Client(lines=chance.choice((None, None, 5000)))  # with few lines it goes on in fresh simulators
         self.addCleanup(self.client.end)
         history = chance.choice((None, 10000, 100, 50))
         self.what = f"seed {seed}, history {history}"
@@ -385,7 +318,7 @@ class Session(Case):
     def type(self, what):
         """Types a line."""
         count = self.chance.choice((1, 12, 100, 1000))
-        lines = (setting(self.chance, self.numbers), "BACK W", f"BACK {self.chance.randrange(1, 1 + count):o}",
+        lines = (self.setting(), "BACK W", f"BACK {self.chance.randrange(1, 1 + count):o}",
                  f"FORWARD {self.chance.randrange(1, 1 + count):o}", f"STEP {self.chance.randrange(1, 0o100):o}")
         line = self.chance.choice(lines)
         expected = self.oracle.act(line)
@@ -393,6 +326,13 @@ class Session(Case):
         if got == "OK" and line == "DEADSTART":
             self.client.event("stopped")
         self.assertEqual(expected, got, f"{what} {line}")
+
+    def setting(self):
+        """Returns a line that sets a number, begins or ends a watch, or goes back."""
+        self.maker.lines.clear()
+        self.chance.choice((self.maker.add_setting, self.maker.add_setting, self.maker.add_watch_near, self.maker.add_back,
+                            self.maker.add_start))()
+        return self.maker.lines[0].decode()
 
     def go(self, kind, number, expected, what):
         """Runs the machine, and compares why it stops."""
@@ -414,10 +354,11 @@ class Session(Case):
         """Compares where the machine is, what is ahead and what is watched."""
         oracle = self.oracle
         words = [self.client.typed(f"DUMP PP {one:o}").split() for one in range(PROCESSORS)]
-        history = {one["name"]: int(one["value"], 8) for one in self.client.ask("variables", variablesReference=5 << 8)["variables"]}
-        slot, where, _ = oracle.states[oracle.now]
-        self.assertEqual(({"turns": oracle.turns(oracle.now), "kept": oracle.now, "ahead": oracle.end - oracle.now, "slot": slot}, where),
-                         (history, [(one[3], one[9]) for one in words]), what)
+        found = self.client.ask("variables", variablesReference=SCOPES["history"])["variables"]
+        history = {one["name"]: int(one["value"], 8) for one in found}
+        state, kept = oracle.states[oracle.now], oracle.now
+        self.assertEqual({"turns": oracle.turns(kept), "kept": kept, "ahead": oracle.end - kept, "slot": state.slot}, history, what)
+        self.assertEqual([state.registers(number) for number in range(PROCESSORS)], [one[3:10:2] for one in words], what)
         watched = [" ".join(["W", *place_text(place)]) for place in oracle.watched(oracle.now)]
         self.assertEqual("\n".join(watched) or "W NONE", self.client.typed("DUMP W"), what)
 

@@ -4,7 +4,6 @@
 """
 
 import os
-import unittest
 from unittest import mock
 
 from tests.device_law import DUMPS, PANEL, FewStates, first_difference
@@ -335,7 +334,3 @@ class Paper(Case):
         self.assertEqual(PaperTape.start, session.state())
         session.act("FORWARD 1000")
         self.assertEqual(b"AB", tape.output(session.state()))
-
-
-if __name__ == "__main__":
-    unittest.main()

@@ -3,7 +3,6 @@
 import os
 import random
 import re
-import unittest
 from unittest import mock
 
 from tests.films import PageCase
@@ -188,13 +187,6 @@ class TapeFiles(Case):
             with self.subTest(data), self.assertRaises(Failure) as caught:
                 MagneticTape(path)
             self.assertEqual(f"{path} is no tape file: {message}", str(caught.exception))
-
-    def test_files_that_are_not_there_and_words(self):
-        for words, message in ((("/no/tape",), "can't read /no/tape: No such file or directory"),
-                               (((), "rong"), "the word after a tape is ring, and not rong")):
-            with self.assertRaises(Failure) as caught:
-                MagneticTape(*words)
-            self.assertEqual(message, str(caught.exception))
 
     def test_a_tape_is_saved_into_a_new_file_and_its_own_is_only_read(self):
         first, second = self.file(self.BYTES), self.path("new")
@@ -434,7 +426,7 @@ class Page(PageCase):
 
 
 class Options(Case):
-    """The words after --device."""
+    """The words after --device. tests/sessions/devices.txt has wrong ones."""
 
     def test_names(self):
         tape = write(self.path("tape"), TapeFiles.BYTES)
@@ -444,12 +436,6 @@ class Options(Case):
             device = device_of(f"{name}{words}@13")
             self.assertEqual((kind, 0o13), (type(device), device.channel))
         self.assertEqual(0o100000, device.fading)
-
-    def test_wrong_words(self):
-        for words, reason in (("magnetic_tape:,rong@5", "the word after a tape is ring, and not rong"),
-                              ("magnetic_tape:/no/tape@5", "can't read /no/tape: No such file or directory"),
-                              ("console_display:0@10", "what is drawn can't fade in less than a turn")):
-            self.assertEqual(("", f"talk: --device {words}: {reason}\n", 2), tool("talk", "--device", words))
 
 
 class Examples(Case):
@@ -473,7 +459,3 @@ class Examples(Case):
         self.written("magnetic-tape", "copy.py", "tape")
         found = [(len(block), *block[:1]) for block in read_tape(self.path("magnetic-tape"))]
         self.assertEqual([(14, 0o2410), (5, 0o2410), (13, 0o0116), (0,)], found)
-
-
-if __name__ == "__main__":
-    unittest.main()

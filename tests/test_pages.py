@@ -22,10 +22,10 @@ CONTRACTS = PROOFS["contracts"]()
 CRATES = [line.split(":")[0].split()[0] for line in read("crates.txt").splitlines()]
 
 # What the repository does not define: words of the kit and of the system, keys, what is installed, and what recipes invent.
-OTHERS = set("""crate doc lemma logic plant version specs proofs ghost prove inline auto using unfolding clause functions proof failed
-    --anew --allow-holes --fix-imports --only --start Display Read Write File cd echo cp gz tar zip Ctrl Shift Tab End Home WORD FILE
-    FILE.html FUNCTION word /usr/local ~/.local ~/.pp6600_history PREFIX/bin PREFIX/libexec/pp6600/tools share/pp6600/exercises
-    pp6600-VERSION-x86_64-linux.tar.gz work.html
+OTHERS = set("""ci crate doc lemma logic plant version specs proofs ghost prove inline auto using unfolding clause functions proof failed
+    --anew --allow-holes --fix-imports --only --start --test Display Read Write File cd echo cp gz python3 tar zip Ctrl Shift Tab
+    End Home WORD FILE FILE.html FUNCTION word /usr/local ~/.local ~/.pp6600_history PREFIX/bin PREFIX/libexec/pp6600/tools
+    share/pp6600/exercises pp6600-VERSION-x86_64-linux.tar.gz work.html
     WHO Who slot_text kept_text must-fail/who_shows_p.edit pp_console/who_shows_p""".split())
 COMMENT_OR_TEXT = re.compile(r'//[^\n]*|--[^\n]*|b?("(?:\\.|[^"\\])*")')
 OF_A_PROGRAM = re.compile(r"--?[a-z][a-z-]*|\b[A-Z][A-Z\d_]*\b|(?<=[\"'])\w+(?=[\"'])|(?<=def )\w+|(?<=class )\w+")

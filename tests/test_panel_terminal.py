@@ -6,7 +6,7 @@ import signal
 import subprocess
 import sys
 
-from tests.fixtures import DECK, LOADER, OVERWRITTEN
+from tests.fixtures import COUNTS, DECK, DISPLAYS, FAILS, LOADER, OVERWRITTEN, READS
 from tests.panels import PROGRAM, PanelCase, press
 from tests.support import PYTHON, TOP, read, run, write
 from tests.terminal import PATIENCE, Terminal
@@ -78,6 +78,25 @@ class Screens(TerminalCase):
                 with self.subTest(text, columns=columns):
                     self.assert_same_screen(terminal, press(panel, keys))
             self.assertEqual(set(), {32, 33, 36} - terminal.screen.colours)
+
+    def test_pictures(self):
+        """Without UTF-8 a braille symbol is a dot."""
+        for environment, begin in (UTF8, "\u2846"), (ASCII, "."):
+            words = "--device", "console_display@10", self.file(DISPLAYS)
+            terminal = self.started(*words, columns=160, rows=50, environment=environment)
+            terminal.type("200sv")
+            self.assert_shows(terminal, "closes this page")  # the last line, which is written last
+            self.assertEqual(begin, terminal.lines()[2].strip()[:1])
+            terminal.type("\x1b")
+            self.assert_shows(terminal, "q quit")
+
+    def test_device(self):
+        terminal = self.started("--device", f"paper_tape:{self.file('AB')}@11", self.file(READS))
+        for typed, shown in ("", "TURN 200"), ("63G", "TURN 63"), ("q", "q again quits"):
+            terminal.type(typed)
+            self.assert_shows(terminal, shown)
+        terminal.type("q")
+        self.assertEqual(0, terminal.status())
 
     def test_search_of_lines(self):
         """A processor that counts in one line: a search that has no end soon. Ctrl-C stops it."""
@@ -223,6 +242,13 @@ class Talk(TerminalCase):
         done = run(*self.TALK, script="help\n")
         self.assertEqual("> help\nERR 01 NOT A COMMAND\n", done.out, "over a pipe it is a line like any other")
 
+    def test_after_a_script(self):
+        """An interrupt does nothing; the terminal may show it as ^C."""
+        lines, status = self.talk("STEP 12", "\x03SET M 0 9 1", words=[self.file("STEP 13\n")])
+        self.assertEqual(["> STEP 13", "TURNS 13 SLOT 01", "13> STEP 12", "TURNS 12 SLOT 01", "25> SET M 0 9 1", "ERR 03 NUMBER",
+                          "  word 4: 9 is not octal", "25>"], [line.replace("^C", "") for line in lines])
+        self.assertEqual(1, status)
+
     def test_undo(self):
         """Back without a limit, and forward again; what is lost of what is ahead is said."""
         path = self.path("saved")
@@ -236,6 +262,11 @@ class Talk(TerminalCase):
             "ERR 07 TOO FEW KEPT", "  undo goes back over the 25 actions in effect", "24>"], lines)
         self.assertEqual(1, status)
         self.assertEqual(["SET A 1 7", "STEP 10", "STEP 11", "STEP 1", "STEP 2"], read(path).splitlines())
+
+    def test_it_goes_on_after_a_device_fails(self):
+        lines, status = self.talk("STEP 20", "undo", words=("--device", COUNTS, self.file(FAILS)))
+        said = "talk: function of Counts must return a state and a Reply, and returned (2, 5)"
+        self.assertEqual((["1> STEP 20", said, "1> undo", "BACK 1 SLOT 00", "0>"], 1), (lines[-5:], status))
 
     def test_reasons(self):
         """At a terminal a refusal has its reason, in show too."""

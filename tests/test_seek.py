@@ -1,5 +1,5 @@
 """What the tools find in runs, against a look at the machine after each action: turns at which something comes to be so, changes,
-traces, states, differences, and where the debug adapter stops.
+traces, states and differences.
 
     PP6600_SEEK=SEED:COUNT   tries COUNT random sessions from seed SEED on; the default is 0:10
 """
@@ -8,7 +8,6 @@ import os
 import random
 import re
 
-from tests.debug_client import Client
 from tests.generator import LOOPS, Maker
 from tests.oracle import Timeline
 from tests.support import Case, program, tool
@@ -124,58 +123,3 @@ class Compare(SeekCase):
 
     def test_random_sessions(self):
         self.each_session(self.check, COUNT // 2)
-
-
-class Debugged(SeekCase):
-    """Sessions with the debug adapter."""
-
-    MOVES = 8
-    ACTIONS = 2500  # of the script and after it that are searched
-
-    def check(self, chance, numbers, lines):
-        timeline = Timeline([program()], lines, [(number, 0o20, 0o20) for number in numbers], count=self.ACTIONS)
-        client = Client(lines=chance.choice((None, 5000)))  # with few lines it goes on in fresh simulators
-        history = chance.choice(({}, {"history": 10000}, {"history": 100}, {"history": 50}))
-        self.addCleanup(client.end)
-        script = self.file("".join(f"{line}\n" for line in lines))
-        shown = client.launch(script=script, processor=f"{numbers[0]:o}", **history)["threadId"] - 1
-        folder = os.path.dirname(client.ask("stackTrace", threadId=1)["stackFrames"][0]["source"]["path"])
-        for move in range(self.MOVES):
-            if not move % 3:
-                cells, places = self.set_breakpoints(client, chance, folder, numbers)
-            shown = self.move(client, chance, timeline, shown, cells, places, f"move {move}, history {history}")
-        self.assertEqual((0, ""), client.end())
-
-    @staticmethod
-    def set_breakpoints(client, chance, folder, numbers):
-        cells = {(chance.choice(numbers), f"{0o100 + chance.randrange(0o20):04o}") for _ in range(chance.randrange(4))}
-        for number in range(10):
-            client.ask("setBreakpoints", source={"path": f"{folder}/PP{number:02o}.pplist"},
-                       breakpoints=[{"line": int(cell, 8) + 1} for one, cell in sorted(cells) if one == number])
-        places = chance.sample(["H 1", f"M {numbers[0]:o} 20", *(f"A {number:o}" for number in numbers)], chance.randrange(3))
-        client.ask("setDataBreakpoints", breakpoints=[{"dataId": place} for place in places])
-        return cells, places
-
-    def move(self, client, chance, timeline, shown, cells, places, what):
-        """Makes a random move, and compares where it stops. Returns the processor that is shown."""
-        number = chance.choice((shown, chance.randrange(10)))
-        command = chance.choice(("continue", "continue", "continue", "reverseContinue", "reverseContinue", "stepIn", "stepBack"))
-        expected = {"continue": lambda: timeline.forward(shown, cells, places),
-                    "reverseContinue": lambda: timeline.back(cells, places),
-                    "stepIn": lambda: timeline.step(number, places), "stepBack": lambda: timeline.step_back(number)}[command]()
-        if expected is None:
-            return shown
-        stop = client.stop_after(command, threadId=number + 1)
-        timeline.now, reason = expected
-        words = [client.typed(f"DUMP PP {one:o}").split() for one in range(10)]
-        history = client.ask("variables", variablesReference=5 << 8)["variables"]
-        turns = next(one["value"] for one in history if one["name"] == "turns")
-        state = timeline.states[timeline.now]
-        self.assertEqual((reason, f"{timeline.turns(timeline.now):o}", state.slot, [state.registers(one) for one in range(10)]),
-                         (stop["reason"], turns, int(words[0][-1], 8), [one[3:10:2] for one in words]), f"{what}, {command}")
-        if reason == "breakpoint":
-            self.assertEqual(state.slot, stop["threadId"] - 1, what)
-        return stop["threadId"] - 1
-
-    def test_random_sessions(self):
-        self.each_session(self.check)

@@ -76,7 +76,7 @@ class Transcripts(Case):
         text = re.sub("^#.*\n|^\n", "", read(path), flags=re.M)
         begin, *parts = COMMAND.split(text)
         self.assertEqual("", begin)
-        for name in ("examples", "exercises", "tools"):
+        for name in ("examples", "exercises", "tests", "tools"):
             os.symlink(os.path.join(TOP, name), self.path(name))
         os.symlink(program(), self.path("pp6600"))
         write(self.path("bin", "at-terminal"), AT_TERMINAL, 0o755)

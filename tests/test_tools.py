@@ -7,7 +7,6 @@ import re
 from tests.fixtures import COMPLETES, WITH_FEW_LINES, at_terminal
 from tests.generator import BUSY, JUNK, Maker
 from tests.support import PYTHON, TOOLS, TOP, Case, names_of_codes, program, read, run, tool
-from tests.terminal import Terminal
 
 DEVICES = ("--central", "32", "--panel", "examples/dead-start/panel", "--deck", "examples/read-a-deck/deck")
 
@@ -128,24 +127,3 @@ class Answers(Case):
                 got = tool(name, "--help")
                 self.assertEqual(("", 0, "usage: "), (got.err, got.status, got.out[:7]))
                 self.assertEqual((f"{name} {read('VERSION')}", "", 0), tool(name, "--version"))
-
-
-class Talk(Case):
-    """A script, then what is typed, with a prompt."""
-
-    SCRIPT = "examples/first-steps/script"
-
-    def test_at_a_terminal(self):
-        words = os.path.join(TOP, "tools", "talk"), self.SCRIPT
-        terminal = Terminal(words, kind="dumb", folder=TOP, environment={"PP6600": program()})
-        self.addCleanup(terminal.close)
-        for text in "STEP 12\r", "\x03SET M 0 9 1\r", "\x04":
-            terminal.wait_until(lambda one: one.written.endswith(b"> "))
-            terminal.type(text)
-            terminal.read(1)  # the echo
-        status, got = terminal.status(), terminal.written.decode().replace("\r\n", "\n")
-        # The terminal shows the interrupt, which does nothing, as ^C.
-        shown = tool("show", self.SCRIPT).out
-        before, _, after = got.replace("^C", "").partition("13> STEP")
-        wanted = " 12\nTURNS 12 SLOT 01\n25> SET M 0 9 1\nERR 03 NUMBER\n  word 4: 9 is not octal\n25> \n"
-        self.assertEqual((shown, wanted, 1), (before, after, status))

@@ -1,32 +1,19 @@
-"""The pictures of devices in the panel, and the keys of a device. Expected values are those of docs/DEVICES.md and docs/PANEL.md."""
+"""Devices in the panel: their pictures and keys, and runs with them. Expected values are those of docs/DEVICES.md and docs/PANEL.md."""
 
-import os
-import unittest
+from tests.fixtures import COUNTS, DISPLAYS, FAILS, READS
+from tests.panels import PanelCase, bottom, press
+from tests.support import program, read
 
-from tests.panels import PROGRAM, PanelCase, bottom, press
-from tests.support import PYTHON, TOP
-from tests.terminal import Terminal
-
+from pp6600 import Console
+from pp6600.device_options import device_of
 from pp6600.devices.console_display import ConsoleDisplay
 from pp6600.devices.magnetic_tape import MagneticTape
-from pp6600.panel.app import Panel
-from pp6600.panel.session import Session
-
-# FNC 7002, ACN, LDN 4, OAM 0120, FJM *, DCN; FNC 7020, ACN, IAN, DCN, STD 20, UJN 0; X and Y, LI and FT
-SCRIPT = """SET M 0 100 7710 7002 7410 1404 7310 120 6610 106
-SET M 0 110 7510 7710 7020 7410 7010 7510 3420 300
-SET M 0 120 6000 7400 1411 624
-SET P 0 100
-"""
+from pp6600.devices.paper_tape import PaperTape
 
 
 class Pictures(PanelCase):
-    def panel_with(self, *devices, size=(80, 24)):
-        panel = Panel(Session([PROGRAM], devices))
-        self.addCleanup(panel.session.close)
-        panel.resize(*size)
-        panel.perform_script(SCRIPT.splitlines())
-        return panel
+    def panel_with(self, *devices, **how):
+        return self.panel(DISPLAYS, devices=devices, **how)
 
     def shown(self, panel, keys):
         """Presses keys. Returns the lines of the screen that are not blank."""
@@ -81,21 +68,50 @@ class Pictures(PanelCase):
             self.assertEqual("no device shows a picture; --device console_display@10 is one that does", bottom(panel, "v"))
             self.assertEqual("no device has keys; --device console_display@10 is one that has some", bottom(panel, "Ka<Enter>"))
 
-    def test_in_a_terminal(self):
-        """Without UTF-8 a braille symbol is a dot."""
-        tool = [*PYTHON, os.path.join(TOP, "tools", "panel")]
-        for locale, begin in (("C.UTF-8", "\u2846"), ("C", ".")):
-            terminal = Terminal([*tool, "--program", PROGRAM, "--device", "console_display@10", self.file(SCRIPT)], columns=160, rows=50,
-                                environment={"LC_ALL": locale})
-            self.addCleanup(terminal.close)
-            self.assertIsNotNone(terminal.shows("q quit"))
-            terminal.type("200sv")
-            self.assertIsNotNone(terminal.shows("closes this page"))  # the last line, which is written last
-            rows = [row.strip() for row in terminal.screen.text() if row.strip()]
-            self.assertEqual(begin, rows[2][:1])
-            terminal.type("\x1b")
-            self.assertIsNotNone(terminal.shows("q quit"))
 
+class Runs(PanelCase):
+    def at(self, panel):
+        """Returns the turn, the word at 0201, the next byte of the tape, and how many units are ahead."""
+        session = panel.session
+        return session.history.turns, session.state.memories[0].word(0o201), session.simulator.state().place, session.history.to_redo
 
-if __name__ == "__main__":
-    unittest.main()
+    def test_to_and_fro(self):
+        panel = self.wide_panel(READS, devices=[PaperTape(b"AB")])
+        for keys, *wanted in (("", 0o200, "0102", 2, 0), ("b", 0o177, "0102", 2, 1), ("B", 0o165, "0102", 2, 0o13),
+                              ("<", 0, "0000", 0, 0o202),
+                              (">", 0o200, "0102", 2, 0), ("62G", 0o62, "0000", 2, 0o116), ("s", 0o63, "0102", 2, 0o115),
+                              ("50G", 0o50, "0000", 1, 0o130), ("s", 0o51, "0000", 2, 0o127), (">3s", 0o203, "0102", 2, 0)):
+            with self.subTest(keys):
+                press(panel, keys)
+                self.assertEqual(tuple(wanted), self.at(panel))
+
+    def test_saved(self):
+        panel, path = self.wide_panel(READS, devices=[PaperTape(b"AB")]), self.path("saved")
+        press(panel, "60GSSty", f"w{path}<Enter>")
+        console = Console([program()])
+        self.addCleanup(console.close)
+        lines = read(path).splitlines()
+        self.assertEqual(["* A session of panel.", *READS.splitlines()[:2], "STEP 1", "* DEVICE PaperTape", "SET H 11 I"], lines[:6])
+        list(console.ask_each(lines))
+        for line in "DUMP PP 0", "DUMP M 0 200 203", "DUMP H", "DUMP W":
+            self.assertEqual(panel.session.simulator.ask(line), console.ask(line))
+
+    def test_origin_and_changes(self):
+        panel = self.wide_panel(READS, devices=[PaperTape(b"AB")])
+        lines = press(panel, "g201<Enter>c")
+        self.assertIn("H 11 0102 TURN 51 DEVICE PaperTape", "\n".join(lines))
+        press(panel, "<Down><Enter>")  # to before the turn of the reply
+        self.assertEqual((0o50, "0000", 1), self.at(panel)[:3])
+        self.assertEqual("NONE: P 0 = 77, in turns 51 to 200", bottom(panel, "uP 0 = 77<Enter>"))
+        self.assertEqual("the next turn, PP 00 in the block of IAM 11 at 0104, makes the change", bottom(panel, ">gH 11<Enter>W"))
+        self.assertEqual((0o50, "0000", 1), self.at(panel)[:3])
+
+    def test_a_device_fails(self):
+        panel = self.wide_panel(FAILS, devices=[device_of(COUNTS)])
+        channel = panel.session.state.channels[0o11]
+        self.assertEqual("function of Counts must return a state and a Reply, and returned (2, 5)", bottom(panel, "12s"))
+        session = panel.session
+        self.assertEqual((1, 1, channel, None),
+                         (session.history.turns, session.simulator.state(), session.state.channels[0o11], panel.fault))
+        press(panel, "b")
+        self.assertEqual((0, 0), (panel.session.history.turns, panel.session.simulator.state()))
