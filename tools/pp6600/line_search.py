@@ -6,8 +6,8 @@ all instructions that a macro made of a line, and a block transfer with the inst
 
 from itertools import islice
 
-from .core.forms import PROCESSORS
-from .core.probe import Probe, all_registers, word_dumps
+from .core.forms import PROCESSORS, word_dumps, words_of
+from .core.probe import Probe, all_registers
 from .core.seek import spans
 from .core.simulator import Replay
 from .core.tape import STEP, Tape
@@ -99,7 +99,7 @@ class Lines:
             self.registers = registers[:4] + registers[-4:]
         stops = [(position, word_dumps(self.number, address)) for position, address in asked]
         answers = self.run.look_at([*stops, (self.run.position, [])])
-        return {position: self.line_of(address, [word for line in answer for word in line.split()[1:]])
+        return {position: self.line_of(address, words_of(row for rows in answer.values() for row in rows))
                 for (position, address), answer in zip(asked, answers)}
 
 

@@ -55,7 +55,7 @@ class Tracer:
         wait, listed = " WAITS" if waited else "", self.listed(made.slot, before)
         if self.channel is None:
             return f"{text} Q {before.registers['Q']} PHASE {before.registers['PHASE']}{wait}{listed}"
-        was, now = (lines[self.channel][5:] for lines in (made.lines_before, made.lines_after))
+        was, now = (answers[CHANNELS_DUMP][self.channel][5:] for answers in (made.answers_before, made.answers_after))
         touched = before.uses(self.channel) and not waited or was != now
         step = f"H {self.channel:02o} {was if was == now else f'{was} -> {now}'}"
         return f"{text}{wait} {step}{fate_of_word(before, after, was, now)}{listed}" if touched else None

@@ -13,8 +13,8 @@ from typing import Dict, Iterator, List, NamedTuple, Optional, Sequence, Set, Tu
 
 from ..failure import Failure
 from .forms import (
-    CELLS, CHANNELS_DUMP, CLOCK, FORMS, MOST_TURNS, PROCESSORS, REGISTERS, ROW, ROWS, Dump, Place, Registers, cells_dump,
-    central_dump, registers_dump, registers_of)
+    CHANNELS_DUMP, CLOCK, FORMS, MOST_TURNS, PROCESSORS, REGISTERS, ROW, ROWS, Answers, Dump, Place, Registers, cells_dump,
+    central_dump, registers_dump, registers_of, word_dumps, words_of)
 from .simulator import MARK, Simulator
 from .turn import Processor
 
@@ -220,37 +220,28 @@ def idle_processors(simulator: Simulator, first: int, last: int) -> Set[int]:
 
 
 class Made(NamedTuple):
-    """A turn that was made: the processor before it and its registers after it, and the lines of more dumps before and after."""
+    """A turn that was made: the processor before it its registers after it, and the answers to dumps before and after."""
 
     position: int  # before it
     slot: int
     processor: Processor
     after: Registers
-    lines_before: List[str]
-    lines_after: List[str]
+    answers_before: Answers
+    answers_after: Answers
 
 
 def read_turns(simulator: Simulator, positions: Sequence[int], dumps: Sequence[Dump] = ()) -> List[Made]:
     """Reads the turns after some positions, all at once and in two passes, for the words of an instruction are at an address that the
     first one reads. All are kept, or ahead; the simulator stays where it is."""
     here, slots = simulator.position, [simulator.tape.slot(position) for position in positions]
-    stops = [stop for position, slot in zip(positions, slots) for stop in (
-        (position, [registers_dump(slot), *dumps]), (position + 1, [registers_dump(slot), *dumps]))]
-    answers = simulator.look_at([*stops, (here, [])])[:-1]
-    before, after = answers[::2], answers[1::2]
-    registers = [registers_of(lines[0]) for lines in before]
-    of_words = [word_dumps(slot, int(one["P"], 8)) for slot, one in zip(slots, registers)]
+    stops = [(position + more, [registers_dump(slot), *dumps]) for position, slot in zip(positions, slots) for more in (0, 1)]
+    looks = simulator.look_at([*stops, (here, [])])
+    before, after = looks[:-1:2], looks[1::2]
+    registers = [[registers_of(answers[registers_dump(slot)][0]) for slot, answers in zip(slots, one)] for one in (before, after)]
+    of_words = [word_dumps(slot, int(was["P"], 8)) for slot, was in zip(slots, registers[0])]
     words = simulator.look_at([*zip(positions, of_words), (here, [])])
-    return [Made(position, slot, Processor(one, [word for line in lines for word in line.split()[1:]]), registers_of(then[0]),
-                 was[1:], then[1:])
-            for position, slot, one, lines, was, then in zip(positions, slots, registers, words, before, after)]
-
-
-def word_dumps(number: int, address: int) -> List[Dump]:
-    """Returns the dumps of the two words from an address on; after cell 7777 comes cell 0000."""
-    if address + 1 < CELLS:
-        return [cells_dump(number, address, address + 1)]
-    return [cells_dump(number, address, address), cells_dump(number, 0, 0)]
+    return [Made(position, slot, Processor(was, words_of(row for rows in cells.values() for row in rows)), now, *answers)
+            for position, slot, was, now, cells, *answers in zip(positions, slots, *registers, words, before, after)]
 
 
 def all_registers(number: int) -> Column:

@@ -8,7 +8,7 @@ from __future__ import annotations
 
 from typing import Callable, Iterator, List, NamedTuple, Optional, Protocol, Sequence, Tuple
 
-from .forms import CLOCK, PROCESSORS
+from .forms import CLOCK, PROCESSORS, Answers
 from .probe import Column, Looks, Made, Probe, read_turns
 from .simulator import Simulator
 from .turn import Processor
@@ -114,7 +114,7 @@ class Search:
         column before the first look, and at each."""
         made = read_turns(self.simulator, [looks.position + looks.ends[at] - 1 for at in comes], [column.dump for column in self._shown])
         for at, turn in zip(comes, made):
-            was, now = self._numbers(turn.lines_before), self._numbers(turn.lines_after)
+            was, now = self._numbers(turn.answers_before), self._numbers(turn.answers_after)
             if self._is_told:
                 name = self.predicate.numbers[0].name
                 was, now = [(name, numbers[at])], [(name, numbers[at + 1])]
@@ -129,13 +129,9 @@ class Search:
     def _shown(self) -> List[Column]:
         return [] if self._is_told else self.predicate.numbers
 
-    def _numbers(self, lines: List[str]) -> List[Tuple[str, str]]:
-        """Returns names and digits of the numbers that are shown, from the answers."""
-        found, at = [], 0
-        for column in self._shown:
-            found += column.numbers(lines[at:at + column.dump.lines])
-            at += column.dump.lines
-        return found
+    def _numbers(self, answers: Answers) -> List[Tuple[str, str]]:
+        """Returns names and digits of the numbers that are shown."""
+        return [number for column in self._shown for number in column.numbers(answers[column.dump])]
 
     def _difference(self, before: List[Tuple[str, str]], after: List[Tuple[str, str]]) -> Tuple[List[Tuple[str, str, str]], bool]:
         """Returns the numbers before and after a turn, of a range of cells those that differ; and whether they have names."""

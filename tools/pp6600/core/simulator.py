@@ -11,14 +11,14 @@ from __future__ import annotations
 import functools
 import re
 from itertools import islice
-from typing import Iterable, Iterator, List, Optional, Sequence, Tuple
+from typing import Dict, Iterable, Iterator, List, Optional, Sequence, Tuple
 
 from ..failure import Failure
 from ..choice import default_program
 from ..pipe import Pipe
 from .forms import (
-    ANSWER, CHANNELS_DUMP, FRAME_DUMP, MOST_TURNS, PROCESSORS, Dump, Place, Registers, cells_dump, central_dump, fields, is_refusal,
-    kind_of, refused, registers_dump, registers_of)
+    ANSWER, CHANNELS_DUMP, FRAME_DUMP, MOST_TURNS, PROCESSORS, Answers, Dump, Place, Registers, cells_dump, central_dump, fields,
+    is_refusal, kind_of, refused, registers_dump, registers_of, word_dumps, words_of)
 from .notebook import table_of
 from .tape import STEP, Action, History, Tape, lines_of, room_of
 from .turn import Processor
@@ -175,13 +175,11 @@ class Console:
 
     def cells(self, processor: int, first: int, last: int) -> List[str]:
         """Returns the words of the cells from first to last."""
-        return [word for row in self.dump(cells_dump(processor, first, last)) for word in row.split()[1:]]
+        return words_of(self.dump(cells_dump(processor, first, last)))
 
     def words_at(self, processor: int, address: int) -> List[str]:
         """Returns the words of two cells; after cell 7777 comes cell 0000."""
-        if address < 0o7777:
-            return self.cells(processor, address, address + 1)
-        return self.cells(processor, address, address) + self.cells(processor, 0, 0)
+        return words_of(row for dump in word_dumps(processor, address) for row in self.dump(dump))
 
     def processor(self, number: int) -> Processor:
         """Returns a processor as it is now."""
@@ -410,21 +408,24 @@ class Simulator(Console):
 
     # ---- many looks at once
 
-    def look_at(self, stops: Sequence[Tuple[int, Sequence[Dump]]]) -> List[List[str]]:
-        """Goes to one position after the other, all within what it keeps or ahead, and asks dumps there, all at once. Returns for each
-        stop the lines of the answers."""
+    def look_at(self, stops: Sequence[Tuple[int, Iterable[Dump]]]) -> List[Answers]:
+        """Goes to one position after the other, all within what it keeps or ahead, and asks dumps there, all at once. Returns the
+        answers at each stop."""
         lines: List[str] = []
-        parts = []  # of each stop: how many lines of answers come before those to its dumps, and how many these are
+        parts: List[Dict[Dump, slice]] = []  # of each stop: where the answers to its dumps are
         position, total = self.position, 0
         for stop, dumps in stops:
             moves = [f"{'BACK' if stop < position else 'FORWARD'} {abs(stop - position):o}"] if stop != position else []
-            lines += [*moves, *(dump.line for dump in dumps)]
-            parts.append(slice(total + len(moves), total + len(moves) + sum(dump.lines for dump in dumps)))
-            position, total = stop, parts[-1].stop
+            position, total = stop, total + len(moves)
+            parts.append({})
+            for dump in dict.fromkeys(dumps):
+                parts[-1][dump] = slice(total, total + dump.lines)
+                total += dump.lines
+            lines += [*moves, *(dump.line for dump in parts[-1])]
         self.renew(len(lines))
         answers = self.bulk("".join(f"{line}\n" for line in lines), len(lines), total)
         self.history.moved(position - self.position)
-        return [answers[part] for part in parts]
+        return [{dump: answers[cut] for dump, cut in part.items()} for part in parts]
 
 
 class Replay(Simulator):

@@ -6,8 +6,8 @@ and of a data breakpoint after the change. That a number changes, or that a proc
 from typing import Dict, NamedTuple
 
 from ..conditions import Changes, Waits
-from ..core.forms import Dump
-from ..core.probe import Column, Looks, word_dumps
+from ..core.forms import Dump, word_dumps, words_of
+from ..core.probe import Column, Looks
 from ..core.seek import Seen
 from .breakpoints import Cell, Point
 from .machine import latest_turn
@@ -32,20 +32,15 @@ class Sights:
         here, order = scout.position, sorted(wanted)
         scout.goto(order[0])
         scout.goto(order[-1])
-        for position, lines in zip(order, scout.look_at([(position, list(wanted[position])) for position in order])):
-            at = 0
-            for dump in wanted[position]:
-                self.answers[position, dump] = lines[at:at + dump.lines]
-                at += dump.lines
+        self.answers = dict(zip(order, scout.look_at([(position, wanted[position]) for position in order])))
         scout.goto(here)
 
     def value(self, position, column):
-        return column.value(self.answers[position, column.dump])
+        return column.value(self.answers[position][column.dump])
 
     def words(self, position, cell):
         """Returns the words of a cell and the one after it."""
-        lines = [line for dump in word_dumps(*cell) for line in self.answers[position, dump]]
-        return [word for line in lines for word in line.split()[1:]]
+        return words_of(row for dump in word_dumps(*cell) for row in self.answers[position][dump])
 
 
 class Judge:

@@ -10,7 +10,7 @@ import heapq
 from itertools import chain
 from typing import FrozenSet, NamedTuple, Optional, Tuple
 
-from ..core.forms import MOST_TURNS, MOST_WATCHES, PROCESSORS, Place, registers_dump
+from ..core.forms import MOST_TURNS, MOST_WATCHES, PROCESSORS, Place
 from ..core.probe import ROUNDS, Column, Probe
 from ..core.simulator import MARK
 from .breakpoints import Point
@@ -191,11 +191,11 @@ class Search:
         scout, slot = self.scout, self.tape.slot
         scout.goto(first)
         scout.goto(last)
-        probe = Probe(scout, list(map(Column.of_place, self.places)))
-        looks = scout.look_at([(at, [registers_dump(slot(at)), *probe.dumps]) for at in range(first, last + 1)])
-        answers = list(chain.from_iterable(looks))
-        values = (column.values(answers, probe.layout[column.dump], probe.width) for column in probe.columns)
-        rows = list(zip(map(place_in, column_of(0).values(answers, 0, probe.width)), *values))
+        of_places = list(map(Column.of_place, self.places))
+        columns = [[column_of(slot(at)), *of_places] for at in range(first, last + 1)]
+        looks = scout.look_at([(at, [column.dump for column in some]) for at, some in enumerate(columns, first)])
+        rows = [[column.value(answers[column.dump]) for column in some] for some, answers in zip(columns, looks)]
+        rows = [(place_in(registers), *numbers) for registers, *numbers in rows]
         yield from zip(range(first, last), rows, rows[1:])
 
 

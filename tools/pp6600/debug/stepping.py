@@ -113,7 +113,7 @@ class Stepper:
             turns = [at for at in range(first, end) if tape.slot(at) == self.number and next(tape.actions(at)).turns]
             sights = Sights(self.scout, {at: {dump: None} for at in turns})
             for at in reversed(turns):
-                registers = registers_of(sights.answers[at, dump][0])
+                registers = registers_of(sights.answers[at][dump][0])
                 yield at, int(registers["P"], 8), registers["PHASE"] != "0000"
             end, span = first, min(WIDER * span, FARTHEST)
 
