@@ -9,6 +9,7 @@ from ..listing import AllSymbols
 from ..text_files import bytes_of
 from .search import DEADSTART, LINE_END, PAPER, PRINTER, READER, SET, START, TICK, TURN, Search
 
+MOST_STEPS = 0o40  # by processors, without --all
 INDENT = "  "
 NOTE = re.compile(r"[ \t]*([*].*)?\r?")
 

@@ -1,6 +1,7 @@
 """The session of the panel: lines sent to the simulator, what they answered, and the machine's state after them."""
 
 import os
+from contextlib import closing
 from typing import NamedTuple
 
 from ..core.forms import hit_of, is_refusal
@@ -93,11 +94,8 @@ class Session:
 
     def would_refuse(self, line):
         """Returns whether a new action would be refused: whether another simulator, which watches the same places, refuses it."""
-        other = Console(self.simulator.words)
-        try:
+        with closing(Console(self.simulator.words)) as other:
             *_, answer = other.ask_each([*(f"WATCH {place}" for place in self.watched()), line])
-        finally:
-            other.close()
         return is_refusal(answer)
 
     def send(self, line):
