@@ -29,7 +29,7 @@ def listing(first, words):
 
 def deck(words):
     """Returns cards with as many words as they have columns."""
-    return [" ".join(words[at:at + COLUMNS_OF_CARD]) for at in range(0, len(words), COLUMNS_OF_CARD)]
+    return map(" ".join, in_rows(words, COLUMNS_OF_CARD))
 
 
 def panel(words):

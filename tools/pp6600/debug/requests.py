@@ -4,7 +4,8 @@ import base64
 import binascii
 
 from ..calls import calls, sentence
-from ..core.forms import CELLS, PROCESSORS, ROW
+from ..cells import set_lines
+from ..core.forms import CELLS, PROCESSORS
 from .breakpoints import Cell
 from .listings import instruction
 from .protocol import Refused
@@ -175,8 +176,8 @@ class Requests:
         words = [f"{int.from_bytes(data[at:at + 2], 'big'):04o}" for at in range(0, len(data), 2)]
         if cell.address + len(words) > CELLS:
             raise Refused("that goes past cell 7777")
-        for at in range(0, len(words), ROW):
-            self.set_number(f"SET M {cell.number:o} {cell.address + at:o} {' '.join(words[at:at + ROW])}")
+        for line in set_lines(cell.number, cell.address, words):
+            self.set_number(line)
         return {"bytesWritten": len(data)}
 
     def do_disassemble(self, memoryReference, instructionCount, offset=0, instructionOffset=0, **_):
