@@ -1,5 +1,6 @@
 """Conditions on the machine, as P 0 = 105 and PP 3 waits: what each is about, and whether it holds at looks at the machine."""
 
+import functools
 import operator
 import re
 
@@ -16,29 +17,15 @@ OF_A_PROCESSOR = ("M", "A", "P", "Q")
 RJM = "RJM"
 
 
-class Memo(dict):
-    """The verdicts on numbers, by their digits."""
-
-    def __init__(self, test):
-        super().__init__()
-        self.test = test
-
-    def __missing__(self, digits):
-        verdict = self[digits] = self.test(digits)
-        return verdict
-
-
 class Is:
     """Whether a number is as it must be."""
 
     def __init__(self, column, test):
-        self.column = column
-        self.memo = Memo(test)
+        self.column, self.test = column, functools.lru_cache(maxsize=None)(test)
 
     def verdicts(self, values, seen):
         """Returns whether it holds at each look, by the digits of the column there."""
-        memo = self.memo
-        return [memo[value] for value in values]
+        return list(map(self.test, values))
 
 
 class Changes:
