@@ -136,6 +136,7 @@ BLOCK_GOES_ON = {code: one.goes_on_in for code, one in IN_BLOCK.items() if one.g
 WAITS_FOR = {code: STATES_WORDS[states] for code, states in {**COMPLETES, **BLOCK_GOES_ON}.items()}
 RELATIVE_JUMPS = range(0o03, 0o10)
 CHANNEL_JUMPS = range(0o64, 0o70)
+CONDITIONAL_JUMPS = (*RELATIVE_JUMPS, *CHANNEL_JUMPS)
 CHANNEL_CODES = range(0o64, 0o100)
 # Whose operand's address is in cell d; and m, to which cell d is added if d is not 0. Of all others it is d.
 INDIRECT, INDEXED = range(0o40, 0o50), (0o01, 0o02, *range(0o50, 0o60))
@@ -325,15 +326,9 @@ class Turn:
 
     def writes(self) -> List[Write]:
         """Returns what it wrote. That P goes on to the next instruction, or a block to its next cell, is no write."""
-        found = []
-        for effect in self.effects():
-            if effect.place == "P" and self._is_conditional() and not self.jumped():
-                continue
-            found += self._writes_of(effect)
-        return found
-
-    def _is_conditional(self) -> bool:
-        return not self.processor.phase and self.processor.code in (*RELATIVE_JUMPS, *CHANNEL_JUMPS)
+        is_conditional = not self.processor.phase and self.processor.code in CONDITIONAL_JUMPS
+        return [write for effect in self.effects() if effect.place != "P" or not is_conditional or self.jumped()
+                for write in self._writes_of(effect)]
 
     def addresses(self) -> List[Place]:
         """Returns the places that say where it read or wrote: cell d of an indirect or indexed address, and A."""
@@ -376,21 +371,13 @@ class Turn:
         if place == "C20":
             return [Write(word, True, (Source(Place("XP", (at,))),)) for at, word in enumerate(self._central(FRAME_WORDS)) if word]
         if place == "F20":
-            return [self._frame_word(at, word) for at, word in enumerate(self._central(FRAME_WORDS))]
+            words = enumerate(self._central(FRAME_WORDS))
+            return [of_word(Place("XP", (at,)), word, None if at else WITHOUT_B_FIELD) for at, word in words]
         if sources == ("C",):
             (word,) = self._central()
-            return [self._part(cell, word, at) for at, cell in enumerate(self._cells(place))]
+            return [of_word(cell, word, (at,)) for at, cell in enumerate(self._cells(place))]
         read, constants = self._read(effect)
         return [Write(one, effect.is_moved, read, constants) for one in self._places(place)]
-
-    @staticmethod
-    def _frame_word(at: int, word: Optional[Place]) -> Write:
-        sources = (Source(word, WITHOUT_B_FIELD if at == 0 else None),) if word else ()
-        return Write(Place("XP", (at,)), True, sources, () if word else (NO_WORD,))
-
-    @staticmethod
-    def _part(cell: Place, word: Optional[Place], part: int) -> Write:
-        return Write(cell, True, (Source(word, (part,)),) if word else (), () if word else (NO_WORD,))
 
     def _read(self, effect: Effect) -> Tuple[Tuple[Source, ...], Tuple[str, ...]]:
         """What an effect read: the sources, and the constants."""
@@ -409,6 +396,11 @@ class Turn:
     def _has_cleared_its_return(self) -> bool:
         """Whether the end of an input put its zero into cell 0000, from which P comes in the same turn."""
         return self.effects() is AT_END_OF_INPUT and self.processor.registers["P"] == "0000"
+
+
+def of_word(place: Place, word: Optional[Place], parts: Optional[Tuple[int, ...]]) -> Write:
+    """Returns the write of a place from these parts of a central word, or from one that is not there."""
+    return Write(place, True, (Source(word, parts),) if word else (), () if word else (NO_WORD,))
 
 
 def address_is_in_cell(word: int) -> bool:
