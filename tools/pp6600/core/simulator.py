@@ -201,7 +201,11 @@ class Console:
     @functools.cached_property
     def central_size(self) -> int:
         """Returns how many words central memory has."""
-        return self.size_of_central()
+        for size in SIZES_OF_CENTRAL:
+            answer = self.ask(f"DUMP C {size - 1:o} {size - 1:o}")
+            if answer and answer[0].startswith("C "):
+                return size
+        raise self.nonsense("ERR 04 RANGE")
 
     @functools.cached_property
     def reader_channel(self) -> int:
@@ -210,14 +214,6 @@ class Console:
     @functools.cached_property
     def printer_channel(self) -> int:
         return int(fields("LP", self.printer()[0])["channel"], 8)
-
-    def size_of_central(self) -> int:
-        """Returns how many words central memory has."""
-        for size in SIZES_OF_CENTRAL:
-            answer = self.ask(f"DUMP C {size - 1:o} {size - 1:o}")
-            if answer and answer[0].startswith("C "):
-                return size
-        raise self.nonsense("ERR 04 RANGE")
 
     def frame(self) -> List[str]:
         """Returns a line for each word of the exchange package."""

@@ -209,4 +209,4 @@ def differences(one: Sequence[str], other: Sequence[str], processor: int = 0) ->
 
 def central_of(console: Console) -> List[str]:
     """Returns a line for each central word."""
-    return console.ask_all([f"DUMP C 0 {console.size_of_central() - 1:o}", MARK])[:-1]
+    return console.ask_all([f"DUMP C 0 {console.central_size - 1:o}", MARK])[:-1]

@@ -47,7 +47,7 @@ class Transcript(Log):
         console = Console(words)
         self.script = Script(console, lines, self._took)
         self.end = console.ask_all(questions())
-        self.size = console.size_of_central()
+        self.size = console.central_size
         console.end()
 
     def _took(self, line, answer, turns):

@@ -47,7 +47,7 @@ class Session:
     def __init__(self, words, devices=()):
         self.simulator = timeline(words, devices)
         self.most_new = 0 if devices else MOST_NEW  # a search has no devices
-        self.size = self.simulator.size_of_central()
+        self.size = self.simulator.central_size
         self.lines_sent = 0
         self.saved = (0, 0)  # the lines that are in a file
         self.log = []
