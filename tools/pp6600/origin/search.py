@@ -3,6 +3,7 @@ still asked for."""
 
 from ..core.forms import CELLS, CLOCK, PROCESSORS, Place, fields
 from ..core.probe import idle_processors
+from ..core.seek import halve
 from ..core.tape import STEP
 from ..core.turn import places_of_setting
 from ..core.window import Window
@@ -108,9 +109,6 @@ class Search:
             return None
         return {part for link in links for part in link.parts}
 
-    def _is_followed(self):
-        return self.most_steps is None or self.count < self.most_steps
-
     def _follow(self, step, parts, position):
         """Asks for the sources of a step; of a central word or a word of the frame so many parts are asked for."""
         turn, write = step.turn, step.write
@@ -123,7 +121,7 @@ class Search:
         if self.with_addresses:
             step.addresses = [Link(step, place) for place in turn.addresses()]
         step.code = [Link(step, place) for place in self._written_words(step)]
-        if self._is_followed():
+        if self.most_steps is None or self.count < self.most_steps:
             for link in (*step.links, *step.addresses, *step.code):
                 self._ask(link, position)
 
@@ -156,16 +154,11 @@ class Search:
         for place in list(self.asked):
             self._found(Step(place, START))
 
-    def _processors(self):
-        """Returns the processors that may have written what is asked for."""
-        if any(place.kind not in OF_A_PROCESSOR for place in self.asked):
-            return set(range(PROCESSORS))
-        return {place.numbers[0] for place in self.asked}
-
     def _needed(self, part):
         """Returns the processors whose turns are read in a run of turns. Those that only pass write nothing, but devices act in their
         turns too."""
-        processors = self._processors()
+        is_of_all = any(place.kind not in OF_A_PROCESSOR for place in self.asked)
+        processors = set(range(PROCESSORS)) if is_of_all else {place.numbers[0] for place in self.asked}
         if part not in self.idle:
             self.idle[part] = idle_processors(self.run, self.tape.starts[part], self.tape.starts[part + 1])
         return processors if self.asked.keys() & self.of_devices else processors - self.idle[part]
@@ -233,24 +226,21 @@ class Search:
     def _symbol(self, index, position):
         """Returns the step that printed a symbol, and the position from which its source is searched. The paper only grows, so
         its turn is found by halves."""
-        self.run.goto(position)
-        count = symbols_of(self.run.printer()[0])
+        def count_at(position):
+            self.run.goto(position)
+            return int(fields("LP", self.run.printer()[0])["SYMBOLS"], 8)
+
+        count = count_at(position)
         if index >= count:
             raise Failure(f"the paper has {count:o} symbols (octal), from LP 0 on" if count else "nothing is on the paper")
-        low, high = 0, position
-        while low < high:
-            middle = (low + high) // 2
-            self.run.goto(middle)
-            low, high = (low, middle) if symbols_of(self.run.printer()[0]) > index else (middle + 1, high)
-        self.run.goto(low - 1)
-        before = symbols_of(self.run.printer()[0])
-        self.run.goto(low)
-        step = Step(Place("LP", (index,)), PAPER, low, index - before)
+        printed = halve(0, position, lambda middle: count_at(middle) > index)
+        step = Step(Place("LP", (index,)), PAPER, printed, index - count_at(printed - 1))
+        self.run.goto(printed)
         step.number = symbol_of(self.run.printer(), index)
         link = Link(step, Place("H", (self.run.printer_channel,)))
         step.links = [link]
-        self._ask(link, low)
-        return step, low
+        self._ask(link, printed)
+        return step, printed
 
     def _read_numbers(self):
         """Reads the number of each step after its write, from the earliest to the latest."""
@@ -295,11 +285,6 @@ def wanted_sources(write, parts):
     wanted = [(place, tuple(sorted(part for part in parts if of_source is None or part in of_source)))
               for place, of_source in write.sources]
     return [(place, some) for place, some in wanted if some]
-
-
-def symbols_of(line):
-    """Returns how many symbols are on the paper, from the line of the printer."""
-    return int(fields("LP", line)["SYMBOLS"], 8)
 
 
 def symbol_of(answer, index):
