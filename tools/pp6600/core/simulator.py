@@ -252,11 +252,6 @@ class Console:
 
     # ---- turns
 
-    def advance(self, turns: int) -> None:
-        """Makes so many turns, while nothing is watched."""
-        for line in lines_of(Action(STEP, turns)):
-            self.question(line, [f"TURNS {line.split()[1]} "])
-
     def step(self, turns: int = 1) -> List[str]:
         """Makes so many turns. Returns the lines of the answers, with a HIT for each change of a watched number."""
         return [line for _, answer in self.steps(turns) for line in answer]
