@@ -250,7 +250,7 @@ class Adapter(Requests, Setting):
         return {"allThreadsContinued": True}
 
     def do_reverseContinue(self, threadId=1, **_):
-        self.begin(threadId, self.run_back)
+        self.begin(threadId, lambda: self.run(Runner.back, "entry", BEGINNING))
 
     def do_stepIn(self, threadId, **_):
         self.begin(threadId, lambda: self.step(self.stepper().runner.step))
@@ -269,8 +269,8 @@ class Adapter(Requests, Setting):
     def do_stepBack(self, threadId, granularity="statement", **_):
         self.begin(threadId, lambda: self.step_back(granularity))
 
-    def runner(self, goes_on=None):
-        return Runner(self.machine, self.points, goes_on or self.goes_on, self.write_log)
+    def runner(self):
+        return Runner(self.machine, self.points, self.goes_on, self.write_log)
 
     def stepper(self):
         """Returns what steps the processor of a request."""
@@ -278,9 +278,6 @@ class Adapter(Requests, Setting):
 
     def run_on(self):
         self.run(lambda runner: runner.forward(self.shown), "pause", "")
-
-    def run_back(self):
-        self.run(Runner.back, "entry", BEGINNING)
 
     def run(self, way, otherwise, text):
         """Runs, and reports the stop. If there is none, it is a pause, or another reason with a text."""
