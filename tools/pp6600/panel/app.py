@@ -318,7 +318,7 @@ class Panel:
             self.message = in_width(said + more, self.columns)
 
     def go_to_found(self, find, text):
-        """Goes to the next turn at which a condition comes to hold, or the last one before; without a text, it is that typed before."""
+        """Goes to the next turn at which a condition comes to hold, or the last one before; without a text, that typed before."""
         history, text = self.session.history, text or (self.typed["u"] or [""])[-1]
         if not text:
             raise Failure("give a condition, as P 0 = 105 or M 0 106 changes")

@@ -4,7 +4,7 @@ import re
 from typing import Callable, Dict, List, Tuple
 
 from .machine import LAST
-from .messages import Fault, Follows
+from .messages import Fault
 from .state import WORD_BITS, State
 from .statements import Field, Statement, parts_of
 from .texts import codes_of, words_of
@@ -109,13 +109,9 @@ def equate(state: State, statement: Statement) -> None:
     if not name.text:
         raise Fault(operation.column, f"{operation.text} wants a symbol before it")
     number, is_address = None, False
-    try:
+    with state.reporting():
         value = state.value(statement.operand, from_above=True)
         number, is_address = value.number, value.addresses == 1
-    except Fault as fault:
-        state.report(fault)
-    except Follows:
-        pass
     is_set = operation.text == "SET"
     state.define(name, number, is_address, is_set)
     state.row(value=number, is_set=is_set)

@@ -68,12 +68,8 @@ class Pass(State):
         while at < len(lines):
             self.line = lines[at]
             at += 1
-            try:
+            with self.reporting():
                 at += self.perform(lines, at)
-            except Fault as fault:
-                self.report(fault)
-            except Follows:
-                pass
         self.nested -= 1
 
     def perform(self, lines: Sequence[Line], after: int) -> int:
