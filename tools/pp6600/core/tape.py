@@ -117,15 +117,18 @@ class Tape:
         """Adds an action at the end, so many times."""
         if not times:
             return
-        if line == STEP and self.runs and self.runs[-1].line == STEP:
-            times += self._drop_run().times
-        self.runs.append(Action(line, times))
         turns = times if line == STEP else 0
-        self.starts.append(self.starts[-1] + times)
-        self.turns_before.append(self.turns_before[-1] + turns)
+        if turns and self.runs and self.runs[-1].line == STEP:
+            self.runs[-1] = Action(line, self.runs[-1].times + times)
+        else:
+            self.runs.append(Action(line, times))
+            for sums in (self.starts, self.turns_before, self.slots):
+                sums.append(sums[-1])
+        self.starts[-1] += times
+        self.turns_before[-1] += turns
         begins_anew = not turns and self.runs[-1].word == "DEADSTART"
-        self.slots.append(0 if begins_anew else (self.slots[-1] + turns) % PROCESSORS)
-        self.watches += self.runs[-1].is_watch
+        self.slots[-1] = 0 if begins_anew else (self.slots[-1] + turns) % PROCESSORS
+        self.watches += not turns and self.runs[-1].is_watch
 
     def _drop_run(self) -> Action:
         for sums in (self.starts, self.turns_before, self.slots):

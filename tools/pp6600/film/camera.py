@@ -262,7 +262,8 @@ class Film:
 
     def _on_channels(self, states):
         """Returns the processors that are on a channel whose state is no longer that."""
-        changed = {channel for channel, state in enumerate(self.machine.states()) if state != states[channel]}
+        now = self.machine.states()
+        changed = {channel for channel, state in enumerate(now) if state != states[channel]} if now != states else ()
         processors = map(self.machine.processor, range(PROCESSORS)) if changed else ()
         return [number for number, one in enumerate(processors) if one.channel in changed and one.code in CHANNEL_CODES]
 
