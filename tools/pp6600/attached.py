@@ -170,7 +170,7 @@ class Attached(Simulator):
         if BACK_W.fullmatch(line):
             return self._back_to_unit(answer)
         if answer == ["OK"]:
-            self._begin_action()
+            self.forget_ahead()
             self.history.added(line)
         return answer
 
@@ -180,7 +180,7 @@ class Attached(Simulator):
             raise Failure(f"a device can't be told {what!r:.60}: it can be changed in place")
         self.renew()
         values, replies = self._told(number, what, self.values)
-        self._begin_action()
+        self.forget_ahead()
         self._perform_new([f"SET Q 0 {self.registers(0)['Q']}"])
         self.told[self.position] = number, what
         self._note(values, replies)
@@ -195,8 +195,8 @@ class Attached(Simulator):
             new = new._replace(seen=value.seen)
         return (*values[:number], new, *values[number + 1:]), () if reply is None else (reply,)
 
-    def _begin_action(self) -> None:
-        """Forgets what is ahead, before a new action."""
+    def forget_ahead(self) -> None:
+        """Discards what is ahead, as each new action does."""
         if self.position < self.tape.end:
             self.tape.cut(self.position)
             self.history.ahead = 0
@@ -238,10 +238,6 @@ class Attached(Simulator):
         if position != self.position:
             self._arrive("BACK", 0, position)
             self.plain.go(position)
-
-    def forget_ahead(self) -> None:
-        """Discards what is ahead."""
-        self._begin_action()
 
     def _arrive(self, word: str, count: int, position: int) -> List[str]:
         """Goes to a position. Returns the answer."""
@@ -293,7 +289,7 @@ class Attached(Simulator):
 
     def _step(self, turns: int) -> List[str]:
         begin, ahead = self.position, Ahead(self)
-        self._begin_action()
+        self.forget_ahead()
         try:
             watched = [line[2:] for line in self.demand("DUMP W")] if self.may_watch else []
             made, hit = self._turns(turns, [] if watched == ["NONE"] else watched)
@@ -307,7 +303,7 @@ class Attached(Simulator):
         """Goes back to a position where an action began that has failed, in a fresh simulator: this one has gone ahead."""
         self._go_anew(position, None)
         self._arrive("BACK", 0, position)
-        self._begin_action()
+        self.forget_ahead()
 
     def _turns(self, turns: int, watched: Sequence[str]) -> Tuple[int, Optional[str]]:
         """Makes so many turns, or up to a HIT. Returns how many, and the HIT."""

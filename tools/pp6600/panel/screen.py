@@ -245,8 +245,7 @@ def watch_rows(shown, width, rows):
 
 def paper_lines(shown, rows):
     """Returns the end of the paper; the last line is `/` and not `|` if it has no line end."""
-    lines = [Line(text) for text in shown.state.printer.paper[-rows:]] or [Line("none")]
-    return beside([paper_head(shown)], in_height(lines, rows), 14)
+    return in_height([Line(text) for text in shown.state.printer.paper[-rows:]] or [Line("none")], rows)
 
 
 def paper_head(shown):
@@ -301,15 +300,15 @@ def narrow_lines(shown, columns, parts):
     """Returns the lines between top and bottom, one part below the other."""
     watches = watch_rows(shown, columns, parts.watches)
     log = log_rows(shown.log, parts.log + parts.watches - len(watches))
-    return machine_lines(shown, parts.memory, columns) + watches + paper_lines(shown, parts.paper) + log
+    paper = beside([paper_head(shown)], paper_lines(shown, parts.paper), 14)
+    return machine_lines(shown, parts.memory, columns) + watches + paper + log
 
 
 def wide_lines(shown, columns, parts):
     """Returns the lines between top and bottom, with watches, paper and the lines typed at the right."""
     left = LEFT if shown.view.shows_central else max(LEFT, min(MOST_LEFT, columns - LEAST_RIGHT))
     watches = [watch_part(shown, watch) for watch in shown.state.watches] or [Line("none")]
-    paper = [Line(text) for text in shown.state.printer.paper[-parts.paper:]] or [Line("none")]
-    right = [Line("WATCHES", HEAD)] + watches + [Line(), paper_head(shown)] + in_height(paper, parts.paper)
+    right = [Line("WATCHES", HEAD)] + watches + [Line(), paper_head(shown)] + paper_lines(shown, parts.paper)
     height = parts.memory + MACHINE_ROWS + int(shown.view.is_by_rows) - len(right) - 1
     right += [Line("LINES", HEAD)] + in_height(log_lines(shown.log, height), height)
     return beside(machine_lines(shown, parts.memory, left), right, left + 2)

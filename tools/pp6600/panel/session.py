@@ -168,7 +168,7 @@ class Session:
         else:
             self.saved = self.place
             return True
-        self.state = self.before = self.read()
+        self.look_again()
         return False
 
     def look_again(self):
