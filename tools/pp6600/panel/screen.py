@@ -3,7 +3,7 @@
 from dataclasses import dataclass, field
 from typing import Optional
 
-from ..core.forms import CELLS, ROW
+from ..core.forms import CELLS, ROW, Place
 from ..listing import AllSymbols
 from ..core.state import State
 from .program import WIDTH, program_lines, sentence_line
@@ -183,9 +183,8 @@ def memory_lines(shown, rows):
 def central_line(shown, address):
     """Returns a central word: a star is before one that the last action changed, w before a watched one."""
     view = shown.view
-    now = shown.state.number(f"C {address:06o}")
-    is_watched = any(watch.place == f"C {address:06o}" for watch in shown.state.watches)
-    was = shown.before.number(f"C {address:06o}")
+    now, was = shown.state.central.get(address), shown.before.central.get(address)
+    is_watched = Place("C", (address,)) in shown.state.watched
     changed = CHANGED if now and was and now != was else None
     line = Line(f"{address:06o}").add("*" if changed else "w" if is_watched else " ", changed)
     cursor = shown.cursor_in("central") if address == view.word else None
@@ -219,18 +218,19 @@ def machine_lines(shown, rows, width):
 # ---- watches, paper and the lines typed
 
 
-def watch_part(shown, watch):
+def watch_part(shown, place):
     """Returns a watched place with its number."""
-    return Line(f"{watch.place} ").add_number(watch.number or "", shown.before.number(watch.place) if watch.number else None)
+    now = shown.state.number_at(place)
+    return Line(f"{place.text} ").add_number(now or "", shown.before.number_at(place) if now else None)
 
 
 def watch_rows(shown, width, rows):
     """Returns the watches in at most so many rows, several in a row."""
     line = Line("WATCHES ", HEAD)
     lines = [line]
-    watches = shown.state.watches
-    for number, watch in enumerate(watches):
-        part = watch_part(shown, watch).add(" ")
+    watches = shown.state.watched
+    for number, place in enumerate(watches):
+        part = watch_part(shown, place).add(" ")
         if len(line.text) + len(part.text) > width:
             if len(lines) == rows:
                 line.fit(width - 10).add(f" {len(watches) - number:o} more")
@@ -307,7 +307,7 @@ def narrow_lines(shown, columns, parts):
 def wide_lines(shown, columns, parts):
     """Returns the lines between top and bottom, with watches, paper and the lines typed at the right."""
     left = LEFT if shown.view.shows_central else max(LEFT, min(MOST_LEFT, columns - LEAST_RIGHT))
-    watches = [watch_part(shown, watch) for watch in shown.state.watches] or [Line("none")]
+    watches = [watch_part(shown, place) for place in shown.state.watched] or [Line("none")]
     right = [Line("WATCHES", HEAD)] + watches + [Line(), paper_head(shown)] + paper_lines(shown, parts.paper)
     height = parts.memory + MACHINE_ROWS + int(shown.view.is_by_rows) - len(right) - 1
     right += [Line("LINES", HEAD)] + in_height(log_lines(shown.log, height), height)
