@@ -11,7 +11,7 @@ from __future__ import annotations
 import functools
 import re
 from itertools import islice
-from typing import Dict, Iterable, Iterator, List, Optional, Sequence, Tuple
+from typing import Any, Dict, Iterable, Iterator, List, Optional, Sequence, Tuple
 
 from ..failure import Failure
 from ..choice import default_program
@@ -282,6 +282,7 @@ class Simulator(Console):
         """It begins at the beginning of the tape."""
         super().__init__(words)
         self.history = History(room_of(self.words), tape)
+        self.counts: Any = self.history  # as BACK and FORWARD count it
         self.watched: List[str] = []  # places, beside those of the tape
 
     @property

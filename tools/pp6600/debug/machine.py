@@ -93,11 +93,6 @@ class Machine(Simulator):
                 return [f"{word} {count:o} SLOT {self.next_slot:02o}"]
         return answer
 
-    @property
-    def counts(self):
-        """The history as BACK and FORWARD count it."""
-        return self.history
-
     def settled(self, position):
         """Returns the first position from a position on that the user can be at: with devices, that after the replies to an action."""
         return position
