@@ -43,6 +43,15 @@ class Scout(Simulator):
         self.history.performed(sum(action.times for action in actions if action.is_watch))
         return lines
 
+    def answers_at(self, wanted):
+        """Returns the answers to dumps at positions that are near one another, read at once. It stays where it is."""
+        here, order = self.position, sorted(wanted)
+        for position in (*order[:1], *order[-1:]):
+            self.goto(position)
+        answers = dict(zip(order, self.look_at([(position, wanted[position]) for position in order])))
+        self.goto(here)
+        return answers
+
     def watch_from(self, position, places):
         """Goes to a position, and watches places from there on."""
         if self.watched and (self.watched != places or self.position < position):
