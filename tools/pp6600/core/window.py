@@ -7,7 +7,8 @@ from __future__ import annotations
 import functools
 from typing import Dict, Iterable, List, Optional, Sequence, Set, Tuple
 
-from .forms import CELLS, CHANNELS_DUMP, CLOCK, FORMS, NUMBERS_OF_PROCESSOR, PROCESSORS, ROWS, Dump, Place, fields, registers_of
+from .forms import (
+    CELLS, CHANNELS_DUMP, CLOCK, FORMS, NUMBERS_OF_PROCESSOR, PROCESSORS, ROWS, Dump, Place, cells_dump, fields, registers_of)
 from .probe import idle_processors
 from .simulator import MARK, Simulator
 from .state import Memory
@@ -20,22 +21,15 @@ FIRST_SIZE, MOST_TURNS_READ, WIDER = 0o400, 0o200000, 8  # of the windows in whi
 COLUMNS = FORMS["PP"].columns
 
 
-class Key(str):
-    """What turns with the same processor, P and phase have in common, as 00 P 01000000. Where an instruction is overwritten its
-    words are at the end."""
+def key_of(number: int, address: int) -> str:
+    """Returns the key of turns at an instruction: the processor, P and phase that they have in common, as 00 P 01000000. Where an
+    instruction is overwritten its words are at the end."""
+    return f"{number:02o} P {address % CELLS:04o}{NO_PHASE}"
 
-    @property
-    def number(self) -> int:
-        return int(self[:2], 8)
 
-    @property
-    def address(self) -> int:
-        return int(self[5:9], 8)
-
-    @staticmethod
-    def of(number: int, address: int) -> str:
-        """The key of an instruction, without its words."""
-        return f"{number:02o} P {address % CELLS:04o}{NO_PHASE}"
+def dump_of_cell(key: str, address: int) -> str:
+    """Returns the line that dumps a cell of the processor of a key."""
+    return f"{cells_dump(int(key[:2], 8), address, address).line}\n"
 
 
 @functools.lru_cache(maxsize=20000)
@@ -160,28 +154,24 @@ class Window:
 
     def _is_code(self, number: int, address: int) -> bool:
         """Returns whether a cell has a word of an instruction that is performed in the window."""
-        before = Key.of(number, address - 1)
-        return Key.of(number, address) in self.words or before in self.words and int(self.words[before][:2], 8) in TWO_WORDS
+        before = key_of(number, address - 1)
+        return key_of(number, address) in self.words or before in self.words and int(self.words[before][:2], 8) in TWO_WORDS
 
     def _find_words_of_turns(self) -> None:
         """Reads the words of each turn by itself."""
-        rows = self._at_turns({key: self._dumps_of_words(Key(key)) for key in self.words if key[9:13] == NO_PHASE})
+        rows = self._at_turns({key: [dump_of_cell(key, (int(key[5:9], 8) + more) % CELLS) for more in (0, 1)]
+                               for key in self.words if key[9:13] == NO_PHASE})
         self.words = {}
         for at, key in enumerate(self.keys):
             words = "".join(row[5:9] for row in rows[at]) if at in rows else 2 * "0000"
             self.keys[at] = key + words
             self.words[self.keys[at]] = words
 
-    @staticmethod
-    def _dumps_of_words(key: Key) -> List[str]:
-        return [f"DUMP M {key.number:o} {address:o} {address:o}\n" for address in (key.address, (key.address + 1) % CELLS)]
-
     def cell_before(self, at: int) -> int:
         """Returns the number in cell d before a turn whose operand's address is in it."""
         if self._addresses is None:
-            keys = [Key(key) for key, words in self.words.items() if key[9:13] == NO_PHASE and address_is_in_cell(int(words[:4], 8))]
-            self._addresses = self._at_turns({key: [f"DUMP M {key.number:o} {self.words[key][2:4]} {self.words[key][2:4]}\n"]
-                                              for key in keys})
+            self._addresses = self._at_turns({key: [dump_of_cell(key, int(words[2:4], 8))] for key, words in self.words.items()
+                                              if key[9:13] == NO_PHASE and address_is_in_cell(int(words[:4], 8))})
         return int(self._addresses[at][0][5:9], 8)
 
     # ---- one turn
