@@ -215,7 +215,6 @@ def state_test(place, words):
 
 
 def state_column(place):
-    """Returns the column of the state of a channel."""
     return Column.of_place(place)._replace(first="state", last="state", watch=None)
 
 

@@ -106,7 +106,6 @@ class Listing:
             self.cells[address] = (word, line)
 
     def set_lines(self, processor):
-        """Returns the SET lines that load it."""
         runs = runs_of({address: word for address, (word, _) in self.cells.items()})
         return [line for first, words in runs for line in set_lines(processor, first, words)]
 

@@ -155,7 +155,6 @@ class Source(AddressNames):
 
 
 def words_of(rows: Sequence[Row]) -> Iterator[Word]:
-    """Yields the words of a listing."""
     line, number = None, 0
     for row in rows:
         number = number if row.line.number == line else 0

@@ -117,7 +117,6 @@ def compare_paths(sides):
 
 
 def lines_of(found):
-    """Yields the lines of differences."""
     for place, one, other in found[:MOST_SHOWN]:
         yield f"{place} {one} / {other}"
     if len(found) > MOST_SHOWN:

@@ -47,7 +47,6 @@ def two_byte_words(data):
 
 
 def words_of(asked, path):
-    """Returns the words of the file."""
     if asked.packed:
         return packed_words(bytes_of(path))
     return two_byte_words(bytes_of(path)) if asked.two_bytes else octal_words(without_mark(read_lines(path)))

@@ -53,7 +53,6 @@ def call_lines(run, symbols):
 
 
 def screen(run, symbols):
-    """Returns the lines of the screen."""
     right = run.channels()
     left = [processor_line(run, number, states_of(right), symbols) for number in range(PROCESSORS)]
     left += [f" TURN {run.turn:o}", *filter(None, (source_line(run, number, symbols) for number in symbols.of))]

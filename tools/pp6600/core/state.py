@@ -90,7 +90,6 @@ def questions(central: Optional[Tuple[int, int]] = None) -> List[str]:
 
 
 def state_of(console: Console, central: Optional[Tuple[int, int]] = None) -> State:
-    """Returns the state of a simulator."""
     return State(console.ask_all(questions(central)))
 
 

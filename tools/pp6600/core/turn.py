@@ -363,7 +363,6 @@ class Turn:
         return [self._register(symbol)] if symbol in ("A", "P", "Q", "PHASE") else self._cells(symbol)
 
     def _writes_of(self, effect: Effect) -> List[Write]:
-        """What one effect wrote."""
         place, sources = effect.place, effect.sources
         if place == "C":
             (word,) = self._central()

@@ -227,7 +227,6 @@ class Adapter(Requests, Setting):
     # ---- running
 
     def number(self, thread):
-        """Returns the processor of a thread."""
         if not isinstance(thread, int) or not 1 <= thread <= PROCESSORS:
             raise Refused(f"{thread} is no thread: they are 1 to {PROCESSORS}")
         return thread - 1

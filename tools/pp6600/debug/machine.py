@@ -69,7 +69,6 @@ class Machine(Simulator):
         super().__init__(words)
 
     def scout(self, name):
-        """Returns the scout of this name."""
         if name not in self.scouts:
             self.scouts[name] = Scout(without_history(self.words), self.tape)
         return self.scouts[name]

@@ -86,7 +86,6 @@ def place_of(text, number=None):
 
 
 def set_line(scope, number, name, value):
-    """Returns the line that sets a variable."""
     if not re.fullmatch("[0-7A-Za-z ]+", value):
         raise Refused(f"{value} is not octal")
     if scope == REGISTER_SCOPE and name == "PHASE":

@@ -110,7 +110,6 @@ class Panel:
             self.guard(session.look_at_central, view.central_top, rows)
 
     def screen(self):
-        """Returns the screen."""
         if self.page:
             return self.page.screen(self.columns, self.rows)
         session = self.session
@@ -233,7 +232,6 @@ class Panel:
         return f"w FILE saves what was sent, q quits: {self.fault}"
 
     def send_key(self, key, count):
-        """Sends the lines of a key."""
         session, view = self.session, self.view
         facts = Facts(session.state.slot, view.processor, view.place(), session.watched(), session.history)
         self.send(LINES[key](facts, count))

@@ -45,7 +45,6 @@ class OriginPage(Page):
 
     @property
     def chosen(self):
-        """The step that is chosen."""
         return self.origin.rows[self.at][0]
 
     def press(self, key, rows):

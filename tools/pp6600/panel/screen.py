@@ -96,7 +96,6 @@ def is_idle(now, was, number):
 
 
 def processor_line(shown, number):
-    """Returns the line of a processor."""
     state, before, view = shown.state, shown.before, shown.view
     now, was = state.processors[number], before.processors[number]
     memory, memory_before = state.memories[number], before.memories[number]
@@ -120,7 +119,6 @@ def processor_line(shown, number):
 
 
 def processor_lines(shown):
-    """Returns the ten processors."""
     head = Line(" PP P    AT P          A      Q    PHASE  WAITS FOR", HEAD)
     return [head] + [processor_line(shown, number) for number in range(len(shown.state.processors))]
 
@@ -192,7 +190,6 @@ def central_line(shown, address):
 
 
 def central_lines(shown, rows):
-    """Returns central words."""
     top = central_top(shown.view.central_top, shown.view.word, rows, shown.size)
     return [Line("CENTRAL MEMORY", HEAD)] + [central_line(shown, top + row) for row in range(rows)]
 

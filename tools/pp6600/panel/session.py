@@ -73,7 +73,6 @@ class Session:
         return state
 
     def watched(self):
-        """Returns the watched places."""
         return [place.short for place in self.state.watched]
 
     def look_at_central(self, first, rows):
@@ -99,7 +98,6 @@ class Session:
         return is_refusal(answer)
 
     def send(self, line):
-        """Sends a line, and returns its answer."""
         if not isinstance(line, SourceLine):
             self.lines_sent += 1
             line = ScriptLine(line, self.lines_sent)

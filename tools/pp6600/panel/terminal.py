@@ -118,7 +118,6 @@ class Terminal:
     # ---- out
 
     def draw(self, screen):
-        """Draws a screen."""
         self.window.erase()
         for row, line in enumerate(screen.lines):
             self.draw_line(row, line)

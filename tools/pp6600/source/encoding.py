@@ -17,7 +17,6 @@ DISTANCE = re.compile("-?[0-7]{1,2}B?")
 
 
 def instruction(state: State, statement: Statement) -> List[int]:
-    """Returns the words of an instruction."""
     code = CODES[statement.operation.text]
     with state.reporting():
         return words_of(state, code, operands_of(state, form_of(code), statement))

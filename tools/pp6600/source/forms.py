@@ -85,7 +85,6 @@ def shown(words: Words, value: str = "") -> str:
 
 
 def lines_of(program: Program, form: str, processor: int) -> Sequence[str]:
-    """Returns the lines of one form."""
     forms: Dict[str, Callable[[], Iterator[str]]] = {
         "words": lambda: words(program), "set": lambda: set_lines(program, processor), "listing": lambda: listing(program),
         "panel": lambda: panel(program), "deck": lambda: deck(program)}

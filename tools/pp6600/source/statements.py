@@ -73,7 +73,6 @@ def location_of(text: str) -> Field:
 
 
 def word_after(text: str, at: int) -> Optional[Field]:
-    """Returns the next word."""
     found = WORD.search(text, at)
     return Field(found[0], found.start()) if found else None
 
