@@ -469,4 +469,4 @@ class Check:
         count = sum(int(line.split()[1], 8) if line.startswith("TURNS ") else line == "OK" for line in rest)
         self.history.kept = min(self.history.kept, self.history.room - count)
         if count:
-            self.session.question(f"BACK {count:o}", ["BACK "])
+            self.session.question(f"BACK {count:o}", "BACK ")

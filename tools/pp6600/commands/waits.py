@@ -83,7 +83,7 @@ def drop_moved(run, turns, numbers):
         for line in answer[1:]:
             number = int(line.split()[2], 8)
             numbers.discard(number)
-            run.question(f"UNWATCH P {number:o}", ["OK"])
+            run.question(f"UNWATCH P {number:o}", "OK")
         if not numbers:
             return
 

@@ -56,7 +56,7 @@ class Console:
         self.pipe = Pipe(self.words)
         self.lines = 0  # written so far
         self.may_watch = False
-        self.question(MARK, ["CR H "])
+        self.question(MARK, "CR H ")
 
     # ---- lines and answers
 
@@ -132,22 +132,19 @@ class Console:
             raise Failure(f"the simulator answers {answer[0]} to {line}")
         return answer
 
-    def question(self, line: str, beginnings: Sequence[str]) -> List[str]:
-        """Returns the lines of the answer to a line if it is known how each of them begins."""
+    def question(self, line: str, beginning: str) -> str:
+        """Returns the first line of the answer to a line, of which it is known how it begins."""
         self.send(line)
-        answer: List[str] = []
-        for beginning in beginnings:
-            text = self.answer_line()
-            if text.startswith("ERR ") and not answer:
-                raise Failure(f"the simulator answers {text} to {line}")
-            if not text.startswith(beginning):
-                raise self.nonsense(text)
-            answer.append(text)
-        return answer
+        text = self.answer_line()
+        if text.startswith("ERR "):
+            raise Failure(f"the simulator answers {text} to {line}")
+        if not text.startswith(beginning):
+            raise self.nonsense(text)
+        return text
 
     def dump(self, dump: Dump) -> List[str]:
         """Returns the lines of the answer to a dump."""
-        answer = self.question(dump.line, [""] * dump.lines)
+        answer = [self.question(dump.line, ""), *(self.answer_line() for _ in range(dump.lines - 1))]
         if any(kind_of(line) != dump.form for line in answer):
             raise self.nonsense(answer[0])
         return answer
@@ -220,7 +217,7 @@ class Console:
         return self.dump(FRAME_DUMP)
 
     def reader(self) -> str:
-        return self.question(MARK, ["CR H "])[0]
+        return self.question(MARK, "CR H ")
 
     def printer(self) -> List[str]:
         """Returns the printer's line and the lines of its paper."""
@@ -331,7 +328,7 @@ class Simulator(Console):
         """Goes by so many actions that the simulator keeps: FORWARD, or BACK if it is negative."""
         if count:
             word = "BACK" if count < 0 else "FORWARD"
-            self.question(f"{word} {abs(count):o}", [f"{word} {abs(count):o} "])
+            self.question(f"{word} {abs(count):o}", f"{word} {abs(count):o} ")
             self.history.moved(count)
 
     def play(self, position: int) -> None:
@@ -379,14 +376,14 @@ class Simulator(Console):
     def watch(self, places: Iterable[str]) -> None:
         """Watches places beside those of the tape from here on; it can't go back to before without a replay."""
         for place in places:
-            self.question(f"WATCH {place}", ["OK"])
+            self.question(f"WATCH {place}", "OK")
             self.watched.append(place)
             self.history.kept = self.history.ahead = 0
 
     def unwatch(self) -> None:
         """Ends these watches."""
         for place in self.watched:
-            self.question(f"UNWATCH {place}", ["OK"])
+            self.question(f"UNWATCH {place}", "OK")
         self.watched = []
         self.history.kept = self.history.ahead = 0
 
