@@ -333,20 +333,11 @@ class Turn:
     def addresses(self) -> List[Place]:
         """Returns the places that say where it read or wrote: cell d of an indirect or indexed address, and A."""
         processor = self.processor
-        if processor.phase:
-            return [self._register("A")] if processor.code in BLOCKS_OF_CENTRAL else []
-        if address_is_in_cell(processor.instruction):
-            return [self._cells("I")[0]]
-        return [self._register("A")] if processor.code in A_IS_AN_ADDRESS else []
+        if not processor.phase and address_is_in_cell(processor.instruction):
+            return self._places("I")
+        return self._places("A") if processor.code in (BLOCKS_OF_CENTRAL if processor.phase else A_IS_AN_ADDRESS) else []
 
     # ---- the letters of the table as places
-
-    def _register(self, name: str) -> Place:
-        return Place(name, (self.number,))
-
-    def _cells(self, symbol: str) -> List[Place]:
-        first, count = self.processor.cells(symbol, self.cell) or (0, 0)
-        return [Place("M", (self.number, (first + at) % CELLS)) for at in range(count)]
 
     def _central(self, count: int = 1) -> List[Optional[Place]]:
         """The central words from A on; None for each that there is not."""
@@ -355,18 +346,13 @@ class Turn:
         return [Place("C", (address,)) if address < self.size else None for address in addresses]
 
     def _places(self, symbol: str) -> List[Place]:
-        """The places of a letter that stands for places that are written one by one."""
-        if symbol == "H":
-            return [Place("H", (self.processor.channel,))]
-        if symbol == "S":
-            return [Place("S", (self.processor.channel,))] if self.processor.channel != CLOCK else []
-        return [self._register(symbol)] if symbol in ("A", "P", "Q", "PHASE") else self._cells(symbol)
+        return places_of(symbol, self.number, self.processor, self.cell)
 
     def _writes_of(self, effect: Effect) -> List[Write]:
         place, sources = effect.place, effect.sources
         if place == "C":
             (word,) = self._central()
-            return [Write(word, True, tuple(map(Source, self._cells(sources[0]))))] if word else []
+            return [Write(word, True, tuple(map(Source, self._places(sources[0]))))] if word else []
         if place == "C20":
             return [Write(word, True, (Source(Place("XP", (at,))),)) for at, word in enumerate(self._central(FRAME_WORDS)) if word]
         if place == "F20":
@@ -374,7 +360,7 @@ class Turn:
             return [of_word(Place("XP", (at,)), word, None if at else WITHOUT_B_FIELD) for at, word in words]
         if sources == ("C",):
             (word,) = self._central()
-            return [of_word(cell, word, (at,)) for at, cell in enumerate(self._cells(place))]
+            return [of_word(cell, word, (at,)) for at, cell in enumerate(self._places(place))]
         read, constants = self._read(effect)
         return [Write(one, effect.is_moved, read, constants) for one in self._places(place)]
 
@@ -395,6 +381,16 @@ class Turn:
     def _has_cleared_its_return(self) -> bool:
         """Whether the end of an input put its zero into cell 0000, from which P comes in the same turn."""
         return self.effects() is AT_END_OF_INPUT and self.processor.registers["P"] == "0000"
+
+
+def places_of(symbol: str, number: int, processor: Processor, cell: Cell) -> List[Place]:
+    """Returns the places of a letter of the table that stands for numbers of a processor, or for its channel."""
+    if symbol in ("A", "P", "Q", "PHASE"):
+        return [Place(symbol, (number,))]
+    if symbol in ("H", "S"):
+        return [Place(symbol, (processor.channel,))] if symbol == "H" or processor.channel != CLOCK else []
+    first, count = processor.cells(symbol, cell) or (0, 0)
+    return [Place("M", (number, (first + at) % CELLS)) for at in range(count)]
 
 
 def of_word(place: Place, word: Optional[Place], parts: Optional[Tuple[int, ...]]) -> Write:
@@ -421,13 +417,8 @@ def may_write(number: int, processor: Processor) -> Set[Place]:
             found |= {Place("XP", (at,)) for at in range(FRAME_WORDS)}
         elif symbol == "X" and not processor.phase and address_is_in_cell(processor.instruction):
             found.add(Place("M", (number,)))
-        elif symbol in ("A", "P", "Q", "PHASE"):
-            found.add(Place(symbol, (number,)))
-        elif symbol in ("H", "S"):
-            found.add(Place(symbol, (processor.channel,)))
         else:
-            first, count = processor.cells(symbol, lambda address: 0) or (0, 0)
-            found |= {Place("M", (number, (first + at) % CELLS)) for at in range(count)}
+            found.update(places_of(symbol, number, processor, lambda address: 0))
     return found
 
 
