@@ -201,6 +201,7 @@ class Window:
         return any(int(group[13:15], 8) in FUNCTIONS and int(group[15:17], 8) == channel and group[9:13] == NO_PHASE
                    for group in self.groups)
 
+    @functools.cached_property
     def words_of_reader(self) -> Dict[int, Optional[Tuple[int, int]]]:
         """Returns by turns what the card reader put on its channel: a card and its column, or None for the status."""
         self.run.goto(self.first)
@@ -217,6 +218,7 @@ class Window:
             was = now
         return found
 
+    @functools.cached_property
     def words_of_printer(self) -> Dict[int, None]:
         """Returns by turns that the printer put its status on its channel."""
         channel = self.run.printer_channel

@@ -172,23 +172,34 @@ class Search:
     def _look_at_turns(self, window, part):
         """Looks at the turns of a window, the last one first. Returns the position down to which it did: the window's first, or
         that before the turn whose sources are of a processor that is not in the window."""
-        devices, here = Devices(window), set(window.processors)
-        self.is_changed, relevant, position = True, set(), window.last
+        here = set(window.processors)
+        self.is_changed, relevant, words, position = True, set(), {}, window.last
         for at in range(len(window.turns) - 1, -1, -1):
             if self.is_changed:
                 if not self.asked or not self._needed(part) <= here:
                     return position
                 relevant, self.is_changed = window.relevant(self.asked), False
-                devices.choose(self.asked)
-                if not relevant and not devices.words:
+                words = self._words_of_devices(window)
+                if not relevant and not words:
                     return window.first
-            if at in devices.words:
-                self._found(devices.step(at))
+            if at in words:
+                place, cause, word = words.pop(at)
+                self._found(Step(place, cause, window.position(at), word))
                 relevant, position = window.relevant(self.asked), window.position(at) - 1
             if window.keys[at] in relevant:
                 self._look_at_turn(window.turn(at), window.position(at))
                 position = window.position(at) - 1
         return window.first if self._needed(part) <= here else position
+
+    def _words_of_devices(self, window):
+        """Returns by turns what the reader and the printer put on those of their channels that are asked for."""
+        words = {}
+        for cause, channel in ((READER, self.run.reader_channel), (PRINTER, self.run.printer_channel)):
+            place = Place("H", (channel,))
+            if place in self.asked:
+                found = window.words_of_reader if cause == READER else window.words_of_printer
+                words |= {at: (place, cause, word) for at, word in found.items()}
+        return words
 
     def _look_at_turn(self, turn, position):
         """Looks at a turn: of all that it wrote and is asked for, the sources were read before."""
@@ -250,30 +261,6 @@ class Search:
                 continue
             self.run.goto(step.position)
             step.number = self.run.number_at(step.place)
-
-
-class Devices:
-    """What the reader and the printer put on their channels in a window."""
-
-    def __init__(self, window):
-        self.window = window
-        self.found = {}
-        self.kinds = {Place("H", (window.run.reader_channel,)): (READER, window.words_of_reader),
-                      Place("H", (window.run.printer_channel,)): (PRINTER, window.words_of_printer)}
-        self.words = {}
-
-    def choose(self, asked):
-        """Notes by turns what they put on those of their channels that are asked for."""
-        self.words = {}
-        for place, (cause, words) in self.kinds.items():
-            if place in asked:
-                if place not in self.found:
-                    self.found[place] = words()
-                self.words |= {at: (place, cause, word) for at, word in self.found[place].items()}
-
-    def step(self, at):
-        place, cause, word = self.words.pop(at)
-        return Step(place, cause, self.window.position(at), word)
 
 
 def wanted_sources(write, parts):
