@@ -19,7 +19,6 @@ from ..pipe import Pipe
 from .forms import (
     ANSWER, CHANNELS_DUMP, FRAME_DUMP, MOST_TURNS, PROCESSORS, Answers, Dump, Place, Registers, cells_dump, central_dump, fields,
     is_refusal, kind_of, refused, registers_dump, registers_of, word_dumps, words_of)
-from .notebook import table_of
 from .tape import STEP, Action, History, Tape, lines_of, room_of
 from .turn import Processor
 
@@ -245,6 +244,7 @@ class Console:
         """Returns the machine as a small table, which a notebook shows."""
         if self.pipe.process.returncode is not None:
             return "<p>This simulator has ended.</p>"
+        from .notebook import table_of  # no tool needs it
         return table_of([self.processor(number) for number in range(PROCESSORS)], self.channels(), [self.reader(), self.printer()[0]])
 
     # ---- turns
