@@ -81,7 +81,9 @@ class Pass(State):
         if not statement:
             self.row()
         elif self.has_ended:
-            self.after_end()
+            if not self.has_more:
+                self.report(Fault(0, "this is after END"))
+            self.has_more = True
             self.pass_over([self.line])
         elif statement.operation.text in ENDS:
             return self.block(statement, lines[after:])
@@ -90,12 +92,6 @@ class Pass(State):
         else:
             self.one(statement)
         return 0
-
-    def after_end(self) -> None:
-        """Reports the first statement after END."""
-        if not self.has_more:
-            self.has_more = True
-            self.report(Fault(0, "this is after END"))
 
     def block(self, statement: Statement, lines: Sequence[Line]) -> int:
         """Performs a MACRO, DUP or IF. Returns how many lines it has after the first one."""

@@ -127,14 +127,9 @@ def parts_of(operand: Field, delimited: bool = False) -> List[Field]:
         if text[at] == ",":
             found.append(Field(text[start:at], operand.column + start))
             start = at = at + 1
-        else:
-            at = shifted(text, at, start, delimited, operand.column)
+            continue
+        try:
+            at = after_text(text, at, start, delimited)
+        except Fault as fault:
+            raise Fault(operand.column + fault.column, fault.text) from fault
     return [*found, Field(text[start:], operand.column + start)] if text else []
-
-
-def shifted(text: str, at: int, start: int, delimited: bool, column: int) -> int:
-    """Returns what `after_text` does; the column of a fault is that of the line."""
-    try:
-        return after_text(text, at, start, delimited)
-    except Fault as fault:
-        raise Fault(column + fault.column, fault.text) from fault
