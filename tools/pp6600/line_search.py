@@ -19,10 +19,6 @@ NO_BLOCK = "0000"  # the phase outside a block transfer
 WATCHED_AT_ONCE = 0o4000000  # turns, while a processor is where it was
 
 
-def address_of(registers):
-    return int(registers[:4], 8)
-
-
 def is_in_block(registers):
     return registers[-4:] != NO_BLOCK
 
@@ -95,7 +91,7 @@ class Lines:
         asked = []
         for position, registers in looks:
             if not is_in_block(registers) and registers[:4] + registers[-4:] != self.registers:
-                asked.append((position, address_of(registers)))
+                asked.append((position, int(registers[:4], 8)))
             self.registers = registers[:4] + registers[-4:]
         stops = [(position, word_dumps(self.number, address)) for position, address in asked]
         answers = self.run.look_at([*stops, (self.run.position, [])])

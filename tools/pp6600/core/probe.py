@@ -13,7 +13,7 @@ from typing import Dict, Iterator, List, NamedTuple, Optional, Sequence, Set, Tu
 
 from ..failure import Failure
 from .forms import (
-    CHANNELS_DUMP, CLOCK, FORMS, MOST_TURNS, PROCESSORS, REGISTERS, ROW, ROWS, Answers, Dump, Place, Registers, cells_dump,
+    CELLS, CHANNELS_DUMP, CLOCK, FORMS, MOST_TURNS, PROCESSORS, REGISTERS, ROW, Answers, Dump, Place, Registers, cells_dump,
     central_dump, registers_dump, registers_of, word_dumps, words_of)
 from .simulator import MARK, Simulator
 from .turn import Processor
@@ -148,7 +148,7 @@ class Probe:
         self.simulator.renew(LINES_OF_CHANGES)
         steps = [CLOSE_TURNS] * min(CLOSE_STEPS, turns // CLOSE_TURNS) if self.close else []
         steps = steps or [min(turns, MOST_TURNS)]
-        answers = self.simulator.ask_all([*(f"STEP {step:o}" for step in steps), "DUMP CR"])[:-1]
+        answers = self.simulator.ask_all([*(f"STEP {step:o}" for step in steps), MARK])[:-1]
         made: List[int] = []
         numbers = [self.number]
         for line in answers:
@@ -210,13 +210,10 @@ def idle_processors(simulator: Simulator, first: int, last: int) -> Set[int]:
     if last - first < WORTH_A_LOOK:
         return set()
     simulator.goto(first)
-    answers = simulator.ask_all([*(line for number in ALL for line in (f"DUMP PP {number:o}", f"DUMP M {number:o} 0 7777")), MARK])
-    found = set()
-    for number in ALL:
-        registers, *rows = answers[number * (1 + ROWS):(number + 1) * (1 + ROWS)]
-        if registers_of(registers)["PHASE"] == "0000" and all(row.endswith(ROW_OF_ZEROS) for row in rows):
-            found.add(number)
-    return found
+    dumps = {number: (registers_dump(number), cells_dump(number, 0, CELLS - 1)) for number in ALL}
+    (answers,) = simulator.look_at([(first, [dump for pair in dumps.values() for dump in pair])])
+    return {number for number, (registers, cells) in dumps.items() if registers_of(answers[registers][0])["PHASE"] == "0000"
+            and all(row.endswith(ROW_OF_ZEROS) for row in answers[cells])}
 
 
 class Made(NamedTuple):
