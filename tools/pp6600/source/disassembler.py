@@ -2,8 +2,8 @@
 
 from typing import Iterable, Iterator, List, Mapping
 
-from .flow import CODE_LABEL, Flow, target_of
-from .machine import MNEMONICS, NEAR, SYMBOLS, Form, form_of
+from .flow import CODE_LABEL, Flow
+from .machine import MNEMONICS, NEAR, SYMBOLS, Form, form_of, target_of
 
 WORDS_OF_LINE = 4  # of a CON
 ZEROS = 4  # that are a BSSZ
