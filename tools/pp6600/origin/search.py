@@ -247,7 +247,8 @@ class Search:
         printed = halve(0, position, lambda middle: count_at(middle) > index)
         step = Step(Place("LP", (index,)), PAPER, printed, index - count_at(printed - 1))
         self.run.goto(printed)
-        step.number = symbol_of(self.run.printer(), index)
+        symbol = "".join(line[1:] + "\n" * (line[0] == "|") for line in self.run.printer()[1:])[index]
+        step.number = LINE_END if symbol == "\n" else f'"{symbol}"'
         link = Link(step, Place("H", (self.run.printer_channel,)))
         step.links = [link]
         self._ask(link, printed)
@@ -272,9 +273,3 @@ def wanted_sources(write, parts):
     wanted = [(place, tuple(sorted(part for part in parts if of_source is None or part in of_source)))
               for place, of_source in write.sources]
     return [(place, some) for place, some in wanted if some]
-
-
-def symbol_of(answer, index):
-    """Returns a symbol of the paper as text, from the answer to DUMP LP."""
-    symbol = "".join(line[1:] + "\n" * (line[0] == "|") for line in answer[1:])[index]
-    return LINE_END if symbol == "\n" else f'"{symbol}"'

@@ -58,7 +58,8 @@ class Writer:
             if step is None:
                 yield None, f"{INDENT * depth}{place.text} .. DEEPER"
                 continue
-            line = f"{INDENT * depth}{step.place.text} {step.number} {self.turn_of(step)}"
+            turn = "START" if step.cause == START else f"TURN {self.tape.turn(step.position):o}"
+            line = f"{INDENT * depth}{step.place.text} {step.number} {turn}"
             links = self.wanted(step, parts)
             if id(step) in seen and (step.links or step.addresses or step.code) and seen.issuperset(map(id, links)):
                 yield step, f"{line} AS ABOVE"
@@ -83,11 +84,6 @@ class Writer:
         others = [link for link in links if link not in same]
         return [*((link.step, link.place, depth, link.parts) for link in same),
                 *((link.step, link.place, depth + 1, link.parts) for link in reversed([*others, *step.addresses]))]
-
-    def turn_of(self, step):
-        if step.cause == START:
-            return "START"
-        return f"TURN {self.tape.turn(step.position):o}"
 
     # ---- what wrote it
 
