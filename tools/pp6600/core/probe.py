@@ -217,7 +217,7 @@ def idle_processors(simulator: Simulator, first: int, last: int) -> Set[int]:
 
 
 class Made(NamedTuple):
-    """A turn that was made: the processor before it its registers after it, and the answers to dumps before and after."""
+    """A turn that was made: the processor before it, its registers after it, and the answers to dumps before and after."""
 
     position: int  # before it
     slot: int
