@@ -138,7 +138,9 @@ class Panel:
         """Performs a key outside a line and a page."""
         count, self.count, self.message = self.count, "", ""
         asked, self.is_asked_to_quit = self.is_asked_to_quit, False
-        key = LETTERS.get(key, key)
+        key, changes = LETTERS.get(key, key), f"{self.view.place()} changes"
+        typed = {"f": ("u", ""), "F": ("U", ""), "]": ("u", changes), "[": ("U", changes), "N": ("N", count or "1"),
+                 "P": ("P", count or "1"), **({"G": ("G", count)} if count else {})}
         if key.isdecimal() and key.isascii():
             self.add_to_count(count, key)
         elif key in CANCEL:
@@ -149,14 +151,8 @@ class Panel:
             self.message = self.last_words()
         elif key in LINES:
             self.send_key(key, int(count or "1", 8))
-        elif key == "G" and count:
-            self.take_line("G", count)
-        elif key in ("f", "F"):
-            self.take_line("u" if key == "f" else "U", "")
-        elif key in ("N", "P"):
-            self.take_line(key, count or "1")
-        elif key in ("]", "["):
-            self.take_line("u" if key == "]" else "U", f"{self.view.place()} changes")
+        elif key in typed:
+            self.take_line(*typed[key])
         else:
             self.press_to_look(key, int(count or "1", 8))
 
