@@ -8,6 +8,7 @@ from .core.forms import CELLS, PROCESSORS, STATES, Place
 from .core.probe import Column, all_registers
 from .failure import Failure
 from .listing import AllSymbols
+from .options import octal
 
 FORM = ("a condition is PLACE = 105 (also != < > <= >=), PLACE outside 100 117, PLACE inside 100 117, PLACE changes, "
         "M 0 100 117 changes, H 12 is F, H 12 changes state, PP 3 waits, PP 3 in a block, PP 3 not in a block or PP 3 returns wrongly; "
@@ -220,14 +221,12 @@ def state_column(place):
 
 def number_of(text, place=None, symbols=AllSymbols()):
     """Returns a number. Beside a place it may be a label or another name, of the processor if the place is of one."""
-    address = symbols.address(place.numbers[0], text) if place and place.kind in OF_A_PROCESSOR else None
-    if place and place.kind not in OF_A_PROCESSOR and not re.fullmatch("[0-7]+", text):
-        address = symbols.number(text)
-    if address is not None:
-        return address
-    if not re.fullmatch("[0-7]+", text):
-        raise Failure(f"{text} is not octal")
-    return int(text, 8)
+    named = None
+    if place and place.kind in OF_A_PROCESSOR:
+        named = symbols.address(place.numbers[0], text)
+    elif place and not re.fullmatch("[0-7]+", text):
+        named = symbols.number(text)
+    return octal(text) if named is None else named
 
 
 def number_up_to(text, place, symbols):

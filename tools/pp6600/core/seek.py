@@ -130,12 +130,12 @@ class Search:
         return [number for column in self.shown for number in column.numbers(answers[column.dump])]
 
 
-def spans(end: int, first: int = 0, span: int = FIRST_SPAN, wider: int = WIDER) -> Iterator[Tuple[int, int]]:
+def spans(end: int, first: int = 0, span: int = FIRST_SPAN) -> Iterator[Tuple[int, int]]:
     """Yields spans from the end backwards, each wider than that after it."""
     while end > first:
         start = max(end - span, first)
         yield start, end
-        end, span = start, wider * span
+        end, span = start, WIDER * span
 
 
 def last_moments(simulator: Simulator, predicate: Predicate, most: int, first: int = 0, last: Optional[int] = None,
