@@ -8,6 +8,7 @@ the simulator. docs/MACHINE.md has the tables in words."""
 from __future__ import annotations
 
 import enum
+import functools
 from typing import Callable, Dict, List, NamedTuple, Optional, Sequence, Set, Tuple
 
 from .forms import CELLS, CENTRAL_ADDRESSES, CLOCK, FRAME_WORDS, PROCESSORS, REGISTERS, Place, Registers
@@ -303,7 +304,7 @@ class Turn:
 
     # ---- what it did
 
-    @property
+    @functools.cached_property
     def kind(self) -> TurnKind:
         return kind_of_turn(self.processor, self.after)
 
@@ -430,10 +431,10 @@ def all_of(place: Place) -> Place:
 def device_put_a_word(channel: int, writes: Sequence[Write], before: str, after: str) -> bool:
     """Returns whether the device of a channel wrote its register in a turn: it does so only by making the channel full. The
     writes are those of the processor, which come first; before and after are the states of the channel."""
-    for write in writes:
-        if write.place == Place("S", (channel,)):
-            before = STATE_LETTERS[write.constants[0]]
-    return after == "F" != before
+    if after != "F":
+        return False
+    states = [STATE_LETTERS[write.constants[0]] for write in writes if write.place == Place("S", (channel,))]
+    return [before, *states][-1] != "F"
 
 
 def is_made_by(turn: Turn, channel: int, before: str, after: str) -> bool:
