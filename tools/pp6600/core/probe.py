@@ -100,11 +100,6 @@ class Looks(NamedTuple):
     ends: List[int]  # of each look: how many turns were made since
     columns: List[List[str]]
 
-    @property
-    def last(self) -> int:
-        """The position of the last look."""
-        return self.position + self.ends[-1]
-
 
 class Probe:
     """Looks at columns over turns that it makes. The simulator's tape says where they end."""
