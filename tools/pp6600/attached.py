@@ -294,16 +294,12 @@ class Attached(Simulator):
             watched = [line[2:] for line in self.demand("DUMP W")] if self.may_watch else []
             made, hit = self._turns(turns, [] if watched == ["NONE"] else watched)
         except DeviceFailure:
-            self._take_back(begin)
+            self._go_anew(begin, None)  # this simulator has gone ahead
+            self._arrive("BACK", 0, begin)
+            self.forget_ahead()
             ahead.put_back(self)
             raise
         return [f"TURNS {made:o} SLOT {self.next_slot:02o}", *([hit] if hit else [])]
-
-    def _take_back(self, position: int) -> None:
-        """Goes back to a position where an action began that has failed, in a fresh simulator: this one has gone ahead."""
-        self._go_anew(position, None)
-        self._arrive("BACK", 0, position)
-        self.forget_ahead()
 
     def _turns(self, turns: int, watched: Sequence[str]) -> Tuple[int, Optional[str]]:
         """Makes so many turns, or up to a HIT. Returns how many, and the HIT."""
@@ -400,8 +396,10 @@ class Check:
             moment, replies, is_right = self.leg(leg, moment)
             if not is_right:
                 break
-            if leg is not self.plan[-1]:
-                self.take_replies(replies)
+            if leg is not self.plan[-1]:  # the replies were sent after it
+                for reply in replies:
+                    self.session._added(reply)
+                self.at += len(replies)
         self.take_back()
         self.session._perform_new(replies)
         most = 4 if self.session.looks < 4 else self.session.looks // 2
@@ -456,12 +454,6 @@ class Check:
             if before[7:] != now[7:]:
                 hits[now[:4]] = f"HIT {now[:4]} {before[7:]} {now[7:]}"
         return next((hits[place] for place in self.watched if place in hits), None)
-
-    def take_replies(self, replies: Replies) -> None:
-        """Notes replies that were sent after a leg."""
-        for reply in replies:
-            self.session._added(reply)
-        self.at += len(replies)
 
     def take_back(self) -> None:
         """Takes back what was made after the last look that was taken."""

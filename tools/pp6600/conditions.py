@@ -84,15 +84,12 @@ class Returns:
     def verdict(self, address, at, seen):
         was, self.last = self.last, address
         if address in self.firsts and was != address and seen.slot(at) == self.number:
-            self.note_call(self.firsts[address], was, seen.processor(at))
+            processor = seen.processor(at)
+            if processor.name == RJM and not processor.phase:  # the subroutine was called
+                self.stored[self.firsts[address]] = (was + processor.row.words) % CELLS
         if was not in self.jumps or seen.slot(at) != self.number:
             return False
         return self.stored.pop(was, address) != address
-
-    def note_call(self, jump, address, processor):
-        """Notes the return address if a subroutine was called from an address."""
-        if processor.name == RJM and not processor.phase:
-            self.stored[jump] = (address + processor.row.words) % CELLS
 
 
 class Condition:

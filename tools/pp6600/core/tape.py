@@ -130,17 +130,14 @@ class Tape:
         self.slots[-1] = 0 if begins_anew else (self.slots[-1] + turns) % PROCESSORS
         self.watches += not turns and self.runs[-1].is_watch
 
-    def _drop_run(self) -> Action:
-        for sums in (self.starts, self.turns_before, self.slots):
-            sums.pop()
-        self.watches -= self.runs[-1].is_watch
-        return self.runs.pop()
-
     def cut(self, position: int) -> None:
         """Removes what is after a position."""
         while self.end > position:
-            line, _ = self._drop_run()
-            self.append(line, max(position - self.end, 0))
+            for sums in (self.starts, self.turns_before, self.slots):
+                sums.pop()
+            action = self.runs.pop()
+            self.watches -= action.is_watch
+            self.append(action.line, max(position - self.end, 0))
 
     # ---- how far
 

@@ -194,11 +194,6 @@ class Requests:
         """Returns a cell as an instruction, and where its line is."""
         memory = self.machine.state.memories[number]
         cell = Cell(number, address)
+        found = self.where(cell, self.own.line(number, address, [memory.word(address), memory.word(address + 1)]))
         return {"address": cell.reference, "instructionBytes": memory.word(address),
-                "instruction": instruction(memory, address), **self.place(cell, memory)}
-
-    def place(self, cell, memory):
-        """Returns where the line of a cell is."""
-        line = self.own.line(cell.number, cell.address, [memory.word(cell.address), memory.word(cell.address + 1)])
-        found = self.where(cell, line)
-        return {"location": found["source"], "line": found["line"]}
+                "instruction": instruction(memory, address), "location": found["source"], "line": found["line"]}
