@@ -321,7 +321,7 @@ class Attached(Simulator):
         dump = self.channels()
         sleepers = self._sleepers(dump, turns) if turns >= 0o100 else Sleepers()
         self.planner.wake_up(sleepers)
-        rows = self.planner.rows_of(dump)
+        rows = tuple(dump[channel] for channel in self.planner.channels)
         return Moment(self.turn, self.next_slot, self.values, rows, sleepers.awake, (0,) * len(self.devices))
 
     def _sleepers(self, channels: Sequence[str], turns: int) -> Sleepers:

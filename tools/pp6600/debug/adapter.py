@@ -113,21 +113,13 @@ class Adapter(Requests, Setting):
             self.end_simulator()
             self.wire.event("exited", exitCode=0)
         if self.is_terminated or has_failed or self.machine and self.machine.is_ended:
-            self.lose()
-        if self.restart:
-            self.begin_again()
-
-    def begin_again(self):
-        """Does the restart that has ended a run. If that can't be done, the run was paused."""
-        request, self.restart = self.restart, None
-        if not self.answer(request) and self.machine:
-            self.stopped("pause", self.paused)
-
-    def lose(self):
-        """Notes that the simulator has ended."""
-        self.end_simulator()
-        self.is_terminated = False
-        self.wire.event("terminated")
+            self.end_simulator()
+            self.is_terminated = False
+            self.wire.event("terminated")
+        if self.restart:  # it has ended a run, which was paused if it can't be done
+            request, self.restart = self.restart, None
+            if not self.answer(request) and self.machine:
+                self.stopped("pause", self.paused)
 
     def method(self, command):
         """Returns what does a request."""
