@@ -9,7 +9,7 @@ from ..core.state import State
 from .program import WIDTH, program_lines, sentence_line
 from .source_pane import source_lines
 from .text import (
-    CHANGED, CHOSEN, CURSOR, HEAD, HERE, REFUSED, SLOT, TITLE, WATCHED, Line, beside, in_height, last_in)
+    CHANGED, CHOSEN, CURSOR, HEAD, HERE, REFUSED, SLOT, TITLE, WATCHED, Line, beside, in_height)
 from .view import View, central_top, memory_top
 
 LEAST_COLUMNS, LEAST_ROWS = 80, 24
@@ -261,7 +261,8 @@ def log_rows(log, rows):
         line = Line(f"> {typed}").add("   ")
         line.fit(max(len(line.text), 24)).add("; ".join(answers), answer_mark(answers[0] if answers else ""))
         lines.append(line)
-    return last_in(lines, rows)
+    lines = lines[max(len(lines) - rows, 0):]
+    return [Line() for _ in range(rows - len(lines))] + lines
 
 
 def log_lines(log, rows):
