@@ -1,6 +1,5 @@
 """Conditions on the machine, as P 0 = 105 and PP 3 waits: what each is about, and whether it holds at looks at the machine."""
 
-import functools
 import operator
 import re
 
@@ -22,11 +21,13 @@ class Is:
     """Whether a number is as it must be."""
 
     def __init__(self, column, test):
-        self.column, self.test = column, functools.lru_cache(maxsize=None)(test)
+        self.column, self.test = column, test
+        self.known = {}  # the verdicts on numbers, by their digits
 
     def verdicts(self, values, seen):
         """Returns whether it holds at each look, by the digits of the column there."""
-        return list(map(self.test, values))
+        self.known.update((digits, self.test(digits)) for digits in {*values}.difference(self.known))
+        return list(map(self.known.__getitem__, values))
 
 
 class Changes:
