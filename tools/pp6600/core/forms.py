@@ -7,6 +7,7 @@ columns, and a reader of one line takes named fields. docs/CONSOLE.md describes 
 
 from __future__ import annotations
 
+import functools
 import re
 from typing import Dict, Iterable, List, NamedTuple, Optional, Sequence, Tuple
 
@@ -188,11 +189,13 @@ class Dump(NamedTuple):
 Answers = Dict[Dump, List[str]]  # the lines of the answer to each dump
 
 
+@functools.lru_cache(maxsize=10000)
 def cells_dump(number: int, first: int, last: int) -> Dump:
     """Returns the dump of the cells of a processor from the first to the last one."""
     return Dump(f"DUMP M {number:o} {first:o} {last:o}", "M", (last - first) // ROW + 1)
 
 
+@functools.lru_cache(maxsize=None)
 def registers_dump(number: int) -> Dump:
     return Dump(f"DUMP PP {number:o}", "PP")
 

@@ -120,7 +120,7 @@ class Console:
         answers: List[str] = []
         while len(answers) < count:
             answers += self.pipe.more_lines()
-        if len(answers) != count or "E" in {answer[:1] for answer in answers}:
+        if len(answers) != count or "\nE" in "\n".join(["", *answers]):
             raise self.nonsense(refused(answers) or answers[-1])
         return answers
 
@@ -404,13 +404,16 @@ class Simulator(Console):
         parts: List[Dict[Dump, slice]] = []  # of each stop: where the answers to its dumps are
         position, total = self.position, 0
         for stop, dumps in stops:
-            moves = [f"{'BACK' if stop < position else 'FORWARD'} {abs(stop - position):o}"] if stop != position else []
-            position, total = stop, total + len(moves)
-            parts.append({})
-            for dump in dict.fromkeys(dumps):
-                parts[-1][dump] = slice(total, total + dump.lines)
-                total += dump.lines
-            lines += [*moves, *(dump.line for dump in parts[-1])]
+            if stop != position:
+                lines.append(f"{'BACK' if stop < position else 'FORWARD'} {abs(stop - position):o}")
+                position, total = stop, total + 1
+            part: Dict[Dump, slice] = {}
+            for dump in dumps:
+                if dump not in part:
+                    lines.append(dump.line)
+                    part[dump] = slice(total, total + dump.lines)
+                    total += dump.lines
+            parts.append(part)
         self.renew(len(lines))
         answers = self.bulk("".join(f"{line}\n" for line in lines), len(lines), total)
         self.history.moved(position - self.position)
