@@ -94,8 +94,8 @@ def state_of(console: Console, central: Optional[Tuple[int, int]] = None) -> Sta
 
 
 class State:
-    """All numbers of the machine: `slot`, `processors`, `memories`, `channels` (the clock is the last), `watched` (places), `printer`,
-    `reader`, and `central`: the central words that were asked for, by their addresses."""
+    """All numbers of the machine: `slot`, `processors`, `memories`, `channels` (the clock is the last), `watched` (places),
+    `printer`, `reader`, and `central`: the central words that were asked for, by their addresses."""
 
     def __init__(self, lines: Sequence[str]) -> None:
         """The lines are the answers to the lines of `questions`."""
