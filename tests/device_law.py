@@ -27,8 +27,11 @@ class InPython(Console):
     def ask_each(self, lines):
         return (self.console.answer(line.encode()) for line in lines)
 
-    def question(self, line, beginnings):
-        return self.ask(line)
+    def question(self, line, beginning):
+        return self.ask(line)[0]
+
+    def dump(self, dump):
+        return self.ask(dump.line)
 
     def end(self):
         return 0

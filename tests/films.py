@@ -6,19 +6,22 @@ makes the films of docs/films anew, with the picture of one of them. It needs ch
 """
 
 import atexit
+import base64
 import functools
+import json
 import os
 import re
 import shutil
 import sys
 import tempfile
+import zlib
 
 from tests.browser import Browser, found
 from tests.generator import BUSY, Maker
 from tests.support import TOP, Case, read, tool
 
 from pp6600 import Console
-from pp6600.film.data import decode
+from pp6600.film.data import changes_of, numbers_of
 
 FOLDER = os.path.join(TOP, "docs", "films")
 LOADER, CARDS = "examples/overwritten-loader", "exercises/dead-start-from-cards"
@@ -49,6 +52,20 @@ def shown_film(name):
     if done.status:
         raise RuntimeError(done.err)
     return path
+
+
+def decode(text):
+    """Returns what `encode` was given, but for the numbers before each change and the writes: what else the page needs, and of each moment
+    its kind and a list of places with the growths of their numbers."""
+    whole = zlib.decompress(base64.b64decode(text))
+    size = int.from_bytes(whole[:4], "little")
+    about = json.loads(whole[4:4 + size])
+    rows, at = [], 4 + size
+    for length in about["streams"]:
+        rows.append(numbers_of(whole[at:at + length]))
+        at += length
+    kinds, places, growths, _ = rows
+    return about, [(head & 7, changes_of(head >> 3, places, growths)) for head in kinds]
 
 
 def random_session(seed):

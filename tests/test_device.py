@@ -93,7 +93,7 @@ def refused_is_performed(session, line):
     """Takes a SET H as performed, whatever the answer is."""
     answer = PERFORM_LINE(session, line)
     if answer[0].startswith("ERR") and line.startswith("SET H"):
-        session._begin_action()
+        session.forget_ahead()
         session.history.added(line)
     return answer
 

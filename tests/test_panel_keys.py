@@ -388,7 +388,7 @@ class Typed(PanelCase):
         panel = self.panel(FIRST_PROGRAM)
         press(panel, "13s")
         self.assertEqual(("STEP 13", ["TURNS 13 SLOT 01"]), panel.session.log[-1])
-        self.assertEqual("0005", panel.session.state.number("M 00 0020"), "docs/TUTORIAL.md: the store")
+        self.assertEqual("0005", panel.session.state.memories[0].word(0o20), "docs/TUTORIAL.md: the store")
         press(panel, "1")
         self.assertIn("8 is not octal", bottom(panel, "8"))
         press(panel, "s")
@@ -487,7 +487,7 @@ class Sessions(PanelCase):
         panel = self.panel()
         self.check_rows(lambda keys: press(panel, keys, "t") and panel.session.log[-1][0], ("j<Right>", "WATCH A 1"),
                         ("<Tab>j", "WATCH H 1"), ("<Tab>gM 1 0<Enter>j", "WATCH M 1 10"), ("<Tab><Down>", "WATCH C 1"))
-        self.assertEqual(["A 01", "H 01", "M 01 0010", "C 000001"], [one.place for one in panel.session.state.watches])
+        self.assertEqual(["A 01", "H 01", "M 01 0010", "C 000001"], [place.text for place in panel.session.state.watched])
         press(panel, "t")
         self.assertEqual("UNWATCH C 1", panel.session.log[-1][0])
         press(panel, "))(")
@@ -551,7 +551,7 @@ class Origins(PanelCase):
         self.assertEqual(">M 00 0020 0007 TURN 0 SET LINE 3 WORD 5 (decimal)", press(panel, "gM 0 20<Enter>c")[1].rstrip())
         press(panel, "<Enter>")
         self.assertEqual("BACK 5", panel.session.sent[-1])
-        self.assertEqual("0005", panel.session.state.number("M 0 20"))
+        self.assertEqual("0005", panel.session.state.memories[0].word(0o20))
 
     def test_what_is_undone_does_not_count(self):
         panel = self.panel("SET M 0 20 5\nSET M 0 20 7\nBACK\n")

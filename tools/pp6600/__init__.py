@@ -20,9 +20,15 @@ if sys.version_info < (3, 9):
         os.path.basename(sys.argv[0]), sys.version_info[0], sys.version_info[1]))
     sys.exit(2)
 
-from .attached import Attached
 from .core.simulator import Console
-from .device import EMPTY, INACTIVE, NOTHING, Device, full
 from .failure import Failure
 
 __all__ = ["Attached", "Console", "Device", "EMPTY", "Failure", "INACTIVE", "NOTHING", "full"]
+
+
+def __getattr__(name):
+    """Returns what a session with devices needs, which most tools do not."""
+    if name not in __all__:
+        raise AttributeError(f"module {__name__} has no attribute {name}")
+    from . import attached, device
+    return vars(attached)[name] if name == "Attached" else vars(device)[name]

@@ -170,7 +170,7 @@ class Attached(Simulator):
         if BACK_W.fullmatch(line):
             return self._back_to_unit(answer)
         if answer == ["OK"]:
-            self._begin_action()
+            self.forget_ahead()
             self.history.added(line)
         return answer
 
@@ -180,7 +180,7 @@ class Attached(Simulator):
             raise Failure(f"a device can't be told {what!r:.60}: it can be changed in place")
         self.renew()
         values, replies = self._told(number, what, self.values)
-        self._begin_action()
+        self.forget_ahead()
         self._perform_new([f"SET Q 0 {self.registers(0)['Q']}"])
         self.told[self.position] = number, what
         self._note(values, replies)
@@ -195,8 +195,8 @@ class Attached(Simulator):
             new = new._replace(seen=value.seen)
         return (*values[:number], new, *values[number + 1:]), () if reply is None else (reply,)
 
-    def _begin_action(self) -> None:
-        """Forgets what is ahead, before a new action."""
+    def forget_ahead(self) -> None:
+        """Discards what is ahead, as each new action does."""
         if self.position < self.tape.end:
             self.tape.cut(self.position)
             self.history.ahead = 0
@@ -238,10 +238,6 @@ class Attached(Simulator):
         if position != self.position:
             self._arrive("BACK", 0, position)
             self.plain.go(position)
-
-    def forget_ahead(self) -> None:
-        """Discards what is ahead."""
-        self._begin_action()
 
     def _arrive(self, word: str, count: int, position: int) -> List[str]:
         """Goes to a position. Returns the answer."""
@@ -293,21 +289,17 @@ class Attached(Simulator):
 
     def _step(self, turns: int) -> List[str]:
         begin, ahead = self.position, Ahead(self)
-        self._begin_action()
+        self.forget_ahead()
         try:
             watched = [line[2:] for line in self.demand("DUMP W")] if self.may_watch else []
             made, hit = self._turns(turns, [] if watched == ["NONE"] else watched)
         except DeviceFailure:
-            self._take_back(begin)
+            self._go_anew(begin, None)  # this simulator has gone ahead
+            self._arrive("BACK", 0, begin)
+            self.forget_ahead()
             ahead.put_back(self)
             raise
         return [f"TURNS {made:o} SLOT {self.next_slot:02o}", *([hit] if hit else [])]
-
-    def _take_back(self, position: int) -> None:
-        """Goes back to a position where an action began that has failed, in a fresh simulator: this one has gone ahead."""
-        self._go_anew(position, None)
-        self._arrive("BACK", 0, position)
-        self._begin_action()
 
     def _turns(self, turns: int, watched: Sequence[str]) -> Tuple[int, Optional[str]]:
         """Makes so many turns, or up to a HIT. Returns how many, and the HIT."""
@@ -329,7 +321,7 @@ class Attached(Simulator):
         dump = self.channels()
         sleepers = self._sleepers(dump, turns) if turns >= 0o100 else Sleepers()
         self.planner.wake_up(sleepers)
-        rows = self.planner.rows_of(dump)
+        rows = tuple(dump[channel] for channel in self.planner.channels)
         return Moment(self.turn, self.next_slot, self.values, rows, sleepers.awake, (0,) * len(self.devices))
 
     def _sleepers(self, channels: Sequence[str], turns: int) -> Sleepers:
@@ -404,8 +396,10 @@ class Check:
             moment, replies, is_right = self.leg(leg, moment)
             if not is_right:
                 break
-            if leg is not self.plan[-1]:
-                self.take_replies(replies)
+            if leg is not self.plan[-1]:  # the replies were sent after it
+                for reply in replies:
+                    self.session._added(reply)
+                self.at += len(replies)
         self.take_back()
         self.session._perform_new(replies)
         most = 4 if self.session.looks < 4 else self.session.looks // 2
@@ -462,16 +456,10 @@ class Check:
                 hits[now[:4]] = f"HIT {now[:4]} {before[7:]} {now[7:]}"
         return next((hits[place] for place in self.watched if place in hits), None)
 
-    def take_replies(self, replies: Replies) -> None:
-        """Notes replies that were sent after a leg."""
-        for reply in replies:
-            self.session._added(reply)
-        self.at += len(replies)
-
     def take_back(self) -> None:
         """Takes back what was made after the last look that was taken."""
         rest = self.answers[self.at:-1]
         count = sum(int(line.split()[1], 8) if line.startswith("TURNS ") else line == "OK" for line in rest)
         self.history.kept = min(self.history.kept, self.history.room - count)
         if count:
-            self.session.question(f"BACK {count:o}", ["BACK "])
+            self.session.question(f"BACK {count:o}", "BACK ")

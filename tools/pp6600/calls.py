@@ -24,16 +24,12 @@ class Call(NamedTuple):
         return self.rjm.processor.p
 
 
-def is_call(step):
-    return step.cause == TURN and not step.processor.phase and step.processor.name == RJM
-
-
 def call_of(run, number, jump, position):
     """Returns the last call before a position of a subroutine whose jump back is at an address; None if it was not called."""
     place, last = Place("M", (number, jump + 1)), None
     for _ in range(MOST_WRITES):
         step = Search(run, 0).origin(place, position)
-        if is_call(step):
+        if step.cause == TURN and not step.processor.phase and step.processor.name == RJM:
             return Call(jump, step, last)
         if step.cause not in (TURN, SET):
             return None

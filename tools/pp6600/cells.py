@@ -6,8 +6,8 @@ from .core.forms import CELLS, ROW
 from .failure import Failure
 
 
-def in_rows(words):
-    return [words[at:at + ROW] for at in range(0, len(words), ROW)]
+def in_rows(words, size=ROW):
+    return [words[at:at + size] for at in range(0, len(words), size)]
 
 
 def set_lines(processor, first, words):

@@ -7,6 +7,7 @@ from .core.forms import CELLS, PROCESSORS, STATES, Place
 from .core.probe import Column, all_registers
 from .failure import Failure
 from .listing import AllSymbols
+from .options import octal
 
 FORM = ("a condition is PLACE = 105 (also != < > <= >=), PLACE outside 100 117, PLACE inside 100 117, PLACE changes, "
         "M 0 100 117 changes, H 12 is F, H 12 changes state, PP 3 waits, PP 3 in a block, PP 3 not in a block or PP 3 returns wrongly; "
@@ -16,29 +17,17 @@ OF_A_PROCESSOR = ("M", "A", "P", "Q")
 RJM = "RJM"
 
 
-class Memo(dict):
-    """The verdicts on numbers, by their digits."""
-
-    def __init__(self, test):
-        super().__init__()
-        self.test = test
-
-    def __missing__(self, digits):
-        verdict = self[digits] = self.test(digits)
-        return verdict
-
-
 class Is:
     """Whether a number is as it must be."""
 
     def __init__(self, column, test):
-        self.column = column
-        self.memo = Memo(test)
+        self.column, self.test = column, test
+        self.known = {}  # the verdicts on numbers, by their digits
 
     def verdicts(self, values, seen):
         """Returns whether it holds at each look, by the digits of the column there."""
-        memo = self.memo
-        return [memo[value] for value in values]
+        self.known.update((digits, self.test(digits)) for digits in {*values}.difference(self.known))
+        return list(map(self.known.__getitem__, values))
 
 
 class Changes:
@@ -96,15 +85,12 @@ class Returns:
     def verdict(self, address, at, seen):
         was, self.last = self.last, address
         if address in self.firsts and was != address and seen.slot(at) == self.number:
-            self.note_call(self.firsts[address], was, seen.processor(at))
+            processor = seen.processor(at)
+            if processor.name == RJM and not processor.phase:  # the subroutine was called
+                self.stored[self.firsts[address]] = (was + processor.row.words) % CELLS
         if was not in self.jumps or seen.slot(at) != self.number:
             return False
         return self.stored.pop(was, address) != address
-
-    def note_call(self, jump, address, processor):
-        """Notes the return address if a subroutine was called from an address."""
-        if processor.name == RJM and not processor.phase:
-            self.stored[jump] = (address + processor.row.words) % CELLS
 
 
 class Condition:
@@ -228,20 +214,17 @@ def state_test(place, words):
 
 
 def state_column(place):
-    """Returns the column of the state of a channel."""
     return Column.of_place(place)._replace(first="state", last="state", watch=None)
 
 
 def number_of(text, place=None, symbols=AllSymbols()):
     """Returns a number. Beside a place it may be a label or another name, of the processor if the place is of one."""
-    address = symbols.address(place.numbers[0], text) if place and place.kind in OF_A_PROCESSOR else None
-    if place and place.kind not in OF_A_PROCESSOR and not re.fullmatch("[0-7]+", text):
-        address = symbols.number(text)
-    if address is not None:
-        return address
-    if not re.fullmatch("[0-7]+", text):
-        raise Failure(f"{text} is not octal")
-    return int(text, 8)
+    named = None
+    if place and place.kind in OF_A_PROCESSOR:
+        named = symbols.address(place.numbers[0], text)
+    elif place and not re.fullmatch("[0-7]+", text):
+        named = symbols.number(text)
+    return octal(text) if named is None else named
 
 
 def number_up_to(text, place, symbols):

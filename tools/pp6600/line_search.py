@@ -4,10 +4,11 @@ A processor begins a line by a turn if it is in another line before this turn th
 all instructions that a macro made of a line, and a block transfer with the instruction that began it are one line each.
 `Source.line_of` says whose line a cell is."""
 
+from contextlib import closing
 from itertools import islice
 
-from .core.forms import PROCESSORS
-from .core.probe import Probe, all_registers, word_dumps
+from .core.forms import PROCESSORS, word_dumps, words_of
+from .core.probe import Probe, all_registers
 from .core.seek import spans
 from .core.simulator import Replay
 from .core.tape import STEP, Tape
@@ -16,10 +17,6 @@ from .failure import Failure
 
 NO_BLOCK = "0000"  # the phase outside a block transfer
 WATCHED_AT_ONCE = 0o4000000  # turns, while a processor is where it was
-
-
-def address_of(registers):
-    return int(registers[:4], 8)
 
 
 def is_in_block(registers):
@@ -32,8 +29,7 @@ class Lines:
     def __init__(self, run, number, source, progress):
         """The function `progress` is called with the turns that are reached; it may raise an exception to end the search."""
         self.run, self.number, self.source, self.progress = run, number, source, progress
-        column = all_registers(number)._replace(slots=((number - 1) % PROCESSORS,))  # looked at before its turns
-        self.probe = Probe(run, [column])
+        self.probe = Probe(run, [all_registers(number)._replace(slots=((number - 1) % PROCESSORS,))])  # looked at before its turns
         self.line = self.left = None  # the number of the line that it is in, if it is in one; and where it left its source
         self.registers = ""  # at the look before; nothing if a setting may have changed the cell at P since
 
@@ -95,13 +91,12 @@ class Lines:
         asked = []
         for position, registers in looks:
             if not is_in_block(registers) and registers[:4] + registers[-4:] != self.registers:
-                asked.append((position, address_of(registers)))
+                asked.append((position, int(registers[:4], 8)))
             self.registers = registers[:4] + registers[-4:]
         stops = [(position, word_dumps(self.number, address)) for position, address in asked]
         answers = self.run.look_at([*stops, (self.run.position, [])])
-        return {position: self.line_of(address, [word for line in answer for word in line.split()[1:]])
+        return {position: self.line_of(address, words_of(row for rows in answer.values() for row in rows))
                 for (position, address), answer in zip(asked, answers)}
-
 
     def why_none(self):
         """Returns what the processor does instead at the end of a search, as a part of a sentence."""
@@ -115,30 +110,24 @@ def turn_of_next_line(session, number, source, count, progress):
     """Returns after how many turns a processor begins the line that comes so many lines later, by a turn that was made or a new one."""
     tape, here = Tape(session.history.tape.runs), session.history.in_effect().without_watches().end
     tape.append(STEP, session.most_new)
-    run = Replay(session.simulator.words, tape)
-    try:
+    with closing(Replay(session.simulator.words, tape)) as run:
         lines = Lines(run, number, source, progress)
         lines.begin_at(here)
         found = next(islice(lines.begun(here, run.tape.end), count - 1, None), None)
         if found is None:
             raise none_found(count, f"up to turn {run.tape.turns:o}{lines.why_none()}")
         return run.tape.turn(found)
-    finally:
-        run.close()
 
 
 def turn_of_line_before(session, number, source, count, progress):
     """Returns what `turn_of_next_line` does, of the last lines that were begun before the present position."""
-    run = Replay(session.simulator.words, session.history.in_effect())
     found = []
-    try:
+    with closing(Replay(session.simulator.words, session.history.in_effect())) as run:
         for start, end in spans(run.tape.turns):
             found[:0] = begun_in(Lines(run, number, source, progress), start, end)
             if len(found) >= count:
                 return found[-count]
         raise none_found(count, f"before turn {run.tape.turns:o}")
-    finally:
-        run.close()
 
 
 def none_found(count, where):

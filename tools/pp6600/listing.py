@@ -3,9 +3,11 @@
 import bisect
 from typing import NamedTuple
 
-from .core.forms import CELLS, ROW
+from .cells import set_lines
+from .core.forms import CELLS
 from .failure import Failure
 from .printed import NAME, Printout, continuity, first_runs, octal_number, tokens_of, with_words
+from .source.forms import runs_of
 from .text_files import named, read_lines
 
 FARTHEST = 0o77  # from a symbol to a cell that the listing does not fill
@@ -103,19 +105,9 @@ class Listing:
                 raise Failure(f"line {line.number} (decimal) fills cell {address:04o}, which line {other} has filled")
             self.cells[address] = (word, line)
 
-    def runs(self):
-        """Returns the words that follow one another: the first address and the words of each run."""
-        found = []
-        for address in sorted(self.cells):
-            if not found or address != found[-1][0] + len(found[-1][1]):
-                found.append((address, []))
-            found[-1][1].append(self.cells[address][0])
-        return found
-
     def set_lines(self, processor):
-        """Returns the SET lines that load it."""
-        return [f"SET M {processor:o} {first + at:o} {' '.join(words[at:at + ROW])}"
-                for first, words in self.runs() for at in range(0, len(words), ROW)]
+        runs = runs_of({address: word for address, (word, _) in self.cells.items()})
+        return [line for first, words in runs for line in set_lines(processor, first, words)]
 
     def counts(self):
         """Returns what was read, as a sentence."""

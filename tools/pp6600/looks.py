@@ -102,10 +102,6 @@ class Planner:
         own = [device.channel for device in self.devices]
         self.channels = (*own, *(channel for channel in sleepers.waiting if channel not in own))
 
-    def rows_of(self, dump: Sequence[str]) -> Rows:
-        """Returns the rows that are looked at of the lines of DUMP H."""
-        return tuple(dump[channel] for channel in self.channels)
-
     # ---- one look
 
     def after(self, moment: Moment, seen: Rows, looks: int, turns: int) -> Tuple[Moment, Tuple[str, ...]]:

@@ -4,6 +4,7 @@ import argparse
 import os
 import re
 import sys
+from functools import partial
 
 from .choice import HOME, default_program
 from .core.forms import CELLS, CLOCK, PROCESSORS
@@ -87,22 +88,16 @@ def octal(text):
 
 
 def up_to(text, most, what):
+    """Returns a number of the command line that is at most so great."""
     number = octal(text)
     if number > most:
         raise BadWord(f"{text} is no {what}: it is 0 to {most:o}, octal")
     return number
 
 
-def processor(text):
-    return up_to(text, PROCESSORS - 1, "processor")
-
-
-def cell(text):
-    return up_to(text, CELLS - 1, "cell")
-
-
-def channel(text):
-    return up_to(text, CLOCK, "channel")
+processor = partial(up_to, most=PROCESSORS - 1, what="processor")
+cell = partial(up_to, most=CELLS - 1, what="cell")
+channel = partial(up_to, most=CLOCK, what="channel")
 
 
 def count(text):

@@ -54,15 +54,12 @@ class Polled:
         for number, _ in ready:
             if number == self.input:
                 self._write_more()
-            else:
-                came.append((self.names[number], self._read_more(number)))
+                continue
+            data = os.read(number, AT_ONCE)
+            if not data:
+                self.poll.unregister(number)
+            came.append((self.names[number], data))
         return came
-
-    def _read_more(self, number: int) -> bytes:
-        data = os.read(number, AT_ONCE)
-        if not data:
-            self.poll.unregister(number)
-        return data
 
     def end_input(self) -> None:
         with contextlib.suppress(KeyError):  # it may wait to be written without a text, if a signal has come just then

@@ -195,7 +195,6 @@ def columns_of(runs, end):
 # -- the parts of a line
 
 def parts_of(line, columns):
-    """Returns the parts of a line."""
     tokens = tokens_of(line)
     return by_columns(line, tokens, columns) if columns else by_order(line, tokens)
 

@@ -1,10 +1,11 @@
 """A script that is performed: the tape of what is in effect at its end, and the lines that were refused."""
 
 from .core.forms import is_refusal
-from .core.simulator import Console
+from .core.simulator import Console, Replay
 from .core.tape import History, counted, room_of
 from .ending import complain, flush
-from .text_files import shown
+from .options import simulator
+from .text_files import script_lines, shown
 
 MOST_SHOWN = 60  # characters of a line that was refused
 
@@ -60,3 +61,12 @@ def performed(words, lines):
     script = Script(console, lines)
     console.end()
     return script
+
+
+def replayed(asked, symbols, path, turn=None):
+    """Performs the script of a command line, after the lines that load its sources. Returns a simulator before the actions that are
+    in effect at its end, or after a turn with the settings before the next one; and the script."""
+    words = simulator(asked)
+    script = performed(words, symbols.loading(script_lines(path)))
+    tape = script.tape
+    return Replay(words, tape if turn is None else tape.part(0, tape.after_turn(turn))), script

@@ -1,5 +1,7 @@
 """The turns at which a condition comes to hold, before the present turn and after it. A simulator of its own searches them."""
 
+from contextlib import closing
+
 from .conditions import Condition
 from .core.seek import Search, last_moments
 from .core.simulator import Replay
@@ -21,18 +23,11 @@ def next_found(session, text, symbols, progress):
     that was made, or a new one. Returns None if there is none."""
     tape = Tape(session.history.tape.runs)
     tape.append(STEP, session.most_new)
-    run = Replay(session.simulator.words, tape)
-    try:
+    with closing(Replay(session.simulator.words, tape)) as run:
         return next(Search(run, Condition.parse(text, symbols), progress).moments(session.history.turns), None)
-    finally:
-        run.close()
 
 
 def last_before(session, text, symbols, progress):
     """Returns what `next_found` does, of the last turn before the present one."""
-    run = Replay(session.simulator.words, session.history.tape)
-    try:
-        found = last_moments(run, Condition.parse(text, symbols), 1, 0, session.history.turns - 1, progress)
-    finally:
-        run.close()
-    return found[0] if found else None
+    with closing(Replay(session.simulator.words, session.history.tape)) as run:
+        return next(iter(last_moments(run, Condition.parse(text, symbols), 1, 0, session.history.turns - 1, progress)), None)

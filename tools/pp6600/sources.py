@@ -10,7 +10,7 @@ from .core.tape import SourceLine
 from .core.turn import TWO_WORDS, places_of_setting
 from .ending import shown_text
 from .failure import Failure, Faults
-from .listing import AddressNames, AllSymbols, Names
+from .listing import AddressNames, AllSymbols, Names, without_mark
 from .options import processor
 from .source.forms import set_lines
 from .source.machine import CELLS
@@ -19,13 +19,10 @@ from .source.state import Row
 from .source.statements import TAB, statement_of
 from .text_files import named, read_lines
 
-MARK = "\ufeff"  # that some editors put before a text
-
 
 def source_lines(path: Optional[str]) -> List[str]:
     """Returns the lines of a source, without the mark that some editors put before a text."""
-    lines = read_lines(path)
-    return [lines[0].removeprefix(MARK), *lines[1:]] if lines else []
+    return without_mark(read_lines(path))
 
 
 def complaints(path: Optional[str], program: Program) -> List[str]:
@@ -158,7 +155,6 @@ class Source(AddressNames):
 
 
 def words_of(rows: Sequence[Row]) -> Iterator[Word]:
-    """Yields the words of a listing."""
     line, number = None, 0
     for row in rows:
         number = number if row.line.number == line else 0

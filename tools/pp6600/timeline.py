@@ -19,11 +19,6 @@ class Timeline(Simulator):
         self.replays = 0
         super().__init__(words)
 
-    @property
-    def counts(self):
-        """The history as BACK and FORWARD count it."""
-        return self.history
-
     def act(self, line, dumps=()):
         answer = super().act(line, dumps)
         self.sent.append(line)

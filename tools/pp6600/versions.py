@@ -17,18 +17,13 @@ class Versions:
 
     def __init__(self, number: int, names: Sequence[AddressNames]) -> None:
         self.number, self.names = number, names
-        self.cells = self._cells()
-
-    def _cells(self) -> List[Tuple[int, int]]:
-        """Returns the addresses of each cell that both have."""
-        one, other = self.names
+        self.cells: List[Tuple[int, int]] = []  # the addresses of each that both have
+        one, other = names
         places = {label: address for address, label in reversed(other.labels.items())}
-        found = []
         for first, label in one.labels.items():
             if label in places:
                 count = min(cells_of_label(one, first), cells_of_label(other, places[label]))
-                found += [(first + at, places[label] + at) for at in range(count)]
-        return found
+                self.cells += [(first + at, places[label] + at) for at in range(count)]
 
     def is_same(self, digits: Sequence[str]) -> bool:
         """Returns whether two numbers are the same one."""

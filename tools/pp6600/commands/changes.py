@@ -1,17 +1,17 @@
 """Every change of a place over a whole run, or what each of its last turns changed."""
 
-from ..command_line import arguments, count, script_lines, simulator, words_after, write_lines
+from ..command_line import arguments, count, words_after, write_lines
 from ..conditions import Changes, Condition, first_place
 from ..core.forms import CENTRAL_ADDRESSES, FRAME_WORDS, dumps_from, kind_of
 from ..core.probe import Column
 from ..core.seek import Search
-from ..core.simulator import MARK, Replay
+from ..core.simulator import MARK
 from ..core.state import differences
 from ..core.tape import STEP, SourceLine
 from ..core.turn import places_of_setting
 from ..listing import AllSymbols
 from ..moments import text_of
-from ..script import performed
+from ..script import replayed
 from ..sources import add_symbols, symbols_of
 
 DESCRIPTION = """Shows every change of a place (M 0 106, A 0, C 1000, H 12 ..) over the whole run of a script, however
@@ -49,7 +49,7 @@ def place_changes(run, place, symbols=AllSymbols()):
 
 def source_of(line, place):
     """Returns the place in a source from which a setting took the number at a place, after two blanks; nothing without a source."""
-    return f"  {line.places[places_of_setting(line)[place]]}" if isinstance(line, SourceLine) else ""
+    return f"  {line.known[places_of_setting(line)[place]]}" if isinstance(line, SourceLine) else ""
 
 
 def lines_around(run, slot, a):
@@ -93,11 +93,10 @@ def main():
     add_symbols(parser)
     parser.add_argument("words", nargs="*", metavar="PLACE [SCRIPT]", help="without a script, standard input is it")
     asked = parser.parse()
-    words, symbols = simulator(asked), symbols_of(asked)
+    symbols = symbols_of(asked)
     place, rest = (None, asked.words) if asked.turns else first_place(asked.words, symbols)
     (path,) = words_after(rest, 1, "give --turns, one script" if asked.turns else "give one place, one script")
-    script = performed(words, symbols.loading(script_lines(path)))
-    run = Replay(words, script.tape)
+    run, script = replayed(asked, symbols, path)
     if asked.turns:
         write_lines(last_turns(run, asked.turns, symbols))
     else:

@@ -54,15 +54,10 @@ class Side:
             if action.line == STEP:
                 run.goto(start)
                 for looks in probe.over(end):
-                    yield from self.steps(number, looks)
-
-    def steps(self, number, looks):
-        """Yields what `path` does for the turns of one batch."""
-        tape = self.run.tape
-        for made, digits in zip(looks.ends, looks.columns[0]):
-            position = looks.position + made
-            if tape.slot(position - 1) == number:
-                yield tape.turn(position), self.symbols.name(number, digits) or digits
+                    for made, digits in zip(looks.ends, looks.columns[0]):
+                        position = looks.position + made
+                        if tape.slot(position - 1) == number:
+                            yield tape.turn(position), self.symbols.name(number, digits) or digits
 
 
 class Comparison:
@@ -117,7 +112,6 @@ def compare_paths(sides):
 
 
 def lines_of(found):
-    """Yields the lines of differences."""
     for place, one, other in found[:MOST_SHOWN]:
         yield f"{place} {one} / {other}"
     if len(found) > MOST_SHOWN:

@@ -47,16 +47,9 @@ def two_byte_words(data):
 
 
 def words_of(asked, path):
-    """Returns the words of the file."""
     if asked.packed:
         return packed_words(bytes_of(path))
     return two_byte_words(bytes_of(path)) if asked.two_bytes else octal_words(without_mark(read_lines(path)))
-
-
-def what_it_has(listing, columns):
-    """Returns what is said of a listing, and the columns that were guessed if none were given."""
-    how = "" if columns or not listing.columns else f", by --columns {listing.columns.shown} as guessed"
-    return f"{listing.counts()}{how}"
 
 
 def lines_of(asked):
@@ -69,7 +62,8 @@ def lines_of(asked):
     if asked.listing:
         (path,) = words_after(asked.words[1:], 1, "--listing takes a processor, one file")
         listing = Listing.of_file(path, asked.columns)
-        return listing.set_lines(number), what_it_has(listing, asked.columns)
+        how = "" if asked.columns or not listing.columns else f", by --columns {listing.columns.shown} as guessed"
+        return listing.set_lines(number), f"{listing.counts()}{how}"
     (path,) = words_after(asked.words[2:], 1, "give a processor, a cell, one file")
     return set_lines(number, cell(asked.words[1]), words_of(asked, path)), ""
 

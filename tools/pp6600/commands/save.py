@@ -1,10 +1,9 @@
 """The cells of a processor at the end of a script, in each form that load takes, and as a deck or a panel."""
 
 from ..cells import in_rows, set_lines
-from ..command_line import Failure, arguments, cell, processor, script_lines, simulator, words_after, write_bytes, write_lines
+from ..command_line import Failure, arguments, cell, processor, words_after, write_bytes, write_lines
 from ..core.forms import COLUMNS_OF_CARD, ROW
-from ..core.simulator import Replay
-from ..script import performed
+from ..script import replayed
 from ..sources import add_sources, symbols_of
 
 PANEL_WORDS = 12  # decimal
@@ -29,7 +28,7 @@ def listing(first, words):
 
 def deck(words):
     """Returns cards with as many words as they have columns."""
-    return [" ".join(words[at:at + COLUMNS_OF_CARD]) for at in range(0, len(words), COLUMNS_OF_CARD)]
+    return map(" ".join, in_rows(words, COLUMNS_OF_CARD))
 
 
 def panel(words):
@@ -66,8 +65,7 @@ def main():
     number, first, last = processor(asked.words[0]), cell(asked.words[1]), cell(asked.words[2])
     if last < first:
         raise Failure(f"cell {last:o} is before cell {first:o}")
-    script = performed(simulator(asked), symbols_of(asked).loading(script_lines(path)))
-    run = Replay(simulator(asked), script.tape)
+    run, script = replayed(asked, symbols_of(asked), path)
     run.goto(run.tape.end)
     words = run.cells(number, first, last)
     run.end()

@@ -6,7 +6,7 @@ from ..command_line import add_script, add_turn, arguments, script_lines, simula
 from ..core.simulator import Replay, Simulator
 from ..core.tape import counted
 from ..core.turn import states_of
-from ..script import Refusals, performed
+from ..script import Refusals, replayed
 from ..sources import add_symbols, symbols_of
 
 DESCRIPTION = """Shows the machine at the end of a script, or after a turn, on one screen: the ten processors with the two words
@@ -53,7 +53,6 @@ def call_lines(run, symbols):
 
 
 def screen(run, symbols):
-    """Returns the lines of the screen."""
     right = run.channels()
     left = [processor_line(run, number, states_of(right), symbols) for number in range(PROCESSORS)]
     left += [f" TURN {run.turn:o}", *filter(None, (source_line(run, number, symbols) for number in symbols.of))]
@@ -63,19 +62,19 @@ def screen(run, symbols):
     return lines + watch_lines(run.demand("DUMP W")) + left[len(right):] + (call_lines(run, symbols) if symbols.sources() else [])
 
 
-def run_to_end(words, lines):
+def run_to_end(asked, symbols):
     """Returns a run that has performed a script, and its refused lines."""
-    run, refusals = Simulator(words), Refusals()
+    lines = symbols.loading(script_lines(asked.script))
+    run, refusals = Simulator(simulator(asked)), Refusals()
     for number, line in counted(lines):
         refusals.note(number, line, run.act(line))
     return run, refusals
 
 
-def run_to_turn(words, lines, turn):
+def run_to_turn(asked, symbols):
     """Returns a run that has performed the actions of a script up to a turn, and its refused lines. Nothing is watched."""
-    script = performed(words, lines)
-    run = Replay(words, script.tape)
-    run.goto(run.tape.after_turn(turn))
+    run, script = replayed(asked, symbols, asked.script, asked.turn)
+    run.goto(run.tape.end)
     return run, script.refusals
 
 
@@ -85,9 +84,8 @@ def main():
     add_symbols(parser)
     add_script(parser)
     asked = parser.parse()
-    words, symbols = simulator(asked), symbols_of(asked)
-    lines = symbols.loading(script_lines(asked.script))
-    run, refusals = run_to_end(words, lines) if asked.turn is None else run_to_turn(words, lines, asked.turn)
+    symbols = symbols_of(asked)
+    run, refusals = (run_to_end if asked.turn is None else run_to_turn)(asked, symbols)
     write_lines(screen(run, symbols))
     run.end()
     return refusals.status()

@@ -2,15 +2,14 @@
 
 from itertools import takewhile
 
-from ..command_line import add_script, arguments, channel, count, processor, script_lines, simulator, write_lines
+from ..command_line import add_script, arguments, channel, count, processor, write_lines
 from ..core.forms import CHANNELS_DUMP, CLOCK, PROCESSORS
 from ..core.probe import read_turns
-from ..core.simulator import Replay
 from ..core.tape import STEP
 from ..core.turn import TWO_WORDS, TurnKind, kind_of_turn
 from ..core.window import last_touches
 from ..listing import AllSymbols
-from ..script import performed
+from ..script import replayed
 from ..sources import add_symbols, symbols_of
 
 DESCRIPTION = """Shows each turn of a script, as the processor stood before it: the turn, counted in octal from 1, the
@@ -55,7 +54,7 @@ class Tracer:
         wait, listed = " WAITS" if waited else "", self.listed(made.slot, before)
         if self.channel is None:
             return f"{text} Q {before.registers['Q']} PHASE {before.registers['PHASE']}{wait}{listed}"
-        was, now = (lines[self.channel][5:] for lines in (made.lines_before, made.lines_after))
+        was, now = (answers[CHANNELS_DUMP][self.channel][5:] for answers in (made.answers_before, made.answers_after))
         touched = before.uses(self.channel) and not waited or was != now
         step = f"H {self.channel:02o} {was if was == now else f'{was} -> {now}'}"
         return f"{text}{wait} {step}{fate_of_word(before, after, was, now)}{listed}" if touched else None
@@ -107,9 +106,8 @@ def main():
     add_symbols(parser)
     add_script(parser)
     asked = parser.parse()
-    words, symbols = simulator(asked), symbols_of(asked)
-    script = performed(words, symbols.loading(script_lines(asked.script)))
-    run = Replay(words, script.tape)
+    symbols = symbols_of(asked)
+    run, script = replayed(asked, symbols, asked.script)
     last = run.tape.turns if asked.to is None else min(asked.to, run.tape.turns)
     lines = Tracer(run, asked.channel, symbols).lines(positions_of(asked, run, last))
     write_lines(lines)

@@ -2,13 +2,12 @@
 
 from itertools import islice
 
-from ..command_line import Failure, arguments, count, script_lines, simulator, words_after, write
+from ..command_line import Failure, arguments, count, words_after, write
 from ..conditions import Condition
 from ..core.seek import Search, last_moments
-from ..core.simulator import Replay
 from ..listing import AllSymbols
 from ..moments import text_of
-from ..script import performed
+from ..script import replayed
 from ..sources import add_symbols, symbols_of
 
 DESCRIPTION = """Shows the first turn at whose end a condition holds and at whose beginning it did not. A condition is PLACE = 105,
@@ -51,11 +50,10 @@ def main():
     add_symbols(parser)
     parser.add_argument("words", nargs="*", metavar="CONDITION [SCRIPT]", help="without a script, standard input is it")
     asked = parser.parse()
-    symbols, words = symbols_of(asked), simulator(asked)
+    symbols = symbols_of(asked)
     condition, path = condition_and_script(asked.words, symbols)
-    script = performed(words, symbols.loading(script_lines(path)))
+    run, script = replayed(asked, symbols, path)
     is_found = False
-    run = Replay(words, script.tape)
     for found in turns_found(asked, condition, run):
         write(text_of(found, symbols), at_once=not asked.all)
         is_found = True

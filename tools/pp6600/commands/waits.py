@@ -2,7 +2,7 @@
 
 from typing import NamedTuple
 
-from ..command_line import add_script, add_turn, arguments, script_lines, simulator, write_lines
+from ..command_line import add_script, add_turn, arguments, write_lines
 from ..conditions import Changes, Condition
 from ..core.forms import CELLS, CLOCK, MOST_WATCHES, PROCESSORS, REGISTERS
 from ..core.probe import Column
@@ -12,7 +12,7 @@ from ..core.state import central_of, state_of
 from ..core.tape import STEP
 from ..core.turn import Turn, is_made_by
 from ..listing import AllSymbols
-from ..script import performed
+from ..script import replayed
 from ..sources import add_symbols, symbols_of
 
 DESCRIPTION = """Shows each processor that waits at the end of a script: the address of its instruction and its name, P,
@@ -83,7 +83,7 @@ def drop_moved(run, turns, numbers):
         for line in answer[1:]:
             number = int(line.split()[2], 8)
             numbers.discard(number)
-            run.question(f"UNWATCH P {number:o}", ["OK"])
+            run.question(f"UNWATCH P {number:o}", "OK")
         if not numbers:
             return
 
@@ -210,10 +210,8 @@ def main():
     add_symbols(parser)
     add_script(parser)
     asked = parser.parse()
-    words, symbols = simulator(asked), symbols_of(asked)
-    script = performed(words, symbols.loading(script_lines(asked.script)))
-    tape = script.tape if asked.turn is None else script.tape.part(0, script.tape.after_turn(asked.turn))
-    run = Replay(words, tape)
+    symbols = symbols_of(asked)
+    run, script = replayed(asked, symbols, asked.script, asked.turn)
     write_lines(waits(run, symbols), "NO PROCESSOR WAITS", at_once=True)
     run.close()
     return script.status()

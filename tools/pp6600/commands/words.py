@@ -28,7 +28,6 @@ def set_lines_of_dump(processor, lines):
 
 
 def lines_of(asked):
-    """Returns what is to be written."""
     if asked.dump is not None:
         (file,) = words_after(asked.text, 1, "--dump takes one file")
         return set_lines_of_dump(asked.dump, read_lines(file))

@@ -7,6 +7,7 @@ columns, and a reader of one line takes named fields. docs/CONSOLE.md describes 
 
 from __future__ import annotations
 
+import functools
 import re
 from typing import Dict, Iterable, List, NamedTuple, Optional, Sequence, Tuple
 
@@ -185,13 +186,30 @@ class Dump(NamedTuple):
     lines: int = 1
 
 
+Answers = Dict[Dump, List[str]]  # the lines of the answer to each dump
+
+
+@functools.lru_cache(maxsize=10000)
 def cells_dump(number: int, first: int, last: int) -> Dump:
     """Returns the dump of the cells of a processor from the first to the last one."""
     return Dump(f"DUMP M {number:o} {first:o} {last:o}", "M", (last - first) // ROW + 1)
 
 
+@functools.lru_cache(maxsize=None)
 def registers_dump(number: int) -> Dump:
     return Dump(f"DUMP PP {number:o}", "PP")
+
+
+def word_dumps(number: int, address: int) -> List[Dump]:
+    """Returns the dumps of the two words from an address on; after cell 7777 comes cell 0000."""
+    if address + 1 < CELLS:
+        return [cells_dump(number, address, address + 1)]
+    return [cells_dump(number, address, address), cells_dump(number, 0, 0)]
+
+
+def words_of(rows: Iterable[str]) -> List[str]:
+    """Returns the words of the rows of a dump of cells."""
+    return [word for row in rows for word in row.split()[1:]]
 
 
 CHANNELS_DUMP = Dump("DUMP H", "H", CLOCK + 1)

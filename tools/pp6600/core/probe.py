@@ -13,8 +13,8 @@ from typing import Dict, Iterator, List, NamedTuple, Optional, Sequence, Set, Tu
 
 from ..failure import Failure
 from .forms import (
-    CELLS, CHANNELS_DUMP, CLOCK, FORMS, MOST_TURNS, PROCESSORS, REGISTERS, ROW, ROWS, Dump, Place, Registers, cells_dump,
-    central_dump, registers_dump, registers_of)
+    CELLS, CHANNELS_DUMP, CLOCK, FORMS, MOST_TURNS, PROCESSORS, REGISTERS, ROW, Answers, Dump, Place, Registers, cells_dump,
+    central_dump, registers_dump, registers_of, word_dumps, words_of)
 from .simulator import MARK, Simulator
 from .turn import Processor
 
@@ -100,11 +100,6 @@ class Looks(NamedTuple):
     ends: List[int]  # of each look: how many turns were made since
     columns: List[List[str]]
 
-    @property
-    def last(self) -> int:
-        """The position of the last look."""
-        return self.position + self.ends[-1]
-
 
 class Probe:
     """Looks at columns over turns that it makes. The simulator's tape says where they end."""
@@ -148,7 +143,7 @@ class Probe:
         self.simulator.renew(LINES_OF_CHANGES)
         steps = [CLOSE_TURNS] * min(CLOSE_STEPS, turns // CLOSE_TURNS) if self.close else []
         steps = steps or [min(turns, MOST_TURNS)]
-        answers = self.simulator.ask_all([*(f"STEP {step:o}" for step in steps), "DUMP CR"])[:-1]
+        answers = self.simulator.ask_all([*(f"STEP {step:o}" for step in steps), MARK])[:-1]
         made: List[int] = []
         numbers = [self.number]
         for line in answers:
@@ -210,47 +205,35 @@ def idle_processors(simulator: Simulator, first: int, last: int) -> Set[int]:
     if last - first < WORTH_A_LOOK:
         return set()
     simulator.goto(first)
-    answers = simulator.ask_all([*(line for number in ALL for line in (f"DUMP PP {number:o}", f"DUMP M {number:o} 0 7777")), MARK])
-    found = set()
-    for number in ALL:
-        registers, *rows = answers[number * (1 + ROWS):(number + 1) * (1 + ROWS)]
-        if registers_of(registers)["PHASE"] == "0000" and all(row.endswith(ROW_OF_ZEROS) for row in rows):
-            found.add(number)
-    return found
+    dumps = {number: (registers_dump(number), cells_dump(number, 0, CELLS - 1)) for number in ALL}
+    (answers,) = simulator.look_at([(first, [dump for pair in dumps.values() for dump in pair])])
+    return {number for number, (registers, cells) in dumps.items() if registers_of(answers[registers][0])["PHASE"] == "0000"
+            and all(row.endswith(ROW_OF_ZEROS) for row in answers[cells])}
 
 
 class Made(NamedTuple):
-    """A turn that was made: the processor before it and its registers after it, and the lines of more dumps before and after."""
+    """A turn that was made: the processor before it, its registers after it, and the answers to dumps before and after."""
 
     position: int  # before it
     slot: int
     processor: Processor
     after: Registers
-    lines_before: List[str]
-    lines_after: List[str]
+    answers_before: Answers
+    answers_after: Answers
 
 
 def read_turns(simulator: Simulator, positions: Sequence[int], dumps: Sequence[Dump] = ()) -> List[Made]:
     """Reads the turns after some positions, all at once and in two passes, for the words of an instruction are at an address that the
     first one reads. All are kept, or ahead; the simulator stays where it is."""
     here, slots = simulator.position, [simulator.tape.slot(position) for position in positions]
-    stops = [stop for position, slot in zip(positions, slots) for stop in (
-        (position, [registers_dump(slot), *dumps]), (position + 1, [registers_dump(slot), *dumps]))]
-    answers = simulator.look_at([*stops, (here, [])])[:-1]
-    before, after = answers[::2], answers[1::2]
-    registers = [registers_of(lines[0]) for lines in before]
-    of_words = [word_dumps(slot, int(one["P"], 8)) for slot, one in zip(slots, registers)]
+    stops = [(position + more, [registers_dump(slot), *dumps]) for position, slot in zip(positions, slots) for more in (0, 1)]
+    looks = simulator.look_at([*stops, (here, [])])
+    before, after = looks[:-1:2], looks[1::2]
+    registers = [[registers_of(answers[registers_dump(slot)][0]) for slot, answers in zip(slots, one)] for one in (before, after)]
+    of_words = [word_dumps(slot, int(was["P"], 8)) for slot, was in zip(slots, registers[0])]
     words = simulator.look_at([*zip(positions, of_words), (here, [])])
-    return [Made(position, slot, Processor(one, [word for line in lines for word in line.split()[1:]]), registers_of(then[0]),
-                 was[1:], then[1:])
-            for position, slot, one, lines, was, then in zip(positions, slots, registers, words, before, after)]
-
-
-def word_dumps(number: int, address: int) -> List[Dump]:
-    """Returns the dumps of the two words from an address on; after cell 7777 comes cell 0000."""
-    if address + 1 < CELLS:
-        return [cells_dump(number, address, address + 1)]
-    return [cells_dump(number, address, address), cells_dump(number, 0, 0)]
+    return [Made(position, slot, Processor(was, words_of(row for rows in cells.values() for row in rows)), now, *answers)
+            for position, slot, was, now, cells, *answers in zip(positions, slots, *registers, words, before, after)]
 
 
 def all_registers(number: int) -> Column:

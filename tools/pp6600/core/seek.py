@@ -8,7 +8,7 @@ from __future__ import annotations
 
 from typing import Callable, Iterator, List, NamedTuple, Optional, Protocol, Sequence, Tuple
 
-from .forms import CLOCK, PROCESSORS
+from .forms import CLOCK, PROCESSORS, Answers
 from .probe import Column, Looks, Made, Probe, read_turns
 from .simulator import Simulator
 from .turn import Processor
@@ -76,6 +76,9 @@ class Search:
         self.progress = progress or (lambda turn: None)
         self.watches = predicate.watches if watches is None else watches
         self.probe = Probe(simulator, predicate.columns, self.watches)
+        # Whether a HIT tells all that is shown: of a channel the state is shown too.
+        self.is_told = bool(self.watches) and not (self.watches[0][0] == "H" and predicate.numbers[0].rows[0] < CLOCK)
+        self.shown = [] if self.is_told else predicate.numbers
         self.held = False  # whether the predicate holds
         self.number = ""  # the digits of the first column
 
@@ -112,44 +115,27 @@ class Search:
     def _moments(self, looks: Looks, comes: List[int], before: int, numbers: List[str]) -> Iterator[Moment]:
         """Yields the turns before some of the looks. So many turns came before the looks; the numbers are the digits of the first
         column before the first look, and at each."""
-        made = read_turns(self.simulator, [looks.position + looks.ends[at] - 1 for at in comes], [column.dump for column in self._shown])
+        made = read_turns(self.simulator, [looks.position + looks.ends[at] - 1 for at in comes], [column.dump for column in self.shown])
         for at, turn in zip(comes, made):
-            was, now = self._numbers(turn.lines_before), self._numbers(turn.lines_after)
-            if self._is_told:
+            was, now = self._numbers(turn.answers_before), self._numbers(turn.answers_after)
+            if self.is_told:
                 name = self.predicate.numbers[0].name
                 was, now = [(name, numbers[at])], [(name, numbers[at + 1])]
-            yield Moment(before + looks.ends[at], turn, *self._difference(was, now))
+            is_range = len(was) > len(self.predicate.numbers)  # of which the cells that differ are shown
+            differ = [(name, old, new) for (name, old), (_, new) in zip(was, now) if old != new or not is_range]
+            yield Moment(before + looks.ends[at], turn, differ, len(was) > 1)
 
-    @property
-    def _is_told(self) -> bool:
-        """Whether a HIT tells all that is shown: of a channel the state is shown too."""
-        return bool(self.watches) and not (self.watches[0][0] == "H" and self.predicate.numbers[0].rows[0] < CLOCK)
-
-    @property
-    def _shown(self) -> List[Column]:
-        return [] if self._is_told else self.predicate.numbers
-
-    def _numbers(self, lines: List[str]) -> List[Tuple[str, str]]:
-        """Returns names and digits of the numbers that are shown, from the answers."""
-        found, at = [], 0
-        for column in self._shown:
-            found += column.numbers(lines[at:at + column.dump.lines])
-            at += column.dump.lines
-        return found
-
-    def _difference(self, before: List[Tuple[str, str]], after: List[Tuple[str, str]]) -> Tuple[List[Tuple[str, str, str]], bool]:
-        """Returns the numbers before and after a turn, of a range of cells those that differ; and whether they have names."""
-        is_range = len(before) > len(self.predicate.numbers)
-        numbers = [(name, was, now) for (name, was), (_, now) in zip(before, after) if was != now or not is_range]
-        return numbers, len(before) > 1
+    def _numbers(self, answers: Answers) -> List[Tuple[str, str]]:
+        """Returns names and digits of the numbers that are shown."""
+        return [number for column in self.shown for number in column.numbers(answers[column.dump])]
 
 
-def spans(end: int, first: int = 0, span: int = FIRST_SPAN, wider: int = WIDER) -> Iterator[Tuple[int, int]]:
+def spans(end: int, first: int = 0, span: int = FIRST_SPAN) -> Iterator[Tuple[int, int]]:
     """Yields spans from the end backwards, each wider than that after it."""
     while end > first:
         start = max(end - span, first)
         yield start, end
-        end, span = start, wider * span
+        end, span = start, WIDER * span
 
 
 def last_moments(simulator: Simulator, predicate: Predicate, most: int, first: int = 0, last: Optional[int] = None,

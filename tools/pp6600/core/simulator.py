@@ -11,15 +11,14 @@ from __future__ import annotations
 import functools
 import re
 from itertools import islice
-from typing import Iterable, Iterator, List, Optional, Sequence, Tuple
+from typing import Any, Dict, Iterable, Iterator, List, Optional, Sequence, Tuple
 
 from ..failure import Failure
 from ..choice import default_program
 from ..pipe import Pipe
 from .forms import (
-    ANSWER, CHANNELS_DUMP, FRAME_DUMP, MOST_TURNS, PROCESSORS, Dump, Place, Registers, cells_dump, central_dump, fields, is_refusal,
-    kind_of, refused, registers_dump, registers_of)
-from .notebook import table_of
+    ANSWER, CHANNELS_DUMP, FRAME_DUMP, MOST_TURNS, PROCESSORS, Answers, Dump, Place, Registers, cells_dump, central_dump, fields,
+    is_refusal, kind_of, refused, registers_dump, registers_of, word_dumps, words_of)
 from .tape import STEP, Action, History, Tape, lines_of, room_of
 from .turn import Processor
 
@@ -56,7 +55,7 @@ class Console:
         self.pipe = Pipe(self.words)
         self.lines = 0  # written so far
         self.may_watch = False
-        self.question(MARK, ["CR H "])
+        self.question(MARK, "CR H ")
 
     # ---- lines and answers
 
@@ -121,7 +120,7 @@ class Console:
         answers: List[str] = []
         while len(answers) < count:
             answers += self.pipe.more_lines()
-        if len(answers) != count or "E" in {answer[:1] for answer in answers}:
+        if len(answers) != count or "\nE" in "\n".join(["", *answers]):
             raise self.nonsense(refused(answers) or answers[-1])
         return answers
 
@@ -132,22 +131,19 @@ class Console:
             raise Failure(f"the simulator answers {answer[0]} to {line}")
         return answer
 
-    def question(self, line: str, beginnings: Sequence[str]) -> List[str]:
-        """Returns the lines of the answer to a line if it is known how each of them begins."""
+    def question(self, line: str, beginning: str) -> str:
+        """Returns the first line of the answer to a line, of which it is known how it begins."""
         self.send(line)
-        answer: List[str] = []
-        for beginning in beginnings:
-            text = self.answer_line()
-            if text.startswith("ERR ") and not answer:
-                raise Failure(f"the simulator answers {text} to {line}")
-            if not text.startswith(beginning):
-                raise self.nonsense(text)
-            answer.append(text)
-        return answer
+        text = self.answer_line()
+        if text.startswith("ERR "):
+            raise Failure(f"the simulator answers {text} to {line}")
+        if not text.startswith(beginning):
+            raise self.nonsense(text)
+        return text
 
     def dump(self, dump: Dump) -> List[str]:
         """Returns the lines of the answer to a dump."""
-        answer = self.question(dump.line, [""] * dump.lines)
+        answer = [self.question(dump.line, ""), *(self.answer_line() for _ in range(dump.lines - 1))]
         if any(kind_of(line) != dump.form for line in answer):
             raise self.nonsense(answer[0])
         return answer
@@ -175,13 +171,11 @@ class Console:
 
     def cells(self, processor: int, first: int, last: int) -> List[str]:
         """Returns the words of the cells from first to last."""
-        return [word for row in self.dump(cells_dump(processor, first, last)) for word in row.split()[1:]]
+        return words_of(self.dump(cells_dump(processor, first, last)))
 
     def words_at(self, processor: int, address: int) -> List[str]:
         """Returns the words of two cells; after cell 7777 comes cell 0000."""
-        if address < 0o7777:
-            return self.cells(processor, address, address + 1)
-        return self.cells(processor, address, address) + self.cells(processor, 0, 0)
+        return words_of(row for dump in word_dumps(processor, address) for row in self.dump(dump))
 
     def processor(self, number: int) -> Processor:
         """Returns a processor as it is now."""
@@ -203,7 +197,11 @@ class Console:
     @functools.cached_property
     def central_size(self) -> int:
         """Returns how many words central memory has."""
-        return self.size_of_central()
+        for size in SIZES_OF_CENTRAL:
+            answer = self.ask(f"DUMP C {size - 1:o} {size - 1:o}")
+            if answer and answer[0].startswith("C "):
+                return size
+        raise self.nonsense("ERR 04 RANGE")
 
     @functools.cached_property
     def reader_channel(self) -> int:
@@ -213,20 +211,12 @@ class Console:
     def printer_channel(self) -> int:
         return int(fields("LP", self.printer()[0])["channel"], 8)
 
-    def size_of_central(self) -> int:
-        """Returns how many words central memory has."""
-        for size in SIZES_OF_CENTRAL:
-            answer = self.ask(f"DUMP C {size - 1:o} {size - 1:o}")
-            if answer and answer[0].startswith("C "):
-                return size
-        raise self.nonsense("ERR 04 RANGE")
-
     def frame(self) -> List[str]:
         """Returns a line for each word of the exchange package."""
         return self.dump(FRAME_DUMP)
 
     def reader(self) -> str:
-        return self.question(MARK, ["CR H "])[0]
+        return self.question(MARK, "CR H ")
 
     def printer(self) -> List[str]:
         """Returns the printer's line and the lines of its paper."""
@@ -254,14 +244,10 @@ class Console:
         """Returns the machine as a small table, which a notebook shows."""
         if self.pipe.process.returncode is not None:
             return "<p>This simulator has ended.</p>"
+        from .notebook import table_of  # no tool needs it
         return table_of([self.processor(number) for number in range(PROCESSORS)], self.channels(), [self.reader(), self.printer()[0]])
 
     # ---- turns
-
-    def advance(self, turns: int) -> None:
-        """Makes so many turns, while nothing is watched."""
-        for line in lines_of(Action(STEP, turns)):
-            self.question(line, [f"TURNS {line.split()[1]} "])
 
     def step(self, turns: int = 1) -> List[str]:
         """Makes so many turns. Returns the lines of the answers, with a HIT for each change of a watched number."""
@@ -293,6 +279,7 @@ class Simulator(Console):
         """It begins at the beginning of the tape."""
         super().__init__(words)
         self.history = History(room_of(self.words), tape)
+        self.counts: Any = self.history  # as BACK and FORWARD count it
         self.watched: List[str] = []  # places, beside those of the tape
 
     @property
@@ -341,7 +328,7 @@ class Simulator(Console):
         """Goes by so many actions that the simulator keeps: FORWARD, or BACK if it is negative."""
         if count:
             word = "BACK" if count < 0 else "FORWARD"
-            self.question(f"{word} {abs(count):o}", [f"{word} {abs(count):o} "])
+            self.question(f"{word} {abs(count):o}", f"{word} {abs(count):o} ")
             self.history.moved(count)
 
     def play(self, position: int) -> None:
@@ -389,14 +376,14 @@ class Simulator(Console):
     def watch(self, places: Iterable[str]) -> None:
         """Watches places beside those of the tape from here on; it can't go back to before without a replay."""
         for place in places:
-            self.question(f"WATCH {place}", ["OK"])
+            self.question(f"WATCH {place}", "OK")
             self.watched.append(place)
             self.history.kept = self.history.ahead = 0
 
     def unwatch(self) -> None:
         """Ends these watches."""
         for place in self.watched:
-            self.question(f"UNWATCH {place}", ["OK"])
+            self.question(f"UNWATCH {place}", "OK")
         self.watched = []
         self.history.kept = self.history.ahead = 0
 
@@ -410,21 +397,27 @@ class Simulator(Console):
 
     # ---- many looks at once
 
-    def look_at(self, stops: Sequence[Tuple[int, Sequence[Dump]]]) -> List[List[str]]:
-        """Goes to one position after the other, all within what it keeps or ahead, and asks dumps there, all at once. Returns for each
-        stop the lines of the answers."""
+    def look_at(self, stops: Sequence[Tuple[int, Iterable[Dump]]]) -> List[Answers]:
+        """Goes to one position after the other, all within what it keeps or ahead, and asks dumps there, all at once. Returns the
+        answers at each stop."""
         lines: List[str] = []
-        parts = []  # of each stop: how many lines of answers come before those to its dumps, and how many these are
+        parts: List[Dict[Dump, slice]] = []  # of each stop: where the answers to its dumps are
         position, total = self.position, 0
         for stop, dumps in stops:
-            moves = [f"{'BACK' if stop < position else 'FORWARD'} {abs(stop - position):o}"] if stop != position else []
-            lines += [*moves, *(dump.line for dump in dumps)]
-            parts.append(slice(total + len(moves), total + len(moves) + sum(dump.lines for dump in dumps)))
-            position, total = stop, parts[-1].stop
+            if stop != position:
+                lines.append(f"{'BACK' if stop < position else 'FORWARD'} {abs(stop - position):o}")
+                position, total = stop, total + 1
+            part: Dict[Dump, slice] = {}
+            for dump in dumps:
+                if dump not in part:
+                    lines.append(dump.line)
+                    part[dump] = slice(total, total + dump.lines)
+                    total += dump.lines
+            parts.append(part)
         self.renew(len(lines))
         answers = self.bulk("".join(f"{line}\n" for line in lines), len(lines), total)
         self.history.moved(position - self.position)
-        return [answers[part] for part in parts]
+        return [{dump: answers[cut] for dump, cut in part.items()} for part in parts]
 
 
 class Replay(Simulator):

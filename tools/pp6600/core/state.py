@@ -48,13 +48,6 @@ class Printer(NamedTuple):
     paper: List[str]
 
 
-class Watch(NamedTuple):
-    """A watched place, as DUMP W has it, and its number."""
-
-    place: str
-    number: Optional[str]
-
-
 class Memory:
     """The cells of a processor."""
 
@@ -97,13 +90,12 @@ def questions(central: Optional[Tuple[int, int]] = None) -> List[str]:
 
 
 def state_of(console: Console, central: Optional[Tuple[int, int]] = None) -> State:
-    """Returns the state of a simulator."""
     return State(console.ask_all(questions(central)))
 
 
 class State:
-    """All numbers of the machine: `slot`, `processors`, `memories`, `channels` (the clock is the last), `watches`, `printer`, `reader`,
-    and `central`: the central words that were asked for, by their addresses."""
+    """All numbers of the machine: `slot`, `processors`, `memories`, `channels` (the clock is the last), `watched` (places),
+    `printer`, `reader`, and `central`: the central words that were asked for, by their addresses."""
 
     def __init__(self, lines: Sequence[str]) -> None:
         """The lines are the answers to the lines of `questions`."""
@@ -139,17 +131,9 @@ class State:
         """Returns the addresses of watched central words that were not asked for."""
         return [place.numbers[0] for place in self.watched if place.kind == "C" and place.numbers[0] not in self.central]
 
-    @property
-    def watches(self) -> List[Watch]:
-        return [Watch(place.text, self.number_at(place)) for place in self.watched]
-
     def watched_cells(self, processor: int) -> List[int]:
         """Returns the addresses of the watched cells of a processor."""
         return [place.numbers[1] for place in self.watched if place.kind == "M" and place.numbers[0] == processor]
-
-    def number(self, place: str) -> Optional[str]:
-        """As `number_at`, of a place by its text, as M 0 106."""
-        return self.number_at(Place.parse(place))
 
     def number_at(self, place: Place) -> Optional[str]:
         """Returns the digits of the number at a place; None if it is a central word that was not asked for."""
@@ -209,4 +193,4 @@ def differences(one: Sequence[str], other: Sequence[str], processor: int = 0) ->
 
 def central_of(console: Console) -> List[str]:
     """Returns a line for each central word."""
-    return console.ask_all([f"DUMP C 0 {console.size_of_central() - 1:o}", MARK])[:-1]
+    return console.ask_all([f"DUMP C 0 {console.central_size - 1:o}", MARK])[:-1]

@@ -13,7 +13,7 @@ from __future__ import annotations
 
 import bisect
 import re
-from typing import Container, Dict, Iterable, Iterator, List, NamedTuple, Optional, Sequence, Tuple
+from typing import Any, Container, Iterable, Iterator, List, NamedTuple, Optional, Sequence, Tuple
 
 from ..failure import Failure
 from .forms import MOST_TURNS, PROCESSORS
@@ -29,39 +29,28 @@ def room_of(words: Sequence[str]) -> int:
     return int(words[words.index("--history") + 1]) if "--history" in words else MOST_KEPT
 
 
-class ScriptLine(str):
+class KnownLine(str):
+    """A line of which one thing is known."""
+
+    known: Any
+
+    def __new__(cls, text: str, known: Any) -> KnownLine:
+        line = super().__new__(cls, text)
+        line.known = known
+        return line
+
+
+class ScriptLine(KnownLine):
     """A line of a script with its number, from 1."""
 
-    number: int
 
-    def __new__(cls, text: str, number: int) -> ScriptLine:
-        line = super().__new__(cls, text)
-        line.number = number
-        return line
-
-
-class ReplyLine(str):
+class ReplyLine(KnownLine):
     """A SET H that is the reply of a device of one's own, with the name of this."""
 
-    __slots__ = ("device",)
-    device: str
 
-    def __new__(cls, text: str, device: str) -> ReplyLine:
-        line = super().__new__(cls, text)
-        line.device = device
-        return line
-
-
-class SourceLine(str):
+class SourceLine(KnownLine):
     """A line before a script that loads words of a source. Of each of its numbers, by its number in the line, it has the place in the
     source."""
-
-    places: Dict[int, str]
-
-    def __new__(cls, text: str, places: Dict[int, str]) -> SourceLine:
-        line = super().__new__(cls, text)
-        line.places = places
-        return line
 
 
 def counted(lines: Iterable[str]) -> Iterator[Tuple[int, str]]:
@@ -89,7 +78,7 @@ def with_notes(lines: Iterable[str]) -> Iterator[str]:
     """Yields lines, and before each reply the note that names its device."""
     for line in lines:
         if isinstance(line, ReplyLine):
-            yield f"* DEVICE {line.device}"
+            yield f"* DEVICE {line.known}"
         yield line
 
 
@@ -128,27 +117,27 @@ class Tape:
         """Adds an action at the end, so many times."""
         if not times:
             return
-        if line == STEP and self.runs and self.runs[-1].line == STEP:
-            times += self._drop_run().times
-        self.runs.append(Action(line, times))
         turns = times if line == STEP else 0
-        self.starts.append(self.starts[-1] + times)
-        self.turns_before.append(self.turns_before[-1] + turns)
+        if turns and self.runs and self.runs[-1].line == STEP:
+            self.runs[-1] = Action(line, self.runs[-1].times + times)
+        else:
+            self.runs.append(Action(line, times))
+            for sums in (self.starts, self.turns_before, self.slots):
+                sums.append(sums[-1])
+        self.starts[-1] += times
+        self.turns_before[-1] += turns
         begins_anew = not turns and self.runs[-1].word == "DEADSTART"
-        self.slots.append(0 if begins_anew else (self.slots[-1] + turns) % PROCESSORS)
-        self.watches += self.runs[-1].is_watch
-
-    def _drop_run(self) -> Action:
-        for sums in (self.starts, self.turns_before, self.slots):
-            sums.pop()
-        self.watches -= self.runs[-1].is_watch
-        return self.runs.pop()
+        self.slots[-1] = 0 if begins_anew else (self.slots[-1] + turns) % PROCESSORS
+        self.watches += not turns and self.runs[-1].is_watch
 
     def cut(self, position: int) -> None:
         """Removes what is after a position."""
         while self.end > position:
-            line, _ = self._drop_run()
-            self.append(line, max(position - self.end, 0))
+            for sums in (self.starts, self.turns_before, self.slots):
+                sums.pop()
+            action = self.runs.pop()
+            self.watches -= action.is_watch
+            self.append(action.line, max(position - self.end, 0))
 
     # ---- how far
 

@@ -8,6 +8,7 @@ the simulator. docs/MACHINE.md has the tables in words."""
 from __future__ import annotations
 
 import enum
+import functools
 from typing import Callable, Dict, List, NamedTuple, Optional, Sequence, Set, Tuple
 
 from .forms import CELLS, CENTRAL_ADDRESSES, CLOCK, FRAME_WORDS, PROCESSORS, REGISTERS, Place, Registers
@@ -136,6 +137,7 @@ BLOCK_GOES_ON = {code: one.goes_on_in for code, one in IN_BLOCK.items() if one.g
 WAITS_FOR = {code: STATES_WORDS[states] for code, states in {**COMPLETES, **BLOCK_GOES_ON}.items()}
 RELATIVE_JUMPS = range(0o03, 0o10)
 CHANNEL_JUMPS = range(0o64, 0o70)
+CONDITIONAL_JUMPS = (*RELATIVE_JUMPS, *CHANNEL_JUMPS)
 CHANNEL_CODES = range(0o64, 0o100)
 # Whose operand's address is in cell d; and m, to which cell d is added if d is not 0. Of all others it is d.
 INDIRECT, INDEXED = range(0o40, 0o50), (0o01, 0o02, *range(0o50, 0o60))
@@ -302,7 +304,7 @@ class Turn:
 
     # ---- what it did
 
-    @property
+    @functools.cached_property
     def kind(self) -> TurnKind:
         return kind_of_turn(self.processor, self.after)
 
@@ -325,33 +327,18 @@ class Turn:
 
     def writes(self) -> List[Write]:
         """Returns what it wrote. That P goes on to the next instruction, or a block to its next cell, is no write."""
-        found = []
-        for effect in self.effects():
-            if effect.place == "P" and self._is_conditional() and not self.jumped():
-                continue
-            found += self._writes_of(effect)
-        return found
-
-    def _is_conditional(self) -> bool:
-        return not self.processor.phase and self.processor.code in (*RELATIVE_JUMPS, *CHANNEL_JUMPS)
+        is_conditional = not self.processor.phase and self.processor.code in CONDITIONAL_JUMPS
+        return [write for effect in self.effects() if effect.place != "P" or not is_conditional or self.jumped()
+                for write in self._writes_of(effect)]
 
     def addresses(self) -> List[Place]:
         """Returns the places that say where it read or wrote: cell d of an indirect or indexed address, and A."""
         processor = self.processor
-        if processor.phase:
-            return [self._register("A")] if processor.code in BLOCKS_OF_CENTRAL else []
-        if address_is_in_cell(processor.instruction):
-            return [self._cells("I")[0]]
-        return [self._register("A")] if processor.code in A_IS_AN_ADDRESS else []
+        if not processor.phase and address_is_in_cell(processor.instruction):
+            return self._places("I")
+        return self._places("A") if processor.code in (BLOCKS_OF_CENTRAL if processor.phase else A_IS_AN_ADDRESS) else []
 
     # ---- the letters of the table as places
-
-    def _register(self, name: str) -> Place:
-        return Place(name, (self.number,))
-
-    def _cells(self, symbol: str) -> List[Place]:
-        first, count = self.processor.cells(symbol, self.cell) or (0, 0)
-        return [Place("M", (self.number, (first + at) % CELLS)) for at in range(count)]
 
     def _central(self, count: int = 1) -> List[Optional[Place]]:
         """The central words from A on; None for each that there is not."""
@@ -360,37 +347,23 @@ class Turn:
         return [Place("C", (address,)) if address < self.size else None for address in addresses]
 
     def _places(self, symbol: str) -> List[Place]:
-        """The places of a letter that stands for places that are written one by one."""
-        if symbol == "H":
-            return [Place("H", (self.processor.channel,))]
-        if symbol == "S":
-            return [Place("S", (self.processor.channel,))] if self.processor.channel != CLOCK else []
-        return [self._register(symbol)] if symbol in ("A", "P", "Q", "PHASE") else self._cells(symbol)
+        return places_of(symbol, self.number, self.processor, self.cell)
 
     def _writes_of(self, effect: Effect) -> List[Write]:
-        """What one effect wrote."""
         place, sources = effect.place, effect.sources
         if place == "C":
             (word,) = self._central()
-            return [Write(word, True, tuple(map(Source, self._cells(sources[0]))))] if word else []
+            return [Write(word, True, tuple(map(Source, self._places(sources[0]))))] if word else []
         if place == "C20":
             return [Write(word, True, (Source(Place("XP", (at,))),)) for at, word in enumerate(self._central(FRAME_WORDS)) if word]
         if place == "F20":
-            return [self._frame_word(at, word) for at, word in enumerate(self._central(FRAME_WORDS))]
+            words = enumerate(self._central(FRAME_WORDS))
+            return [of_word(Place("XP", (at,)), word, None if at else WITHOUT_B_FIELD) for at, word in words]
         if sources == ("C",):
             (word,) = self._central()
-            return [self._part(cell, word, at) for at, cell in enumerate(self._cells(place))]
+            return [of_word(cell, word, (at,)) for at, cell in enumerate(self._places(place))]
         read, constants = self._read(effect)
         return [Write(one, effect.is_moved, read, constants) for one in self._places(place)]
-
-    @staticmethod
-    def _frame_word(at: int, word: Optional[Place]) -> Write:
-        sources = (Source(word, WITHOUT_B_FIELD if at == 0 else None),) if word else ()
-        return Write(Place("XP", (at,)), True, sources, () if word else (NO_WORD,))
-
-    @staticmethod
-    def _part(cell: Place, word: Optional[Place], part: int) -> Write:
-        return Write(cell, True, (Source(word, (part,)),) if word else (), () if word else (NO_WORD,))
 
     def _read(self, effect: Effect) -> Tuple[Tuple[Source, ...], Tuple[str, ...]]:
         """What an effect read: the sources, and the constants."""
@@ -409,6 +382,21 @@ class Turn:
     def _has_cleared_its_return(self) -> bool:
         """Whether the end of an input put its zero into cell 0000, from which P comes in the same turn."""
         return self.effects() is AT_END_OF_INPUT and self.processor.registers["P"] == "0000"
+
+
+def places_of(symbol: str, number: int, processor: Processor, cell: Cell) -> List[Place]:
+    """Returns the places of a letter of the table that stands for numbers of a processor, or for its channel."""
+    if symbol in ("A", "P", "Q", "PHASE"):
+        return [Place(symbol, (number,))]
+    if symbol in ("H", "S"):
+        return [Place(symbol, (processor.channel,))] if symbol == "H" or processor.channel != CLOCK else []
+    first, count = processor.cells(symbol, cell) or (0, 0)
+    return [Place("M", (number, (first + at) % CELLS)) for at in range(count)]
+
+
+def of_word(place: Place, word: Optional[Place], parts: Optional[Tuple[int, ...]]) -> Write:
+    """Returns the write of a place from these parts of a central word, or from one that is not there."""
+    return Write(place, True, (Source(word, parts),) if word else (), () if word else (NO_WORD,))
 
 
 def address_is_in_cell(word: int) -> bool:
@@ -430,13 +418,8 @@ def may_write(number: int, processor: Processor) -> Set[Place]:
             found |= {Place("XP", (at,)) for at in range(FRAME_WORDS)}
         elif symbol == "X" and not processor.phase and address_is_in_cell(processor.instruction):
             found.add(Place("M", (number,)))
-        elif symbol in ("A", "P", "Q", "PHASE"):
-            found.add(Place(symbol, (number,)))
-        elif symbol in ("H", "S"):
-            found.add(Place(symbol, (processor.channel,)))
         else:
-            first, count = processor.cells(symbol, lambda address: 0) or (0, 0)
-            found |= {Place("M", (number, (first + at) % CELLS)) for at in range(count)}
+            found.update(places_of(symbol, number, processor, lambda address: 0))
     return found
 
 
@@ -448,10 +431,10 @@ def all_of(place: Place) -> Place:
 def device_put_a_word(channel: int, writes: Sequence[Write], before: str, after: str) -> bool:
     """Returns whether the device of a channel wrote its register in a turn: it does so only by making the channel full. The
     writes are those of the processor, which come first; before and after are the states of the channel."""
-    for write in writes:
-        if write.place == Place("S", (channel,)):
-            before = STATE_LETTERS[write.constants[0]]
-    return after == "F" != before
+    if after != "F":
+        return False
+    states = [STATE_LETTERS[write.constants[0]] for write in writes if write.place == Place("S", (channel,))]
+    return [before, *states][-1] != "F"
 
 
 def is_made_by(turn: Turn, channel: int, before: str, after: str) -> bool:

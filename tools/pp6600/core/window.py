@@ -7,9 +7,10 @@ from __future__ import annotations
 import functools
 from typing import Dict, Iterable, List, Optional, Sequence, Set, Tuple
 
-from .forms import CELLS, CHANNELS_DUMP, CLOCK, NUMBERS_OF_PROCESSOR, PROCESSORS, ROWS, FORMS, Place, fields, registers_of
+from .forms import (
+    CELLS, CHANNELS_DUMP, CLOCK, FORMS, NUMBERS_OF_PROCESSOR, PROCESSORS, ROWS, Dump, Place, cells_dump, fields, registers_of)
 from .probe import idle_processors
-from .simulator import Simulator
+from .simulator import MARK, Simulator
 from .state import Memory
 from .tape import STEP
 from .turn import TWO_WORDS, Processor, Turn, address_is_in_cell, all_of, device_put_a_word, may_write
@@ -20,22 +21,15 @@ FIRST_SIZE, MOST_TURNS_READ, WIDER = 0o400, 0o200000, 8  # of the windows in whi
 COLUMNS = FORMS["PP"].columns
 
 
-class Key(str):
-    """What turns with the same processor, P and phase have in common, as 00 P 01000000. Where an instruction is overwritten its
-    words are at the end."""
+def key_of(number: int, address: int) -> str:
+    """Returns the key of turns at an instruction: the processor, P and phase that they have in common, as 00 P 01000000. Where an
+    instruction is overwritten its words are at the end."""
+    return f"{number:02o} P {address % CELLS:04o}{NO_PHASE}"
 
-    @property
-    def number(self) -> int:
-        return int(self[:2], 8)
 
-    @property
-    def address(self) -> int:
-        return int(self[5:9], 8)
-
-    @staticmethod
-    def of(number: int, address: int) -> str:
-        """The key of an instruction, without its words."""
-        return f"{number:02o} P {address % CELLS:04o}{NO_PHASE}"
+def dump_of_cell(key: str, address: int) -> str:
+    """Returns the line that dumps a cell of the processor of a key."""
+    return f"{cells_dump(int(key[:2], 8), address, address).line}\n"
 
 
 @functools.lru_cache(maxsize=20000)
@@ -81,18 +75,25 @@ class Window:
         steps = ([f"STEP {gap:o}\n{dump}" for gap, dump in zip(gaps, dumps)] * (count // size + 1))[:count]
         if steps:
             steps[0] = f"STEP {self.turns[0] + 1:o}\n{dumps[0]}"
-        answers = self._answers([*dumps, *memories, *steps], 2 * size + 2 * count, start + 2 * count)
-        self.run.history.performed(self.turns[-1] + 1 if steps else 0)
+        made = self.turns[-1] + 1 if steps else 0
+        answers = self._answers([*dumps, *memories, *steps], 2 * size + 2 * count, start + 2 * count, made)
         self.memories = {number: Memory(answers[size + ROWS * at:size + ROWS * (at + 1)]) for at, number in enumerate(order)}
         self.after = answers[start + 1::2]
         self.before = (answers[:size] + self.after)[:count]
         head, phase = slice(COLUMNS["number"].start, COLUMNS["P"].stop), COLUMNS["PHASE"]
         self.keys = [line[head] + line[phase] for line in self.before]
 
-    def _answers(self, texts: Sequence[str], lines: int, count: int) -> List[str]:
-        """Goes to the start, writes texts of so many lines, and returns so many lines of answers."""
+    def _answers(self, texts: Sequence[str], lines: int, count: int, made: int) -> List[str]:
+        """Goes to the start, writes texts of so many lines that make so many turns, and returns so many lines of answers."""
         self.run.goto(self.first, lines)
-        return self.run.bulk("".join(texts), lines, count)
+        answers = self.run.bulk("".join(texts), lines, count)
+        self.run.history.performed(made)
+        return answers
+
+    def _after_turns(self, dump: Dump, row: int = 0) -> List[str]:
+        """Another pass: makes the turns. Returns a row of a dump after each. The window has the turns of all processors."""
+        count, width = len(self.turns), 1 + dump.lines
+        return self._answers([f"STEP\n{dump.line}\n"] * count, 2 * count, width * count, count)[1 + row::width]
 
     def _at_turns(self, dumps_of: Dict[str, List[str]]) -> Dict[int, List[str]]:
         """Another pass: makes the turns, and writes before each the dumps of one line that its key has. Returns the lines of the
@@ -106,8 +107,7 @@ class Window:
                 texts += [f"STEP {self.turns[at] - made:o}\n"] * (self.turns[at] > made) + dumps
                 asked += [at] * len(dumps)
                 made = self.turns[at]
-        answers = self._answers(texts, len(texts), len(texts))
-        self.run.history.performed(made)
+        answers = self._answers(texts, len(texts), len(texts), made)
         found: Dict[int, List[str]] = {}
         for at, answer in zip(asked, (answer for answer in answers if answer[0] != "T")):
             found.setdefault(at, []).append(answer)
@@ -149,33 +149,29 @@ class Window:
             return True
         keys = {key for place in cells if len(place.numbers) == 1 for group in self.writers[place] for key in self.groups[group]}
         written = {(key, self.cell_before(at)) for at, key in enumerate(self.keys) if key in keys}
-        return any(self._is_code(int(key[:2], 8), processor_of(key, self.words[key]).operand(functools.partial(pointing, content)))
+        return any(self._is_code(int(key[:2], 8), processor_of(key, self.words[key]).operand(lambda _, content=content: content))
                    for key, content in written)
 
     def _is_code(self, number: int, address: int) -> bool:
         """Returns whether a cell has a word of an instruction that is performed in the window."""
-        before = Key.of(number, address - 1)
-        return Key.of(number, address) in self.words or before in self.words and int(self.words[before][:2], 8) in TWO_WORDS
+        before = key_of(number, address - 1)
+        return key_of(number, address) in self.words or before in self.words and int(self.words[before][:2], 8) in TWO_WORDS
 
     def _find_words_of_turns(self) -> None:
         """Reads the words of each turn by itself."""
-        rows = self._at_turns({key: self._dumps_of_words(Key(key)) for key in self.words if key[9:13] == NO_PHASE})
+        rows = self._at_turns({key: [dump_of_cell(key, (int(key[5:9], 8) + more) % CELLS) for more in (0, 1)]
+                               for key in self.words if key[9:13] == NO_PHASE})
         self.words = {}
         for at, key in enumerate(self.keys):
             words = "".join(row[5:9] for row in rows[at]) if at in rows else 2 * "0000"
             self.keys[at] = key + words
             self.words[self.keys[at]] = words
 
-    @staticmethod
-    def _dumps_of_words(key: Key) -> List[str]:
-        return [f"DUMP M {key.number:o} {address:o} {address:o}\n" for address in (key.address, (key.address + 1) % CELLS)]
-
     def cell_before(self, at: int) -> int:
         """Returns the number in cell d before a turn whose operand's address is in it."""
         if self._addresses is None:
-            keys = [Key(key) for key, words in self.words.items() if key[9:13] == NO_PHASE and address_is_in_cell(int(words[:4], 8))]
-            self._addresses = self._at_turns({key: [f"DUMP M {key.number:o} {self.words[key][2:4]} {self.words[key][2:4]}\n"]
-                                              for key in keys})
+            self._addresses = self._at_turns({key: [dump_of_cell(key, int(words[2:4], 8))] for key, words in self.words.items()
+                                              if key[9:13] == NO_PHASE and address_is_in_cell(int(words[:4], 8))})
         return int(self._addresses[at][0][5:9], 8)
 
     # ---- one turn
@@ -198,24 +194,22 @@ class Window:
         groups = [group for place in places for one in (place, all_of(place)) for group in self.writers.get(one, ())]
         return {key for group in groups for key in self.groups[group]}
 
-    # ---- the devices; the window has the turns of all processors
+    # ---- the devices
 
     def _has_function(self, channel: int) -> bool:
         """Returns whether a turn may give a function code to a channel."""
         return any(int(group[13:15], 8) in FUNCTIONS and int(group[15:17], 8) == channel and group[9:13] == NO_PHASE
                    for group in self.groups)
 
+    @functools.cached_property
     def words_of_reader(self) -> Dict[int, Optional[Tuple[int, int]]]:
         """Returns by turns what the card reader put on its channel: a card and its column, or None for the status."""
         self.run.goto(self.first)
         was = fields("CR", self.run.reader())
         if was["MODE"] == "IDLE" and not self._has_function(self.run.reader_channel):
             return {}
-        count = 2 * len(self.turns)
-        lines = self._answers(["STEP\nDUMP CR\n"] * len(self.turns), count, count)[1::2]
-        self.run.history.performed(len(self.turns))
         found: Dict[int, Optional[Tuple[int, int]]] = {}
-        for at, line in enumerate(lines):
+        for at, line in enumerate(self._after_turns(Dump(MARK, "CR"))):
             now = fields("CR", line)
             if (was["MODE"], now["MODE"]) == ("STATUS", "SENT"):
                 found[at] = None
@@ -224,6 +218,7 @@ class Window:
             was = now
         return found
 
+    @functools.cached_property
     def words_of_printer(self) -> Dict[int, None]:
         """Returns by turns that the printer put its status on its channel."""
         channel = self.run.printer_channel
@@ -245,10 +240,7 @@ class Window:
     def lines_of(self, channel: int) -> List[str]:
         """Returns the line of a channel before the first turn and after each."""
         self.run.goto(self.first)
-        before, count = self.run.channels()[channel], 1 + CHANNELS_DUMP.lines
-        lines = self._answers(["STEP\nDUMP H\n"] * len(self.turns), 2 * len(self.turns), count * len(self.turns))
-        self.run.history.performed(len(self.turns))
-        return [before, *lines[1 + channel::count]]
+        return [self.run.channels()[channel], *self._after_turns(CHANNELS_DUMP, channel)]
 
     # ---- a channel
 
@@ -266,11 +258,6 @@ class Window:
             return set()
         lines = self.lines_of(channel)
         return {at for at, (was, now) in enumerate(zip(lines, lines[1:])) if was != now}
-
-
-def pointing(content: int, address: int) -> int:
-    """Returns the number in the cell that has an address, whichever it is."""
-    return content
 
 
 def last_touches(run: Simulator, channel: int, processors: Iterable[int], count: int, first: int, last: int) -> List[int]:

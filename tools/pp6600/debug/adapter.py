@@ -113,21 +113,13 @@ class Adapter(Requests, Setting):
             self.end_simulator()
             self.wire.event("exited", exitCode=0)
         if self.is_terminated or has_failed or self.machine and self.machine.is_ended:
-            self.lose()
-        if self.restart:
-            self.begin_again()
-
-    def begin_again(self):
-        """Does the restart that has ended a run. If that can't be done, the run was paused."""
-        request, self.restart = self.restart, None
-        if not self.answer(request) and self.machine:
-            self.stopped("pause", self.paused)
-
-    def lose(self):
-        """Notes that the simulator has ended."""
-        self.end_simulator()
-        self.is_terminated = False
-        self.wire.event("terminated")
+            self.end_simulator()
+            self.is_terminated = False
+            self.wire.event("terminated")
+        if self.restart:  # it has ended a run, which was paused if it can't be done
+            request, self.restart = self.restart, None
+            if not self.answer(request) and self.machine:
+                self.stopped("pause", self.paused)
 
     def method(self, command):
         """Returns what does a request."""
@@ -227,7 +219,6 @@ class Adapter(Requests, Setting):
     # ---- running
 
     def number(self, thread):
-        """Returns the processor of a thread."""
         if not isinstance(thread, int) or not 1 <= thread <= PROCESSORS:
             raise Refused(f"{thread} is no thread: they are 1 to {PROCESSORS}")
         return thread - 1
@@ -250,7 +241,7 @@ class Adapter(Requests, Setting):
         return {"allThreadsContinued": True}
 
     def do_reverseContinue(self, threadId=1, **_):
-        self.begin(threadId, self.run_back)
+        self.begin(threadId, lambda: self.run(Runner.back, "entry", BEGINNING))
 
     def do_stepIn(self, threadId, **_):
         self.begin(threadId, lambda: self.step(self.stepper().runner.step))
@@ -269,8 +260,8 @@ class Adapter(Requests, Setting):
     def do_stepBack(self, threadId, granularity="statement", **_):
         self.begin(threadId, lambda: self.step_back(granularity))
 
-    def runner(self, goes_on=None):
-        return Runner(self.machine, self.points, goes_on or self.goes_on, self.write_log)
+    def runner(self):
+        return Runner(self.machine, self.points, self.goes_on, self.write_log)
 
     def stepper(self):
         """Returns what steps the processor of a request."""
@@ -278,9 +269,6 @@ class Adapter(Requests, Setting):
 
     def run_on(self):
         self.run(lambda runner: runner.forward(self.shown), "pause", "")
-
-    def run_back(self):
-        self.run(Runner.back, "entry", BEGINNING)
 
     def run(self, way, otherwise, text):
         """Runs, and reports the stop. If there is none, it is a pause, or another reason with a text."""

@@ -23,14 +23,11 @@ class MachineWithDevices(Machine):
         except BaseException:
             super().close()
             raise
+        self.counts = UnitHistory(self.history, self.maker.units, self.maker.plain)
 
     @property
     def is_ended(self):
         return super().is_ended or self.maker.pipe.process.poll() is not None
-
-    @property
-    def counts(self):
-        return UnitHistory(self.history, self.maker.units, self.maker.plain)
 
     def close(self):
         self.maker.close()

@@ -3,11 +3,11 @@
 What they need is read by a scout, for all stops of a part at once. A condition is judged where the processor has come to the breakpoint,
 and of a data breakpoint after the change. That a number changes, or that a processor waits, is judged after the latest turn."""
 
-from typing import Dict, NamedTuple
+from typing import NamedTuple
 
 from ..conditions import Changes, Waits
-from ..core.forms import Dump
-from ..core.probe import Column, Looks, word_dumps
+from ..core.forms import word_dumps, words_of
+from ..core.probe import Column, Looks
 from ..core.seek import Seen
 from .breakpoints import Cell, Point
 from .machine import latest_turn
@@ -20,32 +20,6 @@ class Met(NamedTuple):
 
     point: Point
     text: str = ""
-
-
-class Sights:
-    """The answers to dumps at some positions that are near one another, read at once. The scout stays where it is."""
-
-    def __init__(self, scout, wanted: Dict[int, Dict[Dump, None]]):
-        self.answers = {}
-        if not wanted:
-            return
-        here, order = scout.position, sorted(wanted)
-        scout.goto(order[0])
-        scout.goto(order[-1])
-        for position, lines in zip(order, scout.look_at([(position, list(wanted[position])) for position in order])):
-            at = 0
-            for dump in wanted[position]:
-                self.answers[position, dump] = lines[at:at + dump.lines]
-                at += dump.lines
-        scout.goto(here)
-
-    def value(self, position, column):
-        return column.value(self.answers[position, column.dump])
-
-    def words(self, position, cell):
-        """Returns the words of a cell and the one after it."""
-        lines = [line for dump in word_dumps(*cell) for line in self.answers[position, dump]]
-        return [word for line in lines for word in line.split()[1:]]
 
 
 class Judge:
@@ -67,11 +41,12 @@ class Judge:
         wanted = {}
         for stop, points in pairs:
             for point in points:
-                wanted.setdefault(stop.position, {}).update(dict.fromkeys(self.dumps(point, stop)))
-        sights = Sights(self.scout, {position: dumps for position, dumps in wanted.items() if dumps})
+                wanted.setdefault(stop.position, []).extend(self.dumps(point, stop))
+        found = self.scout.answers_at({position: dumps for position, dumps in wanted.items() if dumps}) if wanted else {}
         for stop, points in pairs:
-            met = tuple(Met(point, self.text(point, stop, sights)) for point in points
-                        if self.is_its_line(point, stop, sights) and self.holds(point, stop.position, sights))
+            answers = found.get(stop.position, {})
+            met = tuple(Met(point, self.text(point, stop, answers)) for point in points
+                        if self.is_its_line(point, stop, answers) and self.holds(point, stop.position, answers))
             if met or stop.is_due:
                 yield stop._replace(met=met)
 
@@ -83,28 +58,29 @@ class Judge:
         at_once = [test.column.dump for test in condition.tests if not isinstance(test, OF_A_TURN)] if condition else []
         return [*words, *at_once, *(column.dump for column in log.columns[stop.number])] if log else [*words, *at_once]
 
-    def is_its_line(self, point, stop, sights):
+    def is_its_line(self, point, stop, answers):
         """Returns whether a cell is of a line of a breakpoint, or was."""
         cell = Cell(stop.number, stop.address)
         lines = point.cells[cell]
         if lines is None:
             return True
-        found = point.file.of[stop.number].source.line_of(stop.address, *sights.words(stop.position, cell))
+        words = words_of(row for dump in word_dumps(*cell) for row in answers[dump])
+        found = point.file.of[stop.number].source.line_of(stop.address, *words)
         return found is not None and found.number in lines
 
     @staticmethod
-    def text(point, stop, sights):
+    def text(point, stop, answers):
         log = point.terms.log
-        return log.said(stop.number, [sights.value(stop.position, column) for column in log.columns[stop.number]]) if log else ""
+        return log.said(stop.number, [column.value(answers[column.dump]) for column in log.columns[stop.number]]) if log else ""
 
-    def holds(self, point, position, sights):
+    def holds(self, point, position, answers):
         """Returns whether the condition of a breakpoint holds at a position."""
         condition = point.terms.condition
-        return not condition or all(self.test_holds(test, position, sights) for test in condition.tests)
+        return not condition or all(self.test_holds(test, position, answers) for test in condition.tests)
 
-    def test_holds(self, test, position, sights):
+    def test_holds(self, test, position, answers):
         if not isinstance(test, OF_A_TURN):
-            return test.verdicts([sights.value(position, test.column)], None)[0]
+            return test.verdicts([test.column.value(answers[test.column.dump])], None)[0]
         if isinstance(test, Waits):
             at = latest_turn(self.tape, test.number, position)
         else:
@@ -128,9 +104,9 @@ class Judge:
         at, and not only the first one of an action."""
         for stop in self.all_changes(stops) if self.has_terms else stops:
             points = [point for point in self.points if stop.place in point.places]
-            wanted = {dump: None for point in points for dump in self.dumps(point, stop)}
-            sights = Sights(self.scout, {stop.position: wanted} if wanted else {})
-            met = tuple(Met(point) for point in points if self.holds(point, stop.position, sights))
+            wanted = [dump for point in points for dump in self.dumps(point, stop)]
+            answers = self.scout.answers_at({stop.position: wanted})[stop.position] if wanted else {}
+            met = tuple(Met(point) for point in points if self.holds(point, stop.position, answers))
             if met or stop.place in self.own:
                 yield stop._replace(met=met, is_due=stop.place in self.own)
 
@@ -141,9 +117,9 @@ class Judge:
             if stop.position == last:
                 continue
             last = stop.position
-            dumps = {column.dump: None for column in columns}
-            sights = Sights(self.scout, {last - 1: dumps, last: dumps})
+            dumps = [column.dump for column in columns]
+            answers = self.scout.answers_at({last - 1: dumps, last: dumps})
             for place, column in zip(self.places, columns):
-                was, now = sights.value(last - 1, column), sights.value(last, column)
+                was, now = (column.value(answers[position][column.dump]) for position in (last - 1, last))
                 if was != now:
                     yield stop._replace(place=place, was=was, now=now)

@@ -6,7 +6,7 @@ only a search needs are made by scouts alone. They stay between searches, so eac
 
 import contextlib
 
-from ..core.forms import PROCESSORS
+from ..core.forms import PROCESSORS, hit_of
 from ..core.simulator import Simulator, without_history
 from ..core.state import state_of
 from ..core.tape import MOST_KEPT, STEP
@@ -43,6 +43,15 @@ class Scout(Simulator):
         self.history.performed(sum(action.times for action in actions if action.is_watch))
         return lines
 
+    def answers_at(self, wanted):
+        """Returns the answers to dumps at positions that are near one another, read at once. It stays where it is."""
+        here, order = self.position, sorted(wanted)
+        for position in (*order[:1], *order[-1:]):
+            self.goto(position)
+        answers = dict(zip(order, self.look_at([(position, wanted[position]) for position in order])))
+        self.goto(here)
+        return answers
+
     def watch_from(self, position, places):
         """Goes to a position, and watches places from there on."""
         if self.watched and (self.watched != places or self.position < position):
@@ -60,7 +69,6 @@ class Machine(Simulator):
         super().__init__(words)
 
     def scout(self, name):
-        """Returns the scout of this name."""
         if name not in self.scouts:
             self.scouts[name] = Scout(without_history(self.words), self.tape)
         return self.scouts[name]
@@ -93,11 +101,6 @@ class Machine(Simulator):
                 return [f"{word} {count:o} SLOT {self.next_slot:02o}"]
         return answer
 
-    @property
-    def counts(self):
-        """The history as BACK and FORWARD count it."""
-        return self.history
-
     def settled(self, position):
         """Returns the first position from a position on that the user can be at: with devices, that after the replies to an action."""
         return position
@@ -125,7 +128,7 @@ class Machine(Simulator):
         self.renew()
         begun, kept = self.position, self.history.kept
         for place in places:
-            self.question(f"WATCH {place.short}", ["OK"])
+            self.question(f"WATCH {place.short}", "OK")
         yield
         if places:
             self.unwatch_since(begun, kept, places)
@@ -142,20 +145,18 @@ class Machine(Simulator):
         else:
             self._go_anew(here, None)
             return
-        self.question(f"BACK {back:o}", [f"BACK {back:o} "])
+        self.question(f"BACK {back:o}", f"BACK {back:o} ")
         history.position = max(begun, here - back)
         for place in places if back < turns + watches else ():
-            self.question(f"UNWATCH {place.short}", ["OK"])
+            self.question(f"UNWATCH {place.short}", "OK")
         history.ahead = 0
         self.play(here)
 
     def new_turns(self, most):
         """Makes so many new turns, or up to a change of what is watched. Returns the line HIT, or None."""
-        made, *hit = self.ask(f"STEP {most:o}")
-        if not made.startswith("TURNS "):
-            raise self.nonsense(made)
-        self.history.added(STEP, int(made.split()[1], 8))
-        return hit[0] if hit else None
+        made, answer = next(self.steps(most))
+        self.history.added(STEP, made)
+        return hit_of(answer)
 
     def withdraw(self, position):
         """Sees that no scout is beyond a position, nor goes there by FORWARD, for the tape may be cut there."""

@@ -76,7 +76,6 @@ class Wire:
         return message
 
     def write(self, **message):
-        """Writes a message."""
         self.seq += 1
         message = {"seq": self.seq, **message}
         data = json.dumps(message).encode("ascii")

@@ -4,7 +4,8 @@ import base64
 import binascii
 
 from ..calls import calls, sentence
-from ..core.forms import CELLS, PROCESSORS, ROW
+from ..cells import set_lines
+from ..core.forms import CELLS, PROCESSORS
 from .breakpoints import Cell
 from .listings import instruction
 from .protocol import Refused
@@ -175,8 +176,8 @@ class Requests:
         words = [f"{int.from_bytes(data[at:at + 2], 'big'):04o}" for at in range(0, len(data), 2)]
         if cell.address + len(words) > CELLS:
             raise Refused("that goes past cell 7777")
-        for at in range(0, len(words), ROW):
-            self.set_number(f"SET M {cell.number:o} {cell.address + at:o} {' '.join(words[at:at + ROW])}")
+        for line in set_lines(cell.number, cell.address, words):
+            self.set_number(line)
         return {"bytesWritten": len(data)}
 
     def do_disassemble(self, memoryReference, instructionCount, offset=0, instructionOffset=0, **_):
@@ -193,11 +194,6 @@ class Requests:
         """Returns a cell as an instruction, and where its line is."""
         memory = self.machine.state.memories[number]
         cell = Cell(number, address)
+        found = self.where(cell, self.own.line(number, address, [memory.word(address), memory.word(address + 1)]))
         return {"address": cell.reference, "instructionBytes": memory.word(address),
-                "instruction": instruction(memory, address), **self.place(cell, memory)}
-
-    def place(self, cell, memory):
-        """Returns where the line of a cell is."""
-        line = self.own.line(cell.number, cell.address, [memory.word(cell.address), memory.word(cell.address + 1)])
-        found = self.where(cell, line)
-        return {"location": found["source"], "line": found["line"]}
+                "instruction": instruction(memory, address), "location": found["source"], "line": found["line"]}

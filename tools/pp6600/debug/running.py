@@ -64,7 +64,8 @@ class Runner:
             if stop:
                 break
         if stop and stop.place and any(point.terms.log for point in search.wanted.points):
-            self.due(search.arrival_at(stop.position), self.say)
+            arrivals = (one for one in search.stops(stop.position - 1, stop.position) if not one.place)
+            self.due(next(arrivals, None), self.say)
         self.know(search.wanted, stop.position - 1 if stop else part)
         machine.goto(position)  # if it is not there yet
         if next(tape.actions(position)).is_watch:

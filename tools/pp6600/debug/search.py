@@ -7,10 +7,10 @@ the stop is after that. Arrivals are polled: once in each round of the barrel a 
 turns are seen by the watches of other scouts; what settings and few turns do is seen by a look after each."""
 
 import heapq
-from itertools import chain
+from itertools import chain, starmap
 from typing import FrozenSet, NamedTuple, Optional, Tuple
 
-from ..core.forms import MOST_TURNS, MOST_WATCHES, PROCESSORS, Place, registers_dump
+from ..core.forms import MOST_TURNS, MOST_WATCHES, PROCESSORS, Place
 from ..core.probe import ROUNDS, Column, Probe
 from ..core.simulator import MARK
 from .breakpoints import Point
@@ -95,7 +95,7 @@ class Search:
             groups = [self.places[at:at + MOST_WATCHES] for at in range(0, len(self.places), MOST_WATCHES)]
             changes = [self.changes(name, group, first, last) for name, group in enumerate(groups)]
             if self.places and last - first <= NEAR:
-                changes = [self.looks(first, last)]
+                changes = [chain.from_iterable(starmap(self.changes_between, self.rows(first, last)))]
             arrivals = (stop for stop in self.arrivals(first, last) if stop.position > first)
             changes = self.judge.changed(heapq.merge(*changes, key=lambda stop: stop.position))
             yield from heapq.merge(changes, arrivals, key=lambda stop: (stop.position, not stop.place))
@@ -105,10 +105,6 @@ class Search:
     def stop_at(self, position):
         """Returns the stop of the processor whose turn is next at a position, if it has come to a breakpoint; or None."""
         return next(self.arrivals(position, position), None)
-
-    def arrival_at(self, position):
-        """Returns the stop at which a processor comes to a breakpoint at a position; None if none does."""
-        return next((stop for stop in self.stops(position - 1, position) if not stop.place), None)
 
     def arrivals(self, first, last):
         """Yields the arrivals at breakpoints from a position to a later one, with turns alone between."""
@@ -167,11 +163,6 @@ class Search:
             if hit:
                 yield change(self.tape, scout.position, hit[0])
 
-    def looks(self, first, last):
-        """Yields the changes after a position, up to a later one, by looks after each action: of each the first one."""
-        for at, was, now in self.rows(first, last):
-            yield from self.changes_between(at, was, now)
-
     def looks_at_settings(self, first, last):
         """Yields the changes and the arrivals after a position, up to a later one, with settings alone between."""
         slot = self.tape.slot
@@ -191,11 +182,11 @@ class Search:
         scout, slot = self.scout, self.tape.slot
         scout.goto(first)
         scout.goto(last)
-        probe = Probe(scout, list(map(Column.of_place, self.places)))
-        looks = scout.look_at([(at, [registers_dump(slot(at)), *probe.dumps]) for at in range(first, last + 1)])
-        answers = list(chain.from_iterable(looks))
-        values = (column.values(answers, probe.layout[column.dump], probe.width) for column in probe.columns)
-        rows = list(zip(map(place_in, column_of(0).values(answers, 0, probe.width)), *values))
+        of_places = list(map(Column.of_place, self.places))
+        columns = [[column_of(slot(at)), *of_places] for at in range(first, last + 1)]
+        looks = scout.look_at([(at, [column.dump for column in some]) for at, some in enumerate(columns, first)])
+        rows = [[column.value(answers[column.dump]) for column in some] for some, answers in zip(columns, looks)]
+        rows = [(place_in(registers), *numbers) for registers, *numbers in rows]
         yield from zip(range(first, last), rows, rows[1:])
 
 

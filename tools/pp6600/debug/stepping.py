@@ -6,7 +6,6 @@ one that counts its return address up ends too."""
 from ..calls import call_of, has_returned
 from ..conditions import RJM
 from ..core.forms import CELLS, registers_dump, registers_of
-from .judging import Sights
 from .machine import NEAR, latest_turn
 from .search import Aim
 
@@ -111,9 +110,9 @@ class Stepper:
         while end and self.runner.goes_on():
             first = max(end - span, 0)
             turns = [at for at in range(first, end) if tape.slot(at) == self.number and next(tape.actions(at)).turns]
-            sights = Sights(self.scout, {at: {dump: None} for at in turns})
+            answers = self.scout.answers_at({at: [dump] for at in turns})
             for at in reversed(turns):
-                registers = registers_of(sights.answers[at, dump][0])
+                registers = registers_of(answers[at][dump][0])
                 yield at, int(registers["P"], 8), registers["PHASE"] != "0000"
             end, span = first, min(WIDER * span, FARTHEST)
 

@@ -12,10 +12,6 @@ SCOPES = ("Registers", "Channels and clock", "Devices", "Watches", "History", "C
 REGISTER_SCOPE, CHANNEL_SCOPE, DEVICE_SCOPE, WATCH_SCOPE, HISTORY_SCOPE, CALL_SCOPE = range(1, len(SCOPES) + 1)
 
 
-def reference(scope, number):
-    return scope << 8 | number
-
-
 def scope_and_number(asked):
     """Returns the scope and the processor of a reference."""
     if not isinstance(asked, int) or not 0 < asked >> 8 <= len(SCOPES) or not 0 <= asked & 0xFF < PROCESSORS:
@@ -25,7 +21,7 @@ def scope_and_number(asked):
 
 def scopes(number, has_source):
     """Returns the scopes of a processor. Its calls are known by a source alone, and take a search."""
-    return [{"name": name, "variablesReference": reference(scope, number), "expensive": scope == CALL_SCOPE,
+    return [{"name": name, "variablesReference": scope << 8 | number, "expensive": scope == CALL_SCOPE,
              **({"presentationHint": "registers"} if scope == REGISTER_SCOPE else {})}
             for scope, name in enumerate(SCOPES, 1) if has_source or scope != CALL_SCOPE]
 
@@ -86,7 +82,6 @@ def place_of(text, number=None):
 
 
 def set_line(scope, number, name, value):
-    """Returns the line that sets a variable."""
     if not re.fullmatch("[0-7A-Za-z ]+", value):
         raise Refused(f"{value} is not octal")
     if scope == REGISTER_SCOPE and name == "PHASE":

@@ -23,6 +23,7 @@ from .upcoming import upcoming
 
 # The kinds of a moment: what a turn was, another action, a BACK or FORWARD, turns that were skipped. TURNS is that of a line.
 PASSES, WAITS, BUSY, BLOCK, LINE, JUMP, SKIP, TURNS = range(8)
+KINDS_OF_LINES = {"TURNS": TURNS, "OK": LINE, "BACK": JUMP, "FORWARD": JUMP}  # by the first words of their answers
 MOST_MOMENTS = 0o1000000
 AROUND = 0o4000  # moments before a turn, and after it
 BETWEEN_CHECKS = 0o10000
@@ -47,7 +48,7 @@ class Transcript(Log):
         console = Console(words)
         self.script = Script(console, lines, self._took)
         self.end = console.ask_all(questions())
-        self.size = console.size_of_central()
+        self.size = console.central_size
         console.end()
 
     def _took(self, line, answer, turns):
@@ -61,12 +62,8 @@ class Transcript(Log):
         performed again."""
         for number, (_, answer) in enumerate(self.lines):
             kind, *rest = answer[0].split() if answer else ["NOTE"]
-            if kind == "TURNS":
-                yield number, TURNS, int(rest[0], 8)
-            elif kind == "OK":
-                yield number, LINE, 1
-            elif kind in ("BACK", "FORWARD"):
-                yield number, JUMP, int(rest[0], 8)
+            if kind in KINDS_OF_LINES:
+                yield number, KINDS_OF_LINES[kind], int(rest[0], 8) if rest else 1
 
     def moments(self):
         return sum(count if kind == TURNS else 1 for _, kind, count in self.actions())
@@ -262,7 +259,8 @@ class Film:
 
     def _on_channels(self, states):
         """Returns the processors that are on a channel whose state is no longer that."""
-        changed = {channel for channel, state in enumerate(self.machine.states()) if state != states[channel]}
+        now = self.machine.states()
+        changed = {channel for channel, state in enumerate(now) if state != states[channel]} if now != states else ()
         processors = map(self.machine.processor, range(PROCESSORS)) if changed else ()
         return [number for number, one in enumerate(processors) if one.channel in changed and one.code in CHANNEL_CODES]
 

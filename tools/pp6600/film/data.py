@@ -51,9 +51,9 @@ class Rows:
 
     def changes(self, moment):
         """Returns the places that changed in a moment, with the growths of their numbers."""
-        kinds, places, growths = (_numbers(stream[starts[moment]:starts[moment + 1]])
+        kinds, places, growths = (numbers_of(stream[starts[moment]:starts[moment + 1]])
                                   for starts, stream in zip(self.starts[:3], self.streams))
-        return _changes(next(kinds) >> 3, places, growths)
+        return changes_of(next(kinds) >> 3, places, growths)
 
 
 def _add_writes(out, written):
@@ -79,21 +79,7 @@ def encode(about, streams):
     return "\n".join(text[at:at + 120] for at in range(0, len(text), 120))
 
 
-def decode(text):
-    """Returns what `encode` was given, but for the numbers before each change and the writes: what else the page needs, and of each moment
-    its kind and a list of places with the growths of their numbers."""
-    whole = zlib.decompress(base64.b64decode(text))
-    size = int.from_bytes(whole[:4], "little")
-    about = json.loads(whole[4:4 + size])
-    rows, at = [], 4 + size
-    for length in about["streams"]:
-        rows.append(_numbers(whole[at:at + length]))
-        at += length
-    kinds, places, growths, _ = rows
-    return about, [(head & 7, _changes(head >> 3, places, growths)) for head in kinds]
-
-
-def _numbers(stream):
+def numbers_of(stream):
     """Yields the numbers of a row of bytes."""
     number = shift = 0
     for byte in stream:
@@ -104,7 +90,7 @@ def _numbers(stream):
             number = shift = 0
 
 
-def _changes(count, places, growths):
+def changes_of(count, places, growths):
     """Returns the next so many changes."""
     changes, place = [], 0
     for _ in range(count):

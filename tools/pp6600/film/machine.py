@@ -2,7 +2,7 @@
 
 import functools
 
-from ..core.forms import CHANNELS, CLOCK, FORMS, REGISTERS, STATES, fields, kind_of
+from ..core.forms import CELLS, CHANNELS, CLOCK, FORMS, REGISTERS, STATES, fields, kind_of
 from ..core.turn import Processor
 from .places import LAYOUT, MODES, cell, register
 
@@ -75,7 +75,8 @@ class Machine:
         """Returns a processor as it is now."""
         first, numbers = register(number, "P"), self.numbers
         p, a, q, phase = numbers[first:first + len(REGISTERS)]
-        return processor_of(p, a, q, phase, numbers[cell(number, p)], numbers[cell(number, p + 1)])
+        cells = cell(number, 0)
+        return processor_of(p, a, q, phase, numbers[cells + p], numbers[cells + (p + 1) % CELLS])
 
     def state(self, channel):
         return STATES[self.numbers[LAYOUT["states"] + channel]]

@@ -9,10 +9,6 @@ from .machine import Table
 from .places import LAYOUT
 
 
-def has_picture(device):
-    return type(device).picture is not Device.picture
-
-
 def rows_of(machine):
     """Returns the lines of DUMP H."""
     words = LAYOUT["words"]
@@ -23,7 +19,7 @@ class Pictures:
     """The pictures of the devices that have some. Without one nothing is kept."""
 
     def __init__(self, devices=()):
-        self.devices = list(filter(has_picture, devices))
+        self.devices = [device for device in devices if type(device).picture is not Device.picture]
         self.values = [tuple(map(value_at_start, self.devices))]  # of the devices, by how many actions are in effect
         self.lines = Table()
         self.shown = [[] for _ in self.devices]  # of each device the moments from which on a picture is seen, each with its lines

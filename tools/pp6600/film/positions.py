@@ -13,7 +13,8 @@ class Positions:
 
     def add(self, before, count, moment):
         """Notes that a moment performed so many actions after a position. What was after this is gone."""
-        self.cut(before)
+        if before < self.end_before(len(self.ends)):
+            self.cut(before)
         self.ends.append(before + count)
         self.moments.append(moment)
 

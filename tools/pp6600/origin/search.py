@@ -3,6 +3,7 @@ still asked for."""
 
 from ..core.forms import CELLS, CLOCK, PROCESSORS, Place, fields
 from ..core.probe import idle_processors
+from ..core.seek import halve
 from ..core.tape import STEP
 from ..core.turn import places_of_setting
 from ..core.window import Window
@@ -108,9 +109,6 @@ class Search:
             return None
         return {part for link in links for part in link.parts}
 
-    def _is_followed(self):
-        return self.most_steps is None or self.count < self.most_steps
-
     def _follow(self, step, parts, position):
         """Asks for the sources of a step; of a central word or a word of the frame so many parts are asked for."""
         turn, write = step.turn, step.write
@@ -123,7 +121,7 @@ class Search:
         if self.with_addresses:
             step.addresses = [Link(step, place) for place in turn.addresses()]
         step.code = [Link(step, place) for place in self._written_words(step)]
-        if self._is_followed():
+        if self.most_steps is None or self.count < self.most_steps:
             for link in (*step.links, *step.addresses, *step.code):
                 self._ask(link, position)
 
@@ -156,16 +154,11 @@ class Search:
         for place in list(self.asked):
             self._found(Step(place, START))
 
-    def _processors(self):
-        """Returns the processors that may have written what is asked for."""
-        if any(place.kind not in OF_A_PROCESSOR for place in self.asked):
-            return set(range(PROCESSORS))
-        return {place.numbers[0] for place in self.asked}
-
     def _needed(self, part):
         """Returns the processors whose turns are read in a run of turns. Those that only pass write nothing, but devices act in their
         turns too."""
-        processors = self._processors()
+        is_of_all = any(place.kind not in OF_A_PROCESSOR for place in self.asked)
+        processors = set(range(PROCESSORS)) if is_of_all else {place.numbers[0] for place in self.asked}
         if part not in self.idle:
             self.idle[part] = idle_processors(self.run, self.tape.starts[part], self.tape.starts[part + 1])
         return processors if self.asked.keys() & self.of_devices else processors - self.idle[part]
@@ -179,23 +172,34 @@ class Search:
     def _look_at_turns(self, window, part):
         """Looks at the turns of a window, the last one first. Returns the position down to which it did: the window's first, or
         that before the turn whose sources are of a processor that is not in the window."""
-        devices, here = Devices(window), set(window.processors)
-        self.is_changed, relevant, position = True, set(), window.last
+        here = set(window.processors)
+        self.is_changed, relevant, words, position = True, set(), {}, window.last
         for at in range(len(window.turns) - 1, -1, -1):
             if self.is_changed:
                 if not self.asked or not self._needed(part) <= here:
                     return position
                 relevant, self.is_changed = window.relevant(self.asked), False
-                devices.choose(self.asked)
-                if not relevant and not devices.words:
+                words = self._words_of_devices(window)
+                if not relevant and not words:
                     return window.first
-            if at in devices.words:
-                self._found(devices.step(at))
+            if at in words:
+                place, cause, word = words.pop(at)
+                self._found(Step(place, cause, window.position(at), word))
                 relevant, position = window.relevant(self.asked), window.position(at) - 1
             if window.keys[at] in relevant:
                 self._look_at_turn(window.turn(at), window.position(at))
                 position = window.position(at) - 1
         return window.first if self._needed(part) <= here else position
+
+    def _words_of_devices(self, window):
+        """Returns by turns what the reader and the printer put on those of their channels that are asked for."""
+        words = {}
+        for cause, channel in ((READER, self.run.reader_channel), (PRINTER, self.run.printer_channel)):
+            place = Place("H", (channel,))
+            if place in self.asked:
+                found = window.words_of_reader if cause == READER else window.words_of_printer
+                words |= {at: (place, cause, word) for at, word in found.items()}
+        return words
 
     def _look_at_turn(self, turn, position):
         """Looks at a turn: of all that it wrote and is asked for, the sources were read before."""
@@ -233,24 +237,22 @@ class Search:
     def _symbol(self, index, position):
         """Returns the step that printed a symbol, and the position from which its source is searched. The paper only grows, so
         its turn is found by halves."""
-        self.run.goto(position)
-        count = symbols_of(self.run.printer()[0])
+        def count_at(position):
+            self.run.goto(position)
+            return int(fields("LP", self.run.printer()[0])["SYMBOLS"], 8)
+
+        count = count_at(position)
         if index >= count:
             raise Failure(f"the paper has {count:o} symbols (octal), from LP 0 on" if count else "nothing is on the paper")
-        low, high = 0, position
-        while low < high:
-            middle = (low + high) // 2
-            self.run.goto(middle)
-            low, high = (low, middle) if symbols_of(self.run.printer()[0]) > index else (middle + 1, high)
-        self.run.goto(low - 1)
-        before = symbols_of(self.run.printer()[0])
-        self.run.goto(low)
-        step = Step(Place("LP", (index,)), PAPER, low, index - before)
-        step.number = symbol_of(self.run.printer(), index)
+        printed = halve(0, position, lambda middle: count_at(middle) > index)
+        step = Step(Place("LP", (index,)), PAPER, printed, index - count_at(printed - 1))
+        self.run.goto(printed)
+        symbol = "".join(line[1:] + "\n" * (line[0] == "|") for line in self.run.printer()[1:])[index]
+        step.number = LINE_END if symbol == "\n" else f'"{symbol}"'
         link = Link(step, Place("H", (self.run.printer_channel,)))
         step.links = [link]
-        self._ask(link, low)
-        return step, low
+        self._ask(link, printed)
+        return step, printed
 
     def _read_numbers(self):
         """Reads the number of each step after its write, from the earliest to the latest."""
@@ -262,30 +264,6 @@ class Search:
             step.number = self.run.number_at(step.place)
 
 
-class Devices:
-    """What the reader and the printer put on their channels in a window."""
-
-    def __init__(self, window):
-        self.window = window
-        self.found = {}
-        self.kinds = {Place("H", (window.run.reader_channel,)): (READER, window.words_of_reader),
-                      Place("H", (window.run.printer_channel,)): (PRINTER, window.words_of_printer)}
-        self.words = {}
-
-    def choose(self, asked):
-        """Notes by turns what they put on those of their channels that are asked for."""
-        self.words = {}
-        for place, (cause, words) in self.kinds.items():
-            if place in asked:
-                if place not in self.found:
-                    self.found[place] = words()
-                self.words |= {at: (place, cause, word) for at, word in self.found[place].items()}
-
-    def step(self, at):
-        place, cause, word = self.words.pop(at)
-        return Step(place, cause, self.window.position(at), word)
-
-
 def wanted_sources(write, parts):
     """Returns the sources of a write, each with the parts of it that are wanted, if these parts of what was written are."""
     if write.is_joined:
@@ -295,14 +273,3 @@ def wanted_sources(write, parts):
     wanted = [(place, tuple(sorted(part for part in parts if of_source is None or part in of_source)))
               for place, of_source in write.sources]
     return [(place, some) for place, some in wanted if some]
-
-
-def symbols_of(line):
-    """Returns how many symbols are on the paper, from the line of the printer."""
-    return int(fields("LP", line)["SYMBOLS"], 8)
-
-
-def symbol_of(answer, index):
-    """Returns a symbol of the paper as text, from the answer to DUMP LP."""
-    symbol = "".join(line[1:] + "\n" * (line[0] == "|") for line in answer[1:])[index]
-    return LINE_END if symbol == "\n" else f'"{symbol}"'

@@ -9,6 +9,7 @@ from ..listing import AllSymbols
 from ..text_files import bytes_of
 from .search import DEADSTART, LINE_END, PAPER, PRINTER, READER, SET, START, TICK, TURN, Search
 
+MOST_STEPS = 0o40  # by processors, without --all
 INDENT = "  "
 NOTE = re.compile(r"[ \t]*([*].*)?\r?")
 
@@ -57,7 +58,8 @@ class Writer:
             if step is None:
                 yield None, f"{INDENT * depth}{place.text} .. DEEPER"
                 continue
-            line = f"{INDENT * depth}{step.place.text} {step.number} {self.turn_of(step)}"
+            turn = "START" if step.cause == START else f"TURN {self.tape.turn(step.position):o}"
+            line = f"{INDENT * depth}{step.place.text} {step.number} {turn}"
             links = self.wanted(step, parts)
             if id(step) in seen and (step.links or step.addresses or step.code) and seen.issuperset(map(id, links)):
                 yield step, f"{line} AS ABOVE"
@@ -83,11 +85,6 @@ class Writer:
         return [*((link.step, link.place, depth, link.parts) for link in same),
                 *((link.step, link.place, depth + 1, link.parts) for link in reversed([*others, *step.addresses]))]
 
-    def turn_of(self, step):
-        if step.cause == START:
-            return "START"
-        return f"TURN {self.tape.turn(step.position):o}"
-
     # ---- what wrote it
 
     def how(self, step, links):
@@ -100,10 +97,10 @@ class Writer:
     def by_set(self, step):
         line, word = step.detail
         if isinstance(line, SourceLine):
-            return [f"FROM {line.places[word]}"]
+            return [f"FROM {line.known[word]}"]
         if isinstance(line, ReplyLine):
-            return [f"DEVICE {line.device}"]
-        return [f"SET LINE {line.number} WORD {word} (decimal)"]
+            return [f"DEVICE {line.known}"]
+        return [f"SET LINE {line.known} WORD {word} (decimal)"]
 
     def by_dead_start(self, step):
         word = step.detail[1]

@@ -10,7 +10,7 @@ from ..core.tape import numbered
 from ..listing import AllSymbols
 from ..script import performed
 from ..sources import add_symbols, symbols_of
-from .text import origin_rows
+from .text import MOST_STEPS, origin_rows
 
 DESCRIPTION = """Shows where the number at a place (M 0 106, A 0, C 1000, H 12 ..; XP 0: a word of the frame; LP 7: a symbol of the
 paper) came from at the end of a script: the last write, in which turn, by which instruction, and from what; then the same of
@@ -18,7 +18,6 @@ each source, back to a word of the script, a column of a card, a word of the pan
 number that was stored again counts as written. FROM a place: the number was moved. OF places: it was computed from these. What
 the script took back and did not perform again counts for nothing."""
 
-MOST_STEPS = 0o40
 PATIENCE = 1  # seconds without progress on the screen
 
 

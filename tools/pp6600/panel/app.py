@@ -4,6 +4,7 @@ opens a page."""
 import os
 import re
 import time
+from functools import partial
 
 from ..core.forms import KINDS
 from ..device import DeviceFailure
@@ -30,7 +31,7 @@ BETWEEN_REPORTS = 0.2  # seconds
 CANCEL = ("Escape", "Ctrl-C")
 LETTERS = {"h": "Left", "j": "Down", "k": "Up", "l": "Right"}
 PROMPTS = {":": "> ", "g": "go to ", "G": "turn ", "u": "until ", "U": "back until ", "/": "search ", "w": "w ", "K": "keys "}
-NEW_ACTIONS = ("SET", "STEP", "WATCH", "UNWATCH", "DEADSTART")
+NEW_ACTIONS = (["SET"], ["STEP"], ["WATCH"], ["UNWATCH"], ["DEADSTART"])  # the first words of their lines
 AFTER_FAULT = ("w", "L", "?", "Tab", "Shift-Tab", *ARROWS)  # keys that need no simulator
 
 
@@ -40,10 +41,6 @@ def words_to_find(text, kind):
     if not words or any(not re.fullmatch("[0-7]+", word) or len(word.lstrip("0")) > digits for word in words):
         raise Failure(f"{text or 'nothing'} can't be searched: give octal words, as 7512 0100")
     return [f"{int(word, 8):0{digits}o}" for word in words]
-
-
-def first_word(line):
-    return next(iter(line.upper().split()), "")
 
 
 class Panel:
@@ -113,7 +110,6 @@ class Panel:
             self.guard(session.look_at_central, view.central_top, rows)
 
     def screen(self):
-        """Returns the screen."""
         if self.page:
             return self.page.screen(self.columns, self.rows)
         session = self.session
@@ -142,7 +138,9 @@ class Panel:
         """Performs a key outside a line and a page."""
         count, self.count, self.message = self.count, "", ""
         asked, self.is_asked_to_quit = self.is_asked_to_quit, False
-        key = LETTERS.get(key, key)
+        key, changes = LETTERS.get(key, key), f"{self.view.place()} changes"
+        typed = {"f": ("u", ""), "F": ("U", ""), "]": ("u", changes), "[": ("U", changes), "N": ("N", count or "1"),
+                 "P": ("P", count or "1"), **({"G": ("G", count)} if count else {})}
         if key.isdecimal() and key.isascii():
             self.add_to_count(count, key)
         elif key in CANCEL:
@@ -153,14 +151,8 @@ class Panel:
             self.message = self.last_words()
         elif key in LINES:
             self.send_key(key, int(count or "1", 8))
-        elif key == "G" and count:
-            self.take_line("G", count)
-        elif key in ("f", "F"):
-            self.take_line("u" if key == "f" else "U", "")
-        elif key in ("N", "P"):
-            self.take_line(key, count or "1")
-        elif key in ("]", "["):
-            self.take_line("u" if key == "]" else "U", f"{self.view.place()} changes")
+        elif key in typed:
+            self.take_line(*typed[key])
         else:
             self.press_to_look(key, int(count or "1", 8))
 
@@ -177,34 +169,24 @@ class Panel:
     def press_to_look(self, key, count):
         """Performs a key that sends nothing."""
         view = self.view
-        if key in ARROWS:
+        simple = {
+            "Tab": lambda: view.next_pane(1), "Shift-Tab": lambda: view.next_pane(-1), "o": view.follow,
+            "(": lambda: view.choose_processor(view.processor - count), ")": lambda: view.choose_processor(view.processor + count),
+            "x": lambda: view.choose_processor(self.session.state.slot), "i": view.toggle_program, "d": view.toggle_display_code,
+            "c": self.show_origin, "v": self.show_pictures, "L": self.show_log, "?": self.show_keys}
+        if key in simple:
+            simple[key]()
+        elif key in ARROWS:
             view.move(key, count, self.memory_rows(), self.session.size)
-        elif key in ("Tab", "Shift-Tab"):
-            view.next_pane(1 if key == "Tab" else -1)
-        elif key in ("(", ")"):
-            view.choose_processor(view.processor + (count if key == ")" else -count))
-        elif key == "x":
-            view.choose_processor(self.session.state.slot)
-        elif key == "o":
-            view.following = True
-        elif key == "i":
-            view.toggle_program()
-        elif key == "d":
-            view.toggle_display_code()
         elif key in ("m", "C"):
             self.press_about_source(key)
         elif key in PROMPTS:
             self.prompt = Prompt(key, PROMPTS[key], self.typed[key])
-        elif key == "c":
-            self.show_origin()
-        elif key == "L":
-            self.show_log()
-        elif key == "v":
-            self.show_pictures()
-        elif key == "?":
-            self.page = Page("The keys of the panel", [Line(text) for text in help_lines()])
         elif key not in ("Ctrl-L", "Enter"):
             self.message = f"no key {key}; ? shows all keys"
+
+    def show_keys(self):
+        self.page = Page("The keys of the panel", [Line(text) for text in help_lines()])
 
     def press_about_source(self, key):
         """Shows the source or the cells; or central memory beside the source, or no longer."""
@@ -246,15 +228,14 @@ class Panel:
         return f"w FILE saves what was sent, q quits: {self.fault}"
 
     def send_key(self, key, count):
-        """Sends the lines of a key."""
         session, view = self.session, self.view
         facts = Facts(session.state.slot, view.processor, view.place(), session.watched(), session.history)
         self.send(LINES[key](facts, count))
 
     def send(self, lines):
         """Sends lines, but asks before the first of them discards what is ahead, unless it will be refused."""
-        ahead, word = self.session.history.to_redo, first_word(lines[0])
-        if ahead and word in NEW_ACTIONS and not self.guard(self.session.would_refuse, lines[0]):
+        ahead = self.session.history.to_redo
+        if ahead and lines[0].upper().split()[:1] in NEW_ACTIONS and not self.guard(self.session.would_refuse, lines[0]):
             self.asked = lines
             self.message = f"{lines[0]} discards the {ahead:o} actions ahead: y sends it, any other key does not"
         else:
@@ -292,8 +273,9 @@ class Panel:
     def take_line(self, kind, text):
         """Does what a typed line asks for."""
         try:
-            {":": self.take_console_line, "g": self.go_to, "G": self.go_to_turn, "u": self.go_until, "U": self.go_back_until,
-             "/": self.search, "w": self.save, "N": self.go_on_by_lines, "P": self.go_back_by_lines, "K": self.press_keys}[kind](text)
+            {":": self.take_console_line, "g": self.go_to, "G": self.go_to_turn, "/": self.search, "w": self.save,
+             "K": self.press_keys, "u": partial(self.go_to_found, next_found), "U": partial(self.go_to_found, last_before),
+             "N": partial(self.go_by_lines, turn_of_next_line), "P": partial(self.go_by_lines, turn_of_line_before)}[kind](text)
         except Failure as failure:
             self.message = str(failure)
 
@@ -329,36 +311,22 @@ class Panel:
             more = [f"{REPLAYED} in a fresh simulator"] if self.session.simulator.replays > replays else []
             self.message = in_width(said + more, self.columns)
 
-    def go_until(self, text):
-        """Goes on to the next turn at which a condition comes to hold."""
-        history = self.session.history
-        self.go_to_found(next_found, text, f"in turns {history.turns + 1:o} to {history.last_turn + self.session.most_new:o}")
-
-    def go_back_until(self, text):
-        """Goes back to the last such turn before the present one."""
-        self.go_to_found(last_before, text, f"before turn {self.session.history.turns:o}")
-
-    def go_to_found(self, find, text, where):
-        """Goes to the turn that is found; without a text, by the condition before."""
-        text = text or (self.typed["u"] or [""])[-1]
+    def go_to_found(self, find, text):
+        """Goes to the next turn at which a condition comes to hold, or the last one before; without a text, that typed before."""
+        history, text = self.session.history, text or (self.typed["u"] or [""])[-1]
         if not text:
             raise Failure("give a condition, as P 0 = 105 or M 0 106 changes")
         self.shown_at = time.monotonic()
         found = find(self.session, text, self.symbols, self.report_search)
         if found is None:
-            self.message = f"NONE: {text}, {where}"
+            new = f"in turns {history.turns + 1:o} to {history.last_turn + self.session.most_new:o}"
+            self.message = f"NONE: {text}, {new if find is next_found else f'before turn {history.turns:o}'}"
         else:
             self.show_turn(found.turn, [text_of(found, self.symbols)])
 
-    def go_on_by_lines(self, count):
-        """Goes on to where the chosen processor begins another line of its source."""
-        self.go_by_lines(turn_of_next_line, count)
-
-    def go_back_by_lines(self, count):
-        """Goes back to where it began the line that it is in, or the one before."""
-        self.go_by_lines(turn_of_line_before, count)
-
     def go_by_lines(self, find, count):
+        """Goes on to where the chosen processor begins another line of its source; or back to where it began the line that it is
+        in, or the one before."""
         source = self.source()
         if source is None:
             raise Failure(self.no_source())

@@ -40,14 +40,6 @@ def on(facts, turns):
     return ([counted("FORWARD", forward)] if forward else []) + step_lines(max(turns - again, 0))
 
 
-def on_round(facts, count):
-    return on(facts, ROUND * count)
-
-
-def on_to(facts, count):
-    return on(facts, turns_to(facts.slot, facts.processor, count))
-
-
 def to_turn(history, turn):
     """Returns the lines that go to before the turn that comes after so many: back, or over what is ahead and then over new turns."""
     again = history.tape.after_turn(min(turn, history.last_turn)) - history.position
@@ -56,30 +48,15 @@ def to_turn(history, turn):
     return ([counted("FORWARD", again)] if again else []) + step_lines(max(turn - history.last_turn, 0))
 
 
-def back(facts, count):
-    return [counted("BACK", count)]
-
-
-def back_round(facts, count):
-    return [counted("BACK", facts.history.back_over(ROUND * count))]
-
-
-def back_to(facts, count):
-    return [counted("BACK", facts.history.back_over(turns_to(facts.processor, facts.slot, count)))]
+def back_over(facts, turns):
+    """Returns the line that goes back over so many turns."""
+    return [counted("BACK", facts.history.back_over(turns))]
 
 
 def back_to_change(facts, count):
     """Returns the lines that go back to a change of a watched number, or with nothing watched of the number at the cursor."""
     watch = [] if facts.watched else toggle_watch(facts, count)
     return watch + ["BACK W"] * min(count, facts.history.kept + 1)  # each one but a refused one undoes an action
-
-
-def to_beginning(facts, count):
-    return [counted("BACK", facts.history.position or 1)]
-
-
-def to_newest(facts, count):
-    return [counted("FORWARD", facts.history.to_redo or 1)]
 
 
 def toggle_watch(facts, count):
@@ -96,13 +73,14 @@ class Key(NamedTuple):
 
 LINE_KEYS = (
     Key(("s", " "), "one turn on: FORWARD if something is ahead, else STEP", on),
-    Key(("b", "Backspace"), "BACK: undoes the newest action", back),
-    Key(("S",), "on by a round of turns, 12", on_round),
-    Key(("B",), "back by a round of turns", back_round),
-    Key(("n",), "on to the next turn of the chosen processor", on_to),
-    Key(("p",), "back to its turn before", back_to),
-    Key(("<", "Home"), "back to the beginning", to_beginning),
-    Key((">", "End"), "forward to the newest state", to_newest),
+    Key(("b", "Backspace"), "BACK: undoes the newest action", lambda facts, count: [counted("BACK", count)]),
+    Key(("S",), "on by a round of turns, 12", lambda facts, count: on(facts, ROUND * count)),
+    Key(("B",), "back by a round of turns", lambda facts, count: back_over(facts, ROUND * count)),
+    Key(("n",), "on to the next turn of the chosen processor",
+        lambda facts, count: on(facts, turns_to(facts.slot, facts.processor, count))),
+    Key(("p",), "back to its turn before", lambda facts, count: back_over(facts, turns_to(facts.processor, facts.slot, count))),
+    Key(("<", "Home"), "back to the beginning", lambda facts, count: [counted("BACK", facts.history.position or 1)]),
+    Key((">", "End"), "forward to the newest state", lambda facts, count: [counted("FORWARD", facts.history.to_redo or 1)]),
     Key(("W",), "BACK W: to before a watched (else the cursor's) number changed", back_to_change),
     Key(("t",), "WATCH the number at the cursor, or UNWATCH it", toggle_watch),
 )

@@ -1,7 +1,7 @@
 """Which action makes the change before which a BACK W has stopped, in the words of the film. The session's machine is stepped
 back and forward again for it, so that it is as it was."""
 
-from itertools import accumulate, islice
+from itertools import islice
 
 from ..core.forms import PROCESSORS, registers_dump, registers_of
 from ..core.probe import Column
@@ -26,14 +26,8 @@ def changed_place(simulator, places):
     here, columns = simulator.position, [Column.of_place(place) for place in places]
     dumps = [column.dump for column in columns]
     before, after, _ = simulator.look_at([(here, dumps), (here + 1, dumps), (here, [])])
-    numbers = [[column.value(lines) for column, lines in zip(columns, parts(dumps, answer))] for answer in (before, after)]
+    numbers = [[column.value(answers[column.dump]) for column in columns] for answers in (before, after)]
     return next(((place.short, was) for place, was, now in zip(places, *numbers) if was != now), None)
-
-
-def parts(dumps, lines):
-    """Returns the lines of the answer to each dump."""
-    ends = list(accumulate(dump.lines for dump in dumps))
-    return [lines[end - dump.lines:end] for dump, end in zip(dumps, ends)]
 
 
 def turn_text(simulator, state):
@@ -49,10 +43,10 @@ def turn_text(simulator, state):
 def block_address(simulator, number, phase):
     """Returns the address of the instruction by which a processor came into this phase; None if no turn kept did it. It is
     the one whose turn comes next."""
-    here, turns = simulator.position, earlier_turns(simulator.history)
+    here, turns, dump = simulator.position, earlier_turns(simulator.history), registers_dump(number)
     while some := list(islice(turns, TURNS_AT_ONCE)):
-        stops = [(position + after, [registers_dump(number)]) for position in some for after in (1, 0)]
-        registers = [registers_of(lines[0]) for lines in simulator.look_at([*stops, (here, [])])[:-1]]
+        stops = [(position + after, [dump]) for position in some for after in (1, 0)]
+        registers = [registers_of(answers[dump][0]) for answers in simulator.look_at([*stops, (here, [])])[:-1]]
         for after, before in zip(registers[::2], registers[1::2]):
             if {phase} != {before["PHASE"], after["PHASE"]}:
                 return before["P"] if after["PHASE"] == phase else None

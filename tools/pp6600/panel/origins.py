@@ -1,13 +1,13 @@
 """Where the number at the cursor came from: a page of steps. The search has a simulator of its own, so the session stays as it is."""
 
+from contextlib import closing
+
 from ..core.forms import Place
 from ..core.simulator import Replay
-from ..origin.text import origin_rows
+from ..origin.text import MOST_STEPS, origin_rows
 from .page import Page
 from .screen import Screen, is_too_small
 from .text import HEAD, Line
-
-MOST_STEPS = 0o40
 
 
 class Origin:
@@ -18,16 +18,10 @@ class Origin:
         number of turns; it may raise an exception to end the search."""
         history = session.history
         self.history, self.place = history, Place.parse(place)
-        run = Replay(session.simulator.words, history.in_effect())
-        self.tape = tape = run.tape
-
-        def reached(position):
-            progress(tape.turn(position), tape.turns)
-
-        try:
-            self.rows = origin_rows(run, self.place, tape.end, MOST_STEPS, False, reached, symbols=symbols)
-        finally:
-            run.close()
+        with closing(Replay(session.simulator.words, history.in_effect())) as run:
+            self.tape = tape = run.tape
+            self.rows = origin_rows(run, self.place, tape.end, MOST_STEPS, False,
+                                    lambda position: progress(tape.turn(position), tape.turns), symbols=symbols)
 
     def undone(self, step):
         """Returns how many actions BACK has to undo, up to before the action that wrote a number; None if none did."""
@@ -51,7 +45,6 @@ class OriginPage(Page):
 
     @property
     def chosen(self):
-        """The step that is chosen."""
         return self.origin.rows[self.at][0]
 
     def press(self, key, rows):

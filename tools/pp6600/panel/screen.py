@@ -3,13 +3,13 @@
 from dataclasses import dataclass, field
 from typing import Optional
 
-from ..core.forms import CELLS, ROW
+from ..core.forms import CELLS, ROW, Place
 from ..listing import AllSymbols
 from ..core.state import State
 from .program import WIDTH, program_lines, sentence_line
 from .source_pane import source_lines
 from .text import (
-    CHANGED, CHOSEN, CURSOR, HEAD, HERE, REFUSED, SLOT, TITLE, WATCHED, Line, beside, in_height, last_in)
+    CHANGED, CHOSEN, CURSOR, HEAD, HERE, REFUSED, SLOT, TITLE, WATCHED, Line, beside, in_height)
 from .view import View, central_top, memory_top
 
 LEAST_COLUMNS, LEAST_ROWS = 80, 24
@@ -96,7 +96,6 @@ def is_idle(now, was, number):
 
 
 def processor_line(shown, number):
-    """Returns the line of a processor."""
     state, before, view = shown.state, shown.before, shown.view
     now, was = state.processors[number], before.processors[number]
     memory, memory_before = state.memories[number], before.memories[number]
@@ -120,7 +119,6 @@ def processor_line(shown, number):
 
 
 def processor_lines(shown):
-    """Returns the ten processors."""
     head = Line(" PP P    AT P          A      Q    PHASE  WAITS FOR", HEAD)
     return [head] + [processor_line(shown, number) for number in range(len(shown.state.processors))]
 
@@ -183,9 +181,8 @@ def memory_lines(shown, rows):
 def central_line(shown, address):
     """Returns a central word: a star is before one that the last action changed, w before a watched one."""
     view = shown.view
-    now = shown.state.number(f"C {address:06o}")
-    is_watched = any(watch.place == f"C {address:06o}" for watch in shown.state.watches)
-    was = shown.before.number(f"C {address:06o}")
+    now, was = shown.state.central.get(address), shown.before.central.get(address)
+    is_watched = Place("C", (address,)) in shown.state.watched
     changed = CHANGED if now and was and now != was else None
     line = Line(f"{address:06o}").add("*" if changed else "w" if is_watched else " ", changed)
     cursor = shown.cursor_in("central") if address == view.word else None
@@ -193,7 +190,6 @@ def central_line(shown, address):
 
 
 def central_lines(shown, rows):
-    """Returns central words."""
     top = central_top(shown.view.central_top, shown.view.word, rows, shown.size)
     return [Line("CENTRAL MEMORY", HEAD)] + [central_line(shown, top + row) for row in range(rows)]
 
@@ -219,18 +215,19 @@ def machine_lines(shown, rows, width):
 # ---- watches, paper and the lines typed
 
 
-def watch_part(shown, watch):
+def watch_part(shown, place):
     """Returns a watched place with its number."""
-    return Line(f"{watch.place} ").add_number(watch.number or "", shown.before.number(watch.place) if watch.number else None)
+    now = shown.state.number_at(place)
+    return Line(f"{place.text} ").add_number(now or "", shown.before.number_at(place) if now else None)
 
 
 def watch_rows(shown, width, rows):
     """Returns the watches in at most so many rows, several in a row."""
     line = Line("WATCHES ", HEAD)
     lines = [line]
-    watches = shown.state.watches
-    for number, watch in enumerate(watches):
-        part = watch_part(shown, watch).add(" ")
+    watches = shown.state.watched
+    for number, place in enumerate(watches):
+        part = watch_part(shown, place).add(" ")
         if len(line.text) + len(part.text) > width:
             if len(lines) == rows:
                 line.fit(width - 10).add(f" {len(watches) - number:o} more")
@@ -245,8 +242,7 @@ def watch_rows(shown, width, rows):
 
 def paper_lines(shown, rows):
     """Returns the end of the paper; the last line is `/` and not `|` if it has no line end."""
-    lines = [Line(text) for text in shown.state.printer.paper[-rows:]] or [Line("none")]
-    return beside([paper_head(shown)], in_height(lines, rows), 14)
+    return in_height([Line(text) for text in shown.state.printer.paper[-rows:]] or [Line("none")], rows)
 
 
 def paper_head(shown):
@@ -265,7 +261,8 @@ def log_rows(log, rows):
         line = Line(f"> {typed}").add("   ")
         line.fit(max(len(line.text), 24)).add("; ".join(answers), answer_mark(answers[0] if answers else ""))
         lines.append(line)
-    return last_in(lines, rows)
+    lines = lines[max(len(lines) - rows, 0):]
+    return [Line() for _ in range(rows - len(lines))] + lines
 
 
 def log_lines(log, rows):
@@ -301,15 +298,15 @@ def narrow_lines(shown, columns, parts):
     """Returns the lines between top and bottom, one part below the other."""
     watches = watch_rows(shown, columns, parts.watches)
     log = log_rows(shown.log, parts.log + parts.watches - len(watches))
-    return machine_lines(shown, parts.memory, columns) + watches + paper_lines(shown, parts.paper) + log
+    paper = beside([paper_head(shown)], paper_lines(shown, parts.paper), 14)
+    return machine_lines(shown, parts.memory, columns) + watches + paper + log
 
 
 def wide_lines(shown, columns, parts):
     """Returns the lines between top and bottom, with watches, paper and the lines typed at the right."""
     left = LEFT if shown.view.shows_central else max(LEFT, min(MOST_LEFT, columns - LEAST_RIGHT))
-    watches = [watch_part(shown, watch) for watch in shown.state.watches] or [Line("none")]
-    paper = [Line(text) for text in shown.state.printer.paper[-parts.paper:]] or [Line("none")]
-    right = [Line("WATCHES", HEAD)] + watches + [Line(), paper_head(shown)] + in_height(paper, parts.paper)
+    watches = [watch_part(shown, place) for place in shown.state.watched] or [Line("none")]
+    right = [Line("WATCHES", HEAD)] + watches + [Line(), paper_head(shown)] + paper_lines(shown, parts.paper)
     height = parts.memory + MACHINE_ROWS + int(shown.view.is_by_rows) - len(right) - 1
     right += [Line("LINES", HEAD)] + in_height(log_lines(shown.log, height), height)
     return beside(machine_lines(shown, parts.memory, left), right, left + 2)

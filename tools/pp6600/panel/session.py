@@ -1,6 +1,7 @@
 """The session of the panel: lines sent to the simulator, what they answered, and the machine's state after them."""
 
 import os
+from contextlib import closing
 from typing import NamedTuple
 
 from ..core.forms import hit_of, is_refusal
@@ -46,7 +47,7 @@ class Session:
     def __init__(self, words, devices=()):
         self.simulator = timeline(words, devices)
         self.most_new = 0 if devices else MOST_NEW  # a search has no devices
-        self.size = self.simulator.size_of_central()
+        self.size = self.simulator.central_size
         self.lines_sent = 0
         self.saved = (0, 0)  # the lines that are in a file
         self.log = []
@@ -72,7 +73,6 @@ class Session:
         return state
 
     def watched(self):
-        """Returns the watched places."""
         return [place.short for place in self.state.watched]
 
     def look_at_central(self, first, rows):
@@ -93,15 +93,11 @@ class Session:
 
     def would_refuse(self, line):
         """Returns whether a new action would be refused: whether another simulator, which watches the same places, refuses it."""
-        other = Console(self.simulator.words)
-        try:
+        with closing(Console(self.simulator.words)) as other:
             *_, answer = other.ask_each([*(f"WATCH {place}" for place in self.watched()), line])
-        finally:
-            other.close()
         return is_refusal(answer)
 
     def send(self, line):
-        """Sends a line, and returns its answer."""
         if not isinstance(line, SourceLine):
             self.lines_sent += 1
             line = ScriptLine(line, self.lines_sent)
@@ -170,7 +166,7 @@ class Session:
         else:
             self.saved = self.place
             return True
-        self.state = self.before = self.read()
+        self.look_again()
         return False
 
     def look_again(self):

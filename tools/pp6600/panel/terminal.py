@@ -7,6 +7,7 @@ import select
 import signal
 import sys
 import time
+from contextlib import suppress
 
 from ..failure import Failure
 from ..pictures import BRAILLE
@@ -73,10 +74,8 @@ class Terminal:
 
     def __exit__(self, *what):
         signal.set_wakeup_fd(-1)
-        try:
+        with suppress(curses.error):
             curses.endwin()
-        except curses.error:
-            pass
 
     def note_signal(self, number, frame):
         """Notes a signal; the loop that waits for keys sees it."""
@@ -119,26 +118,19 @@ class Terminal:
     # ---- out
 
     def draw(self, screen):
-        """Draws a screen."""
         self.window.erase()
         for row, line in enumerate(screen.lines):
             self.draw_line(row, line)
-        try:
+        with suppress(curses.error):  # the terminal has just become smaller
             self.window.move(*screen.cursor)
-        except curses.error:  # the terminal has just become smaller
-            pass
         self.window.refresh()
 
     def draw_line(self, row, line):
-        try:
+        with suppress(curses.error):  # after the last character of a screen the cursor has no place
             self.window.addstr(row, 0, line.text.translate(self.in_ascii))
-        except curses.error:  # after the last character of a screen the cursor has no place
-            pass
-        for start, end, mark in line.marks:
-            try:
+        for start, end, _ in line.marks:
+            with suppress(curses.error):
                 self.window.chgat(row, start, end - start, self.attribute(line, start, end))
-            except curses.error:
-                pass
 
     def attribute(self, line, start, end):
         """Returns the attributes of all marks of a part of a line."""
@@ -153,7 +145,7 @@ class Terminal:
     def keys(self, seconds):
         """Returns the names of the keys that come in so many seconds (None: however long), or an empty list."""
         keys = self.typed_keys()
-        if not keys and not self.is_noted():
+        if not keys and not (self.size_may_differ or self.is_to_suspend or self.end_signal or self.interrupted):
             self.wait(seconds)
             keys = self.typed_keys()
         if self.interrupted:
@@ -168,9 +160,6 @@ class Terminal:
             if key_name(code):
                 keys.append(key_name(code))
         return keys
-
-    def is_noted(self):
-        return self.size_may_differ or self.is_to_suspend or self.end_signal or self.interrupted
 
     def wait(self, seconds):
         """Waits for a key or a signal."""

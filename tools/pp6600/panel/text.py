@@ -74,9 +74,3 @@ def beside(left, right, column):
 def in_height(lines, height):
     """Returns so many lines, the first ones; blank lines follow if there are fewer."""
     return lines[:height] + [Line() for _ in range(height - len(lines))]
-
-
-def last_in(lines, height):
-    """Returns so many lines, the last ones; blank lines come first if there are fewer."""
-    lines = lines[max(len(lines) - height, 0):]
-    return [Line() for _ in range(height - len(lines))] + lines

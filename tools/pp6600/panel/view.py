@@ -54,6 +54,9 @@ class View:
         panes = PANES if self.shows_central else PANES[:-1]
         self.pane = panes[(panes.index(self.pane) + steps) % len(panes)]
 
+    def follow(self):
+        self.following = True
+
     def toggle_program(self):
         """Shows the cells as instructions, or as numbers again."""
         self.as_program = self.source is not None or not self.as_program

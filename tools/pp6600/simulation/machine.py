@@ -65,7 +65,6 @@ class Machine:
         return record
 
     def turn(self) -> Record:
-        """Performs a turn."""
         return self.act(processor, reader, printer, barrel)
 
     def writes_of(self, part: Part) -> Writes:

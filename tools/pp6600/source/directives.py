@@ -4,7 +4,7 @@ import re
 from typing import Callable, Dict, List, Tuple
 
 from .machine import LAST
-from .messages import Fault, Follows
+from .messages import Fault
 from .state import WORD_BITS, State
 from .statements import Field, Statement, parts_of
 from .texts import codes_of, words_of
@@ -35,10 +35,6 @@ def the_only(statement: Statement, otherwise: str = "") -> Field:
 
 
 # -- those that make words
-
-def con(state: State, statement: Statement) -> List[int]:
-    return [state.field(item, WORD_BITS) for item in items(statement)]
-
 
 def data(state: State, statement: Statement) -> List[int]:
     words = []
@@ -91,10 +87,6 @@ def dis(state: State, statement: Statement) -> List[int]:
         return words_of(kind, [0] * len(text))
 
 
-def bssz(state: State, statement: Statement) -> List[int]:
-    return [0] * state.count(the_only(statement))
-
-
 # -- the others
 
 def bss(state: State, statement: Statement) -> None:
@@ -109,13 +101,9 @@ def equate(state: State, statement: Statement) -> None:
     if not name.text:
         raise Fault(operation.column, f"{operation.text} wants a symbol before it")
     number, is_address = None, False
-    try:
+    with state.reporting():
         value = state.value(statement.operand, from_above=True)
         number, is_address = value.number, value.addresses == 1
-    except Fault as fault:
-        state.report(fault)
-    except Follows:
-        pass
     is_set = operation.text == "SET"
     state.define(name, number, is_address, is_set)
     state.row(value=number, is_set=is_set)
@@ -169,15 +157,13 @@ def ident(state: State, statement: Statement) -> None:
     state.row()
 
 
-def ignored(state: State, statement: Statement) -> None:
-    state.row()
-
-
-MAKERS: Dict[str, Callable[[State, Statement], List[int]]] = {"CON": con, "DATA": data, "VFD": vfd, "DIS": dis, "BSSZ": bssz}
+MAKERS: Dict[str, Callable[[State, Statement], List[int]]] = {
+    "CON": lambda state, statement: [state.field(item, WORD_BITS) for item in items(statement)], "DATA": data, "VFD": vfd,
+    "DIS": dis, "BSSZ": lambda state, statement: [0] * state.count(the_only(statement))}
 NAMERS = ("EQU", "=", "SET")  # whose location field is not a label
 COUNTERS: Dict[str, Callable[[State, Statement], None]] = {"ORG": org, "LOC": loc}  # whose label has the address after it
 UNLABELLED: Dict[str, Callable[[State, Statement], None]] = {
-    **{name: equate for name in NAMERS}, **{name: ignored for name in IGNORED}, **{name: err for name in ("ERR", *ERRORS)},
-    "IDENT": ident, "BASE": base}
+    **dict.fromkeys(NAMERS, equate), **dict.fromkeys(IGNORED, lambda state, statement: state.row()),
+    **dict.fromkeys(("ERR", *ERRORS), err), "IDENT": ident, "BASE": base}
 LABELLED: Dict[str, Callable[[State, Statement], None]] = {"BSS": bss, "END": end}
 DIRECTIVES = (*MAKERS, *COUNTERS, *UNLABELLED, *LABELLED)

@@ -2,8 +2,8 @@
 
 from typing import Iterable, Iterator, List, Mapping
 
-from .flow import CODE_LABEL, Flow, target_of
-from .machine import MNEMONICS, NEAR, SYMBOLS, Form, form_of
+from .flow import CODE_LABEL, Flow
+from .machine import MNEMONICS, NEAR, SYMBOLS, Form, form_of, target_of
 
 WORDS_OF_LINE = 4  # of a CON
 ZEROS = 4  # that are a BSSZ
@@ -39,7 +39,6 @@ class Disassembler:
         return self.flow.sizes.get(address) or self.size_of_data(address)
 
     def row(self, address: int, size: int) -> Iterator[str]:
-        """Yields the lines of a row."""
         label = self.label(address) if address in self.heads else ""
         text = self.instruction(address) if address in self.flow.sizes else ""
         if address in self.flow.exits and self.cells[address + 1] == address:
@@ -57,7 +56,6 @@ class Disassembler:
         return f"S{exit_ + 1:04o}"
 
     def label(self, address: int) -> str:
-        """Returns the label of a row."""
         if address in self.flow.exits:
             return f"{self.entry(address)}X"
         return f"{self.flow.labels.get(address, CODE_LABEL)}{address:04o}"

@@ -4,7 +4,7 @@ import re
 from typing import List
 
 from .machine import CELLS, CODES, LAST, MNEMONICS, NEAR, Form, form_of, size_of
-from .messages import Fault, Follows, octal
+from .messages import Fault, octal
 from .state import State
 from .statements import Field, Statement, parts_of
 
@@ -17,14 +17,9 @@ DISTANCE = re.compile("-?[0-7]{1,2}B?")
 
 
 def instruction(state: State, statement: Statement) -> List[int]:
-    """Returns the words of an instruction."""
     code = CODES[statement.operation.text]
-    try:
+    with state.reporting():
         return words_of(state, code, operands_of(state, form_of(code), statement))
-    except Fault as fault:
-        state.report(fault)
-    except Follows:
-        pass
     return [0] * size_of(code)
 
 

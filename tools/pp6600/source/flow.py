@@ -2,7 +2,7 @@
 
 from typing import Dict, Iterable, List, Mapping, Set
 
-from .machine import CELLS, CHANNEL_JUMPS, CODES, Form, form_of, jump_distance, size_of
+from .machine import CELLS, CHANNEL_JUMPS, CODES, Form, form_of, size_of, target_of
 
 LJM, RJM, UJN = CODES["LJM"], CODES["RJM"], CODES["UJN"]
 ENDS = (LJM, UJN)  # after which the flow does not go on
@@ -89,8 +89,3 @@ class Flow:
             return False
         m, is_indexed = self.cells[address + 1], form_of(self.cells[address] >> 6) is Form.INDEXED and self.cells[address] & 0o77
         return m != address and not (is_indexed and m == 0)
-
-
-def target_of(address: int, d: int) -> int:
-    """Returns where a relative jump leads."""
-    return (address + jump_distance(d)) % CELLS

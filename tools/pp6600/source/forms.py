@@ -1,6 +1,6 @@
 """What is written of a program: words, SET lines, a listing, a panel or a deck."""
 
-from typing import Callable, Dict, Iterator, List, Sequence, Tuple
+from typing import Callable, Dict, Iterator, List, Mapping, Sequence, Tuple
 
 from ..failure import Failure
 from .machine import CELLS, COLUMNS_OF_CARD, ROW
@@ -17,10 +17,10 @@ def digits(word: int) -> str:
     return f"{word:04o}"
 
 
-def runs(program: Program) -> List[Tuple[int, List[int]]]:
-    """Returns the words that follow one another: the first address and the words of each run."""
-    found: List[Tuple[int, List[int]]] = []
-    for address, (word, _) in sorted(program.cells.items()):
+def runs_of(cells: Mapping[int, str]) -> List[Tuple[int, List[str]]]:
+    """Returns the words that follow one another, of words by their addresses: the first address and the words of each run."""
+    found: List[Tuple[int, List[str]]] = []
+    for address, word in sorted(cells.items()):
         if not found or address != found[-1][0] + len(found[-1][1]):
             found.append((address, []))
         found[-1][1].append(word)
@@ -34,9 +34,9 @@ def words(program: Program) -> Iterator[str]:
 
 def set_lines(program: Program, processor: int) -> Iterator[str]:
     """Yields the lines of the console that load a program, and set P if END says where it begins."""
-    for first, found in runs(program):
+    for first, found in runs_of({address: f"{cell.word:o}" for address, cell in program.cells.items()}):
         for at in range(0, len(found), ROW):
-            yield f"SET M {processor:o} {first + at:o} {' '.join(f'{word:o}' for word in found[at:at + ROW])}"
+            yield f"SET M {processor:o} {first + at:o} {' '.join(found[at:at + ROW])}"
     if program.start is not None:
         yield f"SET P {processor:o} {program.start:o}"
 
@@ -85,7 +85,6 @@ def shown(words: Words, value: str = "") -> str:
 
 
 def lines_of(program: Program, form: str, processor: int) -> Sequence[str]:
-    """Returns the lines of one form."""
     forms: Dict[str, Callable[[], Iterator[str]]] = {
         "words": lambda: words(program), "set": lambda: set_lines(program, processor), "listing": lambda: listing(program),
         "panel": lambda: panel(program), "deck": lambda: deck(program)}

@@ -5,10 +5,10 @@ from typing import Dict, Sequence
 
 from ..core.forms import CELLS, COLUMNS_OF_CARD, ROW
 from ..display_code import BLANK, SYMBOLS
-from ..core.turn import CHANNEL_JUMPS, INDEXED, NAMES, RELATIVE_JUMPS, TWO_WORDS
+from ..core.turn import CHANNEL_JUMPS, INDEXED, NAMES, RELATIVE_JUMPS, TWO_WORDS, target_of
 
 __all__ = ["BLANK", "CELLS", "CHANNEL_JUMPS", "CODES", "COLUMNS_OF_CARD", "LAST", "MNEMONICS", "NEAR", "ROW", "SYMBOLS", "Form", "form_of",
-           "jump_distance", "size_of"]
+           "size_of", "target_of"]
 
 LAST = CELLS - 1  # the last address, and the largest word
 NEAR = 0o37  # cells that a relative jump reaches, either way
@@ -38,8 +38,3 @@ def form_of(code: int) -> Form:
 def size_of(code: int) -> int:
     """Returns how many words an instruction has."""
     return 2 if code in TWO_WORDS else 1
-
-
-def jump_distance(d: int) -> int:
-    """Returns how many cells a relative jump with this d goes on, or, if it is below 0, back."""
-    return d if d <= NEAR else d - 0o77

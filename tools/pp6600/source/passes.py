@@ -68,12 +68,8 @@ class Pass(State):
         while at < len(lines):
             self.line = lines[at]
             at += 1
-            try:
+            with self.reporting():
                 at += self.perform(lines, at)
-            except Fault as fault:
-                self.report(fault)
-            except Follows:
-                pass
         self.nested -= 1
 
     def perform(self, lines: Sequence[Line], after: int) -> int:
@@ -85,7 +81,9 @@ class Pass(State):
         if not statement:
             self.row()
         elif self.has_ended:
-            self.after_end()
+            if not self.has_more:
+                self.report(Fault(0, "this is after END"))
+            self.has_more = True
             self.pass_over([self.line])
         elif statement.operation.text in ENDS:
             return self.block(statement, lines[after:])
@@ -94,12 +92,6 @@ class Pass(State):
         else:
             self.one(statement)
         return 0
-
-    def after_end(self) -> None:
-        """Reports the first statement after END."""
-        if not self.has_more:
-            self.has_more = True
-            self.report(Fault(0, "this is after END"))
 
     def block(self, statement: Statement, lines: Sequence[Line]) -> int:
         """Performs a MACRO, DUP or IF. Returns how many lines it has after the first one."""

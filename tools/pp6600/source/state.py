@@ -1,7 +1,8 @@
 """One pass over a source: its counters, its names, its cells, and the rows of its listing."""
 
+import contextlib
 import re
-from typing import Dict, List, NamedTuple, Optional, Set, Tuple
+from typing import Dict, Iterator, List, NamedTuple, Optional, Set, Tuple
 
 from .machine import CELLS, LAST
 from .messages import Fault, Follows, Message, TooMuch, octal
@@ -81,16 +82,24 @@ class State:
             column, text = call.column, f"{text} (in the macro {call.macro}: {self.line.text.strip()[:MOST_SHOWN]})"
         self.messages.add(Message(self.line.number, column + 1, text))
 
+    @contextlib.contextmanager
+    def reporting(self) -> Iterator[None]:
+        """Reports a fault of what is done, but not one that follows from another."""
+        try:
+            yield
+        except Fault as fault:
+            self.report(fault)
+        except Follows:
+            pass
+
     # -- names and numbers
     def look_up(self, name: str, column: int, from_above: bool) -> Symbol:
         return self.symbols.look_up(name, column, from_above)
 
     def define(self, name: Field, value: Optional[int], is_address: bool = True, is_set: bool = False) -> None:
         """Gives a value to a name, or reports why that can't be."""
-        try:
+        with self.reporting():
             self.symbols.define(name.text, name.column, Symbol(value, self.line.number, is_address, is_set))
-        except Fault as fault:
-            self.report(fault)
 
     def label(self, location: Field) -> None:
         """Gives the present address to a label, if there is one."""
@@ -112,12 +121,8 @@ class State:
     def field(self, operand: Field, bits: int, instead: str = "") -> int:
         """Returns an operand as a number of so many bits; 0 if it is wrong, which is reported. An instruction that would take a
         greater number may be named."""
-        try:
+        with self.reporting():
             return self.checked_field(operand, bits, instead)
-        except Fault as fault:
-            self.report(fault)
-        except Follows:
-            pass
         return 0
 
     def checked_field(self, operand: Field, bits: int, instead: str) -> int:

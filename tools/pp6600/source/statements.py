@@ -8,7 +8,6 @@ from .texts import is_blank, text_at
 
 TAB = 8
 FIRST_OF_COMMENTS = 29  # the column, counted from 0, from which on no operand begins
-BLANKS = re.compile(r"[ \t]*")
 WORD = re.compile(r"[^ \t]+")
 SMALL = str.maketrans("abcdefghijklmnopqrstuvwxyz", "ABCDEFGHIJKLMNOPQRSTUVWXYZ")
 BEFORE_TEXT = "=,+-*/"  # after which a text may begin
@@ -58,10 +57,11 @@ def statement_of(line: Line, macros: Container[str] = ()) -> Optional[Statement]
     if text[0] == ",":
         raise Fault(0, "a line that continues another one is not taken: write one longer line")
     location = location_of(text)
-    operation = word_after(text, location.column + len(location.text))
-    if not operation:
-        end = Field("", location.column + len(location.text))
-        return Statement(location, end, end)
+    end = location.column + len(location.text)
+    found = WORD.search(text, end)
+    if not found:
+        return Statement(location, Field("", end), Field("", end))
+    operation = Field(found[0], found.start())
     return Statement(location, operation, operand_of(line, operation, macros))
 
 
@@ -72,17 +72,11 @@ def location_of(text: str) -> Field:
     return Field(label[0] if label else "", column)
 
 
-def word_after(text: str, at: int) -> Optional[Field]:
-    """Returns the next word."""
-    found = WORD.search(text, at)
-    return Field(found[0], found.start()) if found else None
-
-
 def operand_of(line: Line, operation: Field, macros: Container[str]) -> Field:
     """Returns the operand: what comes next, if it begins before the column of comments, or one blank after the operation. In a line
     that a macro made there are no comments."""
     text, end = line.capitals, operation.column + len(operation.text)
-    column = after_blanks(text, end)
+    column = len(text) - len(text[end:].lstrip(" \t"))
     is_far = column - end > 1 and len(text[:column].expandtabs(TAB)) >= FIRST_OF_COMMENTS and not line.call
     if column >= len(text) or is_far:
         return Field("", operation.column)
@@ -91,11 +85,6 @@ def operand_of(line: Line, operation: Field, macros: Container[str]) -> Field:
     if operation.text in macros:
         return Field(text[column:end_of_arguments(text, column)], column)
     return Field(text[column:end_of_operand(text, column, operation.text == "DATA")], column)
-
-
-def after_blanks(text: str, at: int) -> int:
-    found = BLANKS.match(text, at)
-    return found.end() if found else at
 
 
 def end_of_arguments(text: str, at: int) -> int:
@@ -128,14 +117,9 @@ def parts_of(operand: Field, delimited: bool = False) -> List[Field]:
         if text[at] == ",":
             found.append(Field(text[start:at], operand.column + start))
             start = at = at + 1
-        else:
-            at = shifted(text, at, start, delimited, operand.column)
+            continue
+        try:
+            at = after_text(text, at, start, delimited)
+        except Fault as fault:
+            raise Fault(operand.column + fault.column, fault.text) from fault
     return [*found, Field(text[start:], operand.column + start)] if text else []
-
-
-def shifted(text: str, at: int, start: int, delimited: bool, column: int) -> int:
-    """Returns what `after_text` does; the column of a fault is that of the line."""
-    try:
-        return after_text(text, at, start, delimited)
-    except Fault as fault:
-        raise Fault(column + fault.column, fault.text) from fault
