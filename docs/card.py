@@ -29,7 +29,7 @@ td { break-inside: avoid; }
 pre { margin: .4em 0; padding: .35em .6em; border: .4pt solid #999; line-height: 1.2; white-space: pre; overflow-x: auto; }
 @media screen and (max-width: 50em) { td code, p > code:only-child { white-space: normal; } }
 @media print {
-  body { font-size: 7.4pt; line-height: 1.22; max-width: none; margin: 0; padding: 0; }
+  body { font-size: 7.2pt; line-height: 1.22; max-width: none; margin: 0; padding: 0; }
   a { text-decoration: none; }
   pre { overflow: visible; }
 }
