@@ -13,7 +13,7 @@ from __future__ import annotations
 
 import bisect
 import re
-from typing import Any, Container, Iterable, Iterator, List, NamedTuple, Optional, Sequence, Tuple
+from typing import Container, Dict, Iterable, Iterator, List, NamedTuple, Optional, Sequence, Tuple
 
 from ..failure import Failure
 from .forms import MOST_TURNS, PROCESSORS
@@ -29,28 +29,39 @@ def room_of(words: Sequence[str]) -> int:
     return int(words[words.index("--history") + 1]) if "--history" in words else MOST_KEPT
 
 
-class KnownLine(str):
-    """A line of which one thing is known."""
+class ScriptLine(str):
+    """A line of a script with its number, from 1."""
 
-    known: Any
+    number: int
 
-    def __new__(cls, text: str, known: Any) -> KnownLine:
+    def __new__(cls, text: str, number: int) -> ScriptLine:
         line = super().__new__(cls, text)
-        line.known = known
+        line.number = number
         return line
 
 
-class ScriptLine(KnownLine):
-    """A line of a script with its number, from 1."""
-
-
-class ReplyLine(KnownLine):
+class ReplyLine(str):
     """A SET H that is the reply of a device of one's own, with the name of this."""
 
+    __slots__ = ("device",)
+    device: str
 
-class SourceLine(KnownLine):
+    def __new__(cls, text: str, device: str) -> ReplyLine:
+        line = super().__new__(cls, text)
+        line.device = device
+        return line
+
+
+class SourceLine(str):
     """A line before a script that loads words of a source. Of each of its numbers, by its number in the line, it has the place in the
     source."""
+
+    places: Dict[int, str]
+
+    def __new__(cls, text: str, places: Dict[int, str]) -> SourceLine:
+        line = super().__new__(cls, text)
+        line.places = places
+        return line
 
 
 def counted(lines: Iterable[str]) -> Iterator[Tuple[int, str]]:
@@ -78,7 +89,7 @@ def with_notes(lines: Iterable[str]) -> Iterator[str]:
     """Yields lines, and before each reply the note that names its device."""
     for line in lines:
         if isinstance(line, ReplyLine):
-            yield f"* DEVICE {line.known}"
+            yield f"* DEVICE {line.device}"
         yield line
 
 

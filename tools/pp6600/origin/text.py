@@ -97,10 +97,10 @@ class Writer:
     def by_set(self, step):
         line, word = step.detail
         if isinstance(line, SourceLine):
-            return [f"FROM {line.known[word]}"]
+            return [f"FROM {line.places[word]}"]
         if isinstance(line, ReplyLine):
-            return [f"DEVICE {line.known}"]
-        return [f"SET LINE {line.known} WORD {word} (decimal)"]
+            return [f"DEVICE {line.device}"]
+        return [f"SET LINE {line.number} WORD {word} (decimal)"]
 
     def by_dead_start(self, step):
         word = step.detail[1]
