@@ -13,7 +13,7 @@ HERE = os.path.dirname(os.path.abspath(__file__))
 STYLE = """\
 @page { size: A4 portrait; margin: 9mm 10mm; }
 * { box-sizing: border-box; }
-body { font: 10pt/1.3 Helvetica, Arial, 'Liberation Sans', 'DejaVu Sans', sans-serif; color: #111; background: #fff;
+body { font: 10pt/1.3 Helvetica, Arial, 'Liberation Sans', 'DejaVu Sans Condensed', sans-serif; color: #111; background: #fff;
   max-width: 215mm; margin: 8mm auto; padding: 0 4mm; }
 h1 { font-size: 1.7em; margin: 0 0 .3em; }
 p, ul { margin: .45em 0; }
