@@ -30,7 +30,7 @@ class AtTerminal(Case):
         return terminal.written.decode(), status
 
     def test_the_greeting_and_an_answer(self):
-        shown, status = self.at_terminal(("\r\n", "STEP 12\r"), ("TURNS 12 SLOT 00\r\n", "\x04"))
+        shown, status = self.at_terminal(("it here.\r\n", "STEP 12\r"), ("TURNS 12 SLOT 00\r\n", "\x04"))
         self.assertEqual((1, 0), (shown.count(GREETING), status), shown)
         self.assertNotIn("> ", shown)
         self.assertLessEqual(max(map(len, shown.split("\r\n"))), 80)

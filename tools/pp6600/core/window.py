@@ -149,8 +149,11 @@ class Window:
             return True
         keys = {key for place in cells if len(place.numbers) == 1 for group in self.writers[place] for key in self.groups[group]}
         written = {(key, self.cell_before(at)) for at, key in enumerate(self.keys) if key in keys}
-        return any(self._is_code(int(key[:2], 8), processor_of(key, self.words[key]).operand(lambda _, content=content: content))
-                   for key, content in written)
+        return any(self._is_code(int(key[:2], 8), self._operand(key, content)) for key, content in written)
+
+    def _operand(self, key: str, content: int) -> int:
+        """Returns the address of a turn's operand, if its cell d has this content."""
+        return processor_of(key, self.words[key]).operand(lambda _: content)
 
     def _is_code(self, number: int, address: int) -> bool:
         """Returns whether a cell has a word of an instruction that is performed in the window."""
