@@ -95,6 +95,13 @@ class Culprits(PanelCase):
                          [session.simulator.ask(line) for line in ("FORWARD 675", "FORWARD")])
         self.assertEqual(OVERWRITTEN.splitlines() + ["WATCH M 0 106", "BACK W"], session.sent)
 
+    def test_number_at_the_cursor(self):
+        panel = self.wide_panel(OVERWRITTEN, "--deck", DECK)
+        self.assertEqual(CULPRIT, bottom(panel, "g106<Enter>W"))
+        got = bottom(panel, "g100<Enter>Wy")
+        self.assertTrue(got.endswith(" changes M 0 100 from 7712"), got)
+        self.assertEqual(("BACK W", ["BACK 75 SLOT 00"]), panel.session.log[-1])
+
     def test_asks(self):
         """Stepping keys go over what is ahead. What would discard it is sent only after y, and how much it is is said."""
         panel = self.wide_panel(FIRST_PROGRAM + "STEP 24\n")
