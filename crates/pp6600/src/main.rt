@@ -3,8 +3,8 @@
 
 ghost use Rattle.std.specs.Prelude.{None};
 
-use pp_lines::{Counted, Source};
-use pp_program::{FileKind, FileLog, FileSystem, System, run, words_of};
+use pp_lines::{Counted, Source, Terminal};
+use pp_program::{FileKind, FileLog, FileSystem, Named, System, run, words_of};
 use std::env;
 use std::fs::File;
 use std::process::ExitCode;
@@ -37,16 +37,17 @@ impl FileSystem for SystemFiles<'_> {
 }
 
 fn main(rt: HostRuntime) -> ExitCode {
-    let words = words_of(rt.alloc(), env::args(&rt));
+    let environment = Named { environment: &rt };
+    let words = words_of(rt.alloc(), env::args(&(environment, rt.alloc())));
     let files = SystemFiles {
         rt: &rt,
         log: FileLog::new(),
     };
+    let (mut input, mut output) = (Counted::new(rt.stdin()), Counted::new(rt.stdout()));
     ExitCode::from(run(
         rt.alloc(),
         &mut System::new(words, files),
-        &mut Counted::new(rt.stdin()),
-        &mut Counted::new(rt.stdout()),
+        &mut Terminal::new(&mut input, &mut output),
         &mut Counted::new(rt.stderr()),
     ))
 }

@@ -11,10 +11,9 @@ ghost use Rattle.pp_actions.specs.RecordLists.{with_new_numbers, numbers};
 ghost use Rattle.pp_actions.specs.WriteLists.{register_writes, writes_from};
 ghost use Rattle.pp_machine.specs.Ranges.{channel_count};
 
-use crate::lists::append;
 use crate::settings::push_cells;
 use arrayvec::ArrayVec;
-use pp_machine::{Place, Write};
+use pp_machine::{Place, Write, append};
 
 /// Returns the settings of the registers and the phase of a processor.
 fn registers(pp: u8, a: u64, p: u64, q: u64, phase: u64) -> [Write; 4]

@@ -49,7 +49,7 @@ unfolding octal_length
 length-over zero width value h k = absurd (omega arith)
 length-over (suc places) width value h k = grind (arith, nat_tests, length-over places width value h, grows places width)
 
-length-most : (places value : ℕ) → octal_length places value ≤ places
+pub length-most : (places value : ℕ) → octal_length places value ≤ places
 unfolding octal_length
 length-most zero value = omega arith
 length-most (suc places) value = grind (arith, nat_tests, length-most places value)

@@ -44,7 +44,7 @@ unfolding octal_digits
 digits-octal zero value = refl
 digits-octal (suc digits) value = grind (arith, nat_tests, digits-octal digits value)
 
-length-digits : (digits value : ℕ) → length (octal_digits digits value) ≡ digits
+pub length-digits : (digits value : ℕ) → length (octal_digits digits value) ≡ digits
 unfolding octal_digits
 length-digits zero value = refl
 length-digits (suc digits) value = ap suc (length-digits digits value)

@@ -11,7 +11,7 @@ use Rattle.pp_command.specs.declared.fault.LineFault.{LineFault, TheVariants.Too
 use Rattle.pp_command.specs.{declared.request.Request.Request, CommandLine.command, CommandLine.is_printable, CommandLine.sentence}
 
 -- one more line is one more step, and so is a text that has the same answer
-outcome-line : (start : Value) (done : List (List ℕ)) (text line : List ℕ) →
+pub outcome-line : (start : Value) (done : List (List ℕ)) (text line : List ℕ) →
     ((v : Value) → answer_line v text ≡ answer_line v line) →
     outcome start (done ++ line ∷ []) ≡ follow (outcome start done) text
 unfolding outcome

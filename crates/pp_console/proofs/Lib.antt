@@ -1,6 +1,12 @@
+pub mod AnswerRooms
+pub mod Continuing
 pub mod Each
 pub mod Ending
+pub mod FirstLines
+pub mod Fitting
 pub mod Following
+pub mod Gathered
+pub mod Ordered
 pub mod PaperCuts
 pub mod Performing
 pub mod Pieces

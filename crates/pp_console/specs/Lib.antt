@@ -1,8 +1,11 @@
+pub mod AnswerRoom
+pub mod Answering
 pub mod Commands
 pub mod DisplayCode
 pub mod Dumps
 pub mod Inner
 pub mod Moves
+pub mod Order
 pub mod Paper
 pub mod Refusals
 pub mod Script

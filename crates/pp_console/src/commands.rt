@@ -20,7 +20,7 @@ use pp_lines::{Failed, IoFault, Sink, push_text, put_all};
 use pp_rig::{Action, Hit, Rig, run};
 
 /// Writes the answer to a command that was rejected.
-fn reject<W: Sink>(out: &mut W, text: &[u8]) -> Result<bool, Failed>
+pub(crate) fn reject<W: Sink>(out: &mut W, text: &[u8]) -> Result<bool, Failed>
     ensures written { Puts ⟦<W as Sink>⟧ out.old out.new result text.now }
     ensures performed { IfOk result (λ performed. performed ≡ false) }
 {
@@ -132,7 +132,7 @@ fn dump_central<W: Sink>(
 }
 
 /// Performs a request completely, and then writes its answer. Returns `false` if it was rejected.
-fn answer_request<W: Sink>(
+pub(crate) fn answer_request<W: Sink>(
     session: &mut Session<Rig>,
     command: &Command,
     out: &mut W,

@@ -7,6 +7,7 @@ ghost use Rattle.pp_console.specs.Dumps.{state_text, channel_line, channels_text
 ghost use Rattle.pp_console.specs.Dumps.{printer_line};
 ghost use Rattle.pp_machine.specs.Ranges.{cell_count, processor_count};
 
+use crate::gathering::gather;
 use crate::text::push_field;
 use arrayvec::ArrayVec;
 use pp_history::Reversible;
@@ -54,10 +55,12 @@ pub fn put_cells<W: Sink>(
     ensures { Puts ⟦<W as Sink>⟧ out.old out.new result (cells_text machine.now pp first last) }
 {
     let count = (last + 8).saturating_sub(first) / 8;
+    let mut piece = ArrayVec::new();
     for row in 0..count {
-        put_all(out, row_line(machine, pp, last, first + 8 * row).as_slice())?;
+        let line = row_line(machine, pp, last, first + 8 * row);
+        gather(&mut piece, line.as_slice(), out)?;
     }
-    Ok(())
+    put_all(out, piece.as_slice())
 }
 
 /// Writes the line of a processor: its registers and phase, and the slot.
@@ -156,16 +159,18 @@ fn word_line(machine: &Rig, a: u32) -> ArrayVec<u8, 30>
 /// # Errors
 /// `Failed` if a call of the sink fails.
 #[tactic(auto, unfolding(crate::specs::Dumps::central_text))]
+#[inline(never)]
 pub fn put_central<W: Sink>(machine: &Rig, first: u32, last: u32, out: &mut W) -> Result<(), Failed>
     requires in_order { first ≤ last }
     requires within { last < machine.now.setup.central_words }
     requires small { last < 0o400000 }
     ensures { Puts ⟦<W as Sink>⟧ out.old out.new result (central_text machine.now first last) }
 {
+    let mut piece = ArrayVec::new();
     for a in first..last + 1 {
-        put_all(out, word_line(machine, a).as_slice())?;
+        gather(&mut piece, word_line(machine, a).as_slice(), out)?;
     }
-    Ok(())
+    put_all(out, piece.as_slice())
 }
 
 /// Returns the name of a device's mode.

@@ -1,22 +1,24 @@
 //! The printer's paper in lines of text.
-ghost use Rattle.std.specs.Prelude.{◌≡◌, ◌<◌, ◌≤◌, ◌++◌, length, map, position, codes, IfSome, MatchOption};
+ghost use Rattle.std.specs.Prelude.{◌≡◌, ◌<◌, ◌≤◌, ◌∷◌, ◌++◌, [], length, map, position, codes, IfSome, MatchOption};
 ghost use Rattle.pp_lines.specs.Puts.{Puts};
 ghost use Rattle.pp_console.specs.DisplayCode.{character};
 ghost use Rattle.pp_console.specs.Dumps.{printer_text};
 ghost use Rattle.pp_console.specs.Paper.{marked, paper_text};
+ghost use Rattle.pp_console.specs.Inner.Gathering.{Gathers};
 ghost use Rattle.pp_console.specs.Inner.PaperCuts.{is_line_end, rest_text};
 
 use crate::dumps::printer_line;
+use crate::gathering::{PIECE, gather};
 use arrayvec::ArrayVec;
-use pp_lines::{Failed, Sink, put_all};
+use pp_lines::{Failed, Sink, push_text, put_all};
 use pp_rig::Rig;
 
 /// The characters of display code 00 to 77 (octal).
 static DISPLAY_CODE: [u8; 64] =
     *b":ABCDEFGHIJKLMNOPQRSTUVWXYZ0123456789+-*/()$= ,.#[]%\"_!&'?<>@\\^;";
 
-/// The largest number of symbols written at once: those of a printed line.
-const PIECE: usize = 136;
+/// The largest number of symbols that become characters at once: those of a printed line.
+const LINE: usize = 136;
 
 /// Returns the character of a symbol. A line end is a line feed.
 #[tactic(auto, unfolding(crate::specs::DisplayCode::character, crate::specs::DisplayCode::display_code))]
@@ -31,8 +33,8 @@ fn character(symbol: u8) -> u8
 }
 
 /// Returns the characters of a piece.
-fn characters(symbols: &[u8]) -> ArrayVec<u8, PIECE>
-    requires { length symbols.now ≤ PIECE }
+fn characters(symbols: &[u8]) -> ArrayVec<u8, LINE>
+    requires { length symbols.now ≤ LINE }
     ensures { result.items ≡ map character symbols.now }
 {
     let mut text = ArrayVec::new();
@@ -42,26 +44,36 @@ fn characters(symbols: &[u8]) -> ArrayVec<u8, PIECE>
     text
 }
 
-/// Writes the characters of the symbols, a piece at a time.
-fn put_characters<W: Sink>(symbols: &[u8], out: &mut W) -> Result<(), Failed>
-    ensures { Puts ⟦<W as Sink>⟧ out.old out.new result (map character symbols.now) }
+/// Gathers the characters of the symbols.
+fn gather_characters<W: Sink>(
+    piece: &mut ArrayVec<u8, PIECE>,
+    symbols: &[u8],
+    out: &mut W,
+) -> Result<(), Failed>
+    ensures { Gathers ⟦<W as Sink>⟧ out.old out.new piece.old.items piece.new.items result (map character symbols.now) }
 {
     let mut rest = symbols;
-    'pieces: while !rest.is_empty() {
-        let (piece, later) = rest.split_at(rest.len().min(PIECE));
-        put_all(out, characters(piece).as_slice())?;
+    'parts: while !rest.is_empty() {
+        let (part, later) = rest.split_at(rest.len().min(LINE));
+        gather(piece, characters(part).as_slice(), out)?;
         rest = later;
     }
     Ok(())
 }
 
-/// Writes a line of the paper after a mark.
-fn put_line<W: Sink>(mark: &[u8], symbols: &[u8], out: &mut W) -> Result<(), Failed>
-    ensures { Puts ⟦<W as Sink>⟧ out.old out.new result (marked mark.now (map character symbols.now)) }
+/// Gathers a line of the paper after a mark.
+fn gather_line<W: Sink>(
+    piece: &mut ArrayVec<u8, PIECE>,
+    mark: u8,
+    symbols: &[u8],
+    out: &mut W,
+) -> Result<(), Failed>
+    ensures { Gathers ⟦<W as Sink>⟧ out.old out.new piece.old.items piece.new.items result
+        (marked (mark ∷ []) (map character symbols.now)) }
 {
-    put_all(out, mark)?;
-    put_characters(symbols, out)?;
-    put_all(out, b"\n")
+    gather(piece, &[mark], out)?;
+    gather_characters(piece, symbols, out)?;
+    gather(piece, b"\n", out)
 }
 
 /// Returns the position of the first line end.
@@ -86,19 +98,23 @@ fn next_line(symbols: &[u8]) -> Option<(&[u8], &[u8])>
     Some((line, &rest[1..]))
 }
 
-/// Writes the paper: each line after a bar, and the symbols after the last line end after a slash.
-fn put_paper<W: Sink>(symbols: &[u8], out: &mut W) -> Result<(), Failed>
-    ensures { Puts ⟦<W as Sink>⟧ out.old out.new result (paper_text symbols.now) }
+/// Gathers the paper: each line after a bar, and the symbols after the last line end after a slash.
+fn gather_paper<W: Sink>(
+    piece: &mut ArrayVec<u8, PIECE>,
+    symbols: &[u8],
+    out: &mut W,
+) -> Result<(), Failed>
+    ensures { Gathers ⟦<W as Sink>⟧ out.old out.new piece.old.items piece.new.items result (paper_text symbols.now) }
 {
     let mut rest = symbols;
     'lines: while let Some((line, later)) = next_line(rest) {
-        put_line(b"|", line, out)?;
+        gather_line(piece, b'|', line, out)?;
         rest = later;
     }
     if rest.is_empty() {
         return Ok(());
     }
-    put_line(b"/", rest, out)
+    gather_line(piece, b'/', rest, out)
 }
 
 /// Writes the state of the line printer, and its paper.
@@ -110,6 +126,8 @@ fn put_paper<W: Sink>(symbols: &[u8], out: &mut W) -> Result<(), Failed>
 pub fn put_printer<W: Sink>(machine: &Rig, out: &mut W) -> Result<(), Failed>
     ensures { Puts ⟦<W as Sink>⟧ out.old out.new result (printer_text machine.now) }
 {
-    put_all(out, printer_line(machine).as_slice())?;
-    put_paper(machine.paper(), out)
+    let mut piece = ArrayVec::new();
+    push_text(&mut piece, printer_line(machine).as_slice());
+    gather_paper(&mut piece, machine.paper(), out)?;
+    put_all(out, piece.as_slice())
 }

@@ -7,6 +7,8 @@ ghost use Rattle.pp_rig.specs.Rules.{rules};
 ghost use Rattle.pp_lines.specs.Output.{Written};
 ghost use Rattle.pp_lines.specs.LineCutter.{IsPrefixOf};
 ghost use Rattle.pp_lines.specs.Lines.{finished, unfinished};
+ghost use Rattle.pp_lines.specs.Terminal.{at_reads, sink_of, source_of};
+ghost use Rattle.pp_console.specs.Order.{ReadsOnTime};
 ghost use Rattle.pp_console.specs.Commands.{State, Value};
 ghost use Rattle.pp_console.specs.Serving.{Origin, Breaks, Serves, Stops, CountsReads, CountsWrites, origin_of};
 ghost use Rattle.pp_console.specs.Inner.ServingSteps.{HasEnded, HasRead, Interrupts, IsNoReadFault};
@@ -17,7 +19,7 @@ mod limit_tests;
 use crate::commands::answer_line;
 use crate::progress::{BYTE_LIMIT, KEPT, LINE_LIMIT, Progress, Summary};
 use pp_history::Session;
-use pp_lines::{Failed, IoFault, Sink, Source, next_line};
+use pp_lines::{Failed, IoFault, Sink, Source, Terminal, next_line};
 use pp_rig::Rig;
 
 /// The largest number of bytes read at once.
@@ -155,6 +157,43 @@ fn finish<W: Sink>(
     }
 }
 
+/// Performs every line that a terminal reads, as `serve` does. Before each read, each line that has ended is answered, and nothing
+/// else is written.
+///
+/// # Errors
+/// Those of `serve`.
+pub fn serve_terminal<R: Source, W: Sink>(
+    session: &mut Session<Rig>,
+    terminal: &mut Terminal<'_, '_, R, W>,
+) -> Result<Summary, IoFault>
+    ensures same_source { terminal.new.source.ghost_name ≡ terminal.old.source.ghost_name }
+    ensures same_output { terminal.new.output.ghost_name ≡ terminal.old.output.ghost_name }
+    ensures script { (taken : List ℕ)
+        × Consumes (R.rest (source_of terminal.old)) (R.rest (source_of terminal.new)) taken
+        × (R.given (source_of terminal.new) ≡ R.given (source_of terminal.old) ++ taken)
+        × ((start : Value) → IsAt rules session.old start → MatchResult result
+        (λ summary. Serves summary session.new (W.text (sink_of terminal.new)) (origin_of start (W.text (sink_of terminal.old))) taken)
+        (λ fault. Stops fault session.new (W.text (sink_of terminal.new)) (origin_of start (W.text (sink_of terminal.old))) taken
+        (R.rest (source_of terminal.new)))) }
+    ensures all { OnOk result (IsAtEnd (R.rest (source_of terminal.new))) }
+    ensures ended { OnOk result (R.ended (source_of terminal.new) ≡ true) }
+    ensures reads { CountsReads (R.failure_count (source_of terminal.old)) (R.failure_count (source_of terminal.new)) result }
+    ensures writes { CountsWrites (W.failure_count (sink_of terminal.old)) (W.failure_count (sink_of terminal.new)) result }
+    ensures order { (start : Value) → IsAt rules session.old start → ReadsOnTime start
+        (record { read = R.given (source_of terminal.old); written = (W.text (sink_of terminal.old)).bytes })
+        (at_reads terminal.old) (at_reads terminal.new) }
+{
+    let mut progress = Progress::new();
+    let mut piece = [0; PIECE];
+    'pieces: loop {
+        match terminal.take(&mut piece) {
+            Err(Failed) => return Err(IoFault::ReadFailed),
+            Ok(0) => return finish(&mut progress, session, terminal.output),
+            Ok(count) => feed(&mut progress, &piece[..count], session, terminal.output)?,
+        }
+    }
+}
+
 /// Performs every line of the source in turn, and writes each answer before it reads more bytes. An
 /// unfinished line is performed at the end of input, but not after a fault.
 ///
@@ -186,13 +225,5 @@ pub fn serve<R: Source, W: Sink>(
     ensures reads { CountsReads (R.failure_count source.old) (R.failure_count source.new) result }
     ensures writes { CountsWrites (W.failure_count out.old) (W.failure_count out.new) result }
 {
-    let mut progress = Progress::new();
-    let mut piece = [0; PIECE];
-    'pieces: loop {
-        match source.take(&mut piece) {
-            Err(Failed) => return Err(IoFault::ReadFailed),
-            Ok(0) => return finish(&mut progress, session, out),
-            Ok(count) => feed(&mut progress, &piece[..count], session, out)?,
-        }
-    }
+    serve_terminal(session, &mut Terminal::new(source, out))
 }

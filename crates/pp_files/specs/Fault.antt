@@ -1,5 +1,5 @@
 -- Why a file was not loaded.
-use Rattle.std.specs.Prelude.{◌≡◌, ℕ, ◌+◌, ◌≤◌, ◌⊎◌, List, [], ◌∷◌, ◌++◌, length, Some, Result, Ok, Err, MatchResult}
+use Rattle.std.specs.Prelude.{◌≡◌, ℕ, ◌+◌, ◌≤◌, ◌⊎◌, Bool, true, List, [], ◌∷◌, ◌++◌, length, Some, Result, Ok, Err, MatchResult}
 use Rattle.pp_lines.specs.Device.{one_more}
 use Rattle.pp_lines.specs.Lines.{finished}
 use Rattle.pp_files.specs.declared.fault.LoadFault.{LoadFault}
@@ -21,12 +21,18 @@ RunsOut rule limit bytes =
 abbrev pub BreaksOff : Rule → ℕ → List ℕ → Type 0
 BreaksOff rule limit taken = (length taken ≤ limit) × HasNoFault rule (finished taken)
 
--- Why a file was not loaded, given the bytes that were read and all bytes of the file: the file has this fault, or
--- memory ran out or a read failed before any fault of the file.
-abbrev pub IsLoadCause : {A : Type 0} → Rule → (List ℕ → Result A LoadFault) → List ℕ → List ℕ → LoadFault → Type 0
-IsLoadCause rule file taken bytes fault =
-    (file bytes ≡ Err fault)
-    ⊎ (((fault ≡ NoMemory) × RunsOut rule file_limit bytes) ⊎ ((fault ≡ ReadFailed) × BreaksOff rule file_limit taken))
+-- The bytes that were read settle this: it holds of all bytes of the file. And it holds whatever bytes follow those that were
+-- read, unless the file was read to its end.
+abbrev pub IsSettled : Bool → List ℕ → List ℕ → (List ℕ → Type 0) → Type 0
+IsSettled ended taken bytes Holds = Holds bytes × ((ended ≡ true) ⊎ ((later : List ℕ) → Holds (taken ++ later)))
+
+-- Why a file was not loaded, given the bytes that were read, whether to its end, and all bytes of the file. The file has this
+-- fault, or memory ran out before any fault of the file, and the bytes that were read settle that. Or a read failed.
+abbrev pub IsLoadCause : {A : Type 0} → Rule → (List ℕ → Result A LoadFault) → Bool → List ℕ → List ℕ → LoadFault → Type 0
+IsLoadCause rule file ended taken bytes fault =
+    IsSettled ended taken bytes (λ all. file all ≡ Err fault)
+    ⊎ (((fault ≡ NoMemory) × IsSettled ended taken bytes (RunsOut rule file_limit))
+    ⊎ ((fault ≡ ReadFailed) × BreaksOff rule file_limit taken))
 
 -- the source's count of failures after a fault
 abbrev pub reads_after_load : LoadFault → ℕ → ℕ

@@ -27,7 +27,7 @@ pub fn load_deck<R: Source>(alloc: Global, source: &mut R) -> Result<Vec<[u16; C
         × (R.given source.new ≡ R.given source.old ++ taken)
         × MatchResult result
         (λ deck. deck_of_file taken ≡ Ok deck.items)
-        (λ fault. IsLoadCause card_rule deck_of_file taken (all_bytes (R.rest source.old) taken) fault) }
+        (λ fault. IsLoadCause card_rule deck_of_file (R.ended source.new) taken (all_bytes (R.rest source.old) taken) fault) }
     ensures within { IfOk result (λ deck. All (All (λ value. value < 0o10000)) deck.items) }
     ensures all { OnOk result (IsAtEnd (R.rest source.new)) }
     ensures ended { OnOk result (R.ended source.new ≡ true) }
@@ -53,7 +53,7 @@ pub fn load_panel<R: Source>(source: &mut R) -> Result<[u16; PANEL_WORDS], LoadF
         × (R.given source.new ≡ R.given source.old ++ taken)
         × MatchResult result
         (λ panel. panel_of_file taken ≡ Ok panel)
-        (λ fault. IsLoadCause panel_rule panel_of_file taken (all_bytes (R.rest source.old) taken) fault) }
+        (λ fault. IsLoadCause panel_rule panel_of_file (R.ended source.new) taken (all_bytes (R.rest source.old) taken) fault) }
     ensures within { IfOk result (λ panel. All (λ value. value < 0o10000) panel) }
     ensures no_memory { IfErr result (λ fault. fault ≢ LoadFault.NoMemory) }
     ensures all { OnOk result (IsAtEnd (R.rest source.new)) }

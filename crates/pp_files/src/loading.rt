@@ -5,7 +5,7 @@ ghost use Rattle.pp_lines.specs.Device.{all_bytes};
 ghost use Rattle.pp_files.specs.Rows.{Row};
 ghost use Rattle.pp_files.specs.Files.{file_limit, rows_of_file};
 ghost use Rattle.pp_files.specs.Fault.{CountsLoadReads, IsLoadCause};
-ghost use Rattle.pp_files.specs.Inner.Loading.{with_line, HasReadFile, Reads, FailsAt, FailsIn, IsLineFault, IsSheetFault};
+ghost use Rattle.pp_files.specs.Inner.Loading.{with_line, HasReadFile, Reads, FailsAfter, FailsAt, FailsIn, IsLineFault, IsSheetFault};
 
 use crate::fault::LoadFault;
 use crate::progress::{FILE_LIMIT, LONGEST, Progress};
@@ -43,10 +43,10 @@ fn read_line<S: Sheet>(sheet: &mut S, number: u32, line: &[u8]) -> Result<(), Lo
 /// Processes one more byte of the file.
 #[tactic(auto, using(crate::proofs::Loads::bytes_read))]
 fn feed_byte<S: Sheet>(progress: &mut Progress, sheet: &mut S, byte: u8) -> Result<(), LoadFault>
-    ensures has_read { (bytes more : List ℕ) → HasReadFile progress.old S.rule (S.holds sheet.old) bytes →
+    ensures has_read { (bytes : List ℕ) → HasReadFile progress.old S.rule (S.holds sheet.old) bytes →
         MatchResult result
         (λ _. HasReadFile progress.new S.rule (S.holds sheet.new) (bytes ++ byte ∷ []))
-        (λ fault. FailsIn S.rule (bytes ++ byte ∷ more) fault) }
+        (λ fault. FailsAfter S.rule (bytes ++ byte ∷ []) fault) }
     ensures bytes { OnOk result (progress.new.bytes ≡ progress.old.bytes + 1) }
     ensures faults { IfErr result (IsLineFault S.needs_memory) }
 {
@@ -66,10 +66,10 @@ fn feed_byte<S: Sheet>(progress: &mut Progress, sheet: &mut S, byte: u8) -> Resu
 
 /// Processes one more piece of the file.
 fn feed<S: Sheet>(progress: &mut Progress, sheet: &mut S, piece: &[u8]) -> Result<(), LoadFault>
-    ensures has_read { (bytes more : List ℕ) → HasReadFile progress.old S.rule (S.holds sheet.old) bytes →
+    ensures has_read { (bytes : List ℕ) → HasReadFile progress.old S.rule (S.holds sheet.old) bytes →
         MatchResult result
         (λ _. HasReadFile progress.new S.rule (S.holds sheet.new) (bytes ++ piece.now))
-        (λ fault. FailsIn S.rule ((bytes ++ piece.now) ++ more) fault) }
+        (λ fault. FailsAfter S.rule (bytes ++ piece.now) fault) }
     ensures bytes { OnOk result (progress.new.bytes ≡ progress.old.bytes + length piece.now) }
     ensures faults { IfErr result (IsLineFault S.needs_memory) }
 {
@@ -105,7 +105,7 @@ pub fn read_sheet<R: Source, S: Sheet>(source: &mut R, sheet: &mut S) -> Result<
         × (R.given source.new ≡ R.given source.old ++ taken)
         × MatchResult result
         (λ _. Reads (S.holds sheet.new) (rows_of_file S.rule file_limit taken))
-        (λ fault. IsLoadCause S.rule (rows_of_file S.rule file_limit) taken (all_bytes (R.rest source.old) taken) fault) }
+        (λ fault. IsLoadCause S.rule (rows_of_file S.rule file_limit) (R.ended source.new) taken (all_bytes (R.rest source.old) taken) fault) }
     ensures all { OnOk result (IsAtEnd (R.rest source.new)) }
     ensures ended { OnOk result (R.ended source.new ≡ true) }
     ensures reads { CountsLoadReads (R.failure_count source.old) (R.failure_count source.new) result }

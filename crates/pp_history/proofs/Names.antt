@@ -15,7 +15,7 @@ pub use Rattle.circular_buffer.proofs.Places.{slice_get-append_left, slice_get-a
 pub use Rattle.circular_buffer.specs.Buffer.{Buffer, buffer}
 pub use Rattle.pp_history.specs.Joining.{IsNext, IsSide, first_of, left_by, joined, kept_in, IsActed, IsJoined, ahead_in}
 pub use Rattle.pp_history.specs.Joining.{contents_with}
-pub use Rattle.pp_history.specs.SessionValue.{SessionValue, fresh, after_back, after_forward, replay, LeadsBack, AdmitsInTurn, IsAt}
+pub use Rattle.pp_history.specs.SessionValue.{SessionValue, fresh, after_back, after_forward, replay, AreNewest, LeadsBack, AdmitsInTurn, IsAt}
 pub use Rattle.pp_history.specs.SessionValue.{after_act, Moves, performed, put_back}
 pub use Rattle.pp_history.specs.{Parts.IsSession, Parts.contents_of, Parts.halves_in, Tails.IsKept, Tails.in_tail, Tails.pushed}
 pub use Rattle.pp_history.specs.{declared.tails.Tail.Tail, declared.tails.Tails.Tails, Heads.IsHeads, Heads.IsSame, Heads.Halves}

@@ -21,9 +21,11 @@ module _ {M A R P H : Type 0} (rules : Ghosts M A R P H) where
     ahead_is = sym (is.joined.ahead.all ∙ (length_halves log.heads is.heads log.at is.within log.kept log.ahead is.full).1)
 
   pub acted : {old new : M} {action : A} {head : Option H} {tails tails' : Tails A R} → new ≡ rules.after_act old action →
-      ((back : R) × rules.fits back new × (rules.after_undo back new ≡ old) × IsKept rules.unpacked head action back tails tails') →
+      ((back : R) × rules.fits back new × (rules.after_undo back new ≡ old)
+      × (rules.record_pairs back ≡ rules.old_values old action) × IsKept rules.unpacked head action back tails tails') →
       IsActed rules old new action head tails tails'
-  acted next (back, fits, leads_back, kept) = record { next = next; back = back; fits = fits; leads_back = leads_back; kept = kept }
+  acted next (back, fits, leads_back, old_values, kept) =
+      record { next = next; back = back; fits = fits; leads_back = leads_back; old_values = old_values; kept = kept }
 
   -- what the heads and the rings hold after some steps, which make `after v` of the session value v
   pub record IsSpan (start : Contents M A R) (after : SessionValue M A → SessionValue M A) (halves : Halves H) (machine : M)
@@ -148,7 +150,7 @@ module _ {M A R P H : Type 0} (rules : Ghosts M A R P H) where
             span = rw (halves_written log.heads slot head block within set_is log.kept kept ahead counted) (record {
               joined = record { kept = more.1; ahead = side };
               moves = λ v was.
-                  rw (is v was, more.0) (put_at rules now machine action acted.back _ _ _ log.heads.capacity acted.next acted.fits acted.leads_back admitted admits
+                  rw (is v was, more.0) (put_at rules now machine action acted.back _ _ _ log.heads.capacity acted.next acted.fits acted.leads_back acted.old_values admitted admits
                   (omega (arith, full, counted, side.all, joined.kept.all, length-take ahead (before log.heads slot), length-take log.kept (behind log.heads (slot + 1))))
                   (after v) ((rw at at run.span).moves v was));
             });

@@ -56,10 +56,11 @@ module _ {A R H : Type 0} (unpacked : H → A × R) where
     pub kept : IsSide unpacked in_tail halves.kept tails halves.capacity
     pub ahead : IsSide (λ (head : H). (unpacked head).0) Some halves.ahead undone halves.capacity
 
--- the action was performed, and is kept with a record that leads back
+-- the action was performed, and is kept with a record that has its old values and leads back
 pub record IsActed {M A R P H : Type 0} (rules : Ghosts M A R P H) (old new : M) (action : A) (head : Option H) (tails tails' : Tails A R) : Type 0 where
   pub next : new ≡ rules.after_act old action
   pub back : R
   pub fits : rules.fits back new
   pub leads_back : rules.after_undo back new ≡ old
+  pub old_values : rules.record_pairs back ≡ rules.old_values old action
   pub kept : IsKept rules.unpacked head action back tails tails'

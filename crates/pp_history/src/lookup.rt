@@ -4,6 +4,7 @@ ghost use Rattle.std.specs.Prelude.{◌≡◌, ◌+◌, ◌≤◌, ℕ, IfSome, 
 ghost use Rattle.pp_history.specs.{Marks.AreCovered, Marks.IsUnmarked, Parts.IsSession, Parts.contents_of, Search.IsCounted};
 ghost use Rattle.pp_history.specs.{Search.changes, Search.differs_from, Search.first_changing, UndoRecord.whole_record};
 
+use crate::asked::Asked;
 use crate::log::Log;
 use crate::looks::Looks;
 use crate::marks::{Marked, Marks};
@@ -41,15 +42,17 @@ pub(crate) trait Lookups {
     fn tick(looks: &mut Self::Looks)
         ensures { count looks.new ≡ count looks.old + 1 };
 
-    /// Returns whether an undo record has another number for a place than the machine. This is one look.
+    /// Returns whether an undo record that its marks do not rule out has another number for a place than the machine. This
+    /// is one look.
     fn look(
         &self,
-        back: &UndoRecord<Self::Head, Self::Record>,
+        asked: &Asked<Self::Head, Self::Record>,
         place: &Self::Place,
         looks: &mut Self::Looks,
     ) -> bool
-        requires { rules.has_place self.now place.now }
-        ensures value { result ≡ differs_from (rules.old_value (whole_record rules.unpacked back.now) place.now) (rules.value_at self.now place.now) }
+        requires has_place { rules.has_place self.now place.now }
+        requires may_be_marked { asked.now.may_be_marked ≡ true }
+        ensures value { result ≡ differs_from (rules.old_value (whole_record rules.unpacked asked.now.back) place.now) (rules.value_at self.now place.now) }
         ensures counted { count looks.new ≡ count looks.old + 1 };
 }
 
@@ -83,18 +86,9 @@ impl<T: Marked> Lookups for T {
     }
 
     #[inline(always)]
-    fn look(
-        &self,
-        back: &UndoRecord<T::Head, T::Record>,
-        place: &T::Place,
-        looks: &mut Looks,
-    ) -> bool {
+    fn look(&self, asked: &Asked<T::Head, T::Record>, place: &T::Place, looks: &mut Looks) -> bool {
         Self::tick(looks);
-        let old = match back {
-            UndoRecord::Head(head) => T::was(&T::unpack(head).1, place),
-            UndoRecord::Tail(back) => T::was(back, place),
-        };
-        match old {
+        match asked.was::<T>(place) {
             Some(old) => old != self.value(place),
             None => false,
         }
@@ -106,16 +100,17 @@ impl<T: Marked> Lookups for T {
 #[inline(never)]
 fn has_other<L: Lookups>(
     machine: &L,
-    back: &UndoRecord<L::Head, L::Record>,
+    asked: &Asked<L::Head, L::Record>,
     places: &[L::Place],
     looks: &mut L::Looks,
 ) -> bool
     requires has_places { All (λ place. L.rules.has_place machine.now place) places.now }
-    ensures value { result ≡ changes L.rules (L.rules.value_at machine.now) places.now (whole_record L.rules.unpacked back.now) }
+    requires may_be_marked { asked.now.may_be_marked ≡ true }
+    ensures value { result ≡ changes L.rules (L.rules.value_at machine.now) places.now (whole_record L.rules.unpacked asked.now.back) }
     ensures counted { IsCounted (length places.now) 1 None (L.count looks.old) (L.count looks.new) }
 {
     for place in places {
-        if machine.look(back, place, looks) {
+        if machine.look(asked, place, looks) {
             return true;
         }
     }
@@ -128,23 +123,24 @@ fn has_other<L: Lookups>(
 #[tactic(auto, using(std::proofs::lemmas::List::Folds::list_any_none))]
 fn is_changed<L: Lookups>(
     machine: &L,
-    back: &UndoRecord<L::Head, L::Record>,
+    back: UndoRecord<L::Head, L::Record>,
     places: &[L::Place],
     marks: &Marks,
     looks: &mut L::Looks,
 ) -> bool
     requires has_places { All (λ place. L.rules.has_place machine.now place) places.now }
     requires covers { AreCovered L.marks_of marks.now places.now }
-    ensures value { result ≡ changes L.rules (L.rules.value_at machine.now) places.now (whole_record L.rules.unpacked back.now) }
+    ensures value { result ≡ changes L.rules (L.rules.value_at machine.now) places.now (whole_record L.rules.unpacked back.entry) }
     ensures counted { IsCounted (length places.now) 1 None (L.count looks.old) (L.count looks.new) }
 {
-    if !L::may_be_marked(back, marks) {
+    let asked = Asked::of::<L>(back, marks);
+    if !asked.may_be_marked() {
         if !places.is_empty() {
             L::tick(looks);
         }
         return false;
     }
-    has_other(machine, back, places, looks)
+    has_other(machine, &asked, places, looks)
 }
 
 /// Returns the position, counted from 1, of the first kept undo record that has another number for one of the places than
@@ -169,7 +165,7 @@ pub(crate) fn search<L: Lookups>(
     for k in 0..log.kept as u32 {
         let head = log.heads.get(log.at, k as usize);
         let back = undo_record(head, &log.tails, tail).unwrap();
-        if is_changed(machine, &back, places, marks, looks) {
+        if is_changed(machine, back, places, marks, looks) {
             return Some(k + 1);
         }
         match head {

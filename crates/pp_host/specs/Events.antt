@@ -1,5 +1,5 @@
 -- What happens to the files of a program, as its host logs it.
-use Rattle.std.specs.Prelude.{ℕ, Bool, true, false, List, [], ◌∷◌, ◌++◌}
+use Rattle.std.specs.Prelude.{ℕ, Bool, true, false, List, [], ◌∷◌}
 use Rattle.pp_arguments.specs.CommandLine.{Text}
 use Rattle.pp_host.specs.Known.{Content, Found}
 use Rattle.pp_trouble.specs.declared.trouble.FileKind.{FileKind}

@@ -1,5 +1,5 @@
 -- What the words of the command line ask for.
-use Rattle.std.specs.Prelude.{◌≡◌, ◌≢◌, ◌⊎◌, List, [], Option, Result, Err}
+use Rattle.std.specs.Prelude.{◌≡◌, ◌≢◌, ◌⊎◌, [], Option, Result, Err}
 use Rattle.std.specs.Result.{result_map_both}
 use Rattle.pp_arguments.specs.CommandLine.{DisplayHelp, ErrorKind, IsAmong, Text, faults_of}
 pub use Rattle.pp_arguments.specs.Options.{Asked, asked_by}

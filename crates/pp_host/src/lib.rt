@@ -17,4 +17,4 @@ pub use loading::{deck, open, panel};
 pub use memory::{Memory, StoredFile};
 pub use options::options_of;
 pub use system::{FileSystem, System};
-pub use words::words_of;
+pub use words::{Named, words_of};

@@ -5,7 +5,7 @@ ghost use Rattle.pp_host.specs.Events.{Missing, Opened};
 ghost use Rattle.pp_host.specs.Failures.{reads_by, writes_by};
 ghost use Rattle.pp_host.specs.Host.{IsOpened};
 ghost use Rattle.pp_host.specs.Known.{Agrees, Found};
-ghost use Rattle.pp_host.specs.Loading.{IsLost, deck_at, panel_at};
+ghost use Rattle.pp_host.specs.Loading.{IsFoundSettled, IsLost, deck_at, panel_at};
 ghost use Rattle.pp_trouble.specs.declared.trouble.Trouble.TheVariants.{CannotOpen, ReadFailed};
 ghost use Rattle.std.specs.Prelude.{◌≡◌, ◌⊎◌, ◌<◌, ◌≤◌, ◌++◌, ◌∷◌, [], All, Err, false, IfOk, IfSome, MatchResult, Ok, option_map, ℕ};
 ghost use Rattle.std.specs.String.{string_bytes};
@@ -47,8 +47,8 @@ pub fn deck<H: Host>(
         (λ read ended content. MatchResult result
         (λ deck. (deck_at (option_map string_bytes path.now) content ≡ Ok deck.items)
         × IsAllRead (option_map string_bytes path.now) ended)
-        (λ trouble. (deck_at (option_map string_bytes path.now) content ≡ Err trouble)
-        ⊎ IsLost card_rule (option_map string_bytes path.now) read content trouble)) }
+        (λ trouble. IsFoundSettled ended read content (λ found. deck_at (option_map string_bytes path.now) found ≡ Err trouble)
+        ⊎ IsLost card_rule (option_map string_bytes path.now) read ended content trouble)) }
     ensures reads { H.failure_count host.new ≡ reads_by result (H.failure_count host.old) }
     ensures early { (count : ℕ) → writes_by result count ≡ count }
     ensures within { IfOk result (λ deck. All (All (λ word. word < 0o10000)) deck.items) }
@@ -59,7 +59,10 @@ pub fn deck<H: Host>(
     let mut file = open(host, FileKind::Deck, path.as_str())?;
     let read = load_deck(alloc, &mut file);
     host.close(file);
-    read.map_err(|fault| Trouble::load(FileKind::Deck, fault))
+    match read {
+        Ok(cards) => Ok(cards),
+        Err(fault) => Err(Trouble::load(FileKind::Deck, fault)),
+    }
 }
 
 /// Loads the named dead start panel, or returns `None` without a name.
@@ -72,8 +75,8 @@ pub fn panel<H: Host>(host: &mut H, path: &Option<String>) -> Result<Option<[u16
         (H.log host.new) FileKind.Panel (option_map string_bytes path.now) (λ read ended content. MatchResult result
         (λ panel. (panel_at (option_map string_bytes path.now) content ≡ Ok panel)
         × IsAllRead (option_map string_bytes path.now) ended)
-        (λ trouble. (panel_at (option_map string_bytes path.now) content ≡ Err trouble)
-        ⊎ ((trouble ≡ ReadFailed) × IsLost panel_rule (option_map string_bytes path.now) read content ReadFailed))) }
+        (λ trouble. IsFoundSettled ended read content (λ found. panel_at (option_map string_bytes path.now) found ≡ Err trouble)
+        ⊎ ((trouble ≡ ReadFailed) × IsLost panel_rule (option_map string_bytes path.now) read ended content ReadFailed))) }
     ensures reads { H.failure_count host.new ≡ reads_by result (H.failure_count host.old) }
     ensures early { (count : ℕ) → writes_by result count ≡ count }
     ensures within { IfOk result (λ panel. IfSome panel (All (λ word. word ≤ 0o7777))) }
@@ -84,6 +87,8 @@ pub fn panel<H: Host>(host: &mut H, path: &Option<String>) -> Result<Option<[u16
     let mut file = open(host, FileKind::Panel, path.as_str())?;
     let read = load_panel(&mut file);
     host.close(file);
-    read.map(Some)
-        .map_err(|fault| Trouble::load(FileKind::Panel, fault))
+    match read {
+        Ok(words) => Ok(Some(words)),
+        Err(fault) => Err(Trouble::load(FileKind::Panel, fault)),
+    }
 }

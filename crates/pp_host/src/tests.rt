@@ -3,7 +3,9 @@
 use super::*;
 use pp_trouble::{FileKind, Trouble};
 use std::alloc::{AllocError, Global};
+use std::env::{self, FillError};
 use std::process::Abort;
+use std::rt::Env;
 use std::test::Fail;
 
 const FILES: [StoredFile<'static>; 4] = [
@@ -139,4 +141,55 @@ fn a_fault_of_a_file_is_a_trouble(rt: HostRuntime) -> Result<(), Fail> {
         );
     }
     Ok(())
+}
+
+/// An environment whose program was called by a name that is no text, and with these words.
+#[derive(Drop)]
+struct Nameless<'a> {
+    words: &'a [&'a [u8]],
+}
+
+impl Env for Nameless<'_> {
+    fn arg(&self, i: usize, buf: &mut [u8]) -> Result<usize, FillError> {
+        let Some(word) = self.words.get(i) else {
+            return Err(FillError::NotPresent);
+        };
+        if buf.len() < word.len() {
+            return Err(FillError::TooLong);
+        }
+        buf[..word.len()].copy_from_slice(word);
+        Ok(word.len())
+    }
+
+    fn var(&self, _name: &str, _buf: &mut [u8]) -> Result<usize, FillError> {
+        Err(FillError::NotPresent)
+    }
+
+    fn var_at(&self, _i: usize, _buf: &mut [u8]) -> Result<usize, FillError> {
+        Err(FillError::NotPresent)
+    }
+}
+
+/// Returns the words of a program that was called with these.
+fn called(alloc: Global, words: &[&[u8]]) -> Result<Vec<String>, WordsFault> {
+    let environment = Named {
+        environment: Nameless { words },
+    };
+    words_of(alloc, env::args(&(environment, alloc)))
+}
+
+#[test]
+fn the_name_of_a_program_is_its_own(rt: HostRuntime) {
+    let alloc = rt.alloc();
+    let given: [&[&[u8]]; 3] = [&[b"\xff/pp6600", b"-h"], &[b"", b"-h"], &[b"pp6600", b"-h"]];
+    for words in given {
+        let called = called(alloc, words);
+        assert!(rt;
+            called.is_ok_and(|words| words.len() == 2
+                && words[0].as_str() == "pp6600"
+                && words[1].as_str() == "-h")
+        );
+    }
+    assert!(rt; called(alloc, &[]).is_ok_and(|words| words.len() == 1));
+    assert!(rt; called(alloc, &[b"pp6600", b"\xff"]) == Err(WordsFault::NotText));
 }

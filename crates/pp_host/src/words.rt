@@ -2,12 +2,56 @@
 ghost use Rattle.std.specs.Vec.Iter.{into_iter_items};
 ghost use Rattle.std.specs.IoError.{error_kind};
 ghost use Rattle.std.specs.declared.io.ErrorKind.TheVariants.{OutOfMemory};
-ghost use Rattle.std.specs.Prelude.{◌≡◌, ◌≢◌, Err, IfErr, IfOk, MatchResult};
+ghost use Rattle.std.specs.Io.{WritesAtMost};
+ghost use Rattle.std.specs.Prelude.{◌≡◌, ◌≢◌, ◌<◌, Err, IfErr, IfOk, MatchResult, codes, length, take};
 
 use crate::host::WordsFault;
 use std::alloc::Global;
-use std::env::Args;
+use std::env::{Args, FillError};
 use std::io;
+use std::rt::Env;
+
+/// The program's name.
+const NAME: &[u8] = b"pp6600";
+
+/// The environment of the program under its own name. The program does not look at the name by which it was called: it may be
+/// no text, or missing.
+#[derive(Drop)]
+pub struct Named<R> {
+    pub environment: R,
+}
+
+/// Copies the program's name to the start of the buffer, and returns its length.
+///
+/// # Errors
+/// `TooLong` if the buffer is shorter.
+fn fill_name(buffer: &mut [u8]) -> Result<usize, FillError>
+    ensures name { MatchResult result (λ count. take count buffer.new ≡ codes "pp6600") (λ _. length buffer.old < 6) }
+    ensures within { WritesAtMost result buffer.new }
+{
+    if buffer.len() < NAME.len() {
+        return Err(FillError::TooLong);
+    }
+    buffer[..NAME.len()].copy_from_slice(NAME);
+    Ok(NAME.len())
+}
+
+impl<R: Env> Env for Named<R> {
+    fn arg(&self, i: usize, buf: &mut [u8]) -> Result<usize, FillError> {
+        match i {
+            0 => fill_name(buf),
+            _ => self.environment.arg(i, buf),
+        }
+    }
+
+    fn var(&self, name: &str, buf: &mut [u8]) -> Result<usize, FillError> {
+        self.environment.var(name, buf)
+    }
+
+    fn var_at(&self, i: usize, buf: &mut [u8]) -> Result<usize, FillError> {
+        self.environment.var_at(i, buf)
+    }
+}
 
 /// Returns these words in a list.
 fn collected(alloc: Global, words: Args) -> Result<Vec<String>, WordsFault>

@@ -16,10 +16,6 @@ Appends-again first second third a b p q = (
   Appends-trans first.held second.held third.held a b p.1 q.1,
 )
 
--- the same text
-pub Appends-same : (first second : Written) (a b : List ℕ) → a ≡ b → Appends first second a → Appends first second b
-Appends-same first second a b e p = rw e at p
-
 -- the slice of a text from an index on
 pub slice_from : (done : ℕ) (text : List ℕ) → take (length text - done) (drop done text) ≡ drop done text
 slice_from done text = grind (arith, common_steps)
@@ -30,33 +26,6 @@ pub Appends-further : (first second third : Written) (done more : ℕ) (text : L
     Appends first third (take (done + more) text)
 Appends-further first second third done more text p q =
     rw (← take-add done more text) at (Appends-again first second third _ _ p (rw slice_from at q))
-
--- a prefix of the whole text was written, and this is left
-abbrev pub Remains : Written → Written → List ℕ → List ℕ → Type 0
-Remains old new whole left = (front : List ℕ) × Appends old new front × (whole ≡ front ++ left)
-
--- one more piece was written
-pub Remains-next : (first second third : Written) (whole piece left : List ℕ) →
-    Remains first second whole (piece ++ left) → Appends second third piece → Remains first third whole left
-Remains-next first second third whole piece left (front, written, all) q =
-    (front ++ piece, Appends-again first second third front piece written q, all ∙ sym (append_assoc front piece left))
-
--- the sink failed within a piece
-pub Remains-fails : (first second third : Written) (whole piece left : List ℕ) →
-    Remains first second whole (piece ++ left) → AppendsPrefix second third piece → AppendsPrefix first third whole
-Remains-fails first second third whole piece left (done, written, all) (front, more, proper) = (
-  done ++ front,
-  Appends-again first second third done front written more,
-  record {
-    rest = proper.rest ++ left;
-    all = all ∙ ap (λ text. done ++ (text ++ left)) proper.all ∙ simp append_assoc;
-    some = simp length-append (omega (arith, proper.some));
-  },
-)
-
--- nothing is left after the last piece
-pub Remains-none : (first second : Written) (whole : List ℕ) → Remains first second whole [] → Appends first second whole
-Remains-none first second whole (front, written, all) = Appends-same first second front whole (sym (all ∙ append-nil front)) written
 
 -- the sink failed, and more text would have followed
 pub front_longer : (first second : Written) (text more : List ℕ) →

@@ -1,10 +1,12 @@
 pub mod Counted
 pub mod Device
+pub mod Dialogue
 pub mod LineCutter
 pub mod Lines
 pub mod Output
 pub mod Prefixes
 pub mod Puts
 pub mod Results
+pub mod Terminal
 pub mod Testing
 pub mod Words

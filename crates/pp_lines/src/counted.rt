@@ -100,4 +100,8 @@ impl<D: Write> Sink for Counted<D> {
     fn failures(&self) -> u64 {
         self.failures
     }
+
+    fn log(&self) -> &Log {
+        &self.log
+    }
 }

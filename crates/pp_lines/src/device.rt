@@ -73,4 +73,8 @@ pub trait Sink {
     /// Returns the number of failed calls.
     fn failures(&self) -> u64
         ensures { result ≡ failure_count self.now };
+
+    /// Returns the log of the bytes written so far.
+    fn log(&self) -> &Log
+        ensures { result.now.bytes ≡ (text self.now).bytes };
 }

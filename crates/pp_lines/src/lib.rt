@@ -3,10 +3,12 @@
 
 mod counted;
 mod device;
+mod dialogue_log;
 mod fault;
 mod lines;
 mod log;
 mod output;
+mod terminal;
 mod testing;
 #[cfg(test)]
 mod tests;
@@ -15,10 +17,12 @@ mod words;
 
 pub use counted::Counted;
 pub use device::{Failed, Sink, Source};
+pub use dialogue_log::DialogueLog;
 pub use fault::IoFault;
 pub use lines::{LINE_FEED, LineCutter, next_line, without_return};
 pub use log::Log;
 pub use output::put_all;
+pub use terminal::Terminal;
 pub use text::push_text;
 pub use words::{are_octal, is_ignored, next_word};
 

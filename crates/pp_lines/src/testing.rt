@@ -2,7 +2,6 @@
 ghost use Rattle.std.specs.Io.KnownBytes.{ReadConsumes, WriteAppends};
 ghost use Rattle.std.specs.Prelude.{◌≡◌, ◌<◌, ◌↔◌, ◌⊎◌, [], IsErr, Some, None};
 ghost use Rattle.pp_lines.specs.Device.{AnswersWithin, Counts, Ends, Logs, TakesSome, one_more};
-ghost use Rattle.pp_lines.specs.Output.{held_alone};
 ghost use Rattle.pp_lines.specs.Testing.{IsFull};
 
 use crate::device::{Failed, Sink, Source};
@@ -189,6 +188,8 @@ pub struct Tray {
     /// The largest number of bytes that a call writes.
     pub piece: usize,
     pub calls: Calls,
+    /// The bytes written so far, as contracts see them.
+    pub log: Log,
     ghost some_piece: { 0 < piece },
 }
 
@@ -205,6 +206,7 @@ impl Tray {
             text: ArrayVec::new(),
             piece,
             calls: Calls::new(None),
+            log: Log::new(),
         }
     }
 
@@ -221,6 +223,7 @@ impl Tray {
             text: ArrayVec::new(),
             piece,
             calls: Calls::new(Some(call)),
+            log: Log::new(),
         }
     }
 
@@ -233,14 +236,14 @@ impl Tray {
 }
 
 impl Sink for Tray {
-    ghost text = { λ tray. held_alone tray.text.items };
+    ghost text = { λ tray. record { bytes = tray.log.bytes; held = Some tray.text.items } };
 
     ghost failure_count = { λ tray. tray.calls.failures };
 
     fn put(&mut self, from: &[u8]) -> Result<usize, Failed>
         ensures within { AnswersWithin result from.now }
         ensures some { TakesSome result from.now }
-        ensures bytes { Logs self.old.text.items self.new.text.items result from.now }
+        ensures bytes { Logs self.old.log.bytes self.new.log.bytes result from.now }
         ensures held { WriteAppends (Some self.old.text.items) (Some self.new.text.items) result from.now }
         ensures counts { Counts self.old.calls.failures self.new.calls.failures result }
         ensures made { self.new.calls.made ≡ one_more self.old.calls.made }
@@ -254,10 +257,15 @@ impl Sink for Tray {
             return Err(self.calls.fail());
         }
         push_text(&mut self.text, &from[..count]);
+        self.log.note(from, count);
         Ok(count)
     }
 
     fn failures(&self) -> u64 {
         self.calls.failures
+    }
+
+    fn log(&self) -> &Log {
+        &self.log
     }
 }

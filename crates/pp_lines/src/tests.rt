@@ -1,7 +1,7 @@
 //! Tests of the devices, the lines and the words.
 use crate::{
-    Counted, Endless, Failed, Feed, IoFault, LineCutter, Log, Sink, Source, Tray, are_octal,
-    is_ignored, next_line, next_word, push_text, put_all, without_return,
+    Counted, Endless, Failed, Feed, IoFault, LineCutter, Log, Sink, Source, Terminal, Tray,
+    are_octal, is_ignored, next_line, next_word, push_text, put_all, without_return,
 };
 use arrayvec::ArrayVec;
 use std::alloc::Global;
@@ -165,6 +165,22 @@ fn a_tray_fails_once(rt: HostRuntime) {
     assert!(rt; !takes_all(&mut tray, b"abcde"));
     assert!(rt; tray.text() == b"abcd".as_slice());
     assert!(rt; takes_all(&mut tray, b"e"));
+    drop(tray);
+}
+
+#[test]
+fn a_terminal_reads_and_writes(rt: HostRuntime) {
+    let mut feed = Feed::failing(b"abc", 2, 2);
+    let mut tray = Tray::new(8);
+    let mut terminal = Terminal::new(&mut feed, &mut tray);
+    let mut piece = [0; 4];
+    assert!(rt; terminal.take(&mut piece) == Ok(2));
+    assert!(rt; takes_all(terminal.output, b"xyz"));
+    assert!(rt; terminal.take(&mut piece) == Err(Failed));
+    assert!(rt; terminal.take(&mut piece) == Ok(1));
+    drop(terminal);
+    assert!(rt; tray.text() == b"xyz".as_slice());
+    assert!(rt; Source::failures(&feed) == 1);
     drop(tray);
 }
 

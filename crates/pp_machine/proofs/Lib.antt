@@ -9,6 +9,7 @@ pub mod Once
 pub mod Parts
 pub mod Prelude
 pub mod PrinterLaws
+pub mod PushedLists
 pub mod ReaderLaws
 pub mod Same
 pub mod Sizes

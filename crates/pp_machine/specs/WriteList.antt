@@ -1,8 +1,12 @@
 -- A list of `Write` values as a write list.
-use Rattle.std.proofs.Common.{ap, List, [], ◌∷◌, ◌++◌, ◌≡◌, refl}
+use Rattle.std.proofs.Common.{ap, ℕ, List, [], ◌∷◌, ◌++◌, ◌≡◌, refl}
 use Rattle.pp_machine.specs.Writes.{Writes}
 use Rattle.pp_machine.specs.declared.place.Place.{Place}
 use Rattle.pp_machine.specs.declared.place.Write.{Write}
+
+-- how many writes a list in place has room for
+abbrev pub list_room : ℕ
+list_room = 76
 
 abbrev pub write_list : List Write → Writes Place
 write_list [] = []

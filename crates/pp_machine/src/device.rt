@@ -1,10 +1,13 @@
 //! What the machine asks of a device.
-ghost use Rattle.std.specs.Prelude.{◌≡◌};
+ghost use Rattle.std.specs.Prelude.{◌≡◌, ◌+◌, ◌≤◌, ◌++◌};
+ghost use Rattle.arrayvec.specs.ArrayVec.{array_vec_len};
 ghost use Rattle.pp_machine.specs.Inner.Device.{DeviceModel, device_place, device_view, device_old_values, over_device};
-ghost use Rattle.pp_machine.specs.Prelude.{renamed, lookup};
+ghost use Rattle.pp_machine.specs.Prelude.{list_room, lookup, renamed, state_number, write_list};
 
-use crate::channel::Channel;
-use crate::place::Place;
+use crate::channel::{Channel, ChannelState};
+use crate::lists::WriteList;
+use crate::place::{Place, Write};
+use crate::unaligned::Unaligned16;
 
 /// A device on a data channel. It sees its own numbers, and the state and the register of its channel.
 pub trait Device: Drop {
@@ -36,4 +39,25 @@ pub trait Device: Drop {
     /// Returns the old number of a place, or `None` if the record, of a device on channel c, does not have that place.
     fn was(back: &Self::Record, c: u8, place: &Place) -> Option<u64>
         ensures { result ≡ lookup (renamed (device_place model c) (model.pairs back.now)) place.now };
+
+    /// Appends each place that a record has, of a device on channel c, with its old number.
+    fn push_old_values(back: &Self::Record, c: u8, list: &mut WriteList)
+        requires room { array_vec_len list.old + model.most ≤ list_room }
+        ensures items { write_list list.new.items
+            ≡ write_list list.old.items ++ renamed (device_place model c) (model.pairs back.now) }
+        ensures at_most { array_vec_len list.new ≤ array_vec_len list.old + model.most };
+}
+
+/// Returns the state of a channel as a write.
+pub(crate) fn state_of(c: u8, state: ChannelState) -> Write
+    ensures { result ≡ record { place = Place.ChannelMode c; number = state_number state } }
+{
+    Write::new(Place::ChannelMode { c }, state as u64)
+}
+
+/// Returns the register of a channel as a write.
+pub(crate) fn word_of(c: u8, word: Unaligned16) -> Write
+    ensures { result ≡ record { place = Place.ChannelWord c; number = word } }
+{
+    Write::new(Place::ChannelWord { c }, u64::from(word.get()))
 }

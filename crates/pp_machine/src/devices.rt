@@ -1,8 +1,9 @@
 //! The devices of a machine, one after another, each on a channel of its own.
-ghost use Rattle.std.specs.Prelude.{◌≡◌, ◌<◌, false};
+ghost use Rattle.std.specs.Prelude.{◌≡◌, ◌+◌, ◌<◌, ◌≤◌, ◌++◌, false};
+ghost use Rattle.arrayvec.specs.ArrayVec.{array_vec_len};
 ghost use Rattle.pp_machine.specs.Inner.Devices.{AreJoined, AreStepped, DevicesModel, attached, no_devices, on};
 ghost use Rattle.pp_machine.specs.Inner.PartWrites.{AreIdle};
-ghost use Rattle.pp_machine.specs.Prelude.{Machine, over, lookup};
+ghost use Rattle.pp_machine.specs.Prelude.{Machine, list_room, lookup, over, write_list};
 ghost use Rattle.pp_machine.specs.Ranges.{channel_count};
 
 mod all;
@@ -10,6 +11,7 @@ mod all;
 use crate::channel::ChannelState;
 use crate::channels::Channels;
 use crate::device::Device;
+use crate::lists::WriteList;
 use crate::place::Place;
 pub use all::{
     AllDevices, AllRecords, all_devices, device_records_restore, device_writes_are_distinct,
@@ -44,6 +46,12 @@ pub trait Devices: Drop {
     /// Returns the old number of a place, or `None` if no record has that place.
     fn was(back: &Self::Records, place: &Place) -> Option<u64>
         ensures { result ≡ lookup (model.pairs back.now) place.now };
+
+    /// Appends each place that the records have, with its old number, the first device first.
+    fn push_old_values(back: &Self::Records, list: &mut WriteList)
+        requires room { array_vec_len list.old + model.most ≤ list_room }
+        ensures items { write_list list.new.items ≡ write_list list.old.items ++ model.pairs back.now }
+        ensures at_most { array_vec_len list.new ≤ array_vec_len list.old + model.most };
 }
 
 /// No device. It ends the list of devices.
@@ -140,6 +148,9 @@ impl Devices for NoDevices {
     fn was(_back: &NoDevices, _place: &Place) -> Option<u64> {
         None
     }
+
+    #[inline(always)]
+    fn push_old_values(_back: &NoDevices, _list: &mut WriteList) {}
 }
 
 impl<D: Device, R: Devices> Devices for On<D, R> {
@@ -180,5 +191,11 @@ impl<D: Device, R: Devices> Devices for On<D, R> {
     #[tactic(auto, using(crate::proofs::DevicesLaws::lookup_on))]
     fn was(back: &OnRecords<D::Record, R::Records>, place: &Place) -> Option<u64> {
         D::was(&back.own, back.channel, place).or(R::was(&back.others, place))
+    }
+
+    #[inline(always)]
+    fn push_old_values(back: &OnRecords<D::Record, R::Records>, list: &mut WriteList) {
+        D::push_old_values(&back.own, back.channel, list);
+        R::push_old_values(&back.others, list);
     }
 }

@@ -16,6 +16,7 @@ use Rattle.pp_host.specs.Loading.{IsLost, deck_at, panel_at}
 use Rattle.pp_host.specs.Options.{Asked}
 use Rattle.pp_program.specs.Course.{Course, ends, opening, performing}
 use Rattle.pp_program.specs.Program.{Given, performed_lines, script_at, served, session_with}
+use Rattle.pp_program.specs.Traces.{Ended}
 
 -- A course that opens the deck, then the panel, and then goes on so.
 abbrev pub loading : Asked → Course → Course
@@ -42,20 +43,21 @@ pub data IsCutServing (start : Value) (bytes read : List ℕ) (course : Course) 
       course ≡ ends ((outcome start done).text ++ front) (Err WriteFailed) → IsCutServing start bytes read course
 
 -- A run with these options was cut short. Memory is asked for by the deck and by the machine, and by nothing after.
-pub data IsCut (asked : Asked) (given : Given) (readings : FileKind → Found) (typed : List ℕ) (course : Course) : Type 0 where
+pub data IsCut (asked : Asked) (given : Given) (readings : FileKind → Found) (typed : List ℕ) (ended : Ended)
+    (course : Course) : Type 0 where
   -- Loading the deck failed part-way: memory ran out, or a read failed.
-  InDeck : (trouble : Trouble) → IsLost card_rule asked.deck (readings Deck) (given.files Deck) trouble →
-      course ≡ opening Deck asked.deck (ends [] (Err trouble)) → IsCut asked given readings typed course
+  InDeck : (trouble : Trouble) → IsLost card_rule asked.deck (readings Deck) (ended.files Deck) (given.files Deck) trouble →
+      course ≡ opening Deck asked.deck (ends [] (Err trouble)) → IsCut asked given readings typed ended course
   -- The deck was loaded, and a read of the panel failed.
   InPanel : (cards : List Row) → deck_at asked.deck (given.files Deck) ≡ Ok cards →
-      IsLost panel_rule asked.panel (readings Panel) (given.files Panel) ReadFailed →
-      course ≡ loading asked (ends [] (Err ReadFailed)) → IsCut asked given readings typed course
+      IsLost panel_rule asked.panel (readings Panel) (ended.files Panel) (given.files Panel) ReadFailed →
+      course ≡ loading asked (ends [] (Err ReadFailed)) → IsCut asked given readings typed ended course
   -- Deck and panel were loaded, and memory ran out for the machine or its session.
   AtMachine : (start : Value) → IsStart asked given start → course ≡ loading asked (ends [] (Err NoMemory)) →
-      IsCut asked given readings typed course
+      IsCut asked given readings typed ended course
   -- The script has these bytes, of which these were read. It was cut short by a failed read or write.
   InScript : (start : Value) (bytes read : List ℕ) (performed : Course) → IsStart asked given start →
       script_at asked.script (given.files Script) given.input ≡ Ok bytes →
       script_at asked.script (readings Script) typed ≡ Ok read →
       IsCutServing start bytes read performed → course ≡ loading asked (performing asked.script performed) →
-      IsCut asked given readings typed course
+      IsCut asked given readings typed ended course

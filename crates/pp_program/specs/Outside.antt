@@ -4,9 +4,12 @@ use Rattle.pp_arguments.specs.CommandLine.{Text}
 use Rattle.pp_host.specs.Events.{Event}
 use Rattle.pp_host.specs.Known.{Found, Known, Words}
 use Rattle.pp_host.specs.declared.host.Host.{Ghosts as HostGhosts}
+use Rattle.pp_lines.specs.Dialogue.{Dialogue}
 use Rattle.pp_lines.specs.Output.{Written}
+use Rattle.pp_lines.specs.Terminal.{at_reads, sink_of, source_of}
 use Rattle.pp_lines.specs.declared.device.Sink.{Ghosts as SinkGhosts}
 use Rattle.pp_lines.specs.declared.device.Source.{Ghosts as SourceGhosts}
+use Rattle.pp_lines.specs.declared.terminal.Terminal.{Terminal}
 
 -- The files of a host.
 pub record Files : Type 0 where
@@ -44,16 +47,25 @@ pub record Outside : Type 0 where
   pub input : Input
   pub output : Output
   pub errors : Output
+  -- what had been read of standard input and written to standard output before each read so far, the latest read first
+  pub reads : List Dialogue
+
+-- What was read of standard input and written to standard output so far.
+abbrev pub dialogue_of : Outside → Dialogue
+dialogue_of outside = record { read = outside.input.read; written = outside.output.text.bytes }
 
 -- ---- how the devices of a call show it
 
--- What surrounds the program, as the host and the streams show it.
+-- What surrounds the program, as the host, the terminal of standard input and output, and standard error show it.
 abbrev pub outside_of : {H F R W E : Type 0} → HostGhosts H F → SourceGhosts R → SinkGhosts W → SinkGhosts E →
-    H → R → W → E → Outside
-outside_of H R W E host input output errors = record {
+    H → Terminal R W → E → Outside
+outside_of H R W E host terminal errors = record {
   words = H.known_words host;
   files = record { known = H.known_files host; log = H.log host; failures = H.failure_count host };
-  input = record { left = R.rest input; read = R.given input; ended = R.ended input; failures = R.failure_count input };
-  output = record { text = W.text output; failures = W.failure_count output };
+  input =
+      let input = source_of terminal in
+      record { left = R.rest input; read = R.given input; ended = R.ended input; failures = R.failure_count input };
+  output = record { text = W.text (sink_of terminal); failures = W.failure_count (sink_of terminal) };
   errors = record { text = E.text errors; failures = E.failure_count errors };
+  reads = at_reads terminal;
 }

@@ -3,14 +3,17 @@ use Rattle.std.specs.Prelude.{◌≡◌, ◌⊎◌, ℕ, List, [], All, IfOk, If
 use Rattle.pp_arguments.specs.CommandLine.{Text}
 use Rattle.pp_host.specs.Known.{Agrees, Found, IsContent, IsInput, Known}
 use Rattle.pp_host.specs.Options.{Asked, Means, path_of}
+use Rattle.pp_lines.specs.Prefixes.{IsProperPrefix}
 use Rattle.pp_program.specs.Course.{Course, ends}
 use Rattle.pp_program.specs.Cuts.{IsCut}
-use Rattle.pp_program.specs.Outside.{Outside}
+use Rattle.pp_program.specs.Order.{IsInOrder}
+use Rattle.pp_program.specs.Outside.{Outside, dialogue_of}
 use Rattle.pp_program.specs.Program.{Given, exit_of, program}
 use Rattle.pp_program.specs.Traces.{AreRead, AreReadEnough, Ended, IsOutput, IsReported, IsTyped}
+use Rattle.pp_trouble.specs.Message.{line_of}
 use Rattle.pp_trouble.specs.declared.trouble.FileKind.{FileKind}
 use Rattle.pp_trouble.specs.declared.trouble.Trouble.{Trouble}
-use Rattle.pp_trouble.specs.declared.trouble.Trouble.TheVariants.{NoMemory}
+use Rattle.pp_trouble.specs.declared.trouble.Trouble.TheVariants.{Help, NoMemory, WriteFailed}
 
 -- ---- the course
 
@@ -20,22 +23,26 @@ AreKnown files given meaning =
     IfOk meaning (λ asked. (kind : FileKind) → IfSome (path_of asked kind) (λ path. Agrees (files path) (given.files kind)))
 
 -- The course is the whole one that `program` prescribes for what the words mean.
-pub record IsWhole (files : Text → Known Found) (given : Given) (ended : Ended) (course : Course) : Type 0 where
+pub record IsWhole (files : Text → Known Found) (given : Given) (readings : FileKind → Found) (ended : Ended)
+    (course : Course) : Type 0 where
   pub meaning : Result Asked Trouble
   pub means : Means given.words meaning
   pub named : AreKnown files given meaning
   pub whole : course ≡ program given meaning
   -- What it opened, and standard input if it performs it, was read to its end, unless a fault or a limit came first.
-  pub read : AreReadEnough course ended
+  pub read : AreReadEnough course readings ended
 
 -- The run was cut short, while its words were read or after that.
 pub data IsCutShort (files : Text → Known Found) (given : Given) (readings : FileKind → Found) (typed : List ℕ)
-    (course : Course) : Type 0 where
+    (ended : Ended) (course : Course) : Type 0 where
   -- Memory ran out while the words were read, before anything was opened.
-  InWords : course ≡ ends [] (Err NoMemory) → IsCutShort files given readings typed course
+  InWords : course ≡ ends [] (Err NoMemory) → IsCutShort files given readings typed ended course
+  -- The words ask for help. A write failed, after a proper prefix of the usage.
+  InUsage : (front : List ℕ) → Means given.words (Err Help) → IsProperPrefix front (line_of Help) →
+      course ≡ ends front (Err WriteFailed) → IsCutShort files given readings typed ended course
   -- The words ask for these options, and the run was cut short after that.
   AfterWords : (asked : Asked) → Means given.words (Ok asked) → AreKnown files given (Ok asked) →
-      IsCut asked given readings typed course → IsCutShort files given readings typed course
+      IsCut asked given readings typed ended course → IsCutShort files given readings typed ended course
 
 -- ---- the whole run
 
@@ -64,14 +71,17 @@ pub record IsRun (before after : Outside) (status : ℕ) : Type 0 where
   -- What it was given is what is known beforehand, or, on the real system, whatever it read.
   pub matches : IsGiven before given readings typed course
   -- The course is the one that the program has for what the words mean, unless the run was cut short.
-  pub follows : IsWhole before.files.known given ended course ⊎ IsCutShort before.files.known given readings typed course
+  pub follows : IsWhole before.files.known given readings ended course
+      ⊎ IsCutShort before.files.known given readings typed ended course
   -- It asked for the files of the course, in this order, and read these bytes of each.
   pub files : AreRead before.files after.files course readings ended.files
   -- It read these bytes of standard input, and none if the course does not perform it.
   pub input : IsTyped before.input after.input course typed ended.input
-  -- Standard output has the answers of the course, or the usage,
-  pub output : IsOutput course.ended course.answers before.output after.output
-  -- and standard error the line of what ended it early.
+  -- Standard output has the answers of the course.
+  pub output : IsOutput course before.output after.output
+  -- Before each read of standard input, each line that had ended was answered, and nothing else was written.
+  pub order : IsInOrder given typed (dialogue_of before) before.reads after.reads
+  -- Standard error has the line of what ended it early.
   pub errors : IsReported course.ended before.errors after.errors
   -- The exit status is that of the course.
   pub exit : status ≡ exit_of course.ended

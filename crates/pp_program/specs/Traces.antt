@@ -1,22 +1,22 @@
 -- What a run reads and writes.
-use Rattle.std.specs.Prelude.{◌≡◌, ℕ, Bool, true, false, All, if◌then◌else◌, List, [], ◌++◌, ◌⊎◌, Result, Ok, Err}
+use Rattle.std.specs.Prelude.{◌≡◌, ℕ, Bool, true, false, All, if◌then◌else◌, List, [], ◌++◌, ◌⊎◌, Some, Result, Ok, Err}
 use Rattle.std.specs.Io.KnownBytes.{Consumes}
 use Rattle.std.specs.List.{flat_map}
-use Rattle.pp_files.specs.declared.fault.LoadFault.{LoadFault}
+use Rattle.pp_arguments.specs.CommandLine.{Text}
 use Rattle.pp_host.specs.Events.{events_of}
 use Rattle.pp_host.specs.Failures.{reads_by, writes_by}
-use Rattle.pp_host.specs.Known.{Found}
+use Rattle.pp_host.specs.Known.{Content, Found, Missing}
+use Rattle.pp_host.specs.Loading.{deck_at, panel_at}
 use Rattle.pp_lines.specs.Device.{one_more}
 use Rattle.pp_lines.specs.Output.{Appends}
 use Rattle.pp_lines.specs.Prefixes.{IsProperPrefix}
 use Rattle.pp_program.specs.Course.{Course}
 use Rattle.pp_program.specs.Outside.{Files, Input, Output}
 use Rattle.pp_trouble.specs.Message.{line_of}
-use Rattle.pp_trouble.specs.Trouble.{of_load}
-use Rattle.pp_trouble.specs.declared.trouble.FileKind.TheVariants.{Script}
+use Rattle.pp_trouble.specs.declared.trouble.FileKind.TheVariants.{Deck, Panel, Script}
 use Rattle.pp_trouble.specs.declared.trouble.FileKind.{FileKind}
 use Rattle.pp_trouble.specs.declared.trouble.Trouble.{Trouble}
-use Rattle.pp_trouble.specs.declared.trouble.Trouble.TheVariants.{CannotOpen, Help, LineLimit}
+use Rattle.pp_trouble.specs.declared.trouble.Trouble.TheVariants.{CannotOpen, LineLimit}
 
 -- ---- what is read
 
@@ -48,17 +48,20 @@ pub record AreEnded (course : Course) (ended : Ended) : Type 0 where
   pub files : All (λ file. ended.files file.kind ≡ true) course.opened
   pub input : course.reads_input ≡ true → ended.input ≡ true
 
--- A trouble of a file of this kind: it can't be opened, it has a fault, or it is a script that passes a limit.
-abbrev pub IsTroubleOf : FileKind → Trouble → Type 0
-IsTroubleOf kind trouble =
-    (trouble ≡ CannotOpen kind) ⊎ ((fault : LoadFault) × (trouble ≡ of_load kind fault))
-    ⊎ ((kind ≡ Script) × (trouble ≡ LineLimit))
+-- A trouble of the file of this kind and path, of which this was read: it can't be opened; or it is a deck or a panel that has this
+-- fault whatever bytes follow; or it is a script that passes a limit.
+abbrev pub IsTroubleOf : FileKind → Text → Found → Trouble → Type 0
+IsTroubleOf Script path read trouble = (trouble ≡ CannotOpen Script) ⊎ (trouble ≡ LineLimit)
+IsTroubleOf kind path Missing trouble = trouble ≡ CannotOpen kind
+IsTroubleOf Deck path (Content read) trouble = (later : List ℕ) → deck_at (Some path) (Content (read ++ later)) ≡ Err trouble
+IsTroubleOf Panel path (Content read) trouble = (later : List ℕ) → panel_at (Some path) (Content (read ++ later)) ≡ Err trouble
 
 -- Each file that the course opened was read to its end, unless a trouble of this file came first and ended the course. Standard
 -- input was read to its end if the course performs it, unless a limit came first.
-pub record AreReadEnough (course : Course) (ended : Ended) : Type 0 where
+pub record AreReadEnough (course : Course) (readings : FileKind → Found) (ended : Ended) : Type 0 where
   pub files : All (λ file. (ended.files file.kind ≡ true)
-      ⊎ ((trouble : Trouble) × (course.ended ≡ Err trouble) × IsTroubleOf file.kind trouble)) course.opened
+      ⊎ ((trouble : Trouble) × (course.ended ≡ Err trouble)
+      × IsTroubleOf file.kind file.path (readings file.kind) trouble)) course.opened
   pub input : course.reads_input ≡ true → (ended.input ≡ true) ⊎ (course.ended ≡ Err LineLimit)
 
 -- ---- what is written
@@ -74,14 +77,11 @@ Prints before after bytes =
     Writes before after bytes before.failures
     ⊎ ((front : List ℕ) × Writes before after front (one_more before.failures) × IsProperPrefix front bytes)
 
--- Standard output has the answers, and after them the usage if that was asked for. No write failed, unless a failed write ended
--- the run.
-abbrev pub IsOutput : Result ℕ Trouble → List ℕ → Output → Output → Type 0
-IsOutput (Err Help) answers before after = Prints before after (answers ++ line_of Help)
-IsOutput ended answers before after = Writes before after answers (writes_by ended before.failures)
+-- Standard output has the answers of the course. No write failed, unless a failed write ended the course.
+abbrev pub IsOutput : Course → Output → Output → Type 0
+IsOutput course before after = Writes before after course.answers (writes_by course.ended before.failures)
 
--- Standard error has the line of what ended the run early, other than the usage, and nothing else.
+-- Standard error has the line of what ended the run early, and nothing else.
 abbrev pub IsReported : Result ℕ Trouble → Output → Output → Type 0
 IsReported (Ok status) before after = Writes before after [] before.failures
-IsReported (Err Help) before after = Writes before after [] before.failures
 IsReported (Err trouble) before after = Prints before after (line_of trouble)

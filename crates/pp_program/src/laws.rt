@@ -8,14 +8,14 @@ ghost use Rattle.std.specs.Prelude.{◌≡◌, ◌⊎◌, ◌≤◌, ℕ};
 /// opened, and standard input if it performs it, to its end. A run that was cut short ends with status 2 or 3.
 ///
 /// `run` says of each run that it is an `IsRun`.
-#[tactic(auto, using(crate::proofs::Status::whole_run, crate::proofs::Status::ended_run, crate::proofs::Status::cut_run))]
+#[tactic(auto, using(crate::proofs::Status::whole_run, crate::proofs::Status::cut_run))]
 pub fn only_whole_runs_end_with_0_or_1()
     ensures whole { (before after : Outside) (status : ℕ) (run : IsRun before after status) →
         status ≤ 1 →
-        IsWhole before.files.known run.given run.ended run.course }
+        IsWhole before.files.known run.given run.readings run.ended run.course }
     ensures to_the_end { (before after : Outside) (status : ℕ) (run : IsRun before after status) → status ≤ 1 →
         AreEnded run.course run.ended }
     ensures cut_short { (before after : Outside) (status : ℕ) (run : IsRun before after status) →
-        IsCutShort before.files.known run.given run.readings run.typed run.course →
+        IsCutShort before.files.known run.given run.readings run.typed run.ended run.course →
         (status ≡ 2) ⊎ (status ≡ 3) }
 {}

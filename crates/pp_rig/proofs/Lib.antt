@@ -3,11 +3,14 @@ pub mod Deadstart
 pub mod Devices
 pub mod Marks
 pub mod Names
+pub mod OldValues
 pub mod Overwritten
+pub mod Recordings
 pub mod Runs
 pub mod Shortest
 pub mod Stepped
 pub mod TurnNames
+pub mod TurnRuns
 pub mod Turns
 pub mod WrittenOnce
 pub mod WrittenPlaces

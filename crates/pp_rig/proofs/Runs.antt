@@ -133,6 +133,18 @@ pub last_hit : (turns : ℕ) (old new : Machine) (v : SessionValue Machine Actio
 last_hit turns old new v hit replayed last found =
     grind (arith, machine_after_more rules turns Turn old, acts_replayed rules turns Turn v, turn-watches (turned turns old))
 
+-- a run of one turn
+pub stopped_once : (machine : Machine) → stopped 1 machine ≡ record { turns = 1; hit = hit_of machine }
+unfolding turns_before stopped
+stopped_once machine = grind (arith, before_next 1 0 machine (omega arith))
+
+-- one turn is turned once
+pub turned_once : (machine : Machine) → turned 1 machine ≡ turn machine
+turned_once machine = refl
+
+-- what one turn needs
+pub ruleset one_turn_runs = (stopped_once, turned_once)
+
 -- what a search for a change needs
 pub ruleset changes = (first_step, record_was)
 

@@ -1,5 +1,5 @@
 -- A run of turns that stops at the first change of a watched number.
-use Rattle.std.specs.Prelude.{◌≡◌, ℕ, zero, suc, ◌+◌, ◌<◌, ◌≤◌, ◌==◌, List, [], ◌∷◌, Option, Some, None, replicate, if◌then◌else◌}
+use Rattle.std.specs.Prelude.{◌≡◌, ℕ, Bool, drop, false, is_some, zero, suc, ◌+◌, ◌<◌, ◌≤◌, ◌==◌, List, [], ◌∷◌, Option, Some, None, replicate, if◌then◌else◌}
 use Rattle.pp_history.specs.SessionValue.{SessionValue, after_act, replay}
 use Rattle.pp_machine.specs.Machine.{Machine, number}
 use Rattle.pp_rig.specs.Rules.{rules}
@@ -21,6 +21,12 @@ first_change old new (watched ∷ others) =
 -- the change that a turn makes at the watched places
 abbrev pub hit_of : Machine → Option Hit
 hit_of s = first_change s (turn s) (watches_of s)
+
+-- whether the newest action that can be undone changed the number of a place that is watched now
+unfoldable pub newest_changed : SessionValue Machine Action → Bool
+newest_changed v =
+    let now = replay rules v.start v.standing in
+    if v.kept == 0 then false else is_some (first_change (replay rules v.start (drop 1 v.standing)) now (watches_of now))
 
 -- a run ends with this hit, or continues with the rest: then it has one more turn
 abbrev pub hit_or : Option Hit → Stopped → Stopped

@@ -1,5 +1,5 @@
 //! Runs of turns that stop at the first change of a watched number.
-ghost use Rattle.std.specs.Prelude.{◌≡◌, ◌≤◌, map, true};
+ghost use Rattle.std.specs.Prelude.{◌≡◌, ◌≤◌, is_some, map, true};
 ghost use Rattle.pp_history.specs.Marks.{AreCovered};
 ghost use Rattle.pp_history.specs.SessionValue.{SessionValue, IsAt, Moves, after_act, replay};
 ghost use Rattle.pp_history.specs.UndoRecord.{whole_record};
@@ -9,7 +9,8 @@ ghost use Rattle.pp_rig.specs.Inner.ActionRecords.{FitsRecord, before, record_pa
 ghost use Rattle.pp_rig.specs.Inner.Marks.{marks_of};
 ghost use Rattle.pp_rig.specs.Rules.{rules};
 ghost use Rattle.pp_rig.specs.Inner.Short.{unpacked};
-ghost use Rattle.pp_rig.specs.Stopping.{after_turns, first_change, stopped, turned};
+ghost use Rattle.pp_rig.specs.Stopping.{after_turns, first_change, hit_of, newest_changed, stopped, turned};
+ghost use Rattle.pp_rig.specs.Turn.{turn};
 ghost use Rattle.pp_actions.specs.Watches.{watched_place, watches_of};
 
 use crate::rig::{Rig, RigRecord, ShortTurn};
@@ -82,6 +83,18 @@ fn newest_change(session: &Session<Rig>) -> Option<Hit>
     first_changed(session.machine(), &back)
 }
 
+/// Returns whether the newest action changed the number of a place that is watched now. If no action can be undone, none
+/// did.
+#[tactic(auto, unfolding(crate::specs::Stopping::newest_changed))]
+pub fn newest_changed(session: &Session<Rig>) -> bool
+    ensures { (v : SessionValue Machine Action) → IsAt rules session.now v → result ≡ newest_changed v }
+{
+    match session.newest() {
+        Some(back) => first_changed(session.machine(), &back).is_some(),
+        None => false,
+    }
+}
+
 /// Performs turns, 1 to n, and returns what a run of at most so many turns returns. The last turn is the first that may
 /// have changed the number of a watched place, or the n-th.
 #[tactic(auto, unfolding(pp_actions::specs::Admitting::first_fault), using(crate::proofs::Runs::runs))]
@@ -99,6 +112,18 @@ fn run_part(session: &mut Session<Rig>, n: u32, marks: &Marks) -> Stopped
         turns,
         hit: newest_change(session),
     }
+}
+
+/// Performs one turn, and returns whether it changed the number of a watched place.
+#[inline(always)]
+#[tactic(auto, using(crate::proofs::Runs::one_turn_runs))]
+pub(crate) fn turn_once(session: &mut Session<Rig>, marks: &Marks) -> bool
+    requires covered { AreCovered marks_of marks.now (map watched_place (watches_of session.old.machine)) }
+    ensures hit { result ≡ is_some (hit_of session.old.machine) }
+    ensures machine { session.new.machine ≡ turn session.old.machine }
+    ensures at { Moves rules session.old session.new (after_turns 1) }
+{
+    run_part(session, 1, marks).hit.is_some()
 }
 
 /// Performs turns until n were performed, or until one changed the number of a watched place.

@@ -87,6 +87,16 @@ fn push_trouble(row: &mut ArrayVec<u8, ROOM>, trouble: &Trouble)
 }
 
 impl Trouble {
+    /// Returns the text of the trouble, without a line feed: at most 110 (decimal) bytes.
+    pub fn text(&self) -> ArrayVec<u8, ROOM>
+        ensures items { result.items ≡ text_of self.now }
+        ensures at_most { array_vec_len result ≤ 110 }
+    {
+        let mut row = ArrayVec::new();
+        push_trouble(&mut row, self);
+        row
+    }
+
     /// Writes the line of the trouble.
     ///
     /// # Errors
@@ -95,8 +105,7 @@ impl Trouble {
         ensures text { Writes (W.text out.old) (W.text out.new) result (line_of self.now) }
         ensures counts { Counts (W.failure_count out.old) (W.failure_count out.new) result }
     {
-        let mut row = ArrayVec::new();
-        push_trouble(&mut row, self);
+        let mut row = self.text();
         push_text(&mut row, b"\n");
         put_all(out, row.as_slice())
     }

@@ -1,6 +1,12 @@
 //! A client of the crates, written as a user writes one from their pages. Only the checks compile, prove and run it.
 #![tactic(auto)]
 
+mod arithmetic;
+mod consoles;
+mod parts;
+mod rigs;
+mod steps;
+
 ghost use Rattle.pp_console.specs.Commands.{Value};
 ghost use Rattle.pp_console.specs.Script.{script};
 ghost use Rattle.pp_history.specs.SessionValue.{IsAt};
@@ -15,8 +21,8 @@ use pp_rig::{Action, CentralSize, Place, Rig, Setup, Values, Watched, run};
 use std::alloc::Global;
 use std::process::ExitCode;
 
-/// Returns a session of a machine with one card in its reader.
-fn session(alloc: Global) -> Option<Session<Rig>> {
+/// Returns a machine with one card in its reader.
+fn machine(alloc: Global) -> Option<Rig> {
     let deck = load_deck(alloc, &mut Counted::new(b"1 2 3\n".as_slice())).ok()?;
     let setup = Setup {
         central: CentralSize::K32,
@@ -26,6 +32,12 @@ fn session(alloc: Global) -> Option<Session<Rig>> {
         panel: None,
     };
     let rig = Rig::new(alloc, setup).ok()?;
+    Some(rig)
+}
+
+/// Returns a session of such a machine.
+fn session(alloc: Global) -> Option<Session<Rig>> {
+    let rig = machine(alloc)?;
     Session::new(alloc, rig, 100).ok()
 }
 
@@ -95,7 +107,7 @@ fn go_back_and_forward(rt: &HostRuntime, mut session: Session<Rig>) -> Session<R
 }
 
 /// Performs a script whose answers go to standard output.
-fn serve_script(rt: &HostRuntime, mut session: Session<Rig>) -> Option<Session<Rig>> {
+fn serve_script(rt: &HostRuntime, mut session: Session<Rig>) -> Option<(Session<Rig>, Summary)> {
     let script = b"BACK W\nDUMP PP 0\nDUMP CR\nGO\n".as_slice();
     let summary = serve(
         &mut session,
@@ -104,7 +116,7 @@ fn serve_script(rt: &HostRuntime, mut session: Session<Rig>) -> Option<Session<R
     )
     .ok()?;
     let _ = println!(rt; "lines {}, refused {}", summary.lines, summary.refused);
-    Some(session)
+    Some((session, summary))
 }
 
 /// Performs a script whose answers go into a vector.
@@ -117,8 +129,15 @@ fn keep_answers(rt: &HostRuntime, mut session: Session<Rig>) -> Option<()> {
 
 /// Does all of it with one session.
 fn work(rt: &HostRuntime) -> Option<()> {
-    let session = run_to_the_store(rt, session(rt.alloc())?);
-    keep_answers(rt, serve_script(rt, go_back_and_forward(rt, session))?)
+    let ran = run_to_the_store(rt, session(rt.alloc())?);
+    let (served, summary) = serve_script(rt, go_back_and_forward(rt, ran))?;
+    keep_answers(rt, served)?;
+    arithmetic::show(rt);
+    parts::show(rt)?;
+    steps::show(rt)?;
+    rigs::show(rt, machine(rt.alloc())?);
+    rigs::show_change(rt, session(rt.alloc())?);
+    consoles::show(rt, session(rt.alloc())?, &summary)
 }
 
 fn main(rt: HostRuntime) -> ExitCode {

@@ -7,8 +7,9 @@ ghost use Rattle.pp_actions.specs.WatchCodes.{first_zero, watch_code, watch_entr
 ghost use Rattle.pp_actions.specs.RecordLists.{entries_at, with_entries};
 
 use super::{WatchList, Watched, position_among};
-use crate::lists::{append, list_of};
+use crate::lists::list_of;
 use arrayvec::ArrayVec;
+use pp_machine::append;
 
 #[tactic(auto, using(crate::proofs::Unwatching::removals))]
 impl WatchList {

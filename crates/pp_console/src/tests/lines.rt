@@ -1,9 +1,10 @@
 //! Lines and words.
 use super::{Case, With, compare, follows_each, session_of};
 use crate::progress::Summary;
+use crate::serving::serve;
 use crate::{IoFault, parse, perform};
 use pp_history::Session;
-use pp_lines::Tray;
+use pp_lines::{Feed, Tray};
 use pp_rig::Rig;
 use std::alloc::Global;
 use std::process::Abort;
@@ -267,5 +268,43 @@ fn performs_single_commands(rt: HostRuntime) -> Result<(), Fail> {
     let mut session = session_of(rt.alloc(), With::LittleMemory, 100)?;
     performs_each(&rt, &mut session);
     drop(session);
+    Ok(())
+}
+
+/// Lines, how many calls of a sink of 4096 bytes write their answers, and how many bytes these have. The second dump is longer than a
+/// piece: the second call takes 7 bytes, and the third fails.
+const WRITES: [(&[u8], u64, usize); 4] = [
+    (b"DUMP M 0 0 777\n", 1, 2880),
+    (b"DUMP C 0 215\n", 3, 4118),
+    (b"DUMP LP\n", 1, 44),
+    (b"DUMP PP 0\nDUMP H\n", 2, 204),
+];
+
+/// Performs a script, and checks how many calls of the sink were made, and how many bytes were written before it was full.
+fn writes_in_pieces(
+    rt: &impl Abort,
+    alloc: Global,
+    script: &[u8],
+    calls: u64,
+    bytes: usize,
+) -> Result<(), Fail> {
+    let mut session = session_of(alloc, With::LittleMemory, 1)?;
+    let mut out = Tray::new(4096);
+    let ended = serve(&mut session, &mut Feed::new(script, 4096), &mut out);
+    assert!(rt; ended.is_ok() == (bytes <= 4096));
+    assert!(rt; out.text().len() == bytes.min(4096));
+    let made = out.calls.made;
+    assert!(rt; made == calls, "{made} calls");
+    drop(out);
+    drop(session);
+    Ok(())
+}
+
+#[test]
+fn answers_take_few_calls(rt: HostRuntime) -> Result<(), Fail> {
+    for i in 0..WRITES.len() {
+        let (script, calls, bytes) = WRITES[i];
+        writes_in_pieces(&rt, rt.alloc(), script, calls, bytes)?;
+    }
     Ok(())
 }

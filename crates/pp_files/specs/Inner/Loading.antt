@@ -1,5 +1,5 @@
 -- Definitions for the inner contracts of loading: a file as far as it was read, and the fault that is reported there.
-use Rattle.std.specs.Prelude.{◌≡◌, ℕ, ◌-◌, ◌++◌, ◌⊎◌, Bool, IsTrue, List, [], length, replicate, Option, Some, Result, Ok, Err}
+use Rattle.std.specs.Prelude.{◌≡◌, ℕ, ◌-◌, ◌++◌, ◌⊎◌, Bool, IsTrue, List, [], length, replicate, Some, Result, Ok, Err}
 use Rattle.pp_lines.specs.Results.{◌>>=◌}
 use Rattle.pp_lines.specs.LineCutter.{IsPrefixOf}
 use Rattle.pp_lines.specs.Lines.{finished}
@@ -47,6 +47,12 @@ FailsAt rule k rows line fault =
 -- the fault is that of the file with these bytes, or memory ran out before any fault of the file
 abbrev pub FailsIn : Rule → List ℕ → LoadFault → Type 0
 FailsIn rule bytes fault = (rows_of_file rule file_limit bytes ≡ Err fault) ⊎ ((fault ≡ NoMemory) × RunsOut rule file_limit bytes)
+
+-- the fault is that of every file that begins with these bytes, or memory ran out before any fault of such a file
+abbrev pub FailsAfter : Rule → List ℕ → LoadFault → Type 0
+FailsAfter rule bytes fault =
+    ((more : List ℕ) → rows_of_file rule file_limit (bytes ++ more) ≡ Err fault)
+    ⊎ ((fault ≡ NoMemory) × ((more : List ℕ) → RunsOut rule file_limit (bytes ++ more)))
 
 -- no read failed, and memory ran out only if the sheet needs memory
 abbrev pub IsLineFault : Bool → LoadFault → Type 0

@@ -45,7 +45,7 @@ impl Reversible for Dials {
     ghost use Rattle.std.proofs.lemmas.Bool.Decides.{nat_tests};
     ghost use Rattle.std.proofs.lemmas.Bool.{cases_eq};
     ghost use Rattle.std.proofs.lemmas.List.{get_or-set_same, get_or-set_other};
-    ghost use Rattle.std.specs.Prelude.{◌<◌, ◌==◌, if◌then◌else◌, length, slice_index, slice_set, Some, None, true};
+    ghost use Rattle.std.specs.Prelude.{◌<◌, ◌==◌, [], ◌∷◌, if◌then◌else◌, length, slice_index, slice_set, Some, None, true};
 
     ghost admitted = { λ dials set. set.dial < 3 };
 
@@ -60,6 +60,10 @@ impl Reversible for Dials {
     ghost value_at = { λ dials dial. slice_index dials dial };
 
     ghost old_value = { λ had dial. if had.dial == dial then Some had.to else None };
+
+    ghost record_pairs = { λ had. (had.dial, had.to) ∷ [] };
+
+    ghost old_values = { λ dials set. (set.dial, slice_index dials set.dial) ∷ [] };
 
     ghost unpacked = { λ head. head };
 

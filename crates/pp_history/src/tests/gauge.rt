@@ -31,7 +31,7 @@ impl Reversible for Gauge {
     /// Two numbers of one byte: the new one and the old one.
     type Head = Bytes;
 
-    ghost use Rattle.std.specs.Prelude.{◌≡◌, IsSomeAnd, Some, ⊤};
+    ghost use Rattle.std.specs.Prelude.{◌≡◌, [], ◌∷◌, IsSomeAnd, Some, ⊤};
     ghost use Rattle.std.proofs.Common.{refl};
 
     ghost admitted = { λ gauge to. ⊤ };
@@ -47,6 +47,10 @@ impl Reversible for Gauge {
     ghost value_at = { λ gauge place. gauge.number };
 
     ghost old_value = { λ old place. Some old };
+
+    ghost record_pairs = { λ old. (tt, old) ∷ [] };
+
+    ghost old_values = { λ gauge to. (tt, gauge.number) ∷ [] };
 
     ghost unpacked = { λ head. (head.to, head.old) };
 

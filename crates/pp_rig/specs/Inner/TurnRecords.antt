@@ -26,10 +26,14 @@ turn_writes = parts_writes turn_parts
 unfoldable pub turn_old_values : Machine → Writes Place
 turn_old_values = parts_old_values turn_parts
 
--- the places that a turn's record has at most: those of the processor's step and the devices, the clock and the slot, 44
--- (decimal) with a reader and a printer
+-- the places that the rest of a turn's record has at most: those of the devices, the clock and the slot
+abbrev pub most_rest_places : ℕ
+most_rest_places = all_model.most + 2
+
+-- the places that a turn's record has at most: those of the processor's step and of the rest, 44 (decimal) with a reader and
+-- a printer
 abbrev pub most_turn_places : ℕ
-most_turn_places = most_step_places + all_model.most + 2
+most_turn_places = most_step_places + most_rest_places
 
 -- if no channel of a device was active, the devices did nothing
 abbrev pub devices_old_values : TurnRest → Writes Place

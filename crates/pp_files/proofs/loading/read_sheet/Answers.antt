@@ -2,7 +2,7 @@ use Rattle.std.proofs.Common.{◌≡◌, ◌∙◌, ◌++◌, [], refl, ap, sym,
 use Rattle.std.proofs.lemmas.Result.{err_from_is_err_and}
 use Rattle.std.specs.Io.KnownBytes.{Consumes, IsAtEnd}
 use Rattle.pp_lines.proofs.Reading.{Consumes-nothing, Consumes-again, Consumes-keeps}
-use Rattle.pp_files.proofs.Loads.{HasReadFile-new, breaks-off, ends, fails-in}
+use Rattle.pp_files.proofs.Loads.{HasReadFile-new, breaks-off, ends, fails-after}
 use Rattle.pp_files.proofs.loading.read_sheet.Goals as goal
 
 pub pieces-init : goal.pieces-init
@@ -23,7 +23,7 @@ pieces-preserved g c = record {
         taken ++ take c.in-Ok.count c.take.new.into,
         Consumes-again _ (g.R.Source.rest c.pieces.source) _ taken _ consumed c.in-Ok.ensures.bytes.0,
         c.in-Ok.ensures.given ∙ ap (λ front. front ++ take c.in-Ok.count c.take.new.into) given ∙ append_assoc _ taken _,
-        c.in_ok-feed-in-Ok.ensures.has_read taken [] has_read,
+        c.in_ok-feed-in-Ok.ensures.has_read taken has_read,
       );
   reads = search rules;
 }
@@ -46,8 +46,8 @@ returns-in-Ok-eq0-clause-file g c =
       taken,
       rw (append-nil taken) at all,
       same ∙ append-nil (g.R.Source.given c.pieces.source) ∙ given,
-      ends c.finish.result _ g.S.Sheet.rule _ (g.R.Source.rest c.take.new.self) taken
-          (rw (append-nil taken) at all) end (c.finish.ensures.read taken has_read),
+      ends c.finish.result _ g.S.Sheet.rule _ _ (g.R.Source.rest c.take.new.self) taken
+          (rw (append-nil taken) at all) end (search rules) (c.finish.ensures.read taken has_read),
     )
 
 pub returns-in_err-feed-in-Ok-clause-file : goal.returns-in_err-feed-in-Ok-clause-file
@@ -59,6 +59,5 @@ returns-in_err-feed-in-Ok-clause-file g c =
       taken ++ take c.in-Ok.count c.take.new.into,
       all,
       c.in-Ok.ensures.given ∙ ap (λ front. front ++ take c.in-Ok.count c.take.new.into) given ∙ append_assoc _ taken _,
-      fails-in g.S.Sheet.rule _ (g.R.Source.rest c.take.new.self) _ _ all
-          (λ later. c.in_err-feed-in-Ok.ensures.has_read taken later has_read),
+      fails-after g.S.Sheet.rule _ _ (g.R.Source.rest c.take.new.self) _ _ all (c.in_err-feed-in-Ok.ensures.has_read taken has_read),
     )

@@ -20,6 +20,7 @@ returns g c =
       fits = IfSome_then c.undo_record.result handed.0 (λ back is.
           rw (← is) (newest-step T _ c.self.invariant.value c.self.invariant.is_at at.item first).0);
       leads_back = IfSome_then c.undo_record.result handed.0 (λ back is. λ v was. rw (← is) (newest-step T _ v was at.item first).1);
+      old_values = IfSome_then c.undo_record.result handed.0 (λ back is. λ v was. rw (← is) (newest-step T _ v was at.item first).2);
       none_kept = (λ none. absurd (handed.1 none), λ none. absurd (omega (arith, none, ap length at.split)));
       some_room = c.self.invariant.heads.some_room;
     })

@@ -7,7 +7,7 @@ pub returns-in-Turn-clause-kept : goal.returns-in-Turn-clause-kept
 returns-in-Turn-clause-kept c =
     let (back, turned, is_kept) = c.perform_turn.ensures.turns in
     let undone = action_taken_back c.args.self.now Turn in
-    rw c.in-Turn.is (kept.Turn back, turned.fits, rw (turned.old_values, turned.step) undone, is_kept)
+    rw c.in-Turn.is (kept.Turn back, turned.fits, rw (turned.old_values, turned.step) undone, turned.old_values, is_kept)
 
 pub returns-in-Turn-clause-overwritten : goal.returns-in-Turn-clause-overwritten
 returns-in-Turn-clause-overwritten c =

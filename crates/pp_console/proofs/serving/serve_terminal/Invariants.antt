@@ -1,0 +1,26 @@
+use Rattle.std.proofs.Common.{◌-◌, ◌++◌, ◌≡◌, ℕ, List}
+use Rattle.std.specs.Io.KnownBytes.{Consumes}
+use Rattle.pp_lines.specs.Terminal.{at_reads, sink_of, source_of}
+use Rattle.pp_console.specs.Order.{ReadsOnTime}
+use Rattle.pp_console.proofs.Prelude.{BYTE_LIMIT, Value, IsAt, rules, origin_of, HasRead}
+use Rattle.pp_console.proofs.serving.serve_terminal.Given as goal
+
+abbrev pub invariant-pieces : goal.invariant-pieces
+invariant-pieces g l =
+    let first = l.initial.terminal in
+    record {
+      has_read : (taken : List ℕ) × Consumes (g.R.Source.rest (source_of first)) (g.R.Source.rest (source_of l.terminal)) taken
+          × (g.R.Source.given (source_of l.terminal) ≡ g.R.Source.given (source_of first) ++ taken)
+          × ((start : Value) → IsAt rules l.initial.session start →
+          HasRead l.progress l.session (g.W.Sink.text (sink_of l.terminal)) (origin_of start (g.W.Sink.text (sink_of first))) taken);
+      reads : g.R.Source.failure_count (source_of l.terminal) ≡ g.R.Source.failure_count (source_of first);
+      writes : g.W.Sink.failure_count (sink_of l.terminal) ≡ g.W.Sink.failure_count (sink_of first);
+      order : (start : Value) → IsAt rules l.initial.session start → ReadsOnTime start
+          (record { read = g.R.Source.given (source_of first); written = (g.W.Sink.text (sink_of first)).bytes })
+          (at_reads first) (at_reads l.terminal);
+      same_source : l.terminal.source.ghost_name ≡ first.source.ghost_name;
+      same_output : l.terminal.output.ghost_name ≡ first.output.ghost_name;
+    }
+
+abbrev pub decreases-pieces : goal.decreases-pieces
+decreases-pieces g l = BYTE_LIMIT - l.progress.bytes

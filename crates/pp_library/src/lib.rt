@@ -1,0 +1,8 @@
+//! The simulator for C: sessions behind handles.
+#![tactic(auto)]
+
+mod console;
+mod exports;
+mod handle;
+mod raw_box;
+mod status;

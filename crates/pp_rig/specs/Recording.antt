@@ -1,0 +1,35 @@
+-- What actions overwrote, as numbers: a page or a debugger shows it, and puts it back.
+use Rattle.std.specs.Prelude.{ℕ, List, [], ◌∷◌, ◌++◌, length, map}
+use Rattle.pp_actions.specs.declared.action.Action.{Action}
+use Rattle.pp_actions.specs.declared.action.Action.TheVariants.{Turn}
+use Rattle.pp_machine.specs.Machine.{Machine}
+use Rattle.pp_machine.specs.Numbering.{place_number}
+use Rattle.pp_machine.specs.Writes.{Writes}
+use Rattle.pp_machine.specs.declared.place.Place.{Place}
+use Rattle.pp_rig.specs.Action.{next}
+use Rattle.pp_rig.specs.Inner.ActionRecords.{old_values_of}
+use Rattle.pp_rig.specs.declared.recording.Moment.{Moment}
+use Rattle.pp_rig.specs.declared.recording.Old.{Old}
+
+-- These places by their numbers, each with its old number.
+abbrev pub numbered : Writes Place → List Old
+numbered pairs = map (λ pair. record { place = place_number pair.0; number = pair.1 }) pairs
+
+-- The processor whose turn it was, or 10 (decimal) if the action is no turn.
+abbrev pub processor_of : Machine → Action → ℕ
+processor_of s Turn = s.slot
+processor_of s action = 10
+
+-- An action on this machine: its processor, and how many places it overwrites.
+abbrev pub moment_of : Machine → Action → Moment
+moment_of s action = record { processor = processor_of s action; count = length (old_values_of s action) }
+
+-- Each of these actions, one after another.
+unfoldable pub moments_of : Machine → List Action → List Moment
+moments_of s [] = []
+moments_of s (action ∷ later) = moment_of s action ∷ moments_of (next s action) later
+
+-- The places that these actions overwrite, one action after another, with the numbers before each action.
+unfoldable pub olds_of : Machine → List Action → List Old
+olds_of s [] = []
+olds_of s (action ∷ later) = numbered (old_values_of s action) ++ olds_of (next s action) later
