@@ -1,0 +1,61 @@
+/* Memory for the proved library in a WebAssembly module, which has no system below it. Nothing proves this file.
+ * A block has 16 bytes more than a power of two, and in the first 16 its size is kept. A free block is kept for the next of its size. One
+ * thread uses a module. */
+#include "block.h"
+typedef unsigned long size_t;
+
+enum { HEAD = 16, SMALLEST = 4, SIZES = 40, PAGE = 1 << 16 };
+extern unsigned char __heap_base; /* the linker's: the first byte that is not the module's own */
+static unsigned char *next_block = &__heap_base;
+static unsigned char *free_blocks[SIZES]; /* a list for each power of two; in a free block is the address of the next */
+
+/* Grows the memory, if need be, so that it has the bytes before `end`. Returns whether it has. */
+static int has_memory(const unsigned char *end) {
+    size_t pages = __builtin_wasm_memory_size(0), needed = ((size_t)end + PAGE - 1) / PAGE;
+    return needed <= pages || __builtin_wasm_memory_grow(0, needed - pages) != (size_t)-1;
+}
+
+/* Returns memory of so many bytes, or 0. */
+static void *memory_of(size_t size) {
+    unsigned power = SMALLEST;
+    while (power < SIZES && (size_t)1 << power < size) power++;
+    if (power == SIZES) return 0;
+    unsigned char *block = free_blocks[power];
+    if (block) {
+        free_blocks[power] = *(unsigned char **)(block + HEAD);
+        return block + HEAD;
+    }
+    block = next_block;
+    if (!has_memory(block + HEAD + ((size_t)1 << power))) return 0;
+    next_block += HEAD + ((size_t)1 << power);
+    *(size_t *)block = power;
+    return block + HEAD;
+}
+
+struct block rattle_alloc(size_t size, size_t alignment) {
+    (void)alignment;
+    return block_at(memory_of(size));
+}
+
+void rattle_dealloc(void *start) {
+    unsigned char *block = (unsigned char *)start - HEAD;
+    size_t power = *(size_t *)block;
+    *(unsigned char **)start = free_blocks[power];
+    free_blocks[power] = block;
+}
+
+struct block rattle_realloc(void *old, size_t old_size, size_t size, size_t alignment) {
+    (void)old_size, (void)alignment;
+    size_t had = (size_t)1 << *(size_t *)((unsigned char *)old - HEAD);
+    if (size <= had) return block_at(old);
+    void *start = memory_of(size);
+    if (start) {
+        __builtin_memcpy(start, old, had);
+        rattle_dealloc(old);
+    }
+    return block_at(start);
+}
+
+/* Memory for what a page hands to the library. Returns its address, or 0; and gives it back. */
+__attribute__((export_name("pp6600_room"))) void *room(size_t size) { return memory_of(size); }
+__attribute__((export_name("pp6600_end_room"))) void end_room(void *start) { rattle_dealloc(start); }
