@@ -13,10 +13,12 @@ release:
 	@share/release
 wheel: # packages for pip
 	@share/wheel
+films: # the films of docs/films
+	@python3 -m tests.films
 vsix: # VS Code's extension
 	@share/vsix
 deb: # a package for Debian
 	@share/deb
 check: # all that needs only a program
 	@./check --program
-.PHONY: all install uninstall release wheel vsix deb check
+.PHONY: all install uninstall release wheel films vsix deb check

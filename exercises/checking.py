@@ -20,10 +20,10 @@ HERE = os.path.dirname(os.path.realpath(__file__))
 sys.path.insert(0, os.path.realpath(os.path.join(HERE, os.pardir, "tools")))  # in an installation this is a link
 
 from pp6600 import Console, Failure
-from pp6600.command_line import complain
-from pp6600.files import checked_program
-from pp6600.installation import chosen_program
-from pp6600.options import BadWord
+from pp6600.shell.command_line import complain
+from pp6600.shell.files import checked_program
+from pp6600.shell.installation import chosen_program
+from pp6600.shell.options import BadWord
 
 ANSWERS = ("script", "panel")  # the files of an exercise that a student changes
 OWN_PARTS = ["task", "script", "check", "expected"]  # what an exercise of a lecturer's own has

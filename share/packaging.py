@@ -1,24 +1,39 @@
-"""What share/wheel and share/deb have in common: they pack the proved program of a commit, and the same commit makes the same bytes."""
+"""What makes the packages: they pack the proved programs of a commit, and the same commit makes the same bytes."""
 
+import calendar
+import hashlib
 import os
+import re
 import subprocess
 import sys
+import time
 
 TOP = os.path.dirname(os.path.dirname(os.path.realpath(__file__)))
 NO_LICENCE = "No licence has been chosen yet."
+sys.path.insert(0, os.path.join(TOP, "tools"))
+
+from pp6600.failure import Failure  # noqa: E402
+from pp6600.shell import installation  # noqa: E402
+
+
+def name():
+    return os.path.basename(sys.argv[0])
 
 
 def fail(message):
-    print(f"{os.path.basename(sys.argv[0])}: {message}", file=sys.stderr)
+    print(f"{name()}: {message}", file=sys.stderr)
     sys.exit(2)
 
 
 def output(*words, **how):
-    """Returns what a command writes."""
-    done = subprocess.run(words, **{"cwd": TOP, **how}, capture_output=True, text=True, check=False)
+    """Returns what a command writes; if it fails, its own reason is said."""
+    try:
+        done = subprocess.run(words, **{"cwd": TOP, **how}, capture_output=True, text=True, check=False)
+    except OSError as error:
+        fail(f"{words[0]}: {error.strerror}")
     if done.returncode:
-        fail(done.stderr.strip().removeprefix("pp6600: ") or f"{words[0]} failed")
-    return done.stdout.strip()
+        fail(" ".join(done.stderr.split()) or f"{words[0]} failed")
+    return done.stdout.rstrip("\n")
 
 
 def read(*names):
@@ -31,17 +46,20 @@ def version():
 
 
 def moment():
-    """Returns the time of the commit."""
-    return int(output("git", "log", "-1", "--format=%ct"))
+    """Returns the time of all files in a package: $SOURCE_DATE_EPOCH, or else the day of this version in CHANGELOG.md."""
+    given = os.environ.get("SOURCE_DATE_EPOCH")
+    if given:
+        return int(given)
+    day = re.search(rf"^## {re.escape(version())} - (.*)$", read("CHANGELOG.md").decode(), flags=re.M)[1]
+    return calendar.timegm(time.strptime(day, "%Y-%m-%d"))
 
 
-def program():
-    """Returns the path of the proved program, if the checkout is as committed."""
-    found = output("share/which-build", "--dist").splitlines()[0]
-    changed = output("git", "status", "--porcelain")
-    if changed:
-        fail(f"the checkout is not as committed: {changed.splitlines()[0]}; commit or take it away first")
-    return found
+def check_committed():
+    """Fails if a checkout of git is not as committed. What was unpacked from an archive has no git, and is taken as it is."""
+    if os.path.exists(os.path.join(TOP, ".git")):
+        changed = output("git", "status", "--porcelain")
+        if changed:
+            fail(f"the checkout is not as committed: {changed.splitlines()[0].strip()}; commit or take it away first")
 
 
 def folder(text):
@@ -54,12 +72,24 @@ def folder(text):
     return os.path.abspath(sys.argv[1]) if sys.argv[1:] else os.path.join(TOP, "out")
 
 
-def install(root, prefix):
-    """Installs the proved program with its tools and pages below a folder."""
-    output("share/install", "--program", program(), prefix, env={**os.environ, "DESTDIR": root})
+def programs(machine):
+    """Returns the paths of the programs of dist for a machine, by their names; none if it is empty."""
+    try:
+        found = installation.programs_for(machine or "x86_64", "--dist")  # it fails if the sources have changed
+    except Failure as failure:
+        fail(str(failure))
+    return found if machine else {}
 
 
-def files_in(root):
-    """Returns the plain files below a folder, sorted."""
-    found = (os.path.join(above, name) for above, _, names in os.walk(root) for name in names)
-    return sorted(os.path.relpath(path, root) for path in found if not os.path.islink(path))
+def has_programs(machine):
+    """Returns whether dist has a program for a machine."""
+    return any(os.path.exists(os.path.join(TOP, "dist", name)) for name in installation.NAMES[machine])
+
+
+def save(folder, file_name, data):
+    """Writes a package, and beside it a file with its sha256."""
+    os.makedirs(folder, exist_ok=True)
+    for path, content in ((file_name, data), (f"{file_name}.sha256", f"{hashlib.sha256(data).hexdigest()}  {file_name}\n".encode())):
+        with open(os.path.join(folder, path), "wb") as file:
+            file.write(content)
+    print(f"{name()}: {os.path.join(folder, file_name)}")

@@ -4,7 +4,7 @@
 
     console = Console(options=["--deck", "deck"])
     console.ask("STEP 100")    # the lines of the answer: ["TURNS 100 SLOT 04"]
-    console.registers(0)       # {"P": "0100", "A": "000000", "Q": "0000", "PHASE": "0000", "SLOT": "04"}
+    console.registers(0)       # {"P": "0100", "A": "000000", "Q": "0000", "PHASE": "0000", "SLOT": "04"}, octal digits
     console.cells(0, 0o100, 0o103)
     console.end()              # the exit status
 
@@ -20,15 +20,22 @@ if sys.version_info < (3, 9):
         os.path.basename(sys.argv[0]), sys.version_info[0], sys.version_info[1]))
     sys.exit(2)
 
-from .core.simulator import Console
+from typing import TYPE_CHECKING, Any
+
 from .failure import Failure
+from .run.forms import Place
+from .run.simulator import Console
 
-__all__ = ["Attached", "Console", "Device", "EMPTY", "Failure", "INACTIVE", "NOTHING", "full"]
+if TYPE_CHECKING:
+    from .run.attached import Attached
+    from .run.device import EMPTY, INACTIVE, NOTHING, Device, full
+
+__all__ = ["EMPTY", "INACTIVE", "NOTHING", "Attached", "Console", "Device", "Failure", "Place", "full"]
 
 
-def __getattr__(name):
+def __getattr__(name: str) -> Any:
     """Returns what a session with devices needs, which most tools do not."""
     if name not in __all__:
         raise AttributeError(f"module {__name__} has no attribute {name}")
-    from . import attached, device
+    from .run import attached, device
     return vars(attached)[name] if name == "Attached" else vars(device)[name]

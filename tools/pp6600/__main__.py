@@ -4,24 +4,21 @@ import importlib
 import os
 import sys
 
-from .ending import run
 from .failure import Failure
+from .shell.ending import run
 
-# The others are in commands.
-MODULES = {"debug-adapter": "debug.main", "film": "film.tool", "origin": "origin.tool", "page": "page.tool", "panel": "panel.main"}
-
-
-def names():
-    """Returns the names of all tools."""
-    folder = os.path.join(os.path.dirname(__file__), "commands")
-    return sorted([*MODULES, *(file[:-3] for file in os.listdir(folder) if file.endswith(".py") and file[0] != "_")])
+# The tools of each room.
+CONVERT = ("assemble", "deck", "disassemble", "load", "save", "show", "symbols", "words")
+COMMANDS = ("changes", "compare", "origin", "state", "talk", "trace", "until", "waits")
+MODULES = {**{name: f"convert.{name}" for name in CONVERT}, **{name: f"front.commands.{name}" for name in COMMANDS},
+           "debug-adapter": "front.debug.main", "film": "front.film.tool", "panel": "front.panel.main"}
 
 
 def main_of(name):
     """Returns the function that runs a tool."""
-    if name not in names():
-        raise Failure(f"{name or 'nothing'} is no tool; the tools are {', '.join(names())}")
-    return importlib.import_module(f".{MODULES.get(name, f'commands.{name}')}", __package__).main
+    if name not in MODULES:
+        raise Failure(f"{name or 'nothing'} is no tool; the tools are {', '.join(sorted(MODULES))}")
+    return importlib.import_module(f".{MODULES[name]}", __package__).main
 
 
 def launch():

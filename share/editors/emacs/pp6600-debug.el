@@ -1,5 +1,5 @@
 ;;; pp6600-debug.el --- Debug the peripheral processors of a CDC 6600 -*- lexical-binding: t -*-
-;; It needs dap-mode. The page docs/EDITORS.md says how it is used.
+;; It needs dap-mode. The page docs/PANEL.md says how it is used.
 
 (defvar treemacs-text-scale nil) ; dap-ui-sessions needs it
 (require 'dap-mode)
@@ -11,6 +11,13 @@
 (add-to-list 'revert-without-query "\\.pplist\\'") ; listings follow the machine
 (dap-register-debug-provider
  "pp6600" (lambda (conf) (dap--put-if-absent conf :dap-server-path pp6600-debug-adapter)))
+
+(defun pp6600-debug-source (source deck)
+  "Debug a SOURCE in PP 00 with a DECK of cards; without one, type RET."
+  (interactive "fSource: \nsDeck (or nothing): ")
+  (dap-debug (list :type "pp6600" :request "launch" :name (file-name-nondirectory source)
+                   :sources (list :0 (expand-file-name source)) :processor "0"
+                   :deck (if (string-empty-p deck) "" (expand-file-name deck)))))
 
 (defun pp6600-debug (script deck)
   "Debug a SCRIPT of the console with a DECK of cards; without one, type RET."

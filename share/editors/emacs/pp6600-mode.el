@@ -24,19 +24,19 @@
      "UJN" "ZJN")
     'font-lock-keyword-face)
    (pp6600-mode--operations
-    '("=" "ABS" "BASE" "BSS" "BSSZ" "COMMENT" "CON" "CTEXT" "DATA" "DIS" "EJECT" "END"
-     "ENDX" "ENTRY" "EQU" "ERR" "ERRMI" "ERRNG" "ERRNZ" "ERRPL" "ERRZR" "IDENT" "LIST" "LOC"
-     "NOLABEL" "NOREF" "ORG" "PERIPH" "SET" "SPACE" "SST" "TITLE" "TTL" "VFD" "XREF")
+    '("=" "ABS" "ADK" "BASE" "BSS" "BSSZ" "COMMENT" "CON" "CTEXT" "DATA" "DECMIC" "DIS"
+     "EJECT" "END" "ENDX" "ENTRY" "EQU" "ERR" "ERRMI" "ERRNG" "ERRNZ" "ERRPL" "ERRZR" "IDENT"
+     "LDK" "LIST" "LIT" "LOC" "MAX" "MICCNT" "MICRO" "MIN" "NIL" "NOLABEL" "NOREF" "OCTMIC"
+     "ORG" "PERIPH" "QUAL" "SET" "SPACE" "SST" "TITLE" "TTL" "USE" "VFD" "XREF")
     'font-lock-builtin-face)
    (pp6600-mode--operations
-    '("DUP" "ELSE" "ENDD" "ENDIF" "ENDM" "IF" "IFEQ" "IFGE" "IFGT" "IFLE" "IFLT" "IFNE"
-     "LOCAL" "MACRO" "SUBR")
+    '("DUP" "ECHO" "ELSE" "ENDD" "ENDIF" "ENDM" "IF" "IFC" "IFCP" "IFEQ" "IFGE" "IFGT"
+     "IFLE" "IFLT" "IFMI" "IFNE" "IFPL" "IFPP" "IRP" "LOCAL" "MACRO" "MACROE" "RMT" "SKIP"
+     "STOPDUP" "SUBR")
     'font-lock-preprocessor-face)
    (pp6600-mode--operations
-    '("ADK" "CCF" "CFM" "COL" "DECMIC" "ECHO" "EXT" "HERE" "IAPM" "IFC" "IFCP" "IFPP"
-     "IRP" "LDK" "LIT" "MACROE" "MAN" "MAX" "MICRO" "MIN" "MXN" "OAPM" "OCTMIC" "OPDEF"
-     "OPSYN" "ORGC" "POS" "PPOP" "PPU" "PURGMAC" "QUAL" "RMT" "SCF" "SEG" "SEGMENT" "SFM"
-     "SKIP" "USE")
+    '("CCF" "CFM" "COL" "EXT" "IAPM" "MAN" "MXN" "OAPM" "OPDEF" "ORGC" "POS" "PPOP"
+     "PPU" "SCF" "SEG" "SEGMENT" "SFM" "STEXT" "STOPDUP")
     'font-lock-warning-face)
    '("\\_<[0-9]+[BDObdo]?\\_>" 0 font-lock-constant-face)
    (list (concat pp6600-mode--before "[^ \t\n]+[ \t]+[^ \t\n]+[ \t]+\\(.+\\)") 1 'font-lock-comment-face t)))

@@ -1,15 +1,15 @@
 """The display console of 1964: two screens of 512 by 512 places, and a keyboard.
 
 A function code chooses the screen, and symbols of a size or dots. Words of 6000 and more are coordinates; others are two symbols
-each. docs/DEVICES.md has the codes, and which the manuals have. What was put on a screen fades, so a program draws it again
+each. docs/PYTHON.md has the codes, and which the manuals have. What was put on a screen fades, so a program draws it again
 and again."""
 
 from __future__ import annotations
 
 from typing import Dict, List, NamedTuple, Tuple, Union
 
-from ..device import EMPTY, INACTIVE, NOTHING, Answer, Chain, Device, DeviceFailure, Event, chain_of, full
-from ..pictures import Mark, Picture
+from ..run.device import EMPTY, INACTIVE, NOTHING, Answer, Chain, Device, DeviceFailure, Event, chain_of, full
+from .pictures import Mark, Picture
 
 BLANK = " "
 SYMBOLS = " ABCDEFGHIJKLMNOPQRSTUVWXYZ0123456789+-*/() = ,."  # by their codes; those after them are blanks

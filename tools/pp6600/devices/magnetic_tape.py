@@ -1,16 +1,16 @@
 """A magnetic tape unit of the 3000 series, as one that is connected through a 6681 converter.
 
 The tape is a row of blocks, and the head is between two of them. A block is a record, the tuple of its words, or a file mark. The
-head goes to and fro by one block, so the blocks before and after it are two chains. docs/DEVICES.md has the function codes and
+head goes to and fro by one block, so the blocks before and after it are two chains. docs/PYTHON.md has the function codes and
 the status word, and which facts the manuals have."""
 
 from __future__ import annotations
 
 from typing import Callable, Dict, Iterable, List, NamedTuple, Union
 
-from ..device import EMPTY, INACTIVE, NOTHING, Answer, Chain, Device, Event, chain_of, full
 from ..failure import Failure
-from ..tape_file import MARK, Block, read_tape, write_tape
+from ..run.device import EMPTY, INACTIVE, NOTHING, Answer, Chain, Device, Event, chain_of, full
+from .tape_file import MARK, Block, read_tape, write_tape
 
 # Function codes. Those of PLAIN choose binary words and a density, or clear, and do nothing here.
 PLAIN = (0o1, 0o3, 0o4, 0o5, 0o6)

@@ -8,8 +8,8 @@ from __future__ import annotations
 
 from typing import NamedTuple, Union
 
-from ..device import EMPTY, INACTIVE, NOTHING, Answer, Chain, Device, Event, full
-from ..text_files import bytes_of
+from ..run.device import EMPTY, INACTIVE, NOTHING, Answer, Chain, Device, Event, full
+from ..shell.text_files import bytes_of
 
 READ, PUNCH, REWIND = 0o1, 0o2, 0o3  # function codes
 BYTE = 0o377

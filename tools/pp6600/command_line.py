@@ -1,7 +1,0 @@
-"""What a tool imports: how it ends, its options, and the scripts, files, octal numbers and places that it is given."""
-
-from .ending import complain, run, write, write_bytes, write_lines
-from .failure import Failure
-from .options import (
-    Parser, add_script, add_turn, arguments, cell, channel, count, octal, processor, simulator, words_after)
-from .text_files import bytes_of, read_lines, script_lines

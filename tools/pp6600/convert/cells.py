@@ -1,0 +1,25 @@
+"""Words of 12 bits, and the SET lines that load them."""
+
+import re
+
+from ..failure import Failure
+from ..run.forms import CELLS, ROW
+
+
+def in_rows(words, size=ROW):
+    return [words[at:at + size] for at in range(0, len(words), size)]
+
+
+def set_lines(processor, first, words):
+    """Returns the lines that put words of four digits into the cells from the first on; after cell 7777 comes cell 0000."""
+    if len(words) > CELLS:
+        raise Failure(f"{len(words):o} (octal) words are more than the 10000 cells of a processor")
+    return [f"SET M {processor:o} {(first + ROW * row) % CELLS:o} {' '.join(part)}"
+            for row, part in enumerate(in_rows(words))]
+
+
+def word_of(text):
+    """Returns the four digits of an octal number."""
+    if not re.fullmatch("0*[0-7]{1,4}", text):
+        raise Failure(f"{text} is no octal number to 7777")
+    return f"{int(text, 8):04o}"

@@ -1,0 +1,76 @@
+"""The cells of a processor at the end of a script, in each form that load takes, and as a deck or a panel."""
+
+from ..language.sources import add_sources, symbols_of
+from ..run.forms import COLUMNS_OF_CARD, ROW
+from ..shell.command_line import Failure, arguments, cell, processor, words_after, write_bytes, write_lines
+from ..shell.script import replayed
+from .cells import in_rows, set_lines
+
+PANEL_WORDS = 12  # decimal
+DESCRIPTION = """Writes cells A to B of processor N at the end of a script, for load: without an option rows of octal words;
+or as a deck or a panel of the simulator."""
+
+
+def packed(words):
+    """Returns bytes that hold two words in three, the upper bits first. After an odd number of words come four bits of 0."""
+    return bytes.fromhex("".join(f"{int(word, 8):03x}" for word in words) + "0" * (len(words) % 2))
+
+
+def two_bytes(words):
+    """Returns bytes that hold each word in two, the upper bits first."""
+    return b"".join(int(word, 8).to_bytes(2, "big") for word in words)
+
+
+def listing(first, words):
+    """Returns rows that begin with their addresses."""
+    return [f"{first + ROW * at:04o} {' '.join(row)}" for at, row in enumerate(in_rows(words))]
+
+
+def deck(words):
+    """Returns cards with as many words as they have columns."""
+    return map(" ".join, in_rows(words, COLUMNS_OF_CARD))
+
+
+def panel(words):
+    """Returns the words of a dead start panel, with zeros after them."""
+    if len(words) > PANEL_WORDS:
+        raise Failure(f"a panel has {PANEL_WORDS} (decimal) words, and these are {len(words)} (decimal)")
+    return words + ["0000"] * (PANEL_WORDS - len(words))
+
+
+def written(asked, number, first, words):
+    """Returns the lines of a form that is text."""
+    if asked.set:
+        return set_lines(number, first, words)
+    if asked.listing:
+        return listing(first, words)
+    return deck(words) if asked.as_deck else panel(words) if asked.as_panel else map(" ".join, in_rows(words))
+
+
+def main():
+    parser = arguments(DESCRIPTION, "[OPTION ..] N A B [SCRIPT]")
+    kinds = parser.add_mutually_exclusive_group()
+    kinds.add_argument("--packed", action="store_true", help="binary: two words in three bytes, the upper bits first")
+    kinds.add_argument("--two-bytes", action="store_true", help="binary: each word in two bytes, the upper bits first")
+    kinds.add_argument("--listing", action="store_true", help="rows that begin with their addresses")
+    kinds.add_argument("--as-deck", action="store_true", help="cards, a word a column, as the simulator's --deck takes them")
+    kinds.add_argument("--as-panel", action="store_true", help="the words of a panel, as the simulator's --panel takes them")
+    kinds.add_argument("--set", action="store_true", help="SET lines for processor N")
+    add_sources(parser)
+    parser.add_argument("words", nargs="*", metavar="N A B SCRIPT", help="octal; without a script, standard input is it")
+    asked = parser.parse()
+    if len(asked.words) < 3:
+        raise Failure("give a processor, its first and its last cell, as save 0 100 177")
+    (path,) = words_after(asked.words[3:], 1, "give a processor, two cells, one script")
+    number, first, last = processor(asked.words[0]), cell(asked.words[1]), cell(asked.words[2])
+    if last < first:
+        raise Failure(f"cell {last:o} is before cell {first:o}")
+    run, script = replayed(asked, symbols_of(asked), path)
+    run.goto(run.tape.end)
+    words = run.cells(number, first, last)
+    run.end()
+    if asked.packed or asked.two_bytes:
+        write_bytes(packed(words) if asked.packed else two_bytes(words))
+    else:
+        write_lines(written(asked, number, first, words))
+    return script.status()

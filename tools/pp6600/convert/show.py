@@ -1,0 +1,29 @@
+"""Lines with their answers, as a session is shown."""
+
+from ..language.sources import add_sources, symbols_of
+from ..run.simulator import Simulator
+from ..shell.command_line import add_script, add_turn, arguments, script_lines, simulator
+from ..shell.script import performed
+from ..shell.shown import show_lines
+
+DESCRIPTION = """Shows each line of a script after '> ', and below it the answer. The exit status is 0 if no line was refused, else
+1. With --turn N it shows the lines that lead to turn N: those of the actions that are in effect at the end of the script, up to
+there, with the last STEP cut short. At a terminal a line that is refused has the reason below its answer. A DUMP CR of the tool's
+own is written first and after each DUMP, and once something is watched, after each STEP."""
+
+
+def main():
+    parser = arguments(DESCRIPTION)
+    parser.add_argument("--stop", action="store_true", help="stop at the first line that is refused")
+    add_turn(parser)
+    add_sources(parser)
+    add_script(parser)
+    asked = parser.parse()
+    words = simulator(asked)
+    lines, status = symbols_of(asked).loading(script_lines(asked.script)), 0
+    if asked.turn is not None:
+        script = performed(words, lines)
+        lines, status = script.tape.lines(0, script.tape.after_turn(asked.turn)), script.status()
+    run = Simulator(words)
+    status |= show_lines(run, lines, asked.stop)
+    return max(run.end(), status)

@@ -1,0 +1,1 @@
+"""What simulates: which program is run, and the simulator in plain Python."""

@@ -1,0 +1,69 @@
+"""Which engine a tool runs on: the proved library, or the simulator in plain Python where there is none for the machine."""
+
+from __future__ import annotations
+
+import functools
+import os
+import platform
+import sys
+from typing import Optional, Sequence
+
+from ..failure import Failure
+from .choice import HOME, THIS_IS
+from .interface import Engine
+from .library_engine import LibraryEngine, library_of
+from .plain_engine import PlainEngine
+
+PLAIN = "plain"  # names the simulator in plain Python
+# The library for each machine.
+LIBRARIES = {("Linux", "x86_64"): "libpp6600.so", ("Linux", "aarch64"): "libpp6600-aarch64.so", ("Windows", "AMD64"): "pp6600.dll"}
+SUFFIXES = (".so", ".dll", ".dylib")
+
+
+def default_engine() -> str:
+    """Returns the engine that is used if none is named."""
+    return os.environ.get("PP6600") or os.path.join(HOME, "pp6600")
+
+
+def engine_of(name: str, words: Sequence[str]) -> Engine:
+    """Begins a session on an engine, which is named by its library, or as plain, or by the program pp6600, which has its library beside
+    it; the variable PP6600_ENGINE may name another for that. The words are the options of the program."""
+    if os.path.basename(name) == "pp6600":
+        name = os.environ.get("PP6600_ENGINE") or name
+    path = None if name == PLAIN else library_named(name)
+    if path is None:
+        return PlainEngine(words)
+    return LibraryEngine(path, words)
+
+
+@functools.lru_cache(maxsize=None)
+def library_named(name: str) -> Optional[str]:
+    """Returns the path of the library that a name means; None where it is the simulator in plain Python."""
+    if name.endswith(SUFFIXES):
+        return name
+    folder, program = os.path.split(os.path.abspath(name))
+    is_own = os.path.join(folder, program) == os.path.join(HOME, "pp6600")
+    if program.startswith("pp6600-python"):
+        return None
+    library = LIBRARIES.get((platform.system(), platform.machine()), "")
+    if not is_own and not os.path.exists(name):
+        raise Failure(f"{name} is not the simulator: there is no {library or 'library'} beside it")
+    led_to = os.path.dirname(os.path.realpath(name))  # by links
+    for place in (folder, os.path.join(folder, "dist"), os.path.join(folder, "lib"), led_to):
+        path = os.path.join(place, library)
+        if library and os.path.exists(path) and loads(path):
+            return path
+    if not is_own:
+        raise Failure(f"{name} is not the simulator: there is no {library or 'library'} beside it")
+    if sys.stderr is not None:
+        print(f"pp6600: there is no library of the proved program for this machine; {THIS_IS}", file=sys.stderr, flush=True)
+    return None
+
+
+def loads(path: str) -> bool:
+    """Returns whether a library can be used on this machine."""
+    try:
+        library_of(path)
+    except Failure:
+        return False
+    return True

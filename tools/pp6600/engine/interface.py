@@ -1,0 +1,80 @@
+"""What simulates, as the tools ask it: a session of the machine, by eight calls. Two engines have them, the proved library and the simulator
+in plain Python."""
+
+from __future__ import annotations
+
+from array import array
+from typing import List, NamedTuple, Protocol, Sequence, Tuple
+
+from ..failure import Failure
+
+# The places in the flat order of the engines: a range of them begins at each of these numbers.
+CELLS, A, P, Q, PHASE, STATES, REGISTERS, CLOCK = 0, 40960, 40970, 40980, 40990, 41000, 41012, 41024
+FRAME, CARD, PAPER_LENGTH, PAPER_COLUMN, PAPER, SLOT, WATCHES, CENTRAL = 41025, 41041, 41044, 41045, 41047, 106583, 106584, 106592
+
+
+class Rejection(Failure):
+    """The options or the files of a machine are wrong. It has the line that the program writes then, and its exit status."""
+
+    def __init__(self, text: str, status: int) -> None:
+        super().__init__(text)
+        self.text, self.status = text, status
+
+
+class Counts(NamedTuple):
+    """How many actions are kept and ahead, and how many are kept at most."""
+
+    kept: int
+    ahead: int
+    capacity: int
+
+
+class Records(NamedTuple):
+    """Turns one after the other, with the numbers that they overwrote."""
+
+    counts: Sequence[int]  # of each turn how many numbers it overwrote
+    olds: bytes  # of all turns the places and the numbers, in turn, eight bytes each; where a turn has one twice, the first counts
+    is_watched: bool  # whether the last turn changed a watched number
+
+    @property
+    def places(self) -> Sequence[int]:
+        return array("Q", self.olds)[::2]
+
+    @property
+    def numbers(self) -> Sequence[int]:
+        return array("Q", self.olds)[1::2]
+
+
+class Engine(Protocol):
+    """A session of the machine. Numbers of places are those of the flat order; `most` is at least 1."""
+
+    is_proved: bool
+
+    def answer(self, text: str) -> List[str]:
+        """Performs lines of the console, and returns the lines of their answers."""
+
+    def numbers(self, first: int, count: int) -> Sequence[int]:
+        """Returns the numbers at places one after the other."""
+
+    def counts(self) -> Counts: ...
+
+    def turns(self, most: int) -> Records:
+        """Makes turns, at most so many. It ends at a change of a watched number."""
+
+    def looks(self, places: Sequence[int], most: int) -> Tuple[Sequence[int], int]:
+        """Makes turns as `turns` does. Returns the numbers at some places (1 to 16) after each of them, and how many turns they are."""
+
+    def back(self, count: int) -> None: ...
+
+    def forward(self, count: int) -> None: ...
+
+    def close(self) -> None: ...
+
+
+def place_number(kind: str, numbers: Sequence[int]) -> int:
+    """Returns the number of a place in the flat order, by its kind and numbers on the console. S is the state of a channel."""
+    if kind == "M":
+        return CELLS + 0o10000 * numbers[0] + numbers[1]
+    if kind == "S":
+        return STATES + numbers[0]
+    return {"A": A, "P": P, "Q": Q, "PHASE": PHASE, "C": CENTRAL, "XP": FRAME, "LP": PAPER, "H": REGISTERS}[kind] + numbers[0]

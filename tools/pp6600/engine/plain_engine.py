@@ -1,0 +1,107 @@
+"""The engine in plain Python: the simulator of `plain`, in this process. It is not proved."""
+
+from __future__ import annotations
+
+import bisect
+from array import array
+from typing import List, Sequence, Tuple
+
+from . import interface as flat
+from .interface import Counts, Records, Rejection
+from .plain import places
+from .plain.console import Rejected
+from .plain.machine import Record
+from .plain.program import console_of, read_words
+
+# The places of the flat order by ranges: the first one, and the place of the simulator that it is.
+RANGES: Sequence[Tuple[int, int]] = (
+    (flat.CELLS, places.M), (flat.A, places.A), (flat.P, places.P), (flat.Q, places.Q), (flat.PHASE, places.PHASE),
+    (flat.STATES, places.STATE), (flat.REGISTERS, places.H), (flat.FRAME, places.FRAME), (flat.CARD, places.CARD),
+    (flat.PAPER_LENGTH, places.PAPER_LENGTH), (flat.PAPER, places.PAPER), (flat.SLOT, places.SLOT), (flat.CENTRAL, places.C))
+FIRST = [first for first, _ in RANGES]
+OWN = sorted((own, first) for first, own in RANGES)
+FIRST_OWN = [own for own, _ in OWN]
+
+
+def own_place(place: int) -> int:
+    """Returns the simulator's place of a place in the flat order."""
+    first, own = RANGES[bisect.bisect_right(FIRST, place) - 1]
+    return own + place - first
+
+
+def flat_place(place: int) -> int:
+    """Returns the place in the flat order of a place of the simulator."""
+    own, first = OWN[bisect.bisect_right(FIRST_OWN, place) - 1]
+    return first + place - own
+
+
+class PlainEngine:
+    """A session of the simulator in plain Python."""
+
+    is_proved = False
+
+    def __init__(self, words: Sequence[str]) -> None:
+        """The words are the options of the program."""
+        try:
+            self.console = console_of(read_words(words))
+        except Rejected as rejected:
+            status, text = rejected.args
+            raise Rejection(f"pp6600: {text}", status) from None
+        self.machine = self.console.machine
+
+    def answer(self, text: str) -> List[str]:
+        lines = text.encode("latin-1").split(b"\n")
+        return [answer for line in (lines if lines[-1] else lines[:-1]) for answer in self.console.answer(line.removesuffix(b"\r"))]
+
+    def numbers(self, first: int, count: int) -> Sequence[int]:
+        found: List[int] = []
+        while len(found) < count:
+            at = first + len(found)
+            after = bisect.bisect_right(FIRST, at)
+            most = min(count - len(found), FIRST[after] - at if after < len(FIRST) else count)
+            own = own_place(at)
+            found += self.machine.numbers[own:own + most] if at != flat.WATCHES else [0] * most
+        return found
+
+    def counts(self) -> Counts:
+        return Counts(len(self.machine.history), len(self.machine.ahead), self.machine.history.maxlen or 0)
+
+    def turns(self, most: int) -> Records:
+        made: List[Record] = []
+        watches = self.console.watches()
+        is_watched = False
+        while len(made) < most and not is_watched:
+            record = self.machine.turn()
+            made.append(record)
+            is_watched = bool(watches) and self.console.hit(record, watches) is not None
+        return records_of(made, is_watched)
+
+    def looks(self, looked: Sequence[int], most: int) -> Tuple[Sequence[int], int]:
+        own = [own_place(place) for place in looked]
+        machine, watches, turns = self.machine, self.console.watches(), 0
+        numbers = machine.numbers
+        found = array("Q")
+        while turns < most:
+            record = machine.turn()
+            turns += 1
+            found.extend([numbers[place] for place in own])
+            if watches and self.console.hit(record, watches):
+                break
+        return found, turns
+
+    def back(self, count: int) -> None:
+        for _ in range(count):
+            self.machine.back()
+
+    def forward(self, count: int) -> None:
+        for _ in range(count):
+            self.machine.forward()
+
+    def close(self) -> None:
+        """Nothing is to be given back."""
+
+
+def records_of(made: Sequence[Record], is_watched: bool) -> Records:
+    """Returns the records of turns."""
+    olds = array("Q", [one for record in made for place, number in record.items() for one in (flat_place(place), number)])
+    return Records(array("I", map(len, made)), olds.tobytes(), is_watched)

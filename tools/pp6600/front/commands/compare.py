@@ -1,0 +1,189 @@
+"""Two runs: the first turn after which the machines differ."""
+
+from ...engine.interface import P
+from ...language.listing import AllSymbols
+from ...language.sources import add_files, add_symbols, symbols_from, symbols_of
+from ...language.versions import Versions
+from ...run.forms import PROCESSORS
+from ...run.search import Looks, halve
+from ...run.simulator import Replay
+from ...run.state import central_of, differences, state_of
+from ...run.tape import STEP
+from ...shell.command_line import Failure, arguments, processor, script_lines, simulator, words_after, write
+from ...shell.script import performed
+
+DESCRIPTION = """Compares two runs: those of two scripts, or of one script with another deck or panel. Shows the first turn, octal from
+1, after which the machines differ, the places with both numbers, and the processor and the instruction of that turn in each run.
+Numbers that differ before the first turn are shown first, and compared no more. It looks at some turns and then halves the
+distance, so machines that differ for a while and are then the same again may be missed. If the second run has labels of its own, as two
+versions of a program have, the cells of that processor are compared by their labels, and so are addresses in cells and registers. With
+--path it compares for each processor the addresses to which its turns led, by their labels too, and shows the turn in which the ways
+part. The exit status is 0 if there is no difference, else 1."""
+
+SAMPLES = 0o20  # turns that are looked at first
+MOST_SHOWN = 0o20  # of the places that differ
+
+
+class Side:
+    """One of the two runs."""
+
+    def __init__(self, words, lines, symbols=AllSymbols()):
+        self.symbols = symbols
+        script = performed(words, symbols.loading(lines))
+        self.run, self.status = Replay(words, script.tape), script.status
+        self.turns = self.run.tape.turns
+
+    def at(self, turn, has_settings=True):
+        """Goes to after a turn, with the settings before the next one or without them. Returns the run."""
+        tape = self.run.tape
+        self.run.goto(tape.after_turn(turn) if has_settings else tape.at_turn(turn))
+        return self.run
+
+    def maker(self, turn):
+        """Returns in words what the run did in a turn."""
+        run = self.at(turn - 1)
+        slot, maker = run.next_slot, run.processor(run.next_slot)
+        address = self.symbols.beside(slot, maker.registers["P"])
+        return f"TURN {turn:o} PP {slot:02o} P {address} {maker.text}{self.symbols.line_at_p(slot, maker)}"
+
+    def path(self, number):
+        """Yields the turns of a processor, each with the address to which it led, by its label if one is near."""
+        run, tape = self.run, self.run.tape
+        for start, end, action in zip(tape.starts, tape.starts[1:], tape.runs):
+            if action.line != STEP:
+                continue
+            run.goto(start)
+            while run.position < end:
+                looks = Looks(run, [P + number], min(end - run.position, run.history.room))
+                first = tape.turn(looks.position(looks.first_own(number))) + 1
+                for at, address in enumerate(looks.own(number, P + number)):
+                    yield first + PROCESSORS * at, self.symbols.name(number, f"{address:04o}") or f"{address:04o}"
+
+
+class Comparison:
+    """Two runs, the programs of which they have two versions, and the places that are compared no more."""
+
+    def __init__(self, sides, numbers=()):
+        """The processors with these numbers have labels in each run."""
+        self.sides = sides
+        self.versions = [Versions(number, [side.symbols.of[number] for side in sides]) for number in numbers]
+        self.turns = min(side.turns for side in sides)
+        self.known = set()
+
+    def after(self, turn, with_central=True, has_settings=True):
+        """Returns the differences after a turn, but those at known places."""
+        runs = [side.at(turn, has_settings) for side in self.sides]
+        states = [state_of(run) for run in runs]
+        found = list(states[0].differences(states[1]))
+        for program in self.versions:
+            found = [*program.differences(states), *(difference for difference in found if not program.replaces(difference))]
+        found += differences(*map(central_of, runs)) if with_central else ()
+        return [difference for difference in found if difference[0] not in self.known]
+
+    def first_after(self, same, end, with_central):
+        """Returns the first turn after which they differ, of those after a turn where they are the same; or None."""
+        turns = [same + (end - same) * number // SAMPLES for number in range(1, SAMPLES + 1)]
+        for turn in dict.fromkeys(turn for turn in turns if turn > same):
+            if self.after(turn, with_central):
+                return halve(same, turn, lambda middle: bool(self.after(middle, with_central)))
+            same = turn
+        return None
+
+    def first(self):
+        """Returns the first turn after which they differ, or None. Central memory is long, so it is looked at when the rest
+        has said where."""
+        turn = self.first_after(0, self.turns, False)
+        end = self.turns if turn is None else turn - 1
+        return self.first_after(0, end, True) or turn if end and self.after(end) else turn
+
+
+def parting(sides, number):
+    """Returns the turn of each side in which the ways of a processor part; None if they do not, as far as both go."""
+    pairs = zip(*(side.path(number) for side in sides))
+    return next(([turn for turn, _ in pair] for pair in pairs if len({address for _, address in pair}) > 1), None)
+
+
+def compare_paths(sides):
+    """Yields for each processor whose ways part the turns in which they do, the first one first."""
+    found = {number: turns for number in range(PROCESSORS) if (turns := parting(sides, number))}
+    for number, turns in sorted(found.items(), key=lambda one: (one[1], one[0])):
+        yield f"THE WAYS OF PP {number:02o} PART"
+        yield from (side.maker(turn) for side, turn in zip(sides, turns))
+
+
+def lines_of(found):
+    for place, one, other in found[:MOST_SHOWN]:
+        yield f"{place} {one} / {other}"
+    if len(found) > MOST_SHOWN:
+        yield f"AND {len(found) - MOST_SHOWN:o} MORE"
+
+
+def compare(comparison):
+    """Yields the lines that say how two runs differ."""
+    found = comparison.after(0)
+    if found:
+        yield "BEFORE TURN 1"
+        yield from lines_of(found)
+        comparison.known = {place for place, _, _ in found}
+    turn = comparison.first()
+    if turn:
+        yield f"AFTER TURN {turn:o}"
+        yield from lines_of(comparison.after(turn))
+        if comparison.after(turn, has_settings=False):
+            yield from (side.maker(turn) for side in comparison.sides)
+        else:
+            yield "BY THE SETTINGS AFTER THAT TURN"
+    if len({side.turns for side in comparison.sides}) > 1:
+        yield "THE RUNS HAVE " + " AND ".join(f"{side.turns:o}" for side in comparison.sides) + " TURNS"
+
+
+def other_words(asked):
+    """Returns the words of the second simulator."""
+    for name in ("deck", "panel"):
+        other = getattr(asked, f"other_{name}")
+        setattr(asked, name, getattr(asked, name) if other is None else other)
+    return simulator(asked)
+
+
+def of_its_own(asked):
+    """Returns the processors of which the second run has symbols or a source of its own."""
+    return {processor(number) for number, _ in (*asked.other_symbols, *asked.other_source)}
+
+
+def other_symbols(asked):
+    """Returns the symbols and sources of the second run: its own, and for the other processors those of the first one."""
+    own = of_its_own(asked)
+    listings, sources = ([one for one in pairs if processor(one[0]) not in own] for pairs in (asked.symbols, asked.source))
+    return symbols_from([*listings, *asked.other_symbols], [*sources, *asked.other_source], asked.text)
+
+
+def main():
+    parser = arguments(DESCRIPTION, "[OPTION ..] [SCRIPT [SCRIPT]]")
+    parser.add_argument("--other-deck", metavar="F", help="the deck of the second run")
+    parser.add_argument("--other-panel", metavar="F", help="the panel of the second run")
+    parser.add_argument("--path", action="store_true",
+                        help="compare the way of each processor from address to address alone, by labels where there are some")
+    add_symbols(parser)
+    add_files(parser, "--other-symbols", "the labels of the second run, if it has others")
+    add_files(parser, "--other-source", "the source of the second run, if it has another")
+    parser.add_argument("scripts", nargs="*", metavar="SCRIPT",
+                        help="with another deck or panel one script is enough, and without it standard input is the script")
+    asked = parser.parse()
+    has_other = asked.other_deck is not None or asked.other_panel is not None or bool(asked.other_source)
+    words_after(asked.scripts, 2, "give two scripts")
+    if len(asked.scripts) < 2 and not has_other:
+        raise Failure("give two scripts, or one script with --other-deck or --other-panel")
+    words, symbols = simulator(asked), symbols_of(asked)
+    scripts = [script_lines(path) for path in asked.scripts or [None]]
+    sides = [Side(words, scripts[0], symbols), Side(other_words(asked), scripts[-1], other_symbols(asked))]
+    status = 0
+    versions = sorted(of_its_own(asked).intersection(symbols.of))
+    for line in compare_paths(sides) if asked.path else compare(Comparison(sides, versions)):
+        write(line, at_once=True)
+        status = 1
+    for side in sides:
+        side.run.close()
+    if not status:
+        write(f"NO DIFFERENCE{' OF THE WAYS' if asked.path else ''} IN {min(side.turns for side in sides):o} TURNS")
+    statuses = [side.status() for side in (sides if len(scripts) > 1 else sides[:1])]  # of one script the lines are said once
+    return max(status, *statuses)

@@ -1,0 +1,80 @@
+"""tools/origin."""
+
+import sys
+import time
+
+from ...language.listing import AllSymbols
+from ...language.sources import add_symbols, symbols_of
+from ...run.conditions import first_place
+from ...run.origin_text import MOST_STEPS, origin_rows
+from ...run.simulator import Replay
+from ...run.tape import numbered
+from ...shell.command_line import Failure, arguments, count, octal, script_lines, simulator, words_after, write_lines
+from ...shell.script import performed
+
+DESCRIPTION = """Shows where the number at a place (M 0 106, A 0, C 1000, H 12 ..; XP 0: a word of the frame; LP 7: a symbol of the
+paper) came from at the end of a script: the last write, in which turn, by which instruction, and from what; then the same of
+each source, back to a word of the script, a column of a card, a word of the panel, a constant of an instruction or the start. A
+number that was stored again counts as written. FROM a place: the number was moved. OF places: it was computed from these. What
+the script took back and did not perform again counts for nothing."""
+
+PATIENCE = 1  # seconds without progress on the screen
+
+
+class Progress:
+    """Shows at a terminal on standard error how far back the search is."""
+
+    def __init__(self, tape):
+        self.tape, self.began, self.is_shown = tape, time.monotonic(), False
+
+    def show(self, position):
+        if sys.stderr is not None and sys.stderr.isatty() and time.monotonic() > self.began + PATIENCE:
+            self.is_shown = True
+            sys.stderr.write(f"\rat turn {self.tape.turn(position):o} of {self.tape.turns:o}\x1b[K")
+            sys.stderr.flush()
+
+    def end(self):
+        if self.is_shown:
+            sys.stderr.write("\r\x1b[K")
+            sys.stderr.flush()
+
+
+def place_of(words, symbols):
+    """Returns the place that words begin with, and the words after it."""
+    place, rest = first_place(words, symbols, ("XP", "LP"))
+    if not place.exists:
+        raise Failure(f"there is no {place.short}")
+    return place, rest
+
+
+def origin_lines(words, tape, place, turn=None, most_steps=MOST_STEPS, with_addresses=False, symbols=AllSymbols()):
+    """Returns the lines of the origin of the number at a place after so many turns of a tape, or at its end. The words are the program
+    and its options."""
+    run = Replay(words, tape)
+    if place.kind == "C" and place.numbers[0] >= run.central_size:
+        raise Failure(f"there is no {place.short}: central memory has {run.central_size:o} words (octal)")
+    position, progress = tape.end if turn is None else tape.after_turn(turn), Progress(tape)
+    rows = origin_rows(run, place, position, most_steps, with_addresses, progress.show, symbols=symbols)
+    run.end()
+    progress.end()
+    return [line for _, line in rows]
+
+
+def main():
+    parser = arguments(DESCRIPTION, "[OPTION ..] PLACE [SCRIPT]")
+    parser.add_argument("--turn", "--at", metavar="N", type=octal,
+                        help="as it is after turn N, octal, with the settings before the next one")
+    parser.add_argument("--depth", metavar="N", type=count, default=MOST_STEPS,
+                        help="follow the sources until N steps by processors are found, octal (40)")
+    parser.add_argument("--all", action="store_true", help="follow all sources to their ends")
+    parser.add_argument("--addresses", action="store_true", help="follow also the cells and registers that addresses came from")
+    add_symbols(parser)
+    parser.add_argument("words", nargs="*", metavar="PLACE [SCRIPT]", help="without a script, standard input is it")
+    asked = parser.parse()
+    words, symbols = simulator(asked), symbols_of(asked)
+    place, rest = place_of(asked.words, symbols)
+    (script,) = words_after(rest, 1, "give one place, one script")
+    done = performed(words, numbered(symbols.loading(script_lines(script))))
+    most_steps = None if asked.all else asked.depth
+    write_lines(origin_lines(words, done.tape, place, asked.turn, most_steps, asked.addresses, symbols))
+    return done.status()

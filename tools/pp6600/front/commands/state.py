@@ -1,0 +1,91 @@
+"""The whole machine on a screen of 80 columns and 24 lines (decimal)."""
+
+from ...language.calls import calls, sentence
+from ...language.sources import add_symbols, symbols_of
+from ...run.forms import PROCESSORS, REGISTERS
+from ...run.simulator import Replay, Simulator
+from ...run.tape import counted
+from ...run.turn import states_of
+from ...shell.command_line import add_script, add_turn, arguments, script_lines, simulator, write_lines
+from ...shell.script import Refusals, replayed
+
+DESCRIPTION = """Shows the machine at the end of a script, or after a turn, on one screen: the ten processors with the two words
+from P on, the name of the instruction, and WAITS if it waits as the channels are; the channels and the clock beside them, the
+number of turns that were made, octal, the card reader, the printer, and the watches. A > marks the processor whose turn comes
+next. It fits a terminal of 80 columns and 24 lines (decimal). With --symbols a label is shown in the place of the words.
+With --source a line for the processor has the line of the source at P, and more lines the subroutines that it is in."""
+
+WIDTH = 11  # of two words, or a label
+LEFT = 68  # columns, to the left of the channels
+
+
+def processor_line(console, number, states, symbols):
+    """Returns the line of a processor; a > marks the one whose turn comes next."""
+    processor = console.processor(number)
+    registers = processor.registers
+    mark = ">" if int(registers["SLOT"], 8) == number else " "
+    fields = " ".join(f"{name} {registers[name]}" for name in REGISTERS)
+    waits = " WAITS" if processor.would_wait(states) else ""
+    at = symbols.name(number, registers["P"]) or f"P {' '.join(processor.words)}"
+    return f"{mark}PP {number:02o} {fields}  AT {at:{WIDTH}.{WIDTH}} {processor.name}{waits}"
+
+
+def watch_lines(dumped):
+    """Returns the lines of the watches, four a line."""
+    watches = [line.removeprefix("W ") for line in dumped]
+    rows = [", ".join(watches[at:at + 4]) for at in range(0, len(watches), 4)]
+    return [f"{'WATCHES' if number == 0 else '':7} {row}" for number, row in enumerate(rows)]
+
+
+def source_line(console, number, symbols):
+    """Returns the line of the source at P of a processor; nothing without a source."""
+    line = symbols.line_at_p(number, console.processor(number))
+    return f" PP {number:02o}{line}"[:LEFT - 1] if line else ""
+
+
+def call_lines(run, symbols):
+    """Returns a line for each subroutine of a source that its processor is in, the innermost first."""
+    again = Replay(run.words, run.history.in_effect())
+    lines = [f" PP {number:02o}  {sentence(again, number, call, symbols)}"
+             for number, source in symbols.sources() for call in calls(again, number, source, again.tape.end)]
+    again.close()
+    return lines
+
+
+def screen(run, symbols):
+    right = run.channels()
+    left = [processor_line(run, number, states_of(right), symbols) for number in range(PROCESSORS)]
+    left += [f" TURN {run.turn:o}", *filter(None, (source_line(run, number, symbols) for number in symbols.of))]
+    beside = [*left[:len(right)], *[""] * (len(right) - len(left))]
+    lines = [f"{line:{LEFT}}{channel}".rstrip() for line, channel in zip(beside, right)]
+    lines += [run.reader(), run.printer()[0]]
+    return lines + watch_lines(run.demand("DUMP W")) + left[len(right):] + (call_lines(run, symbols) if symbols.sources() else [])
+
+
+def run_to_end(asked, symbols):
+    """Returns a run that has performed a script, and its refused lines."""
+    lines = symbols.loading(script_lines(asked.script))
+    run, refusals = Simulator(simulator(asked)), Refusals()
+    for number, line in counted(lines):
+        refusals.note(number, line, run.act(line))
+    return run, refusals
+
+
+def run_to_turn(asked, symbols):
+    """Returns a run that has performed the actions of a script up to a turn, and its refused lines. Nothing is watched."""
+    run, script = replayed(asked, symbols, asked.script, asked.turn)
+    run.goto(run.tape.end)
+    return run, script.refusals
+
+
+def main():
+    parser = arguments(DESCRIPTION)
+    add_turn(parser)
+    add_symbols(parser)
+    add_script(parser)
+    asked = parser.parse()
+    symbols = symbols_of(asked)
+    run, refusals = (run_to_end if asked.turn is None else run_to_turn)(asked, symbols)
+    write_lines(screen(run, symbols))
+    run.end()
+    return refusals.status()

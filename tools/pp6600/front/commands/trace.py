@@ -1,0 +1,171 @@
+"""A run turn by turn."""
+
+from itertools import chain, takewhile
+
+from ...engine import interface as flat
+from ...language.listing import AllSymbols
+from ...language.sources import add_symbols, symbols_of
+from ...run.forms import CELLS, CLOCK, PROCESSORS
+from ...run.search import Looks, around, spans
+from ...run.tape import STEP
+from ...run.turn import CHANNEL_CODES, TWO_WORDS, TurnKind, kind_of_turn
+from ...shell.command_line import add_script, arguments, channel, count, processor, write_lines
+from ...shell.script import replayed
+
+DESCRIPTION = """Shows each turn of a script, as the processor stood before it: the turn, counted in octal from 1, the
+processor, P, the one or two words of the instruction, its name, A, Q and the phase; and WAITS if the turn was a wait.
+In a block transfer P is the cell of the next word, and the name is that of the transfer. Turns that the script took back and did
+not perform again are left out. With --channel it shows the turns that touched the channel: that
+completed an instruction on it, or in which it changed, by a processor, a device or the clock; a wait is not one. Its
+state and register are shown in place of Q and the phase, and WORD LOST if the turn disconnected a full channel, or WORD LEFT if
+a block of input has ended and the channel is still full. With --symbols an address has its label after it, and the listing's own
+text is at the end of the line."""
+BLOCK_BEGINS = (0o71, 0o73)
+
+
+class Tracer:
+    """Shows turns of a run."""
+
+    def __init__(self, run, channel=None, symbols=AllSymbols()):
+        self.run, self.channel, self.symbols = run, channel, symbols
+
+    def line(self, position):
+        """Returns the line of the turn after a position; None if it did not touch the channel, if one is asked for."""
+        was = self.shown_at(position)
+        _, made, _ = around(self.run, position)
+        before, after = made.processor, made.after
+        waited = kind_of_turn(before, after) is TurnKind.WAITED
+        text = f"TURN {self.run.tape.turn(position) + 1:o} PP {made.slot:02o} {self.instruction(made.slot, before)}"
+        wait, listed = " WAITS" if waited else "", self.listed(made.slot, before)
+        if self.channel is None:
+            return f"{text} Q {before.registers['Q']} PHASE {before.registers['PHASE']}{wait}{listed}"
+        now = self.shown_at(position + 1)
+        touched = before.uses(self.channel) and not waited or was != now
+        step = f"H {self.channel:02o} {was if was == now else f'{was} -> {now}'}"
+        return f"{text}{wait} {step}{fate_of_word(before, after, was, now)}{listed}" if touched else None
+
+    def shown_at(self, position):
+        """Returns the state and the register of the channel at a position, if one is asked for."""
+        if self.channel is None:
+            return ""
+        self.run.goto(position)
+        return self.run.channel(self.channel)
+
+    def instruction(self, slot, processor):
+        """Returns the fields of a processor before its turn that say what it is about to do."""
+        shown = processor.registers
+        has_second = processor.code in TWO_WORDS and not processor.phase
+        second = processor.words[1] if has_second else "    "
+        address = self.symbols.beside(slot, shown["P"])
+        return f"P {address} {processor.words[0]} {second} {processor.name} A {shown['A']}"
+
+    def listed(self, slot, processor):
+        """Returns the text of the listing beside the instruction, or the line of the source."""
+        line = self.symbols.line_at_p(slot, processor)
+        text = "" if line or processor.phase else self.symbols.text(slot, processor.registers["P"], processor.words[0])
+        return f"  {text}" if text else line
+
+
+def fate_of_word(processor, after, was, now):
+    """Returns what the turn did to a word on its channel that nobody has read: DCN loses it, the end of an input leaves it."""
+    if processor.name == "DCN" and was[0] == "F" and now[0] == "I":
+        return " WORD LOST"
+    has_ended = processor.phase and int(after["PHASE"], 8) == 0
+    is_left = has_ended and processor.name == "IAM" and now[0] == "F" and processor.channel != CLOCK
+    return " WORD LEFT" if is_left else ""
+
+
+class Touches:
+    """The turns of some processors that may have touched a channel."""
+
+    def __init__(self, run, channel, processors):
+        self.run, self.channel, self.processors = run, channel, processors
+        self.of_channel = [flat.REGISTERS + channel] + [flat.STATES + channel] * (channel < CLOCK)
+
+    def between(self, first, last):
+        """Yields the position before each of those after so many turns, up to a later one. A processor uses the channel by an instruction
+        that was in a cell at its P, or in a block transfer."""
+        run, tape = self.run, self.run.tape
+        run.goto(tape.after_turn(first))
+        while run.turn < last:
+            end = min(tape.starts[tape.run_after(run.position) + 1], tape.at_turn(last))
+            while run.position < end:
+                yield from self.in_turns(min(end - run.position, run.history.room))
+            run.goto(tape.after_turn(run.turn))
+
+    def in_turns(self, most):
+        """Makes turns, at most so many, and yields the position before each of those that may have touched the channel."""
+        run = self.run
+        before = {place: run.engine.numbers(place, 1)[0] for place in (*self.of_channel, *range(flat.P, flat.P + PROCESSORS))}
+        phases = run.engine.numbers(flat.PHASE, PROCESSORS)
+        looks = Looks(run, list(before), most)
+        here, found = run.position, set()
+        for place in self.of_channel:
+            values = looks.columns[place]
+            if {before[place], *values} != {before[place]}:
+                found.update(at for at, (was, now) in enumerate(zip(chain((before[place],), values), values)) if was != now)
+        written = looks.written()
+        for number in self.processors:
+            p = [before[flat.P + number], *looks.own(number, flat.P + number)]
+            found.update(self.of_processor(number, p, phases[number], written, looks.first_own(number)))
+        yield from (looks.position(at) for at in sorted(found) if (looks.slot + at) % PROCESSORS in self.processors)
+        run.goto(here)
+
+    def of_processor(self, number, p, phase, written, first):
+        """Returns the turns of a processor that may use the channel. Its P before each of its turns is known, and which cells were written
+        in these turns."""
+        memory = flat.CELLS + CELLS * number
+        cells = {one: memory + one for one in set(p)}
+        first_cell, last_cell = min(cells), max(cells)
+        numbers = self.run.engine.numbers(memory + first_cell, last_cell - first_cell + 1)
+        words = {one: numbers[one - first_cell] for one, cell in cells.items() if cell not in written}
+        users = {one for one, word in words.items() if word & 0o77 == self.channel and word >> 6 in CHANNEL_CODES}
+        changed = cells.keys() - words.keys()
+        if changed or phase & 0o77 == self.channel and phase or any(words[one] >> 6 in BLOCK_BEGINS for one in users):
+            users = set(p)
+        return [first + PROCESSORS * at for at, one in enumerate(p[:-1]) if one in users] if users else []
+
+
+def positions_of(asked, run, last):
+    """Yields the positions before the turns that a command line asks for, up to a last turn; of a channel all that may touch it."""
+    tape, processors, first = run.tape, asked.processor or range(PROCESSORS), asked.first - 1
+    if asked.channel is not None:
+        return Touches(run, asked.channel, processors).between(min(first, last), last)
+    if asked.last is not None:
+        first = max(last - asked.last * PROCESSORS, first)
+    end = tape.at_turn(last)
+    found = (position for position, line in takewhile(lambda stop: stop[0] < end, tape.stops(first, processors)) if line == STEP)
+    return found if asked.last is None else list(found)[-asked.last:]
+
+
+def last_lines(asked, run, tracer, last):
+    """Returns the lines of the last turns that touched the channel, as many as the command line asks for."""
+    touches, found = Touches(run, asked.channel, asked.processor or range(PROCESSORS)), []
+    for start, end in spans(last, min(asked.first - 1, last)):
+        found[:0] = filter(None, map(tracer.line, list(touches.between(start, end))))
+        if len(found) >= asked.last:
+            break
+    return found[-asked.last:]
+
+
+def main():
+    parser = arguments(DESCRIPTION)
+    parser.add_argument("--processor", metavar="N", type=processor, action="append",
+                        help="this one alone, octal; may be given several times")
+    parser.add_argument("--channel", metavar="H", type=channel, help="the turns that touched this channel, octal")
+    parser.add_argument("--last", metavar="COUNT", type=count, help="the last of these turns alone, octal")
+    parser.add_argument("--from", metavar="N", type=count, dest="first", default=1, help="the turns from N on, octal")
+    parser.add_argument("--to", metavar="N", type=count, dest="to", help="the turns up to N, octal")
+    add_symbols(parser)
+    add_script(parser)
+    asked = parser.parse()
+    symbols = symbols_of(asked)
+    run, script = replayed(asked, symbols, asked.script)
+    last = run.tape.turns if asked.to is None else min(asked.to, run.tape.turns)
+    tracer = Tracer(run, asked.channel, symbols)
+    if asked.channel is None or asked.last is None:
+        write_lines(filter(None, map(tracer.line, positions_of(asked, run, last))))
+    else:
+        write_lines(last_lines(asked, run, tracer, last))
+    run.close()
+    return script.status()

@@ -1,0 +1,63 @@
+"""The turns at which a condition comes to hold."""
+
+from itertools import islice
+
+from ...language.listing import AllSymbols
+from ...language.sources import add_symbols, symbols_of
+from ...run import conditions
+from ...run.moments import text_of
+from ...run.search import Search, last_moments
+from ...shell.command_line import Failure, arguments, count, words_after, write
+from ...shell.script import replayed
+
+DESCRIPTION = """Shows the first turn at whose end a condition holds and at whose beginning it did not. A condition is PLACE = 105,
+also != < > <= >= (in quotation marks, for the shell), PLACE outside 100 117 or inside, PLACE changes, M 0 100 117 changes,
+H 12 is F, H 12 changes state, PP 3 waits, PP 3 in a block or not in a block, or PP 3 returns wrongly (with the labels NAMEX and
+NAME of its subroutines); conditions are joined by and. A place is
+M n a, A n, P n, Q n, C a or H c. All numbers are octal; with --symbols a label may be in the place of an address. A line has
+the turn, counted from 1, the processor whose turn it was, its P before the turn, the name of its instruction, and the numbers
+before and after. A processor waits if its latest turn was a wait. If there is no such turn, the tool writes NONE and ends with
+1."""
+
+
+def condition_and_script(words, symbols=AllSymbols()):
+    """Returns the condition and the script of a command line. The condition may be one word or several."""
+    tokens = [(token, at) for at, word in enumerate(words) for token in word.split() or [word]]
+    condition, rest = conditions.first_of([token for token, _ in tokens], symbols)
+    if rest:
+        at = tokens[-len(rest)][1]
+        if len(rest) < len(tokens) and tokens[-len(rest) - 1][1] == at:
+            raise Failure(f"{words[at]!r} does not end where the condition does")
+        words = words[at:]
+    return condition, words_after(words if rest else [], 1, "give one condition, one script")[0]
+
+
+def turns_found(asked, condition, run):
+    first = asked.first - 1 if asked.first else 0
+    most = run.tape.turns if asked.all else asked.count or 1
+    if asked.last:
+        return last_moments(run, condition, most, first)
+    return islice(Search(run, condition).moments(first), most)
+
+
+def main():
+    parser = arguments(DESCRIPTION, "[OPTION ..] CONDITION [SCRIPT]")
+    parser.add_argument("--from", metavar="N", type=count, dest="first", help="search from turn N on, octal")
+    parser.add_argument("--last", action="store_true", help="search backwards from the end")
+    much = parser.add_mutually_exclusive_group()
+    much.add_argument("--all", action="store_true", help="show each turn that is found, not one alone")
+    much.add_argument("--count", metavar="K", type=count, help="show at most K turns, octal")
+    add_symbols(parser)
+    parser.add_argument("words", nargs="*", metavar="CONDITION [SCRIPT]", help="without a script, standard input is it")
+    asked = parser.parse()
+    symbols = symbols_of(asked)
+    condition, path = condition_and_script(asked.words, symbols)
+    run, script = replayed(asked, symbols, path)
+    is_found = False
+    for found in turns_found(asked, condition, run):
+        write(text_of(found, symbols), at_once=not asked.all)
+        is_found = True
+    run.close()
+    if not is_found:
+        write("NONE")
+    return script.status() or int(not is_found)

@@ -1,0 +1,219 @@
+"""The processors that wait."""
+
+from typing import NamedTuple
+
+from ...language.listing import AllSymbols
+from ...language.sources import add_symbols, symbols_of
+from ...run.conditions import Changes
+from ...run.forms import CELLS, CLOCK, MOST_WATCHES, PROCESSORS, REGISTERS, Place
+from ...run.search import Column, Condition, halve, last_moments, spans
+from ...run.simulator import Replay
+from ...run.state import central_of, state_of
+from ...run.tape import STEP
+from ...run.turn import CHANNEL_JUMPS, Turn, is_made_by
+from ...shell.command_line import add_script, add_turn, arguments, write_lines
+from ...shell.script import replayed
+
+DESCRIPTION = """Shows each processor that waits at the end of a script: the address of its instruction and its name, P,
+the channel that it waits for with its state and register, and the turn since which it waits, counted in octal from 1.
+FROM in place of SINCE: it will wait in its next turn, which has this number, if the channel is still the same. In a block
+transfer P is the cell of the next word; the address is NONE if no such instruction is where cell 0000 says, as after a
+dead start. A jump to itself is no wait, but for one that tests a channel, which GOES ROUND. FOR EVER: nothing in the machine can end the wait any more. The line below says since
+which turn the channel is as it is, and who made it so: a processor with its P and instruction, a device, a SET or a DEADSTART,
+or nobody."""
+
+JUMPS_IN = dict(zip(CHANNEL_JUMPS, ("EFX", "I", "FX", "IE")))  # the states of its channel in which AJM, IJM, FJM and EJM jump
+# After so many turns the clock is as it was, and so are processors that pass through their memories.
+CLOCK_TRIP = PROCESSORS * CELLS
+# After so many times as many also loops of most lengths are, and those of one or two rounds that count in a cell. Each is a multiple of
+# the one before.
+TRIPS = (1, 2, 2 * 9, 2 * 9 * 5, 2 * 9 * 5 * 7)
+
+
+class Waiting(NamedTuple):
+    """A processor that waits at the end of a run."""
+
+    number: int
+    processor: object  # before the turn that it would have
+    line: str  # what is written first of it
+    source: str  # the line of its source, after two blanks, if it has one
+
+    def is_in_place(self, run):
+        """Returns whether its registers and its instruction are those of the end."""
+        now, end = run.processor(self.number), self.processor
+        return all(now.registers[name] == end.registers[name] for name in REGISTERS) and now.words[0] == end.words[0]
+
+    def stays_from(self, run, turn):
+        """Returns whether it stays in its place from there to the end of the run. A phase changes alone only when a block begins, so
+        before the place is reached."""
+        tape = run.tape
+        run.goto(tape.after_turn(turn))
+        stays = self.is_in_place(run)
+        if stays:
+            run.watch([*(f"{name} {self.number:o}" for name in ("P", "A", "Q")), f"M {self.number:o} {self.processor.registers['P']}"])
+        while stays and run.position < tape.end:
+            stays = run.comes_to(tape.starts[tape.run_after(run.position) + 1])
+            if stays and run.position < tape.end:
+                run.goto(tape.after_turn(run.turn))
+                stays = self.is_in_place(run)
+        run.unwatch()
+        return stays
+
+    def in_place_since(self, run):
+        """Returns the number of turns after which it stays in its place."""
+        known = run.tape.turns
+        for start, _ in spans(known):
+            if not self.stays_from(run, start):
+                return halve(start, known, lambda turn: self.stays_from(run, turn))
+            known = start
+        return known
+
+    def first_turn(self, run):
+        """Returns since which turn it waits: its first one in its place, or the turn that it will have."""
+        tape, since = run.tape, self.in_place_since(run)
+        for position, line in tape.stops(since, [self.number]):
+            if line == STEP:
+                return f"SINCE TURN {tape.turn(position) + 1:o}"
+        return f"FROM TURN {tape.turns + 1 + (self.number - tape.slot(tape.end)) % PROCESSORS:o}"
+
+
+def drop_moved(run, turns, numbers):
+    """Makes so many turns, and drops the processors that move from the watched ones, up to the last of them."""
+    for _, answer in run.steps(turns):
+        for line in answer[1:]:
+            number = int(line.split()[2], 8)
+            numbers.discard(number)
+            run.demand(f"UNWATCH P {number:o}")
+        if not numbers:
+            return
+
+
+def waiting_for_ever(words, tape, numbers):
+    """Returns those of at most eight waiting processors that will never go on: the machine comes back to a state where it was,
+    and meanwhile they have not moved. Then it does so again and again."""
+    run = Replay(words, tape)
+    run.goto(tape.end)
+    before, central, staying, passed = state_of(run), central_of(run), set(numbers), 0
+    run.watch(f"P {number:o}" for number in numbers)
+    for trips in TRIPS:
+        drop_moved(run, CLOCK_TRIP * (trips - passed), staying)
+        passed = trips
+        if not staying or not any(before.differences(state_of(run))) and central == central_of(run):
+            break
+    else:
+        staying = set()
+    run.close()
+    return staying
+
+
+# ---- who changed a channel last
+
+class LastChange(NamedTuple):
+    """The last change of a channel: the turn, or the one before a setting, and who made it."""
+
+    turn: int
+    maker: str
+
+
+def last_changes(run, channels, symbols):
+    """Returns the last change of each of some channels, by their numbers."""
+    changes = {}
+    for channel in channels:
+        changed, setting = changed_by_turns(run, channel), last_setting(run.tape, channel)
+        if setting and setting.turn >= (changed[0].turn if changed else 0):
+            changes[channel] = setting
+        elif changed:
+            changes[channel] = LastChange(changed[0].turn, maker(run, channel, *changed, symbols))
+        else:
+            changes[channel] = LastChange(0, "NOBODY")
+    return changes
+
+
+def changed_by_turns(run, channel):
+    """Returns the last turn that changed a channel, with the channel before and after it; None if there is none."""
+    found = last_moments(run, Condition([Changes(Column(Place("H", (channel,))), True)]), 1)
+    return (found[0], *found[0].numbers[0][1:]) if found else None
+
+
+def last_setting(tape, channel):
+    """Returns the last SET of a channel or DEADSTART, or None."""
+    for turns, action in zip(reversed(tape.turns_before), reversed(tape.runs)):
+        words = action.line.upper().split()
+        if words[0] == "DEADSTART" or words[:2] == ["SET", "H"] and int(words[2], 8) == channel:
+            return LastChange(turns, words[0])
+    return None
+
+
+def maker(run, channel, moment, was, now, symbols):
+    """Returns who changed a channel in a turn, from and to a state: its processor, or else a device."""
+    made = moment.made
+    turn = Turn(made.slot, made.processor, made.after, lambda address: 0, run.central_size)
+    if is_made_by(turn, channel, was[0], now[0]):
+        line = symbols.line_at_p(made.slot, made.processor)
+        return f"PP {made.slot:02o} P {symbols.beside(made.slot, made.processor.registers['P'])} {made.processor.name}{line}"
+    return {run.reader_channel: "THE READER", run.printer_channel: "THE PRINTER"}.get(channel, "A DEVICE")
+
+
+# ---- the lines
+
+def goes_round_at_itself(processor, states):
+    """Returns whether an instruction tests a channel and jumps to itself, as EJM *,5 does while channel 05 is not full."""
+    return not processor.phase and processor.code in JUMPS_IN and int(processor.words[1], 8) == processor.p and \
+        processor.state(states) in JUMPS_IN[processor.code]
+
+
+def at_end(run, symbols):
+    """Returns the processors that wait at the end, with the line of each."""
+    run.goto(run.tape.end)
+    state, found = state_of(run), []
+    for number, processor in enumerate(state.processors):
+        goes_round = goes_round_at_itself(processor, state.states())
+        if goes_round or processor.would_wait(state.states()):
+            address = processor.address(state.memories[number].number)
+            digits = "NONE" if address is None else f"{address:04o}"
+            at, p = (symbols.beside(number, one) for one in (digits, processor.registers["P"]))
+            name = f"{processor.name} GOES ROUND" if goes_round else processor.name
+            line = f"PP {number:02o} AT {at} {name} P {p} {channel_line(state, processor.channel)}"
+            found.append(Waiting(number, processor, line, source_line(state, number, address, symbols)))
+    return found, state
+
+
+def source_line(state, number, address, symbols):
+    """Returns the line of the source whose instruction is at an address of a processor, after two blanks; nothing if there is none."""
+    memory = state.memories[number]
+    words = [] if address is None else [memory.word(address), memory.word((address + 1) % CELLS)]
+    line = symbols.line(number, f"{address:04o}", words) if words else ""
+    return f"  {line}" if line else ""
+
+
+def channel_line(state, number):
+    """Returns a channel as DUMP H has it, or that there is none."""
+    return " ".join(["H", *state.channels[number]]) if number < len(state.channels) else f"H {number:02o} NONE"
+
+
+def waits(run, symbols=AllSymbols()):
+    """Yields a line for each processor that waits, and one for its channel."""
+    found, state = at_end(run, symbols)
+    numbers = [one.number for one in found]
+    for_ever = set().union(*(waiting_for_ever(run.words, run.tape, numbers[at:at + MOST_WATCHES])
+                             for at in range(0, len(numbers), MOST_WATCHES)))
+    channels = sorted({one.processor.channel for one in found if one.processor.channel < CLOCK})
+    changes = last_changes(run, channels, symbols) if channels else {}
+    for one in found:
+        yield f"{one.line} {one.first_turn(run)}{', FOR EVER' if one.number in for_ever else ''}{one.source}"
+        if one.processor.channel in changes:
+            turn, who = changes[one.processor.channel]
+            yield f"  {channel_line(state, one.processor.channel)} SINCE TURN {turn:o}, BY {who}"
+
+
+def main():
+    parser = arguments(DESCRIPTION)
+    add_turn(parser)
+    add_symbols(parser)
+    add_script(parser)
+    asked = parser.parse()
+    symbols = symbols_of(asked)
+    run, script = replayed(asked, symbols, asked.script, asked.turn)
+    write_lines(waits(run, symbols), "NO PROCESSOR WAITS", at_once=True)
+    run.close()
+    return script.status()

@@ -1,0 +1,335 @@
+"""The requests of an editor that begin, run and end a session."""
+
+import inspect
+import itertools
+
+from ...engine.choose import default_engine
+from ...failure import Failure
+from ...language.sources import symbols_from
+from ...run.device import DeviceFailure
+from ...run.forms import PROCESSORS
+from ...run.tape import counted
+from ...shell.device_options import device_of
+from ...shell.options import OPTIONS, processor
+from ...shell.text_files import script_lines, shown
+from .attached import MachineWithDevices
+from .breakpoints import DATA, Breakpoints
+from .listings import Listings
+from .machine import Machine, latest_turn
+from .own import OwnSources
+from .protocol import Refused
+from .requests import Requests
+from .running import Runner
+from .setting import Setting
+from .stepping import Stepper
+
+CAPABILITIES = {f"supports{name}": True for name in (
+    "ConfigurationDoneRequest", "StepBack", "SetVariable", "DataBreakpoints", "InstructionBreakpoints", "DisassembleRequest",
+    "ReadMemoryRequest", "WriteMemoryRequest", "SteppingGranularity", "EvaluateForHovers", "GotoTargetsRequest",
+    "TerminateRequest", "RestartRequest", "ConditionalBreakpoints", "HitConditionalBreakpoints", "LogPoints")}
+BEFORE_LAUNCH = ("initialize", "launch", "disconnect", "terminate")
+WHILE_RUNNING = ("pause", "disconnect", "terminate", "threads", "source", "setBreakpoints", "setInstructionBreakpoints",
+                 "setDataBreakpoints", "setExceptionBreakpoints", "dataBreakpointInfo")
+MOST_SHOWN = 60  # characters of a line that was refused
+BY_TURNS = "instruction"  # the granularity of a step
+BEGINNING = "the beginning: no action comes before this"
+
+
+class Adapter(Requests, Setting):
+    """A session with an editor."""
+
+    def __init__(self, wire):
+        self.wire = wire
+        self.machine = self.listings = self.own = None
+        self.points, self.own_asked, self.numbers = Breakpoints(), {}, itertools.count(1)  # of those in the user's own sources
+        self.after = None  # what is done after the answer to a request
+        self.restart = self.failure = None  # a request that ended a run, and why the editor can't be understood
+        self.is_ended = self.is_paused = self.is_running = self.is_terminated = False
+        self.shown = self.paused = 0  # the processor of the last stop, and the one to be shown at a pause
+        self.base = 1  # the first line, as the editor counts
+        self.sees_invalidated = False
+        self.arguments = {}
+
+    # ---- the conversation
+
+    def serve(self):
+        """Does what is asked until the end. What the editor writes that is no message is a failure."""
+        while not self.is_ended:
+            self.take(self.wire.requests.get())
+        if self.failure:
+            raise self.failure
+
+    def take(self, request):
+        """Takes what has come from the editor. A restart ends a run first."""
+        if isinstance(request, Failure):
+            self.failure = request
+        if request is None or self.failure:
+            self.is_ended = True
+        elif self.is_running and request["command"] == "restart":
+            self.restart = request
+        else:
+            self.answer(request)
+
+    @property
+    def is_over(self):
+        """Whether no stop is to be reported any more."""
+        return self.is_ended or self.is_terminated or self.restart is not None
+
+    def goes_on(self):
+        """Takes the requests that have come. Returns whether a run goes on."""
+        while not (self.is_ended or self.restart or self.wire.requests.empty()):
+            self.take(self.wire.requests.get())
+        return not (self.is_paused or self.is_over)
+
+    def answer(self, request):
+        """Answers a request, and then does what it began. Returns whether it could be done."""
+        command, answer, self.after = request["command"], {"success": True}, None
+        try:
+            body = self.method(command)(**(request.get("arguments") or {}))
+            answer.update({"body": body} if body is not None else {})
+        except (Failure, TypeError, KeyError, ValueError, AttributeError, OverflowError) as error:
+            text = str(error) if isinstance(error, Failure) else self.fault_of(command, request.get("arguments"))
+            answer = {"success": False, "message": text,
+                      "body": {"error": {"id": 1, "format": text.replace("{", "(").replace("}", ")"), "showUser": True}}}
+        self.wire.write(type="response", request_seq=request["seq"], command=command, **answer)
+        if not self.is_running:
+            self.do(self.after if answer["success"] else None)
+        return answer["success"]
+
+    def fault_of(self, command, arguments):
+        """Returns what is wrong with the arguments of a request: one that it needs is missing, or one is of a wrong kind."""
+        kinds = inspect.signature(self.method(command)).parameters.values()
+        needed = [one.name for one in kinds if one.default is one.empty and one.kind is one.POSITIONAL_OR_KEYWORD]
+        missing = [name for name in needed if not isinstance(arguments, dict) or name not in arguments]
+        return f"{command} needs {' and '.join(missing)}" if missing else f"an argument of {command} is not of the kind that it must be"
+
+    def do(self, after):
+        """Does what a request began. If a simulator ends, so does the session."""
+        self.is_running, has_failed = True, False
+        position = self.machine.position if self.machine else 0
+        try:
+            if after:
+                after()
+        except DeviceFailure as failure:
+            self.machine.goto(position)
+            self.wire.say(failure, "stderr")
+            self.stopped("exception", self.shown, str(failure))
+        except Failure as failure:
+            self.wire.say(failure, "stderr")
+            has_failed = True
+        self.is_running = False
+        if self.is_terminated:
+            self.end_simulator()
+            self.wire.event("exited", exitCode=0)
+        if self.is_terminated or has_failed or self.machine and self.machine.is_ended:
+            self.end_simulator()
+            self.is_terminated = False
+            self.wire.event("terminated")
+        if self.restart:  # it has ended a run, which was paused if it can't be done
+            request, self.restart = self.restart, None
+            if not self.answer(request) and self.machine:
+                self.stopped("pause", self.paused)
+
+    def method(self, command):
+        """Returns what does a request."""
+        method = getattr(self, f"do_{command}", None)
+        if method is None:
+            raise Refused(f"{command[:MOST_SHOWN]} is not supported")
+        if self.machine is None and command not in BEFORE_LAUNCH:
+            raise Refused("no simulator runs: launch one first")
+        if self.is_running and command not in WHILE_RUNNING:
+            raise Refused("the machine runs: pause it first")
+        return method
+
+    def stopped(self, reason, number, text="", ids=()):
+        """Looks at the machine, and says that it has stopped."""
+        self.look()
+        self.shown = number
+        if text:
+            self.wire.say(text)
+        self.wire.event("stopped", reason=reason, threadId=number + 1, allThreadsStopped=True,
+                        **({"description": text, "text": text} if text else {}), **({"hitBreakpointIds": list(ids)} if ids else {}))
+
+    def look(self):
+        """Looks at the machine; the listings follow it."""
+        self.machine.look()
+        for number in range(PROCESSORS):
+            self.listings.follow(number, self.machine.state.memories[number])
+
+    # ---- beginning and end
+
+    def do_initialize(self, linesStartAt1=True, supportsInvalidatedEvent=False, **_):
+        self.base = 1 if linesStartAt1 else 0
+        self.sees_invalidated = supportsInvalidatedEvent
+        return CAPABILITIES
+
+    def do_launch(self, **arguments):
+        words = [str(arguments.get("program") or default_engine())]
+        for name in OPTIONS:
+            value = arguments.get(name)
+            words += [f"--{name}", str(value)] if value not in (None, "") else []
+        number = arguments.get("processor")
+        number = processor(str(number)) if number not in (None, "") else None
+        script = arguments.get("script")
+        lines = script_lines(str(script)) if script else []
+        symbols = symbols_from(*(pairs(arguments.get(name), name) for name in ("symbols", "sources")), arguments.get("text"))
+        devices = devices_from(arguments.get("devices"))
+        own, machine = OwnSources(symbols), MachineWithDevices(words, devices) if devices else Machine(words)
+        self.end_simulator()
+        self.machine, self.arguments, self.own = machine, arguments, own
+        if self.listings is None:
+            self.listings = Listings()
+        self.listings.begin(symbols.of)
+        self.perform_script(symbols.loading(lines))
+        self.look()
+        self.shown = self.machine.next_slot if number is None else number
+        self.after = lambda: self.wire.event("initialized")
+
+    def perform_script(self, lines):
+        """Performs a script after the lines that load the sources, and says which lines are refused."""
+        for number, line in counted(lines):
+            answer = self.machine.act(line)
+            if answer and answer[0].startswith("ERR "):
+                self.wire.say(f"line {number} (decimal) of the script was refused, {answer[0]}: {shown(line[:MOST_SHOWN])}", "stderr")
+
+    def do_configurationDone(self, **_):
+        self.after = self.enter
+
+    def enter(self):
+        """Stops after the script, or runs on from there."""
+        if self.arguments.get("stopOnEntry", True):
+            self.stopped("entry", self.shown)
+        else:
+            self.begin(self.shown + 1, None)
+            self.run_on()
+
+    def do_restart(self, arguments=None, **_):
+        self.do_launch(**(arguments or self.arguments))
+        self.set_own_again()
+        self.after = self.enter
+
+    def do_terminate(self, **_):
+        self.is_terminated = True
+
+    def do_disconnect(self, **_):
+        self.is_ended = True
+
+    def end_simulator(self):
+        if self.machine:
+            self.machine.close()
+            self.machine = None
+
+    def close(self):
+        """Ends the simulator and removes the listings."""
+        self.end_simulator()
+        if self.listings:
+            self.listings.remove()
+
+    # ---- running
+
+    def number(self, thread):
+        if not isinstance(thread, int) or not 1 <= thread <= PROCESSORS:
+            raise Refused(f"{thread} is no thread: they are 1 to {PROCESSORS}")
+        return thread - 1
+
+    def do_threads(self, **_):
+        return {"threads": [{"id": number + 1, "name": f"PP {number:02o}"} for number in range(PROCESSORS)]}
+
+    def do_pause(self, threadId=1, **_):
+        self.paused = self.number(threadId)
+        self.is_paused = True
+
+    def begin(self, thread, run):
+        """Runs after the answer. A pause that comes from now on ends it."""
+        self.paused = self.number(thread)
+        self.is_paused = False
+        self.after = run
+
+    def do_continue(self, threadId=1, **_):
+        self.begin(threadId, self.run_on)
+        return {"allThreadsContinued": True}
+
+    def do_reverseContinue(self, threadId=1, **_):
+        self.begin(threadId, lambda: self.run(Runner.back, "entry", BEGINNING))
+
+    def do_stepIn(self, threadId, **_):
+        self.begin(threadId, lambda: self.step(self.stepper().runner.step))
+
+    def do_next(self, threadId, granularity="statement", **_):
+        def run():
+            stepper = self.stepper()
+            line = stepper.line() if granularity != BY_TURNS else None
+            self.step(lambda number: stepper.next_line(line) if line else stepper.runner.step(number))
+
+        self.begin(threadId, run)
+
+    def do_stepOut(self, threadId, **_):
+        self.begin(threadId, lambda: self.step(lambda _: self.stepper().out()))
+
+    def do_stepBack(self, threadId, granularity="statement", **_):
+        self.begin(threadId, lambda: self.step_back(granularity))
+
+    def runner(self):
+        return Runner(self.machine, self.points, self.goes_on, self.write_log)
+
+    def stepper(self):
+        """Returns what steps the processor of a request."""
+        return Stepper(self.machine, self.own, self.runner(), self.paused)
+
+    def run_on(self):
+        self.run(lambda runner: runner.forward(self.shown), "pause", "")
+
+    def run(self, way, otherwise, text):
+        """Runs, and reports the stop. If there is none, it is a pause, or another reason with a text."""
+        stop = way(self.runner())
+        if self.is_over:
+            return
+        if stop:
+            self.report(stop)
+        elif self.is_paused:
+            self.stopped("pause", self.paused)
+        else:
+            self.stopped(otherwise, self.paused, text)
+
+    def report(self, stop):
+        """Says why a run has stopped."""
+        ids = dict.fromkeys(one.point.number for one in stop.met)
+        if stop.place:
+            self.stopped(DATA, stop.number, stop.text, ids)
+        elif ids:
+            self.stopped(stop.met[0].point.reason, stop.number, f"PP {stop.number:02o} is at {stop.address:04o}", ids)
+        else:
+            self.stopped("step", stop.number)
+
+    def write_log(self, stop, met):
+        """Writes the text of a log point."""
+        point = met.point
+        source, line = (point.file.source, point.line - 1) if point.file else (self.listings.source(stop.number), stop.address)
+        self.wire.event("output", category="console", output=f"{met.text}\n", source=source, line=line + self.base)
+
+    def step(self, way):
+        """Makes a step of the processor of a request. It ends with a stop, or at its end."""
+        self.run(lambda _: way(self.paused), "step", "")
+
+    def step_back(self, granularity):
+        stepper = self.stepper()
+        is_by_lines = granularity != BY_TURNS and stepper.line()
+        position = stepper.before_line() if is_by_lines else latest_turn(self.machine.tape, self.paused, self.machine.position)
+        if not self.goes_on():
+            position = self.machine.position
+        self.machine.goto(position or 0)
+        self.stopped("step", self.paused, BEGINNING if position is None else "")
+
+
+def devices_from(asked):
+    """Returns the devices that an argument of a launch names."""
+    if asked is not None and not isinstance(asked, list):
+        raise Refused("devices is no list")
+    return [device_of(str(text)) for text in asked or ()]
+
+
+def pairs(asked, name):
+    """Returns the processors and the files that an argument of a launch names."""
+    if asked is not None and not isinstance(asked, dict):
+        raise Refused(f"{name} is no object with a file for each processor")
+    return [(str(number), str(path)) for number, path in (asked or {}).items()]

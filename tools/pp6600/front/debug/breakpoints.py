@@ -1,0 +1,125 @@
+"""The breakpoints that an editor has set."""
+
+import re
+from typing import TYPE_CHECKING, Dict, FrozenSet, NamedTuple, Optional, Tuple
+
+from ...failure import Failure
+from ...run.forms import CELLS, MOST_WATCHES, PROCESSORS, Place
+from .protocol import Refused
+from .terms import Terms
+
+if TYPE_CHECKING:
+    from .own import File
+
+LINE_ID, INSTRUCTION_ID, DATA_ID, SOURCE_ID = 1 << 16, 1 << 17, 1 << 18, 1 << 19  # of breakpoints; the lower bits say which one
+LINE, INSTRUCTION, DATA = "breakpoint", "instruction breakpoint", "data breakpoint"  # why a run stops
+
+
+class Cell(NamedTuple):
+    """A cell of a processor. References to it count bytes, two a cell, and have the processor above."""
+
+    number: int
+    address: int
+
+    @property
+    def reference(self):
+        return f"0x{self.number << 16 | self.address * 2:06x}"
+
+    @classmethod
+    def of(cls, reference, offset=0):
+        """Returns the cell of a reference and a distance in bytes."""
+        try:
+            at = int(reference, 0) + offset
+        except (TypeError, ValueError):
+            raise Refused(f"{reference} is no reference to a cell") from None
+        number, byte = at >> 16, at & 0xFFFF
+        if byte % 2 or not 0 <= number < PROCESSORS or byte >= 2 * CELLS:
+            raise Refused(f"{reference} with {offset} is no reference to a cell")
+        return cls(number, byte // 2)
+
+    @property
+    def bits(self):
+        return self.number << 12 | self.address
+
+
+def checked(place):
+    """Returns a place, if there is one of these numbers."""
+    if not place.exists:
+        raise Refused(f"{place.short} is out of range")
+    return place
+
+
+def places_of(text):
+    """Returns the places of a text: one, or a range of cells as M 0 100 103."""
+    try:
+        place, rest = Place.first_of(text.split())
+        if place.kind != "M" or not rest:
+            return [checked(Place.parse(text))]
+    except Failure as failure:
+        raise Refused(str(failure)) from None
+    last = int(rest[0], 8) if len(rest) == 1 and re.fullmatch("[0-7]{1,5}", rest[0]) else -1
+    number, first = checked(place).numbers
+    if not first <= last < CELLS:
+        raise Refused(f"{text} is no range of cells")
+    return [Place("M", (number, at)) for at in range(first, last + 1)]
+
+
+class Point(NamedTuple):
+    """A breakpoint: cells, or places of a data breakpoint, and its terms. A cell of a source has the numbers of the lines that it must
+    be of."""
+
+    number: int  # its identifier
+    reason: str
+    cells: Dict[Cell, Optional[FrozenSet[int]]] = {}
+    places: Tuple[Place, ...] = ()
+    terms: Terms = Terms()
+    file: Optional["File"] = None  # the source, and the line there
+    line: int = 0
+
+    @property
+    def key(self):
+        """What its hits depend on."""
+        return tuple(sorted((cell, lines and tuple(sorted(lines))) for cell, lines in self.cells.items())), self.places, self.terms.text
+
+
+class Breakpoints:
+    """Those on lines of listings, by processor, those on lines of sources, by file, those on addresses, and data breakpoints."""
+
+    def __init__(self):
+        self.lines, self.own, self.instructions, self.data = {}, {}, [], []
+
+    @property
+    def all(self):
+        """All, those on lines first."""
+        on_lines = [point for points in (*self.lines.values(), *self.own.values()) for point in points]
+        return (*on_lines, *self.instructions, *self.data)
+
+    @property
+    def in_a_step(self):
+        """Those that count in a step: data breakpoints, and log points, which end nothing."""
+        return tuple(point for point in self.all if point.places or point.terms.log)
+
+    def places(self):
+        """Returns the places of all data breakpoints, each once."""
+        return list(dict.fromkeys(place for point in self.data for place in point.places))
+
+    def set_data(self, asked, own, terms_of):
+        """Sets data breakpoints, as they are asked for; the user watches places of their `own`. The function `terms_of` returns the terms
+        of one with its places, or refuses them. Returns for each why it is not set, or nothing."""
+        self.data, faults = [], []
+        for at, one in enumerate(asked):
+            try:
+                places = self.watched_places(one, own)
+                self.data.append(Point(DATA_ID | at, DATA, places=tuple(places), terms=terms_of(one, places)))
+                faults.append("")
+            except Refused as refused:
+                faults.append(str(refused))
+        return faults
+
+    def watched_places(self, one, own):
+        places = places_of(str(one.get("dataId")))
+        if one.get("accessType", "write") != "write":
+            raise Refused("only changes are seen")
+        if len({*own, *self.places(), *places}) > MOST_WATCHES:
+            raise Refused("at most eight places are watched, those of WATCH among them")
+        return places

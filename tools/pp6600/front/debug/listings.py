@@ -1,0 +1,119 @@
+"""The source that an editor shows: for each processor a file with a line for each cell, which follows the machine.
+
+Line 1 is cell 0000, so a breakpoint holds in code that is not loaded yet, or changes. All lines of a file have one length, and
+only what has changed is written, in place: editors take a file that is replaced for one that was deleted.
+"""
+
+import functools
+import os
+import re
+import shutil
+import tempfile
+
+from ...run.forms import CELLS, PROCESSORS, ROW, ROWS
+from ...run.turn import NAMES, TWO_WORDS
+
+NAME = re.compile(r"PP(0[0-7]|1[01])\.pplist")
+
+
+@functools.lru_cache(maxsize=1 << 16)
+def decoded(word, second):
+    """Returns a word with the instruction that it is; `second` is the word after it."""
+    code = int(word[:2], 8)
+    return f"{word}  {NAMES[code]} {word[2:]}{f' {second}' if code in TWO_WORDS else ''}"
+
+
+def instruction(memory, cell):
+    """Returns the address of a cell, its word and the instruction that this is."""
+    return f"{cell:04o}  {decoded(memory.word(cell), memory.word(cell + 1))}"
+
+
+WIDTH = len("0000  0000  LJM 00 0000")
+MOST_TEXT = 60  # bytes of the user's own listing beside an instruction
+
+
+class Beside:
+    """What is beside the instructions of a processor: the label of a cell, and the text of the user's own listing or source as long as
+    the word is the one that it lists. All are of one width, in bytes."""
+
+    def __init__(self, symbols=None):
+        """The symbols are those of `pp6600.language.listing`, or a source."""
+        self.symbols = symbols
+        self.labels = symbols.labels if symbols else {}
+        texts = [text for _, text in symbols.texts().values()] if symbols else []
+        self.label_width = max((len(label) for label in self.labels.values()), default=0)
+        self.text_width = min(max((len(text.encode()) for text in texts), default=0), MOST_TEXT)
+        self.width = sum(2 + width for width in (self.label_width, self.text_width) if width)
+
+    def at(self, cell, word):
+        """Returns the bytes beside a cell that has this word."""
+        label = f"  {self.labels.get(cell, ''):{self.label_width}}".encode() if self.label_width else b""
+        text = self.symbols.text(cell, word).encode()[:self.text_width].decode(errors="ignore").encode() if self.text_width else b""
+        return label + (b"  " + text.ljust(self.text_width) if self.text_width else b"")
+
+
+class Listings:
+    """The files of a session, in a folder of their own."""
+
+    def __init__(self):
+        self.folder = tempfile.mkdtemp(prefix="pp6600-")
+        self.files, self.rows, self.beside = {}, {}, []
+        for number in range(PROCESSORS):
+            self.files[number] = open(self.path(number), "xb", buffering=0)
+            if hasattr(os, "fchmod"):  # on Windows a file that can't be written can't be removed
+                os.fchmod(self.files[number].fileno(), 0o444)  # editors then open it to be looked at
+
+    def begin(self, symbols):
+        """Begins a run with the symbols of some processors, by their numbers. Other symbols make lines of another length."""
+        old, self.beside = self.beside, [Beside(symbols.get(number)) for number in range(PROCESSORS)]
+        for number, file in self.files.items():
+            self.rows[number] = [None] * ROWS
+            if old and old[number].width != self.beside[number].width:
+                file.truncate(0)
+
+    def path(self, number):
+        return os.path.join(self.folder, f"PP{number:02o}.pplist")
+
+    def number_of(self, source):
+        """Returns the processor whose listing a source is; None if it is another one."""
+        path = source.get("path")
+        found = isinstance(path, str) and os.path.dirname(path) in (self.folder, os.path.realpath(self.folder)) and \
+            NAME.fullmatch(os.path.basename(path))
+        return int(found[1], 8) if found else None
+
+    def source(self, number):
+        return {"name": f"PP{number:02o}.pplist", "path": self.path(number)}
+
+    def lines(self, number, memory, cells):
+        """Returns the lines of some cells of a processor, each as long as any other."""
+        beside = self.beside[number]
+        if not beside.width:
+            return "".join(f"{instruction(memory, cell):{WIDTH}}\n" for cell in cells).encode("ascii")
+        return b"".join(f"{instruction(memory, cell):{WIDTH}}".encode("ascii") + beside.at(cell, memory.word(cell)) + b"\n"
+                        for cell in cells)
+
+    def text(self, number, memory):
+        return self.lines(number, memory, range(CELLS)).decode()
+
+    def follow(self, number, memory):
+        """Writes what has changed of a processor's cells."""
+        old = self.rows[number]
+        if old == memory.rows:
+            return
+        for row in [at for at, (was, now) in enumerate(zip(old, memory.rows)) if was != now]:
+            first = max(ROW * row - 1, 0)  # the word before may be the first one of an instruction of two words
+            self.write(number, memory, range(first, ROW * row + ROW))
+        if old[0] != memory.rows[0]:  # after cell 7777 comes cell 0000
+            self.write(number, memory, range(CELLS - 1, CELLS))
+        self.rows[number] = memory.rows
+
+    def write(self, number, memory, cells):
+        """Writes the lines of some cells in their place."""
+        self.files[number].seek(cells[0] * (WIDTH + self.beside[number].width + 1))
+        self.files[number].write(self.lines(number, memory, cells))
+
+    def remove(self):
+        for file in self.files.values():
+            file.close()
+        self.files = {}
+        shutil.rmtree(self.folder, ignore_errors=True)

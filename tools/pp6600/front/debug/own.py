@@ -1,0 +1,124 @@
+"""The user's own sources in an editor: which line a processor is at, which cells a line has, and whether a file has been changed."""
+
+import os
+from typing import NamedTuple
+
+from ...failure import Failure
+from ...language.sources import source_lines
+from ...run.forms import CELLS
+from .breakpoints import Cell
+
+
+class OwnLine(NamedTuple):
+    """A line of a source, and the addresses at which its words may be."""
+
+    file: "File"
+    number: int
+    addresses: frozenset
+
+
+class Lines:
+    """The lines of a source: the rows with words before which a stop at a line is, and the addresses at which its words may be."""
+
+    def __init__(self, source):
+        self.source, self.rows, self.addresses = source, rows_of_lines(source.program.rows), {}
+        for row in source.program.rows:
+            cells = ((first + at) % CELLS for at in range(len(row.words)) for first in (row.location, row.origin))
+            self.addresses.setdefault(row.line.number, set()).update(cells)
+
+
+class File:
+    """A file with the source of some processors, as it was at the launch."""
+
+    def __init__(self, path):
+        self.path = os.path.abspath(path)
+        self.source = {"name": os.path.basename(path), "path": self.path}
+        self.of = {}  # the lines by processors
+        self.lines, self.seen = source_lines(path), stamp(path)
+        self.is_told = False  # that it has changed
+
+    def add(self, number, source):
+        self.of[number] = Lines(source)
+
+    def is_at(self, path):
+        return isinstance(path, str) and (path == self.path or os.path.realpath(path) == os.path.realpath(self.path))
+
+    def cells(self, line):
+        """Returns the cells at which a line begins, each time that it makes words, with the numbers of the lines that they are of."""
+        found = {}
+        for number, lines in self.of.items():
+            for row in lines.rows.get(line, ()):
+                for address in {row.location % CELLS, row.origin}:
+                    found.setdefault(Cell(number, address), set()).add(row.line.number)
+        return {cell: frozenset(lines) for cell, lines in found.items()}
+
+    def next_line(self, line):
+        """Returns the first line from this one on that makes words; None if there is none."""
+        return min((one for lines in self.of.values() for one in lines.rows if one >= line), default=None)
+
+    def has_changed(self):
+        """Returns whether the file is another one than at the launch; once."""
+        if self.is_told or stamp(self.path) == self.seen:
+            return False
+        self.seen = stamp(self.path)
+        try:
+            self.is_told = source_lines(self.path) != self.lines
+        except Failure:
+            self.is_told = True
+        return self.is_told
+
+
+class OwnSources:
+    """The sources of all processors."""
+
+    def __init__(self, symbols):
+        """The symbols are those of all processors, as `pp6600.language.listing` has them."""
+        self.files, self.file_of, self.of = [], {}, dict(symbols.sources())
+        self.symbols = symbols
+        for number, source in self.of.items():
+            file = self.file(source.path)
+            if not file:
+                file = File(source.path)
+                self.files.append(file)
+            file.add(number, source)
+            self.file_of[number] = file
+
+    def file(self, path):
+        """Returns the file with this path; None if it is no source."""
+        return next((file for file in self.files if file.is_at(path)), None)
+
+    def line(self, number, address, words):
+        """Returns the line of which the instruction in a cell of a processor is, with its words; None if it is of no line."""
+        source = self.of.get(number)
+        found = source.line_of(address, *words) if source else None
+        if not found or not found.is_there:
+            return None
+        file = self.file_of[number]
+        return OwnLine(file, found.number, frozenset(file.of[number].addresses[found.number]))
+
+    def line_at_p(self, number, processor):
+        """Returns the line at P of a processor; None in a block transfer, in which P is no instruction's."""
+        return None if processor.phase else self.line(number, processor.p, processor.words)
+
+
+def rows_of_lines(rows):
+    """Returns the rows of a listing with words by the lines of the file at which a stop is before them: of each line the first one each
+    time that it is assembled, of a macro's call the first one that the call makes, and of a line of a macro that of each call."""
+    found, due = {}, set()
+    for row in rows:
+        lines = (row.line.number, *(row.line.call.lines if row.line.call else ()))
+        due = due.intersection(lines) | {lines[-1]}
+        if row.words:
+            for line in due - {0}:
+                found.setdefault(line, []).append(row)
+            due = set()
+    return found
+
+
+def stamp(path):
+    """Returns what says at once whether a file may have been changed."""
+    try:
+        status = os.stat(path)
+        return status.st_mtime_ns, status.st_size, status.st_ino
+    except OSError:
+        return None

@@ -1,0 +1,111 @@
+"""Messages over standard input and output: JSON, each with its length before it."""
+
+import json
+import os
+import queue
+import sys
+import threading
+
+from ...failure import Failure
+from ...shell.text_files import named
+
+LONGEST_HEADER = 4096  # bytes of a line before a message
+LONGEST_MESSAGE = 1 << 26  # bytes
+
+
+class Refused(Failure):
+    """A request that can't be done; the text says why."""
+
+
+class Wire:
+    """The client at the other end. A thread reads its requests, so that they can be taken between the parts of a run."""
+
+    def __init__(self, log=None):
+        self.seq = 0
+        self.log, self.lock = opened(log) if log else None, threading.Lock()  # both threads write it
+        self.requests, self.is_gone = queue.Queue(), False  # the client
+        if sys.stdin is None:
+            raise Failure("standard input is closed or a folder, so no editor can speak")
+        self.input = os.fdopen(os.dup(sys.stdin.fileno()), "rb")  # not sys.stdin: a thread that reads that at the end would abort Python
+        self.output = os.dup(sys.stdout.fileno())
+        sys.stdout = sys.stderr  # nothing else may come between the messages
+        threading.Thread(target=self.listen, daemon=True).start()
+
+    def listen(self):
+        """Puts each request into the queue, then None or the failure that ended the input."""
+        try:
+            while request := self.read(self.input):
+                self.requests.put(request)
+                if request["command"] == "disconnect":
+                    self.is_gone = True
+                    return
+            self.is_gone = True
+            self.requests.put(None)
+        except OSError as error:
+            self.requests.put(Failure(f"can't read {named(None)}: {error.strerror}"))
+        except Failure as failure:
+            self.requests.put(failure)
+
+    def read(self, stream):
+        """Returns the next request, or None at the end of the input."""
+        length, begun = None, False
+        while line := stream.readline(LONGEST_HEADER):
+            if not line.strip():
+                break
+            begun = True
+            name, _, value = line.partition(b":")
+            if name.strip().lower() == b"content-length":
+                length = value.strip()
+        if not line and not begun:
+            return None
+        if length is None or not length.isdigit() or int(length) > LONGEST_MESSAGE:
+            raise Failure("what the editor wrote is no message: it has no Content-Length")
+        data = stream.read(int(length))
+        if len(data) < int(length):
+            raise Failure("what the editor wrote is no message: it ends before its length")
+        return self.parsed(data)
+
+    def parsed(self, data):
+        """Returns a request from its text."""
+        try:
+            message = json.loads(data)
+        except (ValueError, RecursionError) as error:
+            raise Failure("what the editor wrote is no message: it is not JSON") from error
+        if not isinstance(message, dict) or message.get("type", "request") != "request" or not isinstance(message.get("command"), str) \
+                or not isinstance(message.get("seq"), int):
+            raise Failure("what the editor wrote is no message: it is not a request")
+        self.note(">", message)
+        return message
+
+    def write(self, **message):
+        self.seq += 1
+        message = {"seq": self.seq, **message}
+        data = json.dumps(message).encode("ascii")
+        try:
+            rest = memoryview(b"Content-Length: %d\r\n\r\n%s" % (len(data), data))
+            while rest:
+                rest = rest[os.write(self.output, rest):]
+        except BrokenPipeError:  # the client has gone
+            self.requests.put(None)
+        except OSError as error:
+            raise Failure(f"can't write to standard output: {error.strerror}") from None
+        self.note("<", message)
+
+    def event(self, name, **body):
+        self.write(type="event", event=name, **({"body": body} if body else {}))
+
+    def say(self, text, category="console"):
+        """Shows a line to the user."""
+        self.event("output", category=category, output=f"{text}\n")
+
+    def note(self, mark, message):
+        if self.log:
+            with self.lock:
+                print(mark, json.dumps(message), file=self.log, flush=True)
+
+
+def opened(path):
+    try:
+        return open(path, "a", encoding="ascii")
+    except OSError as error:
+        raise Failure(f"can't write {path}: {error.strerror}") from error

@@ -1,0 +1,204 @@
+"""The requests that show the machine, or set its numbers."""
+
+import base64
+import binascii
+
+from ...convert.cells import set_lines
+from ...language.calls import calls, sentence
+from ...run.forms import CELLS, PROCESSORS
+from .breakpoints import Cell
+from .listings import instruction
+from .protocol import Refused
+from .running import Runner
+from .variables import CALL_SCOPE, place_of, scope_and_number, scopes, set_line, value_of, variable, variables
+
+LINE_CONTEXTS = ("repl", "clipboard", "")  # of what is typed; the others must not act
+PREFIX = ":"  # of a line that an editor evaluates as a watch expression
+MOVES = {"OK": "goto", "TURNS": "step", "BACK": "step", "FORWARD": "step"}  # why it has stopped, by an answer
+NO_INSTRUCTION = {"address": "0xffffffff", "instruction": "(no cell)"}
+MOST_INSTRUCTIONS = 1 << 17  # that are disassembled at once
+NO_CHANGE = "ERR 10 NO CHANGE KEPT"  # of BACK W
+
+
+class Requests:
+    """Those of an `Adapter`, whose machine, listings and points they use."""
+
+    # ---- where the processors are
+
+    def frame(self, frame):
+        """Returns the processor of a frame: each has one, and one more in a block transfer."""
+        if not isinstance(frame, int) or not 1 <= frame <= 2 * PROCESSORS:
+            raise Refused(f"{frame} is no frame")
+        return (frame - 1) % PROCESSORS
+
+    def do_stackTrace(self, threadId, startFrame=0, levels=0, **_):
+        number = self.number(threadId)
+        state = self.machine.state
+        processor, memory = state.processors[number], state.memories[number]
+        waits = processor.waits_for(state.states())
+        name = f"P {processor.registers['P']} {'in ' if processor.phase else ''}{processor.text}{f' waits for {waits}' if waits else ''}"
+        frames = [self.one_frame(threadId, name, Cell(number, processor.p), self.own.line_at_p(number, processor))]
+        begun = (int(memory.word(0), 8) - 1) % CELLS  # cell 0000 has where the block goes on
+        if processor.phase and memory.word(begun) == processor.registers["PHASE"]:
+            line = self.own.line(number, begun, [memory.word(begun), memory.word(begun + 1)])
+            frames.append(self.one_frame(threadId + PROCESSORS, f"begun at {begun:04o}", Cell(number, begun), line))
+        return {"stackFrames": frames[startFrame:startFrame + levels if levels else None], "totalFrames": len(frames)}
+
+    def one_frame(self, frame, name, cell, line):
+        """Returns a frame at a cell, which is of a line of the user's own source or of none."""
+        if line:
+            self.notice(line.file)
+        return {"id": frame, "name": name, "column": self.base, "instructionPointerReference": cell.reference, **self.where(cell, line)}
+
+    def where(self, cell, line):
+        """Returns where a cell is shown: in the user's own source, or in the listing."""
+        if line:
+            return {"line": line.number - 1 + self.base, "source": line.file.source}
+        return {"line": cell.address + self.base, "source": self.listings.source(cell.number)}
+
+    def do_source(self, source=None, sourceReference=0, **_):
+        number = self.listings.number_of(source) if source else None
+        if number is None and isinstance(sourceReference, int) and 1 <= sourceReference <= PROCESSORS:
+            number = sourceReference - 1
+        if number is None:
+            raise Refused("no listing of this session")
+        return {"content": self.listings.text(number, self.machine.state.memories[number]), "mimeType": "text/plain"}
+
+    def do_gotoTargets(self, source, line, **_):
+        number, file, address = self.listings.number_of(source), self.own.file(source.get("path")), line - self.base
+        cells = [Cell(number, address)] if number is not None and 0 <= address < CELLS else sorted(file.cells(address + 1)) if file else []
+        return {"targets": [{"id": cell.bits, "label": f"P {cell.address:04o}", "line": line,
+                             "instructionPointerReference": cell.reference} for cell in cells]}
+
+    def do_goto(self, threadId, targetId, **_):
+        number, target = self.number(threadId), Cell(targetId >> 12, targetId & 0o7777)
+        if target.number != number:
+            raise Refused(f"that is a cell of PP {target.number:02o}" if target.number < PROCESSORS else "that is no target")
+        self.set_number(f"SET P {number:o} {target.address:o}")
+        self.after = lambda: self.stopped("goto", number)
+
+    # ---- numbers
+
+    def do_scopes(self, frameId, **_):
+        number = self.frame(frameId)
+        return {"scopes": scopes(number, number in self.own.of)}
+
+    def do_variables(self, variablesReference, start=0, count=0, **_):
+        scope, number = scope_and_number(variablesReference)
+        places = dict.fromkeys([*self.machine.state.watched, *self.points.places()])
+        found = self.calls_of(number) if scope == CALL_SCOPE else variables(self.machine, scope, number, places)
+        return {"variables": found[start:start + count] if count else found}
+
+    def calls_of(self, number):
+        """Returns the subroutines that a processor is in, the innermost first."""
+        source, scout = self.own.of.get(number), self.machine.scout("looks")
+        found = calls(scout, number, source, self.machine.position) if source else []
+        return [variable(f"{at}", sentence(scout, number, call, self.own.symbols)) for at, call in enumerate(found, 1)]
+
+    def act(self, line):
+        """Performs a line, and returns its answer. What was ahead may be lost by it: that is said."""
+        ahead, answer = self.machine.counts.to_redo, self.machine.typed(line)
+        here = self.machine.counts.position
+        if answer == [NO_CHANGE] and Runner(self.machine, self.points).back(is_typed=True):
+            answer = [f"BACK {here - self.machine.counts.position:o} SLOT {self.machine.next_slot:02o}"]
+        if ahead and answer and answer[0].split()[0] in ("OK", "TURNS"):
+            self.wire.say(f"{ahead:o} actions (octal) that were ahead are so no longer")
+        return answer
+
+    def set_number(self, line):
+        """Performs a line that sets numbers."""
+        answer = self.act(line)
+        if answer != ["OK"]:
+            raise Refused(f"{answer[0] if answer else 'nothing'}: {line}")
+        self.look()
+
+    def do_setVariable(self, variablesReference, name, value, **_):
+        place, line = set_line(*scope_and_number(variablesReference), name, value.strip())
+        self.set_number(line)
+        if self.sees_invalidated:
+            self.after = lambda: self.wire.event("invalidated", areas=["all"])
+        return {"value": value_of(self.machine, place)}
+
+    # ---- what is typed or pointed at
+
+    def do_evaluate(self, expression, frameId=None, context="repl", **_):
+        number = self.frame(frameId) if frameId else self.shown
+        text = expression.strip()
+        acts = context in LINE_CONTEXTS
+        if context == "watch" and text.startswith(PREFIX):
+            acts, text = True, text[len(PREFIX):].strip()
+        try:
+            return {"result": self.value(text, number), "variablesReference": 0}
+        except Refused:
+            if not acts:
+                raise
+        answers = []
+        for line in text.split("\n"):
+            if self.wire.is_gone:
+                break
+            answers += self.typed(self.own.symbols.in_digits(line).encode("utf-8", "replace").decode("latin-1"), number)
+        return {"result": "\n".join(answers), "variablesReference": 0}
+
+    def value(self, text, number):
+        """Returns the number at a place, or the cell that a label of the processor's symbols names."""
+        address = self.own.symbols.address(number, text)
+        if address is None or address >= CELLS:
+            return value_of(self.machine, place_of(text, number, self.own.symbols))
+        return instruction(self.machine.state.memories[number], address)
+
+    def typed(self, line, number):
+        """Performs a line that was typed. Returns the lines of its answer; after one that moves the machine a stop follows."""
+        answer = self.act(line)
+        kind = answer[0].split()[0] if answer else ""
+        word = line.upper().split()[:1]
+        if kind == "OK" and word in (["WATCH"], ["UNWATCH"]):
+            self.machine.look()
+        elif kind in MOVES:
+            self.look()
+            hit = next((text for text in answer if text.startswith("HIT ")), "")
+            self.after = lambda: self.stopped("data breakpoint" if hit else MOVES[kind], number, hit)
+        return answer
+
+    # ---- memory and instructions
+
+    def do_readMemory(self, memoryReference, count, offset=0, **_):
+        cell = Cell.of(memoryReference, offset)
+        if not isinstance(count, int) or count < 0:
+            raise Refused(f"{count} is no count of bytes: it is 0 or more")
+        memory = self.machine.state.memories[cell.number]
+        last = min(cell.address + (count + 1) // 2, CELLS)
+        data = b"".join(int(memory.word(at), 8).to_bytes(2, "big") for at in range(cell.address, last))[:count]
+        return {"address": cell.reference, "data": base64.b64encode(data).decode("ascii"), "unreadableBytes": count - len(data)}
+
+    def do_writeMemory(self, memoryReference, data, offset=0, **_):
+        cell = Cell.of(memoryReference, offset)
+        try:
+            data = base64.b64decode(data, validate=True)
+        except binascii.Error as error:
+            raise Refused(f"what is to be written is not base64: {error}") from None
+        if len(data) % 2 or any(byte > 0o17 for byte in data[::2]):
+            raise Refused("a cell is two bytes, the upper bits first, and has 12 bits (decimal)")
+        words = [f"{int.from_bytes(data[at:at + 2], 'big'):04o}" for at in range(0, len(data), 2)]
+        if cell.address + len(words) > CELLS:
+            raise Refused("that goes past cell 7777")
+        for line in set_lines(cell.number, cell.address, words):
+            self.set_number(line)
+        return {"bytesWritten": len(data)}
+
+    def do_disassemble(self, memoryReference, instructionCount, offset=0, instructionOffset=0, **_):
+        if instructionCount > MOST_INSTRUCTIONS:
+            raise Refused(f"{instructionCount} instructions are too many: {MOST_INSTRUCTIONS} at most")
+        cell = Cell.of(memoryReference, offset)
+        first = cell.address + instructionOffset
+        last = first + instructionCount
+        before, after = range(first, min(last, 0)), range(max(first, CELLS), last)
+        found = [self.instruction(cell.number, at) for at in range(max(first, 0), min(last, CELLS))]
+        return {"instructions": [NO_INSTRUCTION] * len(before) + found + [NO_INSTRUCTION] * len(after)}
+
+    def instruction(self, number, address):
+        """Returns a cell as an instruction, and where its line is."""
+        memory = self.machine.state.memories[number]
+        cell = Cell(number, address)
+        found = self.where(cell, self.own.line(number, address, [memory.word(address), memory.word(address + 1)]))
+        return {"address": cell.reference, "instructionBytes": memory.word(address),
+                "instruction": instruction(memory, address), "location": found["source"], "line": found["line"]}

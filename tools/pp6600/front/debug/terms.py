@@ -1,0 +1,120 @@
+"""On what terms a breakpoint ends a run: a condition, a count of hits, or never, because a log point only writes.
+
+A hit is each time that a processor comes to the breakpoint, or that the place of a data breakpoint changes, and the condition holds.
+Hits are counted from the beginning of the run, wherever the search for them began. So a hit has the same number forward and back."""
+
+import operator
+import re
+from array import array
+from bisect import bisect_right
+from itertools import chain
+from typing import NamedTuple, Optional
+
+from ...failure import Failure
+from ...run.conditions import first_place, parsed
+from ...run.search import Condition
+from .protocol import Refused
+
+SIGNS = {"=": operator.eq, "==": operator.eq, ">": operator.gt, ">=": operator.ge, "<": operator.lt, "<=": operator.le,
+         "%": lambda count, number: count % number == 0}
+COUNT = re.compile(r"\s*(==?|>=?|<=?|%)?\s*([0-9]+)\s*")
+EXPRESSION = re.compile(r"\{([^{}]*)\}")
+REGISTERS = ("A", "P", "Q")
+
+
+class Hits(NamedTuple):
+    """Which hits count, by their numbers."""
+
+    sign: str
+    number: int
+
+    @classmethod
+    def parse(cls, text):
+        found = COUNT.fullmatch(text)
+        if not found:
+            raise Refused(f"{text} is no count of hits: it is a number, or one of = > >= < <= % and a number")
+        if not re.fullmatch("[0-7]+", found[2]):
+            raise Refused(f"{found[2]} is not octal")
+        number = int(found[2], 8)
+        if not number and found[1] == "%":
+            raise Refused("no number is a multiple of 0")
+        return cls(found[1] or "=", number)
+
+    def hold(self, number):
+        return SIGNS[self.sign](number, self.number)
+
+
+class Log:
+    """The text of a log point. What is in braces is a place, as in a condition; without a number it is the processor's own."""
+
+    def __init__(self, text, numbers, symbols):
+        """The numbers are those of the processors that may come there."""
+        self.text = text
+        expressions = EXPRESSION.findall(text)
+        self.places = {number: [place_of(one, number, symbols) for one in expressions] for number in numbers}
+
+    def said(self, number, values):
+        """Returns the text at a processor, with the values of its places."""
+        left = iter(values)
+        return EXPRESSION.sub(lambda _: next(left), self.text)
+
+
+class Terms(NamedTuple):
+    """The terms of a breakpoint."""
+
+    condition: Optional[Condition] = None
+    hits: Optional[Hits] = None
+    log: Optional[Log] = None
+    text: str = ""  # of the condition
+
+    @classmethod
+    def of(cls, asked, numbers, symbols):
+        """Returns the terms that an editor has asked for, of a breakpoint that some processors may come to."""
+        condition, hits, log = (str(asked.get(name) or "").strip() for name in ("condition", "hitCondition", "logMessage"))
+        try:
+            tests = parsed(condition, symbols) if condition else None
+            if tests and tests.remembers:
+                raise Refused("returns wrongly is about a whole run, so it is for until, and for no breakpoint")
+            return cls(tests, Hits.parse(hits) if hits else None, Log(log, numbers, symbols) if log else None, condition)
+        except Failure as failure:
+            raise Refused(str(failure)) from None
+
+    def places(self):
+        """Returns all places that they are about."""
+        logged = self.log.places.values() if self.log else ()
+        return [*(column.place for column in (self.condition.columns if self.condition else ())), *chain.from_iterable(logged)]
+
+
+def of_processor(words, number):
+    """Returns the words of a place, with the number of a processor that is left out: A is its A, and M 106 its cell."""
+    kind = words[0].upper() if words else ""
+    return [kind, f"{number:o}", *words[1:]] if len(words) == (1 if kind in REGISTERS else 2 if kind == "M" else 0) else words
+
+
+def place_of(text, number, symbols):
+    """Returns the place that an expression names."""
+    place, rest = first_place(of_processor(text.split(), number), symbols)
+    if rest or not place.exists:
+        raise Refused(f"{{{text}}} is no place")
+    return place
+
+
+class Tally:
+    """The positions of the hits of a breakpoint up to one."""
+
+    def __init__(self):
+        self.known = -1  # the last position up to which they are all there
+        self.positions = array("q")
+
+    def add(self, position):
+        if not self.positions or position > self.positions[-1]:
+            self.positions.append(position)
+
+    def number(self, position):
+        """Returns how many hits there are up to a position."""
+        return bisect_right(self.positions, position)
+
+    def cut(self, position):
+        """Forgets what is after a position."""
+        del self.positions[self.number(position):]
+        self.known = min(self.known, position)

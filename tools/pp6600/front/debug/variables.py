@@ -1,0 +1,95 @@
+"""What an editor shows beside the source: the scopes of a processor, and the values of places."""
+
+import re
+
+from ...failure import Failure
+from ...language.listing import AllSymbols
+from ...run.forms import CLOCK, KINDS, PROCESSORS, REGISTERS, Place
+from .breakpoints import Cell, checked
+from .protocol import Refused
+from .terms import of_processor
+
+SCOPES = ("Registers", "Channels and clock", "Devices", "Watches", "History", "Calls")
+REGISTER_SCOPE, CHANNEL_SCOPE, DEVICE_SCOPE, WATCH_SCOPE, HISTORY_SCOPE, CALL_SCOPE = range(1, len(SCOPES) + 1)
+
+
+def scope_and_number(asked):
+    """Returns the scope and the processor of a reference."""
+    if not isinstance(asked, int) or not 0 < asked >> 8 <= len(SCOPES) or not 0 <= asked & 0xFF < PROCESSORS:
+        raise Refused(f"{asked} is no reference to variables")
+    return asked >> 8, asked & 0xFF
+
+
+def scopes(number, has_source):
+    """Returns the scopes of a processor. Its calls are known by a source alone, and take a search."""
+    return [{"name": name, "variablesReference": scope << 8 | number, "expensive": scope == CALL_SCOPE,
+             **({"presentationHint": "registers"} if scope == REGISTER_SCOPE else {})}
+            for scope, name in enumerate(SCOPES, 1) if has_source or scope != CALL_SCOPE]
+
+
+def variable(name, value, place=""):
+    return {"name": name, "value": value, "variablesReference": 0, **({"evaluateName": place} if place else {})}
+
+
+def variables(machine, scope, number, places):
+    """Returns the variables of a scope; the places are those that are watched."""
+    state = machine.state
+    if scope == REGISTER_SCOPE:
+        return [register(state, number, name) for name in REGISTERS]
+    if scope == CHANNEL_SCOPE:
+        return [variable(f"H {one.number}", f"{one.state} {one.register}", f"H {one.number}") for one in state.channels]
+    if scope == DEVICE_SCOPE:
+        return devices(state)
+    if scope == WATCH_SCOPE:
+        return [variable(place.short, value_of(machine, place), place.short) for place in places]
+    counts = {"turns": machine.turn, "kept": machine.counts.position, "ahead": machine.counts.to_redo, "slot": state.slot}
+    return [variable(name, f"{count:o}") for name, count in counts.items()]
+
+
+def register(state, number, name):
+    """Returns a register; P leads to the memory."""
+    digits = state.processors[number].registers[name]
+    place = f"{name} {number:o}" if name in KINDS else ""
+    memory = {"memoryReference": Cell(number, int(digits, 8)).reference} if name == "P" else {}
+    return {**variable(name, digits, place), **memory}
+
+
+def devices(state):
+    found = [variable(f"CR {name}", value) for name, value in state.reader._asdict().items()]
+    found += [variable(f"LP {name}", value) for name, value in state.printer._asdict().items() if name != "paper"]
+    return found + [variable("LP paper", "\n".join(state.printer.paper))]
+
+
+def value_of(machine, place):
+    """Returns the digits of the number at a place; of a channel the state too."""
+    if place.kind == "C":
+        answer = machine.ask(f"DUMP C {place.numbers[0]:o} {place.numbers[0]:o}")[0]
+        if answer.startswith("ERR "):
+            raise Refused(f"{answer}: {place.short} is not in central memory")
+        return answer.split()[2]
+    digits = machine.state.number_at(place)
+    if place.kind == "H" and place.numbers[0] < CLOCK:
+        return f"{machine.state.channels[place.numbers[0]].state} {digits}"
+    return digits
+
+
+def place_of(text, number=None, symbols=AllSymbols()):
+    """Returns the place of a text. Of a processor that is given, A is its A, and M 106 its cell; a name may be in the place of an
+    address or a number."""
+    words = text.upper().split() if number is None else of_processor(text.upper().split(), number)
+    try:
+        words = symbols.place_in_digits(words)
+        return checked(Place.parse(" ".join(words)))
+    except Failure as failure:
+        raise Refused(f"{text} is no place: {failure}") from None
+
+
+def set_line(scope, number, name, value):
+    if not re.fullmatch("[0-7A-Za-z ]+", value):
+        raise Refused(f"{value} is not octal")
+    if scope == REGISTER_SCOPE and name == "PHASE":
+        raise Refused("PHASE can't be set; to set P ends a block transfer")
+    if scope in (DEVICE_SCOPE, HISTORY_SCOPE, CALL_SCOPE):
+        raise Refused(f"{name} can't be set")
+    place = place_of(name, number if scope == REGISTER_SCOPE else None)
+    return place, f"SET {place.short} {value}"

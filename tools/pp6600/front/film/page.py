@@ -1,0 +1,183 @@
+"""The page of a film: one file of HTML with the proved simulator as WebAssembly, a run's script, its deck and its panel. Nothing is
+recorded in it: opening it performs the script."""
+
+from __future__ import annotations
+
+import base64
+import html
+import json
+import os
+import re
+import shlex
+import zlib
+from typing import Any, Dict, List, Mapping, NamedTuple, Optional, Sequence
+
+from ...engine.choice import HOME
+from ...failure import Failure
+from ...language.display_code import SYMBOLS
+from ...language.listing import AllSymbols
+from ...language.sources import Source, words_of
+from ...language.source.statements import TAB
+from ...run import sentences
+from ...run.turn import (
+    AT_END_OF_BLOCK, AT_END_OF_INPUT, IN_BLOCK, INSTRUCTIONS, NAMES, RELATIVE_JUMPS, STATE_LETTERS, TWO_WORDS, WAITS_FOR, Effect,
+    Instruction)
+from ...shell.installation import PAGE_MODULE
+from ...shell.options import OPTIONS
+from ...shell.text_files import bytes_of
+
+WEB = os.path.join(os.path.dirname(os.path.abspath(__file__)), "web")
+# The scripts, in the order in which they are joined: those of the page and of its worker, those of the worker, those of the page.
+SHARED = ("layout", "turns")
+ENGINE = ("library", "simulator", "recorder", "conditions", "session", "worker")
+VIEW = ("rows", "places", "engine", "machine", "program", "lines", "source", "pictures", "origin",
+        "lanes", "barrel", "exercises", "breakpoints", "console", "controls")
+MODES = {"reader": ("IDLE", "READING", "STATUS", "SENT"), "printer": ("IDLE", "PRINTING", "STATUS", "SENT")}
+
+
+class Files(NamedTuple):
+    """What a run is given: the bytes of its script, its deck and its panel."""
+
+    script: bytes
+    deck: bytes = b""
+    panel: bytes = b""
+
+
+def page(title: str, module: bytes, about: Dict[str, Any]) -> str:
+    """Returns the page; `module` is the simulator, and `about` what the page has to know, as JSON takes it."""
+    data = json.dumps(about, separators=(",", ":")).encode("ascii")
+    parts = {"<!--title-->": html.escape(title), "/*--style--*/": web("page.css"), "<!--film-->": packed(data),
+             "<!--simulator-->": packed(module), "/*--shared--*/": joined(SHARED), "/*--engine--*/": joined(ENGINE),
+             "/*--view--*/": joined(VIEW)}
+    marks = "|".join(map(re.escape, parts))
+    return re.sub(marks, lambda mark: parts[mark[0]], web("page.html")) + "\n"
+
+
+def web(name: str) -> str:
+    with open(os.path.join(WEB, name), encoding="utf-8") as file:
+        return file.read().rstrip()
+
+
+def joined(names: Sequence[str]) -> str:
+    return "\n\n".join(web(f"{name}.js") for name in names)
+
+
+def packed(data: bytes) -> str:
+    text = base64.b64encode(zlib.compress(data, 9)).decode("ascii")
+    return "\n".join(text[at:at + 120] for at in range(0, len(text), 120))
+
+
+# ---- what the page has to know
+
+def tables() -> Dict[str, Any]:
+    """Returns what it has to know of every machine: the one table of instructions, and the sentences about turns."""
+    return {"names": NAMES, "two_words": TWO_WORDS, "relative_jumps": list(RELATIVE_JUMPS), "symbols": SYMBOLS, "modes": MODES,
+            "states": [(letter, name) for name, letter in STATE_LETTERS.items()], "waits_for": WAITS_FOR,
+            "table": [instruction(one) for one in INSTRUCTIONS], "blocks": {code: instruction(one) for code, one in IN_BLOCK.items()},
+            "ends": {"block": effects(AT_END_OF_BLOCK), "input": effects(AT_END_OF_INPUT)},
+            "sentences": {"of": {code.rjust(2, "0") if code[0] != "b" else f"b{code[1:]:>02}": rows
+                                 for code, rows in sentences.ROWS.items()},
+                          "waits": sentences.WAITS, "waits_ever": sentences.WAITS_EVER}}
+
+
+def instruction(one: Instruction) -> Dict[str, Any]:
+    return {"words": one.words, "states": one.goes_on_in, "effects": effects(one.effects)}
+
+
+def effects(all_of: Sequence[Effect]) -> List[Dict[str, Any]]:
+    return [{"place": one.place, "moved": one.is_moved, "sources": one.sources} for one in all_of]
+
+
+def options(asked: Any, devices: Mapping[int, str] = {}) -> Dict[str, Any]:
+    """Returns the options of the machine, with the names of the devices on its channels."""
+    reader, printer = int(asked.reader or "12", 8), int(asked.printer or "13", 8)
+    return {"history": int(asked.history or "10000"), "central": 1024 * int(asked.central or "128"), "reader": reader, "printer": printer,
+            "devices": {reader: "card reader", printer: "printer", **devices}}
+
+
+def run(asked: Any, files: Files) -> Dict[str, Any]:
+    """Returns the files of a run with their names, their bytes as characters, and how one performs them with the program."""
+    names, rows, words = {}, [], ["pp6600"]
+    for kind, data in zip(Files._fields, files):
+        path = getattr(asked, kind)
+        name = readable(os.path.basename(path or "")) or kind
+        if kind == "script" or path is not None:
+            names[kind] = f"{kind}-{name}" if name in names.values() else name
+            rows.append({"kind": kind, "name": names[kind], "bytes": data.decode("latin-1")})
+    for option in OPTIONS:
+        value = getattr(asked, option)
+        words += [] if value is None else [f"--{option}", names.get(option, value)]
+    return {"files": rows, "again": " ".join(map(shlex.quote, [*words, names["script"]]))}
+
+
+def of_symbols(symbols: AllSymbols) -> Dict[str, Any]:
+    """Returns the labels of each processor that has some, and the lines and words of the sources."""
+    labels = {number: {**table, "addresses": addresses(symbols.of[number]), "entries": list(symbols.of[number].entries().items())}
+              for number, table in symbols.tables().items()}
+    sources = {number: source_of(source) for number, source in symbols.sources()}
+    return {"labels": labels, **({"sources": sources} if sources else {})}
+
+
+def addresses(names: Any) -> Dict[str, int]:
+    return {name: address for address, name in names.names.firsts().items()}
+
+
+def source_of(source: Source) -> Dict[str, Any]:
+    """Returns the lines of a source, each with the address of its first word if it has words; and of each word its line, its location,
+    its origin, its number, itself, and the second word if an instruction begins there that has one."""
+    words = [(word.row.line.number, word.row.location, word.row.origin, word.at, word.row.words[word.at],
+              None if word.second is None else int(word.second, 8)) for word in words_of(source.program.rows)]
+    firsts = {line: location for line, location, *_ in reversed(words)}
+    texts = {row.line.number: row.line.text for row in source.program.rows if row.line.call is None}
+    lines = [(texts.get(number, "").expandtabs(TAB), *((firsts[number],) if number in firsts else ()))
+             for number in range(1, max(texts) + 1)]
+    return {"name": readable(os.path.basename(source.path)), "lines": lines, "words": words}
+
+
+def readable(text: str) -> str:
+    """Returns a word of the command line without what is not UTF-8."""
+    return text.encode("utf-8", "surrogateescape").decode("utf-8", "replace")
+
+
+def heading(title: Optional[str], script: Optional[str]) -> str:
+    """Returns the heading of a page: the title that was asked for, or else the name of the script's file; if this is `script`, that
+    of its folder."""
+    folder, name = os.path.dirname(os.path.abspath(script or "")), os.path.basename(script or "") or "standard input"
+    return readable(title or (os.path.basename(folder) if name == "script" else "") or name)
+
+
+# ---- files
+
+def module_bytes() -> bytes:
+    """Returns the simulator as WebAssembly: that of a checkout or of a class, whose folder has it in dist, or that of an installation."""
+    paths = [os.path.join(HOME, *folder, PAGE_MODULE) for folder in (["dist"], [])]
+    path = next(filter(os.path.exists, paths), None)
+    if path is None:
+        raise Failure(f"there is no {PAGE_MODULE} here, with which a page runs")
+    return bytes_of(path)
+
+
+def write_page(path: str, text: str) -> None:
+    """Writes a file whole, or leaves it as it was. What is no plain file, as a pipe, is written to as it is."""
+    data = text.encode("utf-8")
+    try:
+        if os.path.exists(path) and not os.path.isfile(path):
+            with open(path, "wb") as file:
+                file.write(data)
+        else:
+            replace_file(os.path.realpath(path), data)
+    except OSError as error:
+        raise Failure(f"can't write {path}: {error.strerror}") from error
+
+
+def replace_file(path: str, data: bytes) -> None:
+    """Puts a fresh file with these bytes in the place of a file."""
+    fresh = f"{path}.{os.urandom(4).hex()}.part"
+    with open(fresh, "xb") as file:
+        try:
+            file.write(data)
+            file.close()
+            os.replace(fresh, path)
+        except BaseException:
+            os.remove(fresh)
+            raise

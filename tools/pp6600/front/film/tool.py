@@ -1,0 +1,43 @@
+"""The tool that makes a film: a run as one web page, from which one goes on."""
+
+from ...language.sources import add_symbols, symbols_of
+from ...run.attached import names_of
+from ...shell.command_line import Failure, add_script, arguments, bytes_of, octal, simulator
+from ...shell.device_options import add_devices, devices_of, script_with
+from ...shell.script import performed
+from ...shell.text_files import lines_of
+from .page import Files, heading, module_bytes, of_symbols, options, page, run, tables, write_page
+from .pictures import pictures_of
+
+DESCRIPTION = """Makes a film of a run: one web page with the proved simulator in it, which needs no network and no server. Opening it
+performs the script, with its steps back; each turn, and each other line that does something, is a moment of the film. What is typed in the
+page goes on from there."""
+
+
+def main():
+    parser = arguments(DESCRIPTION)
+    parser.add_argument("-o", "--output", metavar="FILE.html", required=True, help="the page to write")
+    parser.add_argument("--around", metavar="N", type=octal, help="open after turn N, octal")
+    parser.add_argument("--title", metavar="TEXT", help="the heading of the page (else the name of the script's file or folder)")
+    add_symbols(parser)
+    add_devices(parser)
+    add_script(parser)
+    asked = parser.parse()
+    if not asked.output:
+        raise Failure("--output needs the name of a file")
+    symbols, devices, words = symbols_of(asked), devices_of(asked), simulator(asked)
+    loading = "".join(f"{line}\n" for line in symbols.loading(()))
+    script = loading.encode() + bytes_of(asked.script)
+    if devices:
+        script, refusals = script_with(words, devices, script)
+    lines = lines_of(script.decode("latin-1"))
+    done = performed(words, lines)
+    highest = done.history.tape.turns
+    if asked.around is not None and asked.around > highest:
+        raise Failure(f"there is no turn {asked.around:o}: the highest is {highest:o} (octal)")
+    part = lambda path: bytes_of(path) if path is not None else b""
+    files = Files(script, part(asked.deck), part(asked.panel))
+    about = {**tables(), **options(asked, names_of(devices)), **run(asked, files), **of_symbols(symbols), "opens": asked.around,
+             **pictures_of(words, devices, lines)}
+    write_page(asked.output, page(heading(asked.title, asked.script), module_bytes(), about))
+    return (refusals if devices else done.refusals).status()

@@ -1,0 +1,66 @@
+// ---- exercises: each begins a session with its script, and what is checked is performed in a session of its own
+
+const exercises = { all: [], now: null };
+
+function buildExercises() {
+  exercises.all = film.exercises || [];
+  byId("exercise").hidden = !exercises.all.length;
+  exercises.all.forEach(({ name }, at) => byId("exercise-of").add(new Option(`${at + 1}. ${name}`, name)));
+  byId("exercise").onsubmit = (event) => { event.preventDefault(); beginExercise(); };
+  byId("exercise-of").onchange = () => showTask(exerciseNamed(byId("exercise-of").value));
+  byId("check").onclick = checkExercise;
+  showTask(exercises.all[0]);
+  showExercise();
+}
+
+const exerciseNamed = (name) => exercises.all.find((one) => one.name === name);
+
+function showTask(exercise) {
+  if (!exercise) return;
+  byId("exercise-of").value = exercise.name;
+  setText(byId("task"), exercise.task);
+  byId("panel-text").hidden = !exercise.files.panel;
+  byId("panel-text").value = exercise.files.panel;
+}
+
+// The exercise that the session has begun with: its first line is a note that names it.
+function showExercise() {
+  const [, name] = /^\* EXERCISE (\S+)\s*$/m.exec(engine.given.script) || [];
+  exercises.now = exerciseNamed(name) || null;
+  byId("check").disabled = !exercises.now;
+  setText(byId("checked"), "");
+  if (!exercises.now) return;
+  showTask(exercises.now);
+  if (engine.given.panel) byId("panel-text").value = engine.given.panel;
+}
+
+// The files of a run whose script begins an exercise: the deck and the options are those of the exercise.
+function withExercise(given) {
+  const find = (note) => (new RegExp(`^\\* ${note} (.*?)\\s*$`, "m").exec(given.script) || [])[1];
+  const exercise = (engine.about.exercises || []).find((one) => one.name === find("EXERCISE"));
+  if (!exercise) return given;
+  return { ...given, deck: exercise.files.deck, panel: find("PANEL") || given.panel || exercise.files.panel, options: exercise.options };
+}
+
+function beginExercise() {
+  const { name, files } = exerciseNamed(byId("exercise-of").value), panel = linesOfOctals(byId("panel-text").value).flat();
+  if (files.panel && (panel.length !== 12 || panel.some((word) => !(word < CELLS)))) return say("a panel is twelve words of four octal digits", true);
+  const notes = [`* EXERCISE ${name}`, ...(files.panel ? [`* PANEL ${panel.map(four).join(" ")}`] : [])];
+  return beginAnew({ script: `${notes.join("\n")}\n${files.script}` }, "the exercise begins");
+}
+
+// The lines of an answer: the settings in effect, and the turns if the exercise's own script makes turns.
+function answerTo({ files }) {
+  const makesTurns = /^\s*STEP\b/im.test(files.script);
+  return linesInEffect(film.count - 1).filter((line) => /^\s*(SET|DEADSTART)\b/i.test(line) || (makesTurns && /^STEP /.test(line)));
+}
+
+async function checkExercise() {
+  const exercise = exercises.now, { name, check, expected, isHidden, files, options } = exercise;
+  const given = { ...options, deck: files.deck, panel: engine.given.panel };
+  const { answers } = await ask("answers", { given, lines: answerTo(exercise), check });
+  const wanted = expected.split("\n").slice(0, -1), found = answers.slice(-wanted.length);
+  const wrong = wanted.flatMap((line, at) => (line === found[at] ? [] : [`expected ${isHidden ? "another line" : line}`, `written  ${found[at] ?? ""}`]));
+  setText(byId("checked"), [`${name}: ${wrong.length ? "not solved" : "solved"}`, ...wrong.slice(0, 8)].join("\n"));
+  byId("checked").classList.toggle("wrong", wrong.length > 0);
+}

@@ -1,0 +1,275 @@
+// ---- the lanes
+
+const GAP = 3, SIGN = 9; // between lanes, and the width of a sign
+let LANE = 13, LABEL = 46, LETTERS = 11; // the height of a lane, the width of the names, and the height of letters, in pixels
+const lanes = { all: [], processors: [], channels: [], firstTurn: -1, from: 0, to: 0, isDrawn: false, folded: true }; // folded: the quiet ones are one line
+
+// Begins with no moments. The lanes are those of the processors, and then those of the channels.
+function forgetLanes() {
+  const lane = (name) => ({ name, begins: [], kinds: [], seen: new Set(), columns: null });
+  lanes.all = [];
+  lanes.processors = Array.from({ length: PROCESSORS }, (_, n) => lane(`PP ${two(n)}`));
+  lanes.channels = Array.from({ length: CHANNELS }, (_, c) => lane(`H ${two(c)}`));
+  lanes.firstTurn = -1;
+}
+
+// Notes what the moments from a first one on are: a lane has the stretches of moments that are of one kind.
+function growLanes(first) {
+  const goOn = (lane, moment, kind) => {
+    if (lane.kinds.length && lane.kinds[lane.kinds.length - 1] === kind) return;
+    lane.begins.push(moment);
+    lane.kinds.push(kind);
+    if (moment) lane.seen.add(kind);
+  };
+  if (!first) for (const lane of [...lanes.processors, ...lanes.channels]) goOn(lane, 0, IDLE);
+  for (let moment = Math.max(first, 1); moment < film.count; moment++) {
+    if (isTurn(moment)) {
+      if (lanes.firstTurn < 0) lanes.firstTurn = moment;
+      const lane = lanes.processors[film.processor[moment]];
+      goOn(lane, moment, film.kinds[moment]);
+      lane.seen.add(film.kinds[moment]);
+    }
+    for (let at = film.starts[moment]; at < film.starts[moment + 1]; at++) {
+      const c = film.places[at] - layout.states;
+      if (c >= 0 && c < CHANNELS) goOn(lanes.channels[c], moment, film.now[at]);
+    }
+  }
+  chooseLanes();
+}
+
+// A processor is quiet if it only passes, or only waits; a channel if no turn changes it. One that is always inactive has no lane.
+function chooseLanes() {
+  for (const lane of lanes.processors) {
+    const isQuiet = !lane.seen.has(BUSY) && !lane.seen.has(BLOCK) && !(lane.seen.has(WAITING) && lane.seen.has(IDLE));
+    lane.quiet = isQuiet && (lane.seen.has(WAITING) ? "only waiting" : "only passing");
+  }
+  for (const lane of lanes.channels) {
+    const last = lane.kinds.length - 1, isBefore = lanes.firstTurn < 0 || lane.begins[last] < lanes.firstTurn;
+    lane.quiet = isBefore && `always ${film.states[lane.kinds[last]][1]}`;
+  }
+  lanes.all = [...lanes.processors, ...lanes.channels.filter((lane) => lane.kinds.some((kind) => kind > 0))];
+  lanes.isDrawn = false;
+  offerParts();
+}
+
+// Offers to see parts of a longer run.
+function offerParts() {
+  const zoom = byId("zoom");
+  for (const size of [0o10000, 0o1000, 0o100]) {
+    if (size >= film.count || [...zoom.options].some((one) => Number(one.value) === size)) continue;
+    zoom.add(new Option(`${octal(size)} turns`, size), [...zoom.options].find((one) => one.value && Number(one.value) < size) || null);
+  }
+}
+
+function buildLanes() {
+  byId("fold").onclick = () => { lanes.folded = !lanes.folded; drawLanes(); showHead(); };
+  const zoom = byId("zoom");
+  zoom.add(new Option("the whole run", ""), 0);
+  zoom.value = "";
+  zoom.onchange = () => { setView(); drawLanes(); showHead(); };
+  const picture = byId("picture");
+  picture.onpointerdown = (event) => { picture.setPointerCapture(event.pointerId); lanes.held = true; moveToPixel(event); };
+  picture.onpointermove = (event) => lanes.held && moveToPixel(event);
+  picture.onpointerup = picture.onpointercancel = () => { lanes.held = false; };
+  buildLegend();
+}
+
+// Chooses the part of the run that the lanes show, so that the present moment is in it. The whole run has some room at its end, so that
+// the scale stays the same for a while as it grows.
+function setView() {
+  const size = Number(byId("zoom").value) || film.count, step = 1 << Math.max(0, 25 - Math.clz32(film.count));
+  if (size >= film.count) {
+    const end = Math.ceil(film.count / step) * step;
+    if (lanes.from === 0 && lanes.to === end) return false;
+    [lanes.from, lanes.to] = [0, end];
+  } else if (lanes.to - lanes.from !== size || film.at < lanes.from || film.at >= lanes.to) {
+    lanes.from = Math.max(0, Math.min(film.count - size, film.at - (size >> 1)));
+    lanes.to = lanes.from + size;
+  } else return false;
+  return true;
+}
+
+const pictureWidth = () => Math.max(100, byId("picture").clientWidth - LABEL);
+const pixelOf = (moment) => ((moment - lanes.from) / (lanes.to - lanes.from)) * pictureWidth();
+
+function moveToPixel(event) {
+  const x = event.clientX - byId("picture").getBoundingClientRect().left - LABEL;
+  moveTo(Math.min(film.count - 1, lanes.from + Math.floor((x / pictureWidth()) * (lanes.to - lanes.from))));
+}
+
+const lanesShown = () => lanes.all.filter((lane) => !lane.quiet || !(lanes.folded || isProjected()));
+
+// The line that stands for the quiet lanes, and unfolds them.
+function showFold() {
+  const quiet = lanes.all.filter((lane) => lane.quiet), kinds = [...new Set(quiet.map((lane) => lane.quiet))], fold = byId("fold");
+  const texts = kinds.map((kind) => `${inRanges(quiet.filter((lane) => lane.quiet === kind))}: ${kind}`);
+  fold.hidden = !quiet.length;
+  fold.setAttribute("aria-expanded", !lanes.folded);
+  setText(fold, `${lanes.folded ? "▸" : "▾"} ${texts.join("; ")}`);
+}
+
+// The names of lanes, as PP 00, PP 04 to PP 11.
+function inRanges(some) {
+  const ranges = [];
+  for (const lane of some) {
+    const range = ranges[ranges.length - 1];
+    if (range && range.last === lanes.all[lanes.all.indexOf(lane) - 1]) range.last = lane;
+    else ranges.push({ first: lane, last: lane });
+  }
+  return ranges.map(({ first, last }) => (first === last ? first.name : `${first.name} to ${last.name}`)).join(", ");
+}
+
+// Draws a mark of one of the four heights: a line, a hollow box, a half box, a whole box.
+function drawMark(context, colours, kind, x, y, width) {
+  context.fillStyle = kind === 3 ? colours.tall : colours.half;
+  if (kind === 0) context.fillRect(x, y + LANE - 1, width, 1);
+  if (kind === 1) {
+    context.fillRect(x, y + LANE - 1, width, 1);
+    context.fillRect(x, y + LANE - 6, width, 1);
+  }
+  if (kind === 2) context.fillRect(x, y + LANE - 8, width, 8);
+  if (kind === 3) context.fillRect(x, y, width, LANE);
+}
+
+// For each column of pixels the tallest of what it has. What was worked out for this part of the run is kept: only stretches that have
+// come since are looked at.
+function tallest(lane, width) {
+  const key = `${lanes.from} ${lanes.to} ${width}`;
+  if (!lane.columns || lane.key !== key) Object.assign(lane, { key, columns: new Uint8Array(width), looked: 0 });
+  const { begins, kinds, columns } = lane;
+  for (let at = lane.looked; at < begins.length; at++) {
+    const begin = begins[at], end = at + 1 < begins.length ? begins[at + 1] : film.count;
+    if (end <= lanes.from || begin >= lanes.to) continue;
+    const from = Math.max(0, Math.floor(pixelOf(begin))), to = Math.min(width, Math.max(from + 1, Math.floor(pixelOf(end))));
+    for (let x = from; x < to; x++) if (kinds[at] > columns[x]) columns[x] = kinds[at];
+  }
+  lane.looked = Math.max(0, begins.length - 1);
+  return columns;
+}
+
+function coloursOf(element) {
+  const style = getComputedStyle(element);
+  const colour = (name) => style.getPropertyValue(`--${name}`).trim();
+  return { tall: colour("tall"), half: colour("half"), ink: colour("ink"), soft: colour("soft"), line: colour("line") };
+}
+
+// On a projector the lanes have a ninth of the height for them all, and larger letters.
+function sizeLanes(rows) {
+  LANE = isProjected() ? Math.max(5, Math.floor(innerHeight / Math.max(45, 9 * rows)) - GAP) : 13;
+  LETTERS = isProjected() ? LANE + GAP : 11;
+  LABEL = isProjected() ? 4 * LETTERS : 46;
+}
+
+function drawLanes() {
+  lanes.isDrawn = true;
+  const drawn = lanesShown(), rows = drawn.length + 1 + (shown.chosen ? 1 : 0);
+  sizeLanes(rows);
+  const canvas = byId("canvas"), ratio = window.devicePixelRatio || 1;
+  const width = Math.floor(pictureWidth()), height = rows * (LANE + GAP) + GAP;
+  canvas.width = (width + LABEL) * ratio;
+  canvas.height = height * ratio;
+  canvas.style.height = `${height}px`;
+  const context = canvas.getContext("2d"), colours = coloursOf(document.body);
+  context.scale(ratio, ratio);
+  context.font = `${LETTERS}px ui-monospace, Consolas, monospace`;
+  context.textBaseline = "middle";
+  drawn.forEach((lane, at) => drawLane(context, colours, lane, GAP + (at + 1) * (LANE + GAP), width));
+  drawLines(context, colours, height);
+  drawSkips(context, colours, height);
+  if (shown.chosen) drawChanges(context, colours, GAP + (rows - 1) * (LANE + GAP));
+  if (shown.origin) drawOrigin(context, colours, drawn);
+  showFold();
+  canvas.setAttribute("aria-label", `Lanes of the processors and channels from moment ${octal(lanes.from)} to ${octal(lanes.to - 1)}.`);
+}
+
+function drawLane(context, colours, lane, y, width) {
+  context.fillStyle = colours.ink;
+  context.fillText(lane.name, 0, y + LANE / 2 + 1);
+  const columns = tallest(lane, width);
+  for (let x = 0; x < width;) {
+    let end = x + 1;
+    while (end < width && columns[end] === columns[x]) end++;
+    drawMark(context, colours, columns[x], LABEL + x, y, end - x);
+    if (columns[x] === 1) drawEnds(context, x, end, y);
+    x = end;
+  }
+}
+
+// The ends of a hollow box.
+function drawEnds(context, x, end, y) {
+  context.fillRect(LABEL + x, y + LANE - 6, 1, 6);
+  context.fillRect(LABEL + end - 1, y + LANE - 6, 1, 6);
+}
+
+// A tick where each line of the script begins, taller and with < or > where the run goes back or forward again.
+function drawLines(context, colours, height) {
+  context.fillStyle = colours.ink;
+  context.fillText("lines", 0, GAP + LANE / 2);
+  let free = 0; // from where on there is room for a sign
+  film.lines.forEach((line) => {
+    if (!line.acts || line.first < lanes.from || line.first >= lanes.to) return;
+    const x = LABEL + Math.floor(pixelOf(line.first)), jumps = film.kinds[line.first] === JUMP;
+    context.fillStyle = jumps ? colours.ink : colours.soft;
+    context.fillRect(x, jumps ? GAP : GAP + LANE - 6, 1, jumps ? height - GAP : 6);
+    if (!jumps) return;
+    const left = x + SIGN < LABEL + pictureWidth() ? x + 2 : x - SIGN;
+    if (left >= free) context.fillText(film.jumps.get(line.first)[0] < line.first ? "<" : ">", left, GAP + LANE / 2);
+    free = Math.max(left, x) + SIGN;
+  });
+}
+
+// A dashed line where turns were skipped, with their number below the lanes' names.
+function drawSkips(context, colours, height) {
+  context.strokeStyle = context.fillStyle = colours.ink;
+  context.lineWidth = 3;
+  context.setLineDash([2, 3]);
+  for (const [moment, turns] of film.skips) {
+    if (moment < lanes.from || moment >= lanes.to) continue;
+    const x = LABEL + Math.floor(pixelOf(moment)), text = `${octal(turns)} turns`;
+    context.beginPath();
+    context.moveTo(x, GAP);
+    context.lineTo(x, height);
+    context.stroke();
+    const room = context.measureText(text).width + 4;
+    context.fillText(text, x - room > LABEL ? x - room : x + SIGN, GAP + LANE / 2);
+  }
+  context.setLineDash([]);
+}
+
+// A tick for each change of the chosen number.
+function drawChanges(context, colours, y) {
+  context.fillStyle = colours.ink;
+  context.fillText("chosen", 0, y + LANE / 2 + 1);
+  for (let moment = shown.marks.indexOf(1, lanes.from); moment >= 0 && moment < lanes.to; moment = shown.marks.indexOf(1, moment + 1)) {
+    context.fillRect(LABEL + Math.floor(pixelOf(moment)), y, 2, LANE);
+  }
+}
+
+function showHead() {
+  const head = byId("head"), inside = film.at >= lanes.from && film.at < lanes.to;
+  head.hidden = !inside;
+  head.style.left = `${LABEL + pixelOf(film.at + 0.5)}px`;
+}
+
+const LOOKS = ["passes", "waits", "busy", "block transfer"]; // each also the state of a channel
+
+function buildLegend() {
+  LOOKS.forEach((text, kind) => {
+    const canvas = document.createElement("canvas"), entry = document.createElement("span");
+    canvas.width = 22;
+    canvas.height = LANE;
+    canvas.dataset.kind = kind;
+    entry.append(canvas, ` ${text}, or ${film.states[kind][1]}`);
+    byId("legend").append(entry);
+  });
+}
+
+function drawLegend() {
+  const colours = coloursOf(document.body);
+  for (const canvas of document.querySelectorAll("#legend canvas")) {
+    const context = canvas.getContext("2d"), kind = Number(canvas.dataset.kind);
+    context.clearRect(0, 0, 22, LANE);
+    drawMark(context, colours, kind, 0, 0, 22);
+    if (kind === 1) drawEnds(context, -LABEL, 22 - LABEL, 0);
+  }
+}

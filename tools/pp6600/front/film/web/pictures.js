@@ -1,0 +1,30 @@
+// ---- what devices of one's own show in the script of the file, at each of its moments
+
+const pictures = []; // of each device its element, the line below it, and the lines of the picture that is seen
+
+function buildPictures() {
+  byId("pictures").hidden = !film.pictures;
+  for (const { name, channel } of film.pictures ? film.pictures.devices : []) {
+    const figure = document.createElement("figure"), title = document.createElement("figcaption"), element = document.createElement("div");
+    const line = document.createElement("p");
+    title.textContent = `${name} on channel ${two(channel)}`;
+    figure.append(title, line, element);
+    byId("pictures").append(figure);
+    pictures.push({ element, line, lines: null });
+  }
+}
+
+// The page has no device of one's own: beyond the script of the file, and in another session, it says so.
+function showPictures() {
+  const moment = resolve(film.at);
+  pictures.forEach((picture, number) => {
+    const { devices, lines, moments } = film.pictures, isOwn = engine.given.script === filesOf(engine.about).script;
+    const [, seen] = isOwn ? devices[number].shown.findLast(([from]) => from <= moment) || [0, []] : [0, []], name = devices[number].name;
+    const isBeyond = isOwn && moment >= moments, without = `this page has no ${name}`;
+    setText(picture.line, !isOwn ? `${without}: it is known for the script of the file alone` : isBeyond
+      ? `${without}: this is what it showed at the end of the script` : "");
+    if (seen === picture.lines) return;
+    picture.lines = seen;
+    picture.element.innerHTML = seen.map((line) => lines[line]).join("");
+  });
+}

@@ -1,0 +1,175 @@
+// ---- the source of a processor: its lines, the one where the processor is, and those that have been overwritten
+
+// What is shown of each source by its processor, with the line that was clicked last and the moment to which this led; and the processor
+// whose source is seen, and where it was scrolled.
+const source = { of: new Map(), processor: -1, scrolled: "" };
+
+// The line of a source where a processor is, as ", count.pp:8"; or "".
+function lineOfSource(n, { number, note }) {
+  if (!number) return "";
+  const text = `${film.sources[n].name}:${number}`;
+  return note === "was" ? `, was ${text}` : `, ${text} ${note}`.trimEnd();
+}
+
+function buildSource() {
+  if (!film.sources) return;
+  for (const one of Object.values(film.sources)) one.index = indexOfWords(one.words);
+  document.querySelector(".column").prepend(byId("lanes"));
+  byId("source").hidden = false;
+  for (const [text, { name, lines }] of Object.entries(film.sources)) {
+    const n = Number(text), body = tableOf("source").createTBody();
+    const one = { processor: n, name, body, times: lines.map(() => []), last: 0, line: 0, led: -1 };
+    one.rows = lines.map((line, at) => addSourceRow(one, at + 1, ...line));
+    source.of.set(n, one);
+    byId("source-of").add(new Option(`PP ${two(n)}`, n));
+  }
+  source.processor = source.of.keys().next().value;
+  byId("source-of").hidden = source.of.size < 2;
+  byId("source-of").onchange = () => chooseMemory(Number(byId("source-of").value));
+  byId("previous-time").onclick = () => moveToTime(source.of.get(source.processor), -1);
+  byId("next-time").onclick = () => moveToTime(source.of.get(source.processor), 1);
+}
+
+// Notes the times of the moments that came to the film after so many.
+function growSource(first) {
+  for (const one of source.of.values()) addTimes(one, Math.max(first, 1));
+  noteLoaded(first);
+}
+
+function forgetTimes() {
+  for (const one of source.of.values()) {
+    Object.assign(one, { times: one.rows.map(() => []), last: 0, led: -1 });
+    for (const row of one.rows) row.loadedAt = -1;
+  }
+}
+
+// Notes from which moment on each line is loaded: a line of the script loads it.
+function noteLoaded(first) {
+  const here = film.at, all = [...source.of.values()].flatMap((one) => one.rows.map((row) => [one.processor, row]));
+  let open = all.filter(([, row]) => row.words.length && row.loadedAt < 0);
+  for (let moment = first; moment < film.count && open.length; moment++) {
+    if (film.kinds[moment] !== LINE && film.kinds[moment] !== SKIP) continue;
+    goTo(moment);
+    for (const [n, row] of open) if (markOf(n, row.words)[0] === "") row.loadedAt = moment;
+    open = open.filter(([, row]) => row.loadedAt < 0);
+  }
+  goTo(here);
+}
+
+// Notes for each line at which moments from the first one on it was begun: a line that waits, or that is in its block, only goes on. A line
+// can be clicked if it was performed.
+function addTimes(one, first) {
+  for (let moment = first; moment < film.count; moment++) {
+    if (!isTurn(moment) || film.processor[moment] !== one.processor) continue;
+    const { block } = turnOf(moment), waited = film.kinds[one.last] === WAITING && film.p[one.last] === film.p[moment];
+    const line = block || waited ? NO_LINE : lineOfMoment(moment);
+    if (line.number && !line.note) one.times[line.number - 1].push(moment);
+    one.last = moment;
+  }
+  one.rows.forEach(({ button }, at) => { button.disabled = !one.times[at].length; });
+}
+
+// A row of a line: of one with words the address of the first too.
+function addSourceRow(one, number, text, address) {
+  const element = addRow(one.body, ["", "", address === undefined ? "" : four(address), "", ""]), cells = [...element.cells];
+  const button = document.createElement("button"), written = document.createElement("span");
+  const blanks = text.slice(0, text.length - text.trimStart().length);
+  button.type = "button";
+  button.className = "line";
+  written.textContent = text.trimStart();
+  button.append(text ? blanks : " ", written);
+  button.onclick = (event) => { one.line = number; moveToTime(one, event.shiftKey ? -1 : 1); };
+  cells[4].append(button);
+  if (address === undefined) cells[1].textContent = number;
+  else cells[1].append(breakpointOf(one.processor, number, address));
+  cells[1].className = cells[2].className = "name";
+  cells[3].className = "mark";
+  cells[3].append("", " ");
+  element.classList.toggle("note", text.trim().startsWith("*"));
+  const words = (film.sources[one.processor].index.ofLine.get(number) || []).filter(({ isSecondWord }) => !isSecondWord);
+  return { element, button, at: cells[0], text: cells[3].firstChild, mark: cells[3], words, loadedAt: -1, number: null, shown: "" };
+}
+
+// The number of a line, by which a breakpoint is set and taken away.
+function breakpointOf(n, number, address) {
+  const button = document.createElement("button");
+  Object.assign(button, { type: "button", className: "plain name", textContent: number, title: `a breakpoint at ${four(address)}` });
+  button.onclick = () => {
+    toggleBreakpoint(n, address);
+    button.setAttribute("aria-pressed", hasBreakpoint(n, address));
+  };
+  return button;
+}
+
+// It is that of the chosen processor, if this has one.
+function showSource() {
+  if (!film.sources) return;
+  if (!memory.follows && source.of.has(memory.processor)) source.processor = memory.processor;
+  const one = source.of.get(source.processor), n = one.processor, line = lineOfNext(n);
+  document.body.classList.toggle("sourced", n === memory.processor);
+  for (const other of source.of.values()) other.body.hidden = other !== one;
+  byId("source-of").value = n;
+  setText(document.querySelector("#source h2"), `Source of PP ${two(n)}: ${one.name}`);
+  const did = isTurn(film.at) && film.processor[film.at] === n ? lineOfMoment(film.at) : NO_LINE, performed = did.note ? 0 : did.number;
+  one.rows.forEach((row, at) => showSourceRow(row, n, line.number === at + 1 ? line : null, performed === at + 1));
+  showTimes(one);
+  if (source.scrolled !== `${n} ${film.at}`) keepInView(one.rows[(film.at === one.led ? one.line : line.number) - 1]);
+  source.scrolled = `${n} ${film.at}`;
+}
+
+function showSourceRow(row, n, here, performed) {
+  const isLoaded = row.loadedAt >= 0 && resolve(film.at) >= row.loadedAt;
+  const [text, address] = !row.words.length ? ["", null] : isLoaded ? markOf(n, row.words) : ["not yet", null];
+  const shownNow = [text, address, here ? `> ${here.note}` : "", performed].join();
+  if (row.shown === shownNow) return;
+  row.shown = shownNow;
+  setText(row.at, here ? ">" : "");
+  row.text.data = text || (here ? here.note : "");
+  row.element.classList.toggle("present", here !== null);
+  row.element.classList.toggle("acted", performed);
+  row.element.classList.toggle("overwritten", text === "now");
+  row.element.classList.toggle("quiet", text === "not yet");
+  if (address === null && !row.number) return;
+  row.number = row.number || addNumber(row.mark, `M ${two(n)} ${four(address)}`);
+  row.number.hidden = address === null;
+  if (address !== null) setPlace(row.number, `M ${two(n)} ${four(address)}`);
+}
+
+function showTimes(one) {
+  const times = one.times[one.line - 1] || [], count = times.findIndex((moment) => moment > film.at);
+  byId("times").hidden = !times.length;
+  setText(byId("times-text"), `line ${one.line} (decimal), time ${octal(count < 0 ? times.length : count)} of ${octal(times.length)}`);
+}
+
+// To the next time that the line that was clicked was performed, or to the time before; after the last comes the first.
+function moveToTime(one, direction) {
+  const times = one.times[one.line - 1];
+  const next = times.find((moment) => moment > film.at) ?? times[0], before = times.findLast((moment) => moment < film.at) ?? times.at(-1);
+  one.led = direction > 0 ? next : before;
+  byHand(() => moveTo(one.led))();
+}
+
+// Scrolls the lines, not the page, so that a row is seen, and some rows around it.
+function keepInView(row) {
+  if (!row) return;
+  const box = tableOf("source").parentElement, { offsetTop: top, offsetHeight: height } = row.element;
+  if (top - 2 * height < box.scrollTop || top + 3 * height > box.scrollTop + box.clientHeight) box.scrollTop = top - box.clientHeight / 3;
+}
+
+// To where the processor of the source that is seen begins its next line, or back to where it began a line; at the end of the film turns are
+// made until it does.
+function moveByLine(direction) {
+  if (!film.sources) return;
+  const one = source.of.get(source.processor), begun = one.times.flatMap((times) => nearest(times, direction));
+  if (begun.length) return moveTo((direction > 0 ? Math.min(...begun) : Math.max(...begun)) - 1);
+  if (direction < 0) return moveTo(0);
+  const n = octal(one.processor), { number } = lineOfNext(one.processor), words = film.sources[one.processor].index.ofLine.get(number);
+  const p = film.numbers[register(one.processor, 0)], all = words ? words.map(({ location }) => location) : [p];
+  return engine.until([`P ${n} outside ${octal(Math.min(...all))} ${octal(Math.max(...all))} and PP ${n} not in a block`], false);
+}
+
+// The first time after the next moment, or the last one up to this, if there is one.
+function nearest(times, direction) {
+  const found = direction > 0 ? times.find((moment) => moment > film.at + 1) : times.findLast((moment) => moment <= film.at);
+  return found === undefined ? [] : [found];
+}

@@ -1,0 +1,177 @@
+"""What the panel looks at: the part of the screen with the cursor, and the place of the cursor in each part."""
+
+import re
+from dataclasses import dataclass
+from typing import Optional
+
+from ...failure import Failure
+from ...language.sources import Source
+from ...run.disassembly import moved
+from ...run.forms import CELLS, CLOCK, KINDS, PROCESSORS, ROW
+from .program import present, program_of, rows_of
+from .source_pane import Cells, window_of
+
+PANES = ("processors", "channels", "memory", "central")
+REGISTERS = ("P", "A", "Q")  # those that can be watched
+CHANNELS_IN_COLUMN = 7
+ARROWS = ("Up", "Down", "Left", "Right", "Page Up", "Page Down")
+
+
+@dataclass
+class View:
+    pane: str = "processors"
+    processor: int = 0
+    register: str = "P"
+    channel: int = 0
+    cell: int = 0
+    following: bool = True  # the memory follows P
+    top: int = 0  # the first cell shown
+    as_program: bool = False  # the cells are shown as instructions
+    has_display_code: bool = False  # and beside them as two symbols each
+    as_source: bool = True  # they are shown as the source of their processor, if it has one
+    source: Optional[Source] = None  # that is shown
+    top_of_source: tuple = (0, 0)  # the address of the first row of it, and how many of its lines are above
+    has_central: bool = False  # central memory is beside it
+    program: tuple = ()  # the cells, and the addresses at which an instruction begins
+    word: int = 0  # the central address
+    central_top: int = 0
+
+    def place(self):
+        """Returns the place of the cursor, as the lines of the console have it."""
+        return {"processors": f"{self.register} {self.processor:o}", "channels": f"H {self.channel:o}",
+                "memory": f"M {self.processor:o} {self.cell:o}", "central": f"C {self.word:o}"}[self.pane]
+
+    @property
+    def is_by_rows(self):
+        """Whether the cells are shown as instructions or as a source, and not as numbers."""
+        return self.as_program or self.source is not None
+
+    @property
+    def shows_central(self):
+        return self.source is None or self.has_central or self.pane == "central"
+
+    def next_pane(self, steps):
+        panes = PANES if self.shows_central else PANES[:-1]
+        self.pane = panes[(panes.index(self.pane) + steps) % len(panes)]
+
+    def follow(self):
+        self.following = True
+
+    def toggle_program(self):
+        """Shows the cells as instructions, or as numbers again."""
+        self.as_program = self.source is not None or not self.as_program
+        self.leave_source()
+
+    def toggle_display_code(self):
+        """Shows the cells as instructions, with display code or without."""
+        self.has_display_code = not self.has_display_code
+        self.as_program = True
+        self.leave_source()
+
+    def leave_source(self):
+        if self.source is not None:
+            self.as_source, self.source = False, None
+
+    def toggle_central(self):
+        """Shows central memory beside the source, or the source alone."""
+        self.has_central = not self.shows_central
+        if self.pane == "central" and not self.has_central:
+            self.pane = "memory"
+
+    def choose_processor(self, number):
+        self.processor = number % PROCESSORS
+
+    def move(self, key, count, rows, size):
+        """Moves the cursor by an arrow; a page has so many rows, and central memory so many words."""
+        steps = -count if key in ("Up", "Left", "Page Up") else count
+        is_across, is_page = key in ("Left", "Right"), key in ("Page Up", "Page Down")
+        if self.pane == "memory" and self.is_by_rows and not is_across:
+            self.move_rows(steps * (rows if is_page else 1))
+        elif self.pane == "memory":
+            self.go_to_cell(self.cell + steps * (1 if is_across else ROW * rows if is_page else ROW))
+        elif self.pane == "central":
+            self.word = max(min(self.word + steps * (ROW if is_across else rows if is_page else 1), size - 1), 0)
+        elif self.pane == "channels":
+            self.move_channel(steps, is_across)
+        elif is_across:
+            self.register = REGISTERS[(REGISTERS.index(self.register) + steps) % len(REGISTERS)]
+        else:
+            self.choose_processor(self.processor + steps)
+
+    def move_rows(self, steps):
+        """Moves the cursor by so many instructions."""
+        word, heads = self.program
+        self.go_to_cell(moved(word, self.cell, max(min(steps, CELLS), -CELLS), heads))
+
+    def move_channel(self, steps, is_across):
+        """Moves the cursor down, or across the two columns if there is a channel."""
+        channel = self.channel + steps * (CHANNELS_IN_COLUMN if is_across else 1)
+        if not is_across:
+            self.channel = channel % (CLOCK + 1)
+        elif 0 <= channel <= CLOCK:
+            self.channel = channel
+
+    def go_to_cell(self, address):
+        self.pane, self.following, self.cell = "memory", False, address % CELLS
+
+    def go_to(self, text, size):
+        """Moves the cursor to an address of the memory that it is in, or to a place."""
+        sizes = {**{kind: one.sizes for kind, one in KINDS.items()}, "PP": (PROCESSORS,), "C": (size,)}
+        words = text.upper().split()
+        kind = words.pop(0) if words and words[0] in sizes else "C" if self.pane == "central" else None
+        if any(not re.fullmatch("[0-7]{1,12}", word) for word in words):
+            raise Failure(f"{text} is neither an octal address nor a place, as M 0 106, A 0, H 12 or C 1000")
+        numbers = [int(word, 8) for word in words]
+        if kind is None:
+            kind, numbers = "M", [self.processor, *numbers]
+        if len(numbers) != len(sizes[kind]):
+            raise Failure(f"{text} does not name one place")
+        if any(number >= one for number, one in zip(numbers, sizes[kind])):
+            raise Failure(f"there is no place {text}")
+        self.go_to_place(kind, numbers)
+
+    def go_to_place(self, kind, numbers):
+        if kind == "M":
+            self.processor = numbers[0]
+            self.go_to_cell(numbers[1])
+        elif kind == "C":
+            self.pane, self.word = "central", numbers[0]
+        elif kind == "H":
+            self.pane, self.channel = "channels", numbers[0]
+        else:
+            self.pane, self.processor = "processors", numbers[0]
+            self.register = kind if kind in REGISTERS else self.register
+
+    def scroll(self, state, rows, size):
+        """Moves the windows to their cursors; each has so many rows, and central memory so many words."""
+        if self.following:
+            self.cell = present(state, self.processor) if self.is_by_rows else state.processors[self.processor].p
+        if self.source is not None:
+            cells = Cells(self.source, state, self.processor)
+            self.program = cells.word, cells.heads
+            _, self.top_of_source = window_of(state, self, rows)
+        elif self.as_program:
+            self.program = program_of(state, self.processor)
+            self.top = rows_of(state, self, rows)[0].address
+        else:
+            self.top = memory_top(self.top, self.cell, rows)
+        self.central_top = central_top(self.central_top, self.word, rows, size)
+
+
+def memory_top(top, address, rows):
+    """Returns the first cell of a window of so many rows that has the address in it: the same one, if it has."""
+    distance = (address // ROW - top // ROW) % (CELLS // ROW)
+    if distance < rows:
+        return top
+    if distance == rows:
+        return (top + ROW) % CELLS
+    if distance == CELLS // ROW - 1:
+        return (top - ROW) % CELLS
+    return (address // ROW * ROW - rows // 3 * ROW) % CELLS
+
+
+def central_top(top, address, rows, size):
+    """Returns what `memory_top` does, of central memory, which does not begin anew after its end."""
+    if not top <= address < top + rows:
+        top = address - (rows - 1 if address == top + rows else 0 if address == top - 1 else rows // 3)
+    return max(min(top, size - rows), 0)

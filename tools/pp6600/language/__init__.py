@@ -1,0 +1,1 @@
+"""The language of the sources: assembling, disassembling, listings, symbols, and calls."""

@@ -1,0 +1,143 @@
+"""The subroutines that a processor is in: those that an RJM called, and whose jump back was not performed since. In a block transfer P is
+the cell of the next word, and no jump."""
+
+from typing import Iterator, List, NamedTuple, Optional, Sequence, Set
+
+from ..run.conditions import RJM, parsed
+from ..run.forms import CELLS, PROCESSORS, Place
+from ..run.origin import SET, TURN, Search, Step
+from ..run.search import Made, around, last_moments
+from ..run.simulator import Simulator
+from ..run.turn import Processor
+from .listing import AllSymbols
+from .sources import Source
+
+LJM = "LJM"
+AT_FIRST, MORE, MOST = 1, 8, 0o10000  # arrivals at an address that are looked at
+
+
+class Rjm(NamedTuple):
+    """An RJM that was performed: the position after it, and the processor before it."""
+
+    position: int
+    processor: Processor
+
+
+class Call(NamedTuple):
+    """A subroutine that was called and has not returned: the address of its jump back, its RJM, and the last write of its return
+    address and of its jump back, if that was after the RJM."""
+
+    jump: int
+    rjm: Rjm
+    overwritten: Optional[Step]
+    lost: Optional[Step] = None
+
+    @property
+    def address(self) -> int:
+        """The address of the RJM."""
+        return self.rjm.processor.p
+
+
+def arrivals(run: Simulator, number: int, address: int, first: int, last: int) -> Iterator[int]:
+    """Yields the turns after one of a run, up to another one, after which P came to be an address, the latest first."""
+    most, seen = AT_FIRST, 0
+    while most <= MOST:
+        moments = last_moments(run, parsed(f"P {number:o} = {address:o}"), most, first, last)
+        yield from (moment.turn for moment in reversed(moments[:len(moments) - seen]))
+        if len(moments) < most:
+            return
+        seen, most = len(moments), most * MORE
+
+
+def turn_made(run: Simulator, turn: int) -> Made:
+    """Returns the turn with a number, from 1."""
+    position = run.tape.at_turn(turn) - 1
+    return around(run, position)[1]
+
+
+def call_of(run: Simulator, number: int, jump: int, position: int) -> Optional[Call]:
+    """Returns the last call before a position of a subroutine whose jump back is at an address; None if it was not called."""
+    for turn in arrivals(run, number, jump + 2, 0, run.tape.turn(position)):
+        made = turn_made(run, turn)
+        if made.slot == number and made.processor.name == RJM and not made.processor.phase:
+            rjm = Rjm(made.position + 1, made.processor)
+            entry, back = (write_after(run, number, cell, rjm, position) for cell in (jump + 1, jump))
+            return Call(jump, rjm, entry, back)
+    return None
+
+
+def write_after(run: Simulator, number: int, cell: int, rjm: Rjm, position: int) -> Optional[Step]:
+    """Returns the last write of a cell after an RJM, up to a position; None if there was none."""
+    step = Search(run, 0).origin(Place("M", (number, cell % CELLS)), position)
+    return step if step.cause in (TURN, SET) and step.position > rjm.position else None
+
+
+def has_returned(run: Simulator, number: int, call: Call, position: int) -> bool:
+    """Returns whether the jump back of a subroutine was performed between its call and a position."""
+    tape = run.tape
+    last = tape.turn(position)
+    for turn in arrivals(run, number, call.jump, tape.turn(call.rjm.position), last):
+        after = turn + PROCESSORS if tape.slot(tape.at_turn(turn) - 1) == number else next_turn(tape, number, turn)
+        if after <= last:
+            made = turn_made(run, after)
+            if made.slot == number and made.processor.p == call.jump and made.processor.name == LJM and not made.processor.phase:
+                return True
+    return False
+
+
+def next_turn(tape, number: int, turn: int) -> int:
+    """Returns the number of the first turn of a processor after another one."""
+    return turn + 1 + (number - tape.slot(tape.after_turn(turn))) % PROCESSORS
+
+
+def address_of(run: Simulator, number: int, position: int) -> Optional[int]:
+    """Returns the address of the instruction that a processor performs: P, or in a block transfer where that began; None if nothing
+    in the run began it."""
+    run.goto(position)
+    processor = run.processor(number)
+    if not processor.phase:
+        return processor.p
+    step = Search(run, 0).origin(Place("PHASE", (number,)), position)
+    return step.processor.p if step.cause == TURN else None
+
+
+def calls(run: Simulator, number: int, source: Source, position: int) -> List[Call]:
+    """Returns the subroutines that a processor is in at a position of a run, the innermost first."""
+    address, before = address_of(run, number, position), position
+    found: List[Call] = []
+    seen: Set[int] = set()
+    while address is not None and (jump := source.subroutine_of(address)) is not None and jump not in seen:
+        call = call_of(run, number, jump, before)
+        if not call or has_returned(run, number, call, before):
+            break
+        found.append(call._replace(overwritten=write_after(run, number, jump + 1, call.rjm, position),
+                                   lost=write_after(run, number, jump, call.rjm, position)))
+        seen.add(jump)
+        address, before = call.address, call.rjm.position - 1
+    return found
+
+
+def sentence(run: Simulator, number: int, call: Call, symbols: AllSymbols) -> str:
+    """Returns what is said of a call."""
+    text = f"{called(symbols, number, call.jump + 1)} called from {called(symbols, number, call.address)}, " \
+           f"turn {run.tape.turn(call.rjm.position):o}"
+    for step, what in ((call.overwritten, "its return word"), (call.lost, "its jump back")):
+        if step:
+            text += f"; {what} is {step.number} now, overwritten in turn {run.tape.turn(step.position):o} by " \
+                    f"{writer(step, number, symbols)}"
+    return text
+
+
+def called(symbols: AllSymbols, number: int, address: int) -> str:
+    digits = f"{address % CELLS:04o}"
+    return symbols.name(number, digits) or digits
+
+
+def writer(step: Step, number: int, symbols: AllSymbols) -> str:
+    """Returns what wrote a cell: a SET, or an instruction and its address, in a block transfer that which began it."""
+    if step.cause != TURN:
+        return "SET"
+    performer = step.processor
+    if performer.phase and step.block and step.block.step and step.block.step.cause == TURN:
+        performer = step.block.step.processor
+    return f"{performer.name} at {called(symbols, number, performer.p)}"

@@ -1,0 +1,346 @@
+"""The parts of the lines of a printed listing: error flag, address, words and source line. The columns of these are found from the
+addresses that go on where the words of the line before end; if there are none, the first number of a line is its address."""
+
+import itertools
+import re
+from typing import Iterable, Iterator, List, NamedTuple, Optional, Sequence, Set, Tuple
+
+from ..failure import Failure
+from .source.blocks import ENDS, INSIDE
+from .source.directives import DIRECTIVES, LONG_FORMS, MAKERS
+from .source.machine import CODES
+from .source.passes import OF_LINES
+from .source.messages import REFUSED
+from .source.statements import FIRST_OF_COMMENTS
+
+NUMBER = re.compile("(-?[0-7]+)[bB]?")  # a B after a number says that it is octal
+WORD = re.compile("[0-7]{4}[bB]?")
+SHORT = re.compile("[0-7]{1,4}[bB]?")  # what is a word where zeros before it are left out
+ADDRESS = re.compile("(>?)([0-7]{1,4})[bB]?")  # a > marks where words are loaded that are assembled for another place
+ALMOST = re.compile(r"(?=(?:\D*\d){2})\S{3,5}|\d\S{0,5}")  # a number that was read wrongly, as 14O5 or 14.5
+SPECK = re.compile(r"[^\sA-Za-z0-9*]")
+FLAG = re.compile("[A-Z]{1,3}")
+NAME = re.compile(r"[^\W\d_][^\s,+\-*/^\"()_]*:?|[.#%@&!?<>\[\];\\'][^\s,+\-*/^\"()_]*:?")
+TAB = 8
+MOST_BEFORE = 2  # numbers before an address: a carriage control and a line number
+GAP = 3  # blanks between a carriage control and the address
+FIRST_OF_OPERATIONS = 2  # the first column of a source line in which an operation may begin
+MOST_OTHERS = 8  # one line of so many may have its fields in other columns
+SUBR = "SUBR"  # a macro whose label is the second word of its jump
+OPERATIONS = frozenset((*CODES, *DIRECTIVES, *ENDS, *INSIDE, *OF_LINES, *REFUSED, SUBR))
+WITH_WORDS = frozenset((*CODES, *MAKERS, *LONG_FORMS, SUBR, "LIT"))
+
+
+class Token(NamedTuple):
+    """A word of a line and the columns where it begins and ends, counted from 0."""
+
+    text: str
+    start: int
+    end: int
+
+    @property
+    def address(self) -> Optional[int]:
+        """Its number, if it is an address; else None."""
+        found = ADDRESS.fullmatch(self.text)
+        return int(found[2], 8) if found else None
+
+    @property
+    def is_load(self) -> bool:
+        return self.text.startswith(">")
+
+    @property
+    def end_of_digits(self) -> int:
+        return self.start + len(self.text.rstrip("bB"))
+
+
+class Columns(NamedTuple):
+    """The columns, counted from 0, at which addresses, words and source lines begin; and where the digits of addresses end, if all
+    end in one column."""
+
+    address: int
+    words: int
+    text: int
+    end: Optional[int] = None
+
+    @classmethod
+    def parse(cls, text: str) -> "Columns":
+        """Returns the columns of an option A,W,T, decimal and counted from 1."""
+        parts = text.split(",")
+        if len(parts) != 3 or not all(re.fullmatch("[1-9][0-9]{0,3}", part) for part in parts):
+            raise Failure(f"{text} is not three columns, as 1,7,24 (decimal)")
+        columns = cls(*(int(part) - 1 for part in parts))
+        if not columns.address < columns.words < columns.text:
+            raise Failure(f"of the columns {text} one is not after the one before")
+        return columns
+
+    @property
+    def shown(self) -> str:
+        return f"{self.address + 1},{self.words + 1},{self.text + 1}"
+
+
+class Run(NamedTuple):
+    """What a line is if its address is this token: its first cell and the one after its words, these, and what follows them."""
+
+    token: Token
+    first: int
+    after: int
+    words: List[Token]
+    text: Optional[Token]
+
+
+class Parts(NamedTuple):
+    """The parts of a line: the error flag; the address, and that to which the words are loaded; what is in the place of the words;
+    the source line, the column at which it begins, and whether that is the column of source lines."""
+
+    flag: Optional[Token]
+    address: Optional[Token]
+    load: Optional[Token]
+    words: List[Token]
+    text: str
+    column: int
+    is_aligned: bool
+
+    @property
+    def starts(self) -> List[int]:
+        """The columns of the words of the source line, counted from its own first one, if it begins where all do."""
+        return [found.start() for found in re.finditer(r"\S+", self.text)] if self.is_aligned else []
+
+
+class Source(NamedTuple):
+    """The fields of a source line. The operand has the comment after it. The statement is the line without its label, in the columns of
+    sources."""
+
+    label: str
+    operation: str
+    operand: str
+    statement: str
+
+
+def octal_number(text: str) -> Optional[int]:
+    """Returns the number of a word of a listing, as 105 or 105B; None if it is no octal number."""
+    digits = NUMBER.fullmatch(text)
+    return int(digits[1], 8) if digits else None
+
+
+def tokens_of(line: str) -> List[Token]:
+    return [Token(found[0], found.start(), found.end()) for found in re.finditer(r"\S+", line)]
+
+
+def is_operation(word: str) -> bool:
+    return word.upper() in OPERATIONS
+
+
+def is_flag(text: str) -> bool:
+    return FLAG.fullmatch(text) is not None and not is_operation(text)
+
+
+def is_note(line: str) -> bool:
+    return line.lstrip().startswith("*")
+
+
+# -- which columns
+
+def run_from(tokens: Sequence[Token], at: int) -> Optional[Run]:
+    """Returns what a line is if its address is the token there; None if that is no address."""
+    if at >= len(tokens) or tokens[at].address is None or at and tokens[at].is_load and tokens[at - 1].address is not None:
+        return None
+    load = at + 1 if tokens[at + 1:] and tokens[at + 1].is_load and tokens[at + 1].address is not None else at
+    after = load + 1
+    while after < len(tokens) and SHORT.fullmatch(tokens[after].text):
+        after += 1
+    words, first = list(tokens[load + 1:after]), tokens[load].address or 0
+    return Run(tokens[at], first, first + len(words), words, tokens[after] if after < len(tokens) else None)
+
+
+def runs_at(lines: Iterable[List[Token]], end: int) -> List[Run]:
+    """Returns the lines whose address ends in a column."""
+    places = ((tokens, next((at for at, token in enumerate(tokens[:MOST_BEFORE + 1]) if token.end_of_digits == end), None))
+              for tokens in lines)
+    return [run for tokens, at in places if at is not None and (run := run_from(tokens, at))]
+
+
+def first_runs(lines: Iterable[List[Token]]) -> List[Run]:
+    """Returns the lines that begin with an address."""
+    return [run for tokens in lines if (run := run_from(tokens, 0))]
+
+
+def with_words(runs: Iterable[Optional[Run]]) -> List[Run]:
+    return [run for run in runs if run and run.words]
+
+
+def continuity(runs: Iterable[Optional[Run]]) -> int:
+    """Returns how many lines with words begin where those of the line before end."""
+    coded = with_words(runs)
+    return sum(one.after == other.first for one, other in zip(coded, coded[1:]))
+
+
+def order(runs: Sequence[Run]) -> Tuple[int, float]:
+    """Returns how well the addresses of lines go on: how many do, and, of as many, which part."""
+    return continuity(runs), continuity(runs) / max(len(with_words(runs)), 1)
+
+
+def has_carriage_control(tokens: Sequence[Token]) -> bool:
+    """Returns whether a line alone begins with a digit that moves the paper of a printer."""
+    return len(tokens) > 2 and tokens[0].start == 0 and tokens[0].text in ("0", "1") and tokens[1].start > GAP
+
+
+def guessed(texts: Iterable[str]) -> Optional[Columns]:
+    """Returns the columns of a listing; None if its lines have none in common."""
+    lines = [tokens_of(text) for text in texts]
+    plain = first_runs(lines)
+    ends = {run.token.end_of_digits for tokens in lines
+            for run in with_words(run_from(tokens, at) for at in range(MOST_BEFORE + 1))}
+    found = [(runs_at(lines, end), end) for end in sorted(ends)]
+    if len(with_words(plain)) == 1 and any(map(has_carriage_control, lines)):
+        return next((columns_of(runs, end) for runs, end in found if runs[0].token.start), None)
+    runs, end = max(found, key=lambda pair: order(pair[0]), default=([], 0))
+    is_better = order(runs) > order(plain)
+    return columns_of(runs, end) if is_better or are_aligned(plain, end) else None
+
+
+def few(others: int, all_: int) -> bool:
+    """Returns whether so few lines are otherwise that the rest decide: one, or one of eight."""
+    return others <= max(1, all_ // MOST_OTHERS)
+
+
+def are_aligned(plain: Sequence[Run], end: int) -> bool:
+    """Returns whether the addresses that lines begin with end in a column: those of lines with words, if several have some."""
+    several = with_words(plain) if len(with_words(plain)) > 1 else plain
+    others = sum(run.token.end_of_digits != end for run in several)
+    return others < len(several) and few(others, len(several))
+
+
+def first_of(columns: Sequence[int]) -> int:
+    """Returns the first column; the next one if a single line begins in the first, as one that has lost a sign before it."""
+    first = min(columns)
+    return first + 1 if columns.count(first) == 1 and first + 1 in columns else first
+
+
+def columns_of(runs: Sequence[Run], end: int) -> Optional[Columns]:
+    """Returns the columns of lines whose addresses end in one; None if the source lines of some begin where others have words."""
+    coded = with_words(runs)
+    last_word = max((word.start for run in coded for word in run.words), default=0)
+    early = sum(run.text is not None and run.text.start <= last_word for run in coded)
+    if not coded or early and not few(early, len(coded)):
+        return None
+    texts = [run.text.start for run in runs if run.text and run.text.start > last_word]
+    return Columns(first_of([run.token.start for run in coded]), first_of([run.words[0].start for run in coded]),
+                   first_of(texts) if texts else last_word + TAB, end)
+
+
+# -- the parts of a line
+
+def parts_of(line: str, columns: Optional[Columns]) -> Parts:
+    tokens = tokens_of(line)
+    at = place_of_address(tokens, columns)
+    flag = None
+    if tokens[at + 1:] and is_flag(tokens[at].text) and tokens[at + 1].address is not None:
+        flag, at = tokens[at], at + 1
+    elif columns:
+        flag = next((token for token in tokens[:at] if is_flag(token.text)), None)
+    address = tokens[at] if at < len(tokens) and is_in_columns(tokens[at], columns) else None
+    after = at + (address is not None)
+    load = address if address and address.is_load else None
+    if address and not load and tokens[after:] and tokens[after].is_load:
+        load, after = tokens[after], after + 1
+    words = words_of(tokens[after:], columns)
+    rest = tokens[after + len(words):]
+    start = columns.text if columns else rest[0].start if rest else len(line)
+    start = max([min([start, *(token.start for token in rest[:1])]), *(word.end for word in words)])
+    if columns and start == columns.text - 1:
+        return Parts(flag, address, load, words, line[start:], columns.text, True)
+    return Parts(flag, address, load, words, line[start:], start, columns is not None and start == columns.text)
+
+
+def place_of_address(tokens: Sequence[Token], columns: Optional[Columns]) -> int:
+    """Returns which token may be the address: the first one, or the first one that is in the columns of addresses."""
+    if not columns:
+        return 0
+    end = columns.address if columns.end is None else columns.end
+    return next((at for at, token in enumerate(tokens) if token.end > columns.address and token.end >= end - 1), len(tokens))
+
+
+def is_in_columns(token: Token, columns: Optional[Columns]) -> bool:
+    """Returns whether a token is in the place of an address; without columns each that is almost a number is."""
+    if columns:
+        has_digit = any(symbol.isdigit() for symbol in token.text)
+        return has_digit and token.start < (columns.words - 1 if columns.end is None else columns.end)
+    return token.is_load or token.address is not None or ALMOST.fullmatch(token.text) is not None
+
+
+def words_of(tokens: Sequence[Token], columns: Optional[Columns]) -> List[Token]:
+    """Returns the first tokens that are numbers, or were: those before the column of source lines, or else up to a label or an
+    operation. One that lost a digit moves the source line to the left."""
+    before = list(itertools.takewhile(
+        lambda token: not columns or token.start < columns.text - (not token.text[0].isdigit()), tokens))
+    texts = [*(token.text for token in tokens), "", ""]
+    return list(itertools.compress(before, itertools.takewhile(
+        bool, (is_almost_word(texts[at], texts[at + 1], texts[at + 2], columns is not None) for at in range(len(before))))))
+
+
+def is_almost_word(text: str, after: str, second: str, has_columns: bool) -> bool:
+    """Returns whether a token is a number, or was one. Without columns one that begins with a letter is a label, unless such a one
+    follows."""
+    if SPECK.fullmatch(text):
+        return after[:1].isdigit()
+    is_label = not has_columns and not text[0].isdigit() and not (is_operation(second) and not is_operation(after))
+    return ALMOST.fullmatch(text) is not None and not is_label
+
+
+# -- the fields of a source line
+
+def operation_columns(all_parts: Iterable[Parts]) -> Set[int]:
+    """Returns the columns of operations, if the labels of a listing begin in the column of the source line or the next one, and its
+    operations do not; else none. A few lines may be otherwise."""
+    columns: Set[int] = set()
+    others, known = 0, list(known_operations(all_parts))
+    for column, is_usual in known:
+        columns |= {column} if is_usual else set()
+        others += not is_usual
+    return columns if others * MOST_OTHERS <= len(known) else set()
+
+
+def known_operations(all_parts: Iterable[Parts]) -> Iterator["tuple[int, bool]"]:
+    """Yields the column of each operation that is known, and whether the source line begins where that says."""
+    for parts in all_parts:
+        starts = parts.starts
+        at = operation_at(parts.text.split(), starts[0]) if starts else None
+        if at is not None:
+            yield starts[at], starts[0] < FIRST_OF_OPERATIONS if at else starts[0] >= FIRST_OF_OPERATIONS
+
+
+def operation_at(words: Sequence[str], start: int) -> Optional[int]:
+    """Returns whether the first word of a source line, which begins in this column, is its operation, 0, or the second, 1; None if
+    neither is one that is known. A label may be called like an operation."""
+    known = [at for at, word in enumerate(words[:2]) if is_operation(word)]
+    return known[-1 if start < FIRST_OF_OPERATIONS else 0] if known else None
+
+
+def source_of(parts: Parts, operations: Set[int]) -> Source:
+    """Returns the fields of a source line. The columns of operations are those of the whole listing."""
+    if parts.starts and parts.starts[0] >= FIRST_OF_COMMENTS:
+        return Source("", "", "", "")
+    label = label_of(parts.text.split(), parts, operations)
+    _, _, rest = parts.text.lstrip().partition(label) if label else ("", "", parts.text)
+    operation, *operand = rest.lstrip(":").split(None, 1) or [""]
+    blanks = max(len(parts.text) - len(rest.lstrip(" :")), FIRST_OF_OPERATIONS)  # before the operation
+    statement = f"{'':{blanks}}{rest.lstrip(' :')}" if parts.is_aligned else f"          {operation:6} {''.join(operand)}"
+    return Source(label, operation.upper(), operand[0] if operand else "", statement)
+
+
+def label_of(words: Sequence[str], parts: Parts, operations: Set[int]) -> str:
+    """Returns the label that a source line begins with: it has a colon, is alone, or is before an operation or a comment. In a
+    listing whose operations have columns it begins in those of the labels, and the operation may be a macro of the source."""
+    if not words or not NAME.fullmatch(words[0]):
+        return ""
+    label, is_alone = words[0].rstrip(":"), len(words) == 1
+    is_before_operation = len(words) > 1 and is_operation(words[1])
+    if is_operation(label) and not is_before_operation:
+        return ""
+    if not operations:
+        is_before_comment = len(words) > 1 and not words[1][0].isalnum()
+        is_label = label != words[0] or is_before_operation or is_before_comment or is_alone and bool(parts.words)
+        return label if is_label and not is_operation(label) else ""
+    if not parts.starts or parts.starts[0] >= FIRST_OF_OPERATIONS:
+        return ""
+    return label if is_alone or is_before_operation or parts.starts[1] in operations or not words[1][0].isalnum() else ""

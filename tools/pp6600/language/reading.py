@@ -1,0 +1,416 @@
+"""What a printed listing says, checked against itself: each line follows the one before, and has the words of its operation and
+operand. What is in doubt is said with its line and column."""
+
+import re
+from typing import Dict, Iterator, List, NamedTuple, Optional, Sequence, Tuple
+
+from ..run.forms import CELLS
+from .listed_words import Told, told_by
+from .printed import (
+    ADDRESS, NUMBER, SHORT, SUBR, TAB, WITH_WORDS, WORD, Columns, Parts, Source, Token, guessed, is_note, is_operation, octal_number,
+    operation_columns, parts_of, source_of)
+from .source.machine import CODES, MNEMONICS, size_of
+from .source.state import LITERAL, LITERALS, NOMINAL, WORD_BITS
+
+HERE = re.compile(r"\*[LO]?([-+][0-9]+[BDO]?)?")  # an operand that is an address near that of its line
+DUPLICATED = re.compile(r"\bDUPLICATED? LINES?\b", re.I)
+EQUATES = ("EQU", "=")
+LABELLED = ("BSS", "ORG", "LOC", "END", "USE", "BSSZ")  # of the operations without words those whose label is an address
+BASES = {"OCTAL": 8, "DECIMAL": 10, "MIXED": 8}
+BITS = re.compile("(?:^|,)([0-9]{1,2})/")  # of the fields of a VFD
+FULL = 4  # digits of an address before which zeros are printed
+
+
+class Doubt(NamedTuple):
+    """What is not as it must be: the line and the column, counted from 1, and a text."""
+
+    line: int
+    column: int
+    text: str
+
+
+class Printed(NamedTuple):
+    """What a line of a listing says: its number, decimal from 1; the source line; the address, which is that of its
+    label, and the one to which its words are loaded; the words, of four digits, or None if one is unreadable; and the names that it defines, with the
+    numbers of these."""
+
+    number: int
+    text: str
+    address: int = 0
+    load: int = 0
+    words: Tuple[Optional[str], ...] = ()
+    labels: Tuple[Tuple[str, int], ...] = ()
+    equates: Tuple[Tuple[str, int], ...] = ()
+    is_passed: bool = False  # over, though it has numbers
+    source: str = ""  # the source line in the columns of sources
+
+
+class Statement(NamedTuple):
+    """A line with an operation that makes words: its number, the column of its first word, its fields, its address, and the words of
+    it and of the lines that go on with it."""
+
+    line: int
+    column: int
+    source: Source
+    address: int
+    load: int
+    words: List[Optional[str]]
+
+
+class Printout:
+    """The lines of a listing, and their columns."""
+
+    def __init__(self, lines: Sequence[str], columns: Optional[Columns] = None, has_gaps: bool = False) -> None:
+        """Without columns they are guessed. Between the rows of a dump there may be gaps."""
+        self.has_gaps = has_gaps
+        self.lines = [line.replace("\f", " ").expandtabs(TAB) for line in lines]
+        self.columns = columns or guessed([line for line in self.lines if not is_note(line)])
+        self.parts = [parts_of(line, self.columns) for line in self.lines]
+        self.operations = operation_columns(self.parts)
+        self.sources = [source_of(parts, self.operations) for parts in self.parts]
+        addresses = [parts.address.text for parts in self.parts if parts.address and parts.words]
+        self.has_zeros = any(re.fullmatch(f">?0[0-7]{{{FULL - 1}}}[bB]?", text) for text in addresses)
+
+    def read(self) -> "Reading":
+        """Returns what the lines say: read a first time for the names, then with these, in that base for their numbers which leaves
+        fewer doubts."""
+        names = Reading(self, {}, 8).names
+        return min((Reading(self, names, base) for base in (8, 10)), key=lambda reading: len(reading.doubts))
+
+
+def source_line(source: Source) -> str:
+    return f" {source.label:8} {source.operation:6} {source.operand}".rstrip()
+
+
+class Reading:
+    """Reads the lines of a listing one after the other, with the names that are known of it."""
+
+    def __init__(self, printout: Printout, known: Dict[str, Optional[int]], base: int) -> None:
+        self.printout, self.known, self.base = printout, known, base
+        self.names: Dict[str, Optional[int]] = {}  # None: of several numbers
+        self.doubts: List[Doubt] = []
+        self.entries: List[Printed] = []
+        self.statement: Optional[Statement] = None  # that goes on with lines that have words alone
+        self.origin: Optional[int] = None  # the cell after the last word, if that is known
+        self.moved: Optional[int] = 0  # how many cells code for another place is loaded off its addresses; None: the next line says it
+        self.is_located = self.has_ended = self.is_repeated = False
+        self.blocks: Dict[str, Optional[int]] = {}  # of USE: where each goes on
+        self.used = [NOMINAL]
+        self.end = 0  # the highest address of the nominal block, after which come the literals
+        self.start: Optional[int] = None  # that END names
+        self.bits = 0  # of the last word that a VFD has filled
+        for number, (line, parts, source) in enumerate(zip(printout.lines, printout.parts, printout.sources), 1):
+            self.number = number
+            if not is_note(line):
+                self.entries.append(self.entry(line, parts, source))
+                self.end = max(self.end, self.origin or 0) if self.used[-1] == NOMINAL else self.end
+        self.close()
+
+    def close(self) -> None:
+        self.check_statement()
+        if self.is_repeated:
+            self.doubt(None, "no line says where the duplicated lines end")
+
+    def doubt(self, token: Optional[Token], text: str) -> None:
+        self.doubts.append(Doubt(self.number, token.start + 1 if token else 1, text))
+
+    # -- one line
+
+    def entry(self, line: str, parts: Parts, source: Source) -> Printed:
+        """Returns what a line says, after what it tells was checked."""
+        entry = Printed(self.number, parts.text.strip(), source=parts.text.rstrip() if parts.is_aligned else source_line(source))
+        if DUPLICATED.search(line):
+            self.is_repeated = True
+            return entry
+        is_known = is_operation(source.operation)
+        if self.has_ended and not self.is_literal(parts, source):
+            return self.passed(entry, parts, line)
+        if is_known and source.operation not in WITH_WORDS or source.operation == "BSSZ" and not parts.words:
+            return self.without_words(entry, parts, source)
+        if source.operation == "LIT" and not parts.words:
+            numbers = self.values_of(parts)
+            return self.named(entry, self.labels_at(source, numbers[0])) if numbers else entry
+        if self.is_coded(parts, source):
+            return self.coded(entry, parts, source)
+        return self.with_label(entry, parts, source, line)
+
+    def is_literal(self, parts: Parts, source: Source) -> bool:
+        """Returns whether a line after END has words of the program: no source line, and an address that goes on, or almost."""
+        if not parts.address or not parts.words or any(source):
+            return False
+        return parts.address.address is None or parts.address.address == self.origin
+
+    @staticmethod
+    def is_coded(parts: Parts, source: Source) -> bool:
+        """Returns whether a line has words, or had some before it was read wrongly."""
+        has_digits = parts.address is not None and any(symbol.isdigit() for symbol in parts.address.text)
+        has_word = any(WORD.fullmatch(token.text) for token in parts.words)
+        if source.operation in WITH_WORDS:
+            return has_digits or any(symbol.isdigit() for token in parts.words for symbol in token.text)
+        return has_digits and (has_word or bool(parts.words) and parts.address is not None and parts.address.address is not None)
+
+    def coded(self, entry: Printed, parts: Parts, source: Source) -> Printed:
+        """Returns what a line with words says."""
+        if parts.flag:
+            self.doubt(parts.flag, f"the line has the error flag {parts.flag.text}")
+        if parts.text.strip() == LITERAL and self.used[-1] != LITERALS:
+            self.used.append(LITERALS)
+            self.origin, self.moved = self.end, 0
+        words = tuple(self.word(token) for token in parts.words)
+        address, load = self.places(parts, parts.words[0] if parts.words else None)
+        if None not in words:
+            self.check_size(parts, source)
+        if address is None or load is None:
+            return entry
+        if source.operation or source.label or not self.statement:
+            self.check_statement()
+            column = parts.words[0].start + 1 if parts.words else parts.column + 1
+            self.statement = Statement(self.number, column, source, address, load, list(words)) if self.is_whole(source) else None
+        else:
+            self.statement.words.extend(words)
+        if source.operation != "LIT":
+            self.repeat(load, parts.address)
+            self.origin = None if None in words else load + len(words)  # of what follows from a doubt nothing is said
+        return self.named(entry._replace(address=address, load=load, words=words), self.labels_at(source, address))
+
+    def is_whole(self, source: Source) -> bool:
+        """Returns whether a statement begins and ends its words: a VFD may go on in the last word of another one."""
+        bits = sum(map(int, BITS.findall(source.operand.split()[0]))) if source.operation == "VFD" and source.operand else 0
+        before = 0 if source.label else self.bits
+        self.bits = (before + bits) % WORD_BITS if source.operation == "VFD" else 0
+        return not before and not self.bits or source.operation != "VFD"
+
+    def word(self, token: Token) -> Optional[str]:
+        if WORD.fullmatch(token.text):
+            return token.text[:4]
+        few = SHORT.fullmatch(token.text)
+        self.doubt(token, f"{token.text} has fewer than four digits" if few else f"{token.text} is no word of four octal digits")
+        return None
+
+    def check_size(self, parts: Parts, source: Source) -> None:
+        """Checks that an instruction has its words, and its code."""
+        name, count = source.operation, len(parts.words)
+        if name not in CODES:
+            if not count and name != "VFD":  # which may go on in a word that is listed
+                self.doubt(parts.address, f"the line has an address, and {name} has no word")
+            return
+        size = size_of(CODES[name])
+        if count != size:
+            token = parts.words[size] if count > size else parts.address
+            self.doubt(token, f"{name} has {('no word', 'one word', 'two words')[size]}, and the line {count or 'none'} (decimal)")
+        elif WORD.fullmatch(parts.words[0].text):
+            found = MNEMONICS[int(parts.words[0].text[:2], 8)]
+            if found != name:
+                self.doubt(parts.words[0], f"{parts.words[0].text} is {found}, and the line has {name}")
+
+    # -- addresses
+
+    def number_of(self, token: Token) -> Optional[int]:
+        """Returns an address that a line has; None if it is not readable."""
+        found = ADDRESS.fullmatch(token.text)
+        if not found:
+            self.doubt(token, f"{token.text} is no address")
+        elif self.printout.has_zeros and len(found[2]) < FULL:
+            self.doubt(token, f"the address {token.text} has fewer than four digits")
+        return int(found[2], 8) if found else None
+
+    def places(self, parts: Parts, instead: Optional[Token]) -> Tuple[Optional[int], Optional[int]]:
+        """Returns the address of a line, and that to which its words are loaded; both go on where the line before ends."""
+        if not parts.address:
+            self.doubt(instead, "words without an address")
+            return None if self.origin is None else self.origin - (self.moved or 0), self.origin
+        address = self.number_of(parts.address)
+        load = self.number_of(parts.load) if parts.load and parts.load is not parts.address else None
+        if address is None:
+            return None if self.origin is None else self.origin - (self.moved or 0), self.origin
+        if load is None:
+            load = self.load_of(address, parts.address.is_load)
+        self.check_order(load, parts.load or parts.address)
+        return address, load
+
+    def load_of(self, address: int, is_load: bool) -> int:
+        """Returns where words with an address are loaded: after LOC not there. A listing may have the addresses of the load too."""
+        if self.moved is None:
+            if self.origin is None:
+                self.doubt(None, "LOC, and where this is loaded is not known")
+            self.moved = 0 if self.origin is None or is_load else self.origin - address
+        if is_load or address == self.origin:
+            self.moved = 0 if not is_load else self.moved
+            return address
+        return address + self.moved
+
+    def check_order(self, load: int, token: Token) -> None:
+        if self.origin is None or load == self.origin or self.is_repeated:
+            return
+        to = f"{self.origin:04o} comes after the line before"
+        if load > self.origin and self.printout.has_gaps and not self.printout.parts[self.number - 1].text:
+            return
+        if load > self.origin:
+            self.doubt(token, f"a gap: {to}, and no BSS, ORG, LOC or USE says more")
+        else:
+            self.doubt(token, f"the address goes back: {to}")
+
+    def repeat(self, load: int, token: Optional[Token]) -> None:
+        """Fills the cells of the duplicated lines of a dump with the words of the line before."""
+        if not self.is_repeated:
+            return
+        self.is_repeated = False
+        last = next((entry for entry in reversed(self.entries) if entry.words), None)
+        count = load - self.origin if self.origin is not None else -1
+        if not last or count <= 0 or count % len(last.words):
+            self.doubt(token, "the duplicated lines before this are no whole lines")
+            return
+        self.entries.append(last._replace(number=self.number, load=load - count, address=load - count, labels=(),
+                                          words=last.words * (count // len(last.words))))
+
+    # -- lines without words
+
+    def without_words(self, entry: Printed, parts: Parts, source: Source) -> Printed:
+        """Returns what a line says whose operation makes no words: its numbers are the values of names."""
+        name, numbers = source.operation, self.values_of(parts)
+        if parts.flag and numbers:
+            self.doubt(parts.flag, f"the line has the error flag {parts.flag.text}")
+        if name in EQUATES:
+            return self.equate(entry, parts, source, numbers)
+        address = numbers[0] if numbers and name in LABELLED else None
+        if name == "BASE":
+            self.base = next((base for word, base in BASES.items() if source.operand and word.startswith(source.operand.split()[0])),
+                             self.base)
+        elif name in LABELLED:
+            self.check_statement()
+            address = self.counter(parts, source, address)
+        elif name == "IDENT":
+            self.origin, self.moved, self.has_ended = None, 0, False
+        return self.named(entry, self.labels_at(source, address)) if address is not None else entry
+
+    def values_of(self, parts: Parts) -> List[int]:
+        """Returns the numbers of a line without words."""
+        tokens = [token for token in (parts.address, parts.load, *parts.words) if token]
+        found = []
+        for token in dict.fromkeys(tokens):
+            number = octal_number(token.text.lstrip(">"))
+            if number is None:
+                self.doubt(token, f"{token.text} is no octal number")
+            else:
+                found.append(number)
+        return found
+
+    def equate(self, entry: Printed, parts: Parts, source: Source, numbers: List[int]) -> Printed:
+        """Returns what EQU says: the number that is printed, which the operand must have too."""
+        if not source.label or not numbers:
+            return entry
+        number, told = numbers[-1], self.value(source)
+        if told is not None and told % CELLS != number % CELLS:
+            self.doubt(parts.words[-1] if parts.words else parts.address,
+                       f"{source.label} is {told:o}, as {source.operand.split()[0]} says, and the line has {number:o}")
+        if not 0 <= number < CELLS:
+            return entry
+        pair = (source.label, number)
+        operand = source.operand.split(None, 1)[:1]
+        return self.named(entry, (pair,)) if operand and HERE.fullmatch(operand[0]) else self.named(entry, (), (pair,))
+
+    def counter(self, parts: Parts, source: Source, address: Optional[int]) -> Optional[int]:
+        """Performs an operation that moves the counters. Returns the address of its label."""
+        name, value = source.operation, self.value(source)
+        if name == "ORG":
+            return self.organize(parts, address, value)
+        if name == "LOC":
+            return self.locate(parts, source, address, value)
+        if name == "USE":
+            self.use(source, address)
+            return address
+        if address is not None and parts.address:
+            _, load = self.places(parts, None)
+            self.origin = load if self.origin is None else self.origin
+        if name == "END":
+            self.has_ended, self.start = True, value
+        elif value is None or self.origin is None:
+            self.origin = None
+        elif name == "BSSZ":
+            self.put_zeros(value)
+        else:
+            self.origin += value
+        return address
+
+    def organize(self, parts: Parts, address: Optional[int], value: Optional[int]) -> Optional[int]:
+        """Performs ORG, whose line may have its operand or the address before it."""
+        if None not in (address, value) and address not in (value, self.origin):
+            self.doubt(parts.address, f"ORG to {value:04o}, and the line has {address:04o}")
+        self.origin, self.moved, self.is_located = address if value is None else value, 0, False
+        return self.origin
+
+    def locate(self, parts: Parts, source: Source, address: Optional[int], value: Optional[int]) -> Optional[int]:
+        """Performs LOC: code for another place goes where it is."""
+        if parts.load and parts.load is not parts.address:
+            self.check_order(octal_number(parts.load.text[1:]) or 0, parts.load)
+        if source.operand[:2].upper() == "*O":
+            value = self.origin
+        if None not in (address, value) and address not in (value, self.origin):
+            self.doubt(parts.address, f"LOC to {value:04o}, and the line has {address:04o}")
+        self.moved = None if value is None or self.origin is None else self.origin - value
+        return address if value is None else value
+
+    def use(self, source: Source, address: Optional[int]) -> None:
+        """Performs USE: each block goes on where it was."""
+        self.blocks[self.used[-1]] = self.origin
+        block = source.operand.split()[:1] or [""]
+        if block == ["*"]:
+            self.used = self.used[:-1] or [NOMINAL]
+        else:
+            self.used.append(block[0].strip("0") if block[0] == "0" else block[0])
+        self.origin, self.moved = self.blocks.get(self.used[-1], address), 0
+
+    def put_zeros(self, count: int) -> None:
+        """Fills the cells of a BSSZ without words."""
+        load, count = self.origin or 0, max(0, min(count, CELLS))
+        if count:
+            self.entries.append(Printed(self.number, "", load - (self.moved or 0), load, ("0000",) * count))
+        self.origin = load + count
+
+    def with_label(self, entry: Printed, parts: Parts, source: Source, line: str) -> Printed:
+        """Returns what a line says that has no words and no operation that is known: a macro, or a label alone."""
+        is_line = parts.address is not None and parts.address.address is not None and not parts.words
+        labels: Tuple[Tuple[str, int], ...] = ()
+        if is_line and (source.label or parts.is_aligned and source.operation):
+            address, _ = self.places(parts, None)
+            labels = self.labels_at(source, address) if address is not None and address < CELLS else ()
+        return self.named(entry, labels) if labels else self.passed(entry, parts, line)
+
+    def passed(self, entry: Printed, parts: Parts, line: str) -> Printed:
+        """Returns an entry of a line that says nothing."""
+        columns = self.printout.columns
+        return entry._replace(is_passed=re.search("[0-9]", line[columns.address:columns.text] if columns else line) is not None)
+
+    # -- names and operands
+
+    def labels_at(self, source: Source, address: int) -> Tuple[Tuple[str, int], ...]:
+        """Returns the names that a label gives to addresses."""
+        if not source.label:
+            return ()
+        name = source.label
+        return ((name, (address + 1) % CELLS), (f"{name}X", address)) if source.operation == SUBR else ((name, address),)
+
+    def named(self, entry: Printed, labels: Tuple[Tuple[str, int], ...], equates: Tuple[Tuple[str, int], ...] = ()) -> Printed:
+        for name, number in (*labels, *equates):
+            is_other = self.names.get(name.upper(), number) != number
+            self.names[name.upper()] = None if is_other else number
+        return entry._replace(labels=labels, equates=equates)
+
+    def value(self, source: Source) -> Optional[int]:
+        """Returns the number of an operand; None if it has names that are not known."""
+        told = Told(self.known, self.base, self.origin, self.origin and self.origin - (self.moved or 0))
+        return told.number(source.statement)
+
+    def check_statement(self) -> None:
+        """Compares the words of a statement with what the assembler makes of it."""
+        statement, self.statement = self.statement, None
+        if not statement or not self.known or None in statement.words:
+            return
+        source, words = statement.source, [int(word or "0", 8) for word in statement.words]
+        told = Told(self.known, self.base, statement.load, statement.address)
+        wanted = told_by(told, source.operation, source.statement, words)
+        if wanted is not None and wanted != words:
+            shown = [" ".join(f"{word:04o}" for word in some) for some in (words, wanted)]
+            operand = source.operand.split()[:1] or [""]
+            said = f"{source.operation} {operand[0]}".strip()
+            self.doubts.append(Doubt(statement.line, statement.column, f"the line has {shown[0]}, and {said} makes {shown[1]}"))

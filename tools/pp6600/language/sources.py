@@ -1,0 +1,305 @@
+"""Sources beside a run: the lines of the console that load them, and whose line a cell is.
+
+A cell is of the line whose location it is, or else of the line whose origin it is, as long as it has the word of that line. So a
+program that moved itself by LOC keeps its lines. The second word of an instruction may be another one, for RJM writes it."""
+
+import os
+from typing import Dict, Iterable, Iterator, List, NamedTuple, Optional, Sequence, Tuple
+
+from ..failure import Failure, Faults
+from ..run.forms import Place
+from ..run.tape import SourceLine
+from ..run.turn import TWO_WORDS, places_of_setting
+from ..shell.ending import shown_text
+from ..shell.options import processor
+from ..shell.text_files import named, read_lines
+from .listing import FARTHEST, AddressNames, AllSymbols, Listing, Names, is_printed, without_mark
+from .source.forms import set_lines
+from .source.machine import CELLS, CODES
+from .source.messages import Fault
+from .source.passes import Program, Texts, assembled
+from .source.state import Cell, Row
+from .source.statements import TAB, Line, statement_of
+from .source.symbols import Symbol, Symbols
+
+
+def source_lines(path: Optional[str]) -> List[str]:
+    """Returns the lines of a source, without the mark that some editors put before a text."""
+    return without_mark(read_lines(path))
+
+
+def complaints(path: Optional[str], program: Program) -> List[str]:
+    """Returns the lines about what is wrong with a source, and what is to be known of it."""
+    return [shown_text(f"{named(path)}:{line}:{column}: {text}") for line, column, text in (*program.messages, *program.warnings)]
+
+
+# ---- common decks, and the units of a source
+
+def texts_in(folder: Optional[str]) -> Optional[Texts]:
+    """Returns the function that finds a common deck in a folder: a file with the name of the deck, whatever is after a point, in letters
+    of either case; None without a folder."""
+    if folder is None:
+        return None
+    try:
+        names = sorted(os.listdir(folder))
+    except OSError as error:
+        raise Failure(f"can't read the folder {folder}: {error.strerror}") from error
+
+    def lines(deck: str) -> Optional[List[str]]:
+        found = [name for name in names if deck and deck.upper() in (name.upper(), name.upper().partition(".")[0])]
+        return source_lines(os.path.join(folder, found[0])) if found else None
+    return lines
+
+
+def unit_of(program: Program, name: str) -> Program:
+    """Returns the program of a source that an IDENT names."""
+    unit = next((unit for unit in program.units if unit.name == name.upper()), None)
+    if not unit:
+        names = ", ".join(unit.name for unit in program.units if unit.name)
+        raise Failure(f"the source has no IDENT {name}; {f'it has {names}' if names else 'it has none at all'}")
+    return program._replace(cells=unit.cells, start=unit.start, literals=unit.literals)
+
+
+def path_and_unit(path: str) -> Tuple[str, str]:
+    """Returns a file and the name of the unit that is after a # in a word FILE#NAME."""
+    file, _, unit = path.rpartition("#")
+    return (file, unit) if file and not os.path.exists(path) else (path, "")
+
+
+class Word(NamedTuple):
+    """A word that a source makes: its row of the listing, its number there, from 0, and its number among the words that the line of
+    the file makes in a row, from 1."""
+
+    row: Row
+    at: int
+    number: int
+
+    @property
+    def digits(self) -> str:
+        return f"{self.row.words[self.at]:04o}"
+
+    @property
+    def second(self) -> Optional[str]:
+        """The second word, if this is the first one of an instruction of two."""
+        has_two = self.at == 0 and len(self.row.words) == 2 and self.row.words[0] >> 6 in TWO_WORDS
+        return f"{self.row.words[1]:04o}" if has_two else None
+
+
+class CellLine(NamedTuple):
+    """The line that a cell is of, or was of before it was overwritten. The second word is that of the machine, if it is not the
+    line's."""
+
+    number: int
+    text: str
+    at: int  # which of the words of its row it is, from 0
+    is_there: bool
+    second: Optional[str]
+    row: Row
+
+    @property
+    def note(self) -> str:
+        """What is to be said after the text: which word it is, if not the first, and a second word that has changed."""
+        at = f"  word {self.at + 1}" if self.at else ""
+        return at if self.second is None else f"{at}  m is {self.second}"
+
+
+class Source(AddressNames):
+    """A source of one processor, assembled."""
+
+    is_source = True
+
+    def __init__(self, path: str, program: Program) -> None:
+        self.path, self.program = path, program
+        self.at_location: Dict[int, List[Word]] = {}
+        self.at_origin: Dict[int, Word] = {}
+        for word in words_of(program.rows):
+            self.at_location.setdefault((word.row.location + word.at) % CELLS, []).append(word)
+            if is_of(program, word):
+                self.at_origin[word.row.origin + word.at] = word
+        super().__init__(names_of(program), self.at_location)
+        self.jumps = {**super().entries(), **jumps_back(program.rows)}
+        self.literals = {address: text for address, text in program.literals.items() if address not in self.labels}
+
+    def name(self, address: int, farthest: int = FARTHEST) -> str:
+        """Returns an address by a label, or as the literal that it is of."""
+        return self.literals.get(address) or super().name(address, farthest)
+
+    @classmethod
+    def of_file(cls, path: str, texts: Optional[Texts] = None) -> "Source":
+        """Returns the source in a file, or the one that a printed listing has; of FILE#NAME the unit with this name is loaded."""
+        path, unit = path_and_unit(path)
+        lines = source_lines(path)
+        program = program_of(Listing.of_file(path)) if is_printed(lines) else assembled(lines, texts)
+        if program.messages:
+            raise Faults(complaints(path, program))
+        program = unit_of(program, unit) if unit else program
+        if not program.cells:
+            raise Failure(f"{named(path)} has no word")
+        return cls(path, program)
+
+    # ---- the lines that load it
+
+    def loading(self, number: int) -> List[SourceLine]:
+        """Returns the lines that load it into a processor."""
+        return [SourceLine(line, {at: self.place_of(place) for place, at in places_of_setting(line).items() if at is not None})
+                for line in set_lines(self.program, number)]
+
+    def place_of(self, place: Place) -> str:
+        """Returns the place in the source from which the number at a place of the machine comes."""
+        if place.kind == "P":
+            end = next(row for row in reversed(self.program.rows) if is_end(row))
+            return f"{self.path}:{end.line.number}"
+        word = self.at_origin[place.numbers[1]]
+        return f"{self.path}:{word.row.line.number} WORD {word.number}"
+
+    def is_loaded(self, address: int, word: str) -> bool:
+        """Returns whether a cell has the word with which the source filled it."""
+        return address in self.at_origin and self.at_origin[address].digits == word
+
+    def entries(self) -> Dict[int, int]:
+        """Returns the cells of return addresses by the addresses of the jumps back: of NAME and NAMEX, and of the second word of an
+        LJM that an RJM names, to which a program may return by UJN NAME-1."""
+        return self.jumps
+
+    def subroutine_of(self, address: int) -> Optional[int]:
+        """Returns the address of the jump back of the subroutine that an address is in; None if it is in none. A subroutine ends
+        where the next one begins, or where the source leaves out a cell."""
+        first = max((jump for jump in self.jumps if jump <= address), default=None)
+        if first is None or any(cell not in self.at_location for cell in range(first, address + 1)):
+            return None
+        return first
+
+    # ---- whose line a cell is
+
+    def line_of(self, address: int, word: str, second: Optional[str] = None) -> Optional[CellLine]:
+        """Returns the line that a cell is of, which has this word, with the cell after it; or else the one that it was of, if the
+        source has filled it."""
+        origin = self.at_origin.get(address)
+        candidates = [*self.at_location.get(address, ()), *([origin] if origin else ())]
+        found = [one for one in candidates if one.digits == word]
+        whole = next((one for one in found if second is None or one.second in (None, second)), None)
+        if whole:
+            return cell_line(whole, True)
+        if found:
+            return cell_line(found[0], True, second)
+        return cell_line(origin, False) if origin else None
+
+    def text(self, address: int, word: str, second: Optional[str] = None) -> str:
+        """Returns the text of the line that begins at a cell, if this word is still there; or nothing."""
+        line = self.line_of(address, word, second)
+        return line.text if line and line.is_there and line.at == 0 else ""
+
+    def beside(self, address: int, words: Sequence[str]) -> str:
+        """Returns the line whose instruction is in a cell, with its words, or was; with the second word if that has changed."""
+        line = self.line_of(address, *words[:2])
+        if not line:
+            return ""
+        if not line.is_there:
+            return f"was {self.path}:{line.number}"
+        return f"{self.path}:{line.number}: {line.text}{line.note}"
+
+    def texts(self) -> Dict[int, Tuple[int, str]]:
+        """Returns the texts of the lines by the addresses at which they begin, each with its first word."""
+        firsts = [word for words in self.at_location.values() for word in words[:1] if not word.at]
+        found = {word.row.origin: word for word in self.at_origin.values() if not word.at}
+        found.update((word.row.location, word) for word in firsts)
+        return {address: (word.row.words[0], text_of(word.row)) for address, word in found.items()}
+
+
+def program_of(listing: Listing) -> Program:
+    """Returns the program that a printed listing is of: its source lines and its words."""
+    rows, origin, symbols = [], 0, Symbols()
+    for entry in listing.entries:
+        load, address = (entry.load, entry.address) if entry.words else (origin, origin)
+        words = tuple(int(word, 8) for word in entry.words)
+        rows.append(Row(Line(entry.number, entry.source), load, address, words, bool(words)))
+        origin = load + len(words)
+        symbols.seen.update({name: Symbol(number, entry.number, True) for name, number in entry.labels})
+        symbols.seen.update({name: Symbol(number, entry.number, False) for name, number in entry.equates})
+    cells = {address: Cell(int(word, 8), line.number) for address, (word, line) in listing.cells.items()}
+    return Program(cells, listing.start, symbols, rows, [])
+
+
+def is_of(program: Program, word: "Word") -> bool:
+    """Returns whether a word is one that the program itself loads: a source with several units has others too."""
+    cell = program.cells.get(word.row.origin + word.at)
+    return cell is not None and (cell.word, cell.line) == (word.row.words[word.at], word.row.line.number)
+
+
+def jumps_back(rows: Sequence[Row]) -> Dict[int, int]:
+    """Returns the second words of LJM that an RJM names, by the addresses of the LJM."""
+    named = {row.words[1] for row in rows if row.words[:1] == (CODES["RJM"] << 6,) and len(row.words) == 2}
+    return {row.location: row.location + 1 for row in rows
+            if row.words[:1] == (CODES["LJM"] << 6,) and len(row.words) == 2 and row.location + 1 in named}
+
+
+def words_of(rows: Sequence[Row]) -> Iterator[Word]:
+    line, number = None, 0
+    for row in rows:
+        number = number if row.line.number == line else 0
+        line = row.line.number
+        for at in range(len(row.words)):
+            number += 1
+            yield Word(row, at, number)
+
+
+def names_of(program: Program) -> Names:
+    """Returns the names of a source: labels, and names of numbers that are not minus; those that a macro has for itself are none."""
+    names = Names()
+    for name, symbol in program.symbols.named():
+        if symbol.value >= 0 and name not in program.symbols.made:
+            names.add(name, symbol.value, symbol.is_address and symbol.value < CELLS)
+    return names
+
+
+def text_of(row: Row) -> str:
+    return row.line.text.expandtabs(TAB).strip()
+
+
+def cell_line(word: Word, is_there: bool, second: Optional[str] = None) -> CellLine:
+    return CellLine(word.row.line.number, text_of(word.row), word.at, is_there, second, word.row)
+
+
+def is_end(row: Row) -> bool:
+    try:
+        statement = statement_of(row.line)
+    except Fault:  # of a printed listing
+        return False
+    return statement is not None and statement.operation.text == "END"
+
+
+# ---- the options
+
+def add_files(parser, option: str, text: str) -> None:
+    parser.add_argument(option, nargs=2, metavar=("N", "FILE"), action="append", default=[], help=text)
+
+
+def add_texts(parser) -> None:
+    parser.add_argument("--text", metavar="DIR", help="the folder of common decks, which XTEXT reads: a file for each")
+
+
+def add_sources(parser) -> None:
+    add_texts(parser)
+    add_files(parser, "--source", "assemble FILE, or read a printed listing, and load it into processor N before the script; "
+              "show its lines and names; for each one")
+
+
+def add_symbols(parser) -> None:
+    add_files(parser, "--symbols", "show addresses of processor N by the labels of a listing, or of lines NAME ADDRESS; for each one")
+    add_sources(parser)
+
+
+def symbols_of(asked) -> AllSymbols:
+    """Returns the symbols and the sources that a command line names."""
+    return symbols_from(getattr(asked, "symbols", ()), asked.source, asked.text)
+
+
+def symbols_from(listings: Iterable[Sequence[str]], sources: Iterable[Sequence[str]], decks: Optional[str] = None) -> AllSymbols:
+    """Returns the symbols of pairs of a processor and a listing, and of a processor and a source with common decks in a folder."""
+    symbols = AllSymbols([(processor(number), path) for number, path in listings])
+    for text, path in sources:
+        number = processor(text)
+        if number in symbols.of:
+            raise Failure(f"processor {number:o} is given a source, and symbols or a source again")
+        symbols.of[number] = Source.of_file(path, texts_in(decks))
+    return symbols

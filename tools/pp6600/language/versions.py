@@ -1,0 +1,58 @@
+"""Two versions of one processor's program, compared by their labels.
+
+A cell of one version is the cell of the other with the same label, or as far behind it, up to the next label of either. A number is
+the same in both if its digits are, or if it is the address of the same label."""
+
+from typing import Iterator, List, Sequence, Tuple
+
+from ..run.forms import CELLS
+from ..run.state import Difference, State
+from .listing import AddressNames
+
+ADDRESSES = ("P", "A", "Q")  # registers that may hold an address
+LONGEST_BUFFER = 0o777  # cells behind the last label that may be its own
+
+
+class Versions:
+    """The names of one processor in two runs."""
+
+    def __init__(self, number: int, names: Sequence[AddressNames]) -> None:
+        self.number, self.names = number, names
+        self.cells: List[Tuple[int, int]] = []  # the addresses of each that both have
+        one, other = names
+        places = {label: address for address, label in reversed(other.labels.items())}
+        for first, label in one.labels.items():
+            if label in places:
+                count = min(cells_of_label(one, first), cells_of_label(other, places[label]))
+                self.cells += [(first + at, places[label] + at) for at in range(count)]
+
+    def is_same(self, digits: Sequence[str]) -> bool:
+        """Returns whether two numbers are the same one."""
+        if digits[0] == digits[1]:
+            return True
+        numbers = [int(one, 8) for one in digits]
+        called = {address_name(names, number) for names, number in zip(self.names, numbers)} if max(numbers) < CELLS else {""}
+        return len(called) == 1 and "" not in called
+
+    def replaces(self, difference: Difference) -> bool:
+        """Returns whether a difference of two states is none here, or is found by the labels."""
+        kind, number, *_ = difference[0].split()
+        return number == f"{self.number:02o}" and (kind == "M" or kind in ADDRESSES and self.is_same(difference[1:]))
+
+    def differences(self, states: Sequence[State]) -> Iterator[Difference]:
+        """Yields the cells that differ, by the address and the label of the first run."""
+        one, other = (state.memories[self.number] for state in states)
+        for first, second in self.cells:
+            words = one.word(first), other.word(second)
+            if not self.is_same(words):
+                yield (f"M {self.number:02o} {first:04o} {self.names[0].name(first)}", *words)
+
+
+def address_name(names: AddressNames, number: int) -> str:
+    """Returns what a number is called as an address: however far it is from its label, but behind the last one within a buffer's size."""
+    return names.name(number, CELLS if names.addresses and number < names.addresses[-1] else LONGEST_BUFFER)
+
+
+def cells_of_label(names: AddressNames, first: int) -> int:
+    """Returns how many cells belong to the label at an address: those up to the next one, or to the end of the memory."""
+    return next((address for address in names.addresses if address > first), CELLS) - first

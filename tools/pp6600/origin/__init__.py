@@ -1,1 +1,0 @@
-"""The tool that shows where a number came from."""

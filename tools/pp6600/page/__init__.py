@@ -1,1 +1,0 @@
-"""The live page: a film that is still being shot, in a browser."""

@@ -1,0 +1,351 @@
+"""Conditions on the machine, as P 0 = 105 and PP 3 waits: what each is about, and whether it holds at looks at the machine."""
+
+from __future__ import annotations
+
+import operator
+import re
+from itertools import chain
+from typing import Any, Callable, Dict, Iterator, List, Optional, Sequence, Tuple
+
+from ..engine import interface as flat
+from ..failure import Failure
+from ..language.listing import AllSymbols
+from ..shell.options import octal
+from .forms import CELLS, CLOCK, PROCESSORS, REGISTERS, STATES, Place
+from .search import Column, Condition, Looks, Test
+from .simulator import Simulator
+from .turn import Processor
+
+FORM = ("a condition is PLACE = 105 (also != < > <= >=), PLACE outside 100 117, PLACE inside 100 117, PLACE changes, "
+        "M 0 100 117 changes, H 12 is F, H 12 changes state, PP 3 waits, PP 3 in a block, PP 3 not in a block or PP 3 returns wrongly; "
+        "conditions are joined by and")
+COMPARISONS = {"=": operator.eq, "!=": operator.ne, "<": operator.lt, ">": operator.gt, "<=": operator.le, ">=": operator.ge}
+OF_A_PROCESSOR = ("M", "A", "P", "Q")
+RJM = "RJM"
+MOST_LOOKED = 4  # places of a test
+STATE_OF_CLOCK = "F"
+
+
+class Is(Test):
+    """Whether a number is as it must be."""
+
+    column: Column
+
+    def __init__(self, column: Column, test: Callable[[int], bool]) -> None:
+        self.column, self.test = column, test
+        self.known: Dict[int, bool] = {}  # the verdicts on numbers
+
+    @property
+    def places(self) -> Sequence[int]:
+        return [self.column.places[0]]
+
+    def verdict(self, number: int) -> bool:
+        if number not in self.known:
+            self.known[number] = self.test(number)
+        return self.known[number]
+
+    def begin(self, run: Simulator) -> bool:
+        self.held = self.verdict(run.engine.numbers(self.places[0], 1)[0])
+        return self.held
+
+    def verdicts(self, looks: Looks) -> bytes:
+        place, number = self.places[0], self.column.processor
+        values = looks.columns[place] if number is None else looks.own(number, place)
+        before, distinct = self.held, {one: self.verdict(one) for one in set(values)}
+        if all(distinct.values()) or not any(distinct.values()):
+            found = bytes([any(distinct.values())]) * len(values)
+        else:
+            found = bytes(map(distinct.__getitem__, values))
+        self.held = bool(found[-1]) if found else before
+        return found if number is None else looks.spread(number, found, before)
+
+
+class StateIs(Is):
+    """Whether the state of a channel is as it must be."""
+
+    @property
+    def places(self) -> Sequence[int]:
+        return [flat.STATES + self.column.place.numbers[0]]
+
+
+class OfClock(Test):
+    """Whether the state of the clock, which is always F, is as it must be."""
+
+    def __init__(self, column: Column, held: bool) -> None:
+        self.column, self.held = column, held
+
+    @property
+    def places(self) -> Sequence[int]:
+        return []
+
+    def begin(self, run: Simulator) -> bool:
+        return self.held
+
+    def verdicts(self, looks: Looks) -> bytes:
+        return bytes([self.held]) * looks.turns
+
+
+class Changes(Test):
+    """Whether the numbers of a column have changed in the latest turn."""
+
+    is_change = True
+    column: Column
+
+    def __init__(self, column: Column, with_state: bool = False, with_number: bool = True) -> None:
+        """Of a channel it is its state, its number, or both."""
+        self.column = column
+        self.looked: Sequence[int] = [flat.STATES + column.place.numbers[0]] * with_state + [*column.places] * with_number
+
+    @property
+    def places(self) -> Sequence[int]:
+        return self.looked if len(self.looked) <= MOST_LOOKED else []
+
+    def begin(self, run: Simulator) -> bool:
+        self.last = {place: run.engine.numbers(place, 1)[0] for place in self.places}
+        return False
+
+    def verdicts(self, looks: Looks) -> bytes:
+        number = self.column.processor
+        if not self.places:
+            return self.of_many(looks)
+        held = 0
+        columns = [(place, looks.columns[place] if number is None else looks.own(number, place)) for place in self.places]
+        for place, values in columns:
+            held |= int.from_bytes(self.changes(place, values), "big")
+        found = held.to_bytes(len(columns[0][1]), "big")
+        return found if number is None else looks.once(number, found)
+
+    def changes(self, place: int, values: Sequence[int]) -> bytes:
+        """Returns at which of some values a number is another one than before."""
+        last = self.last[place]
+        if not len(values) or {*values} == {last}:
+            return bytes(len(values))
+        self.last[place] = values[-1]
+        return bytes(map(operator.ne, chain((last,), values), values))
+
+    def of_many(self, looks: Looks) -> bytes:
+        """As `verdicts`, of more cells than are looked at: by what the turns overwrote."""
+        records, found = looks.records(), bytearray(looks.turns)
+        if {*records.places}.isdisjoint(self.looked):
+            return bytes(found)
+        end, now = len(records.places), dict(zip(self.looked, looks.run.engine.numbers(self.looked[0], len(self.looked))))
+        for at in range(looks.turns - 1, -1, -1):
+            begin = end - records.counts[at]
+            for place, number in zip(records.places[begin:end], records.numbers[begin:end]):
+                if place in now:
+                    found[at] |= number != now[place]
+                    now[place] = number
+            end = begin
+        return bytes(found)
+
+
+class Waits(Test):
+    """Whether the latest turn of a processor was a wait: it changed no register, by an instruction that may wait. A setting is no turn."""
+
+    def __init__(self, number: int) -> None:
+        self.number = number
+        self.holds = False
+
+    @property
+    def places(self) -> Sequence[int]:
+        return [first + self.number for first in (flat.P, flat.A, flat.Q, flat.PHASE)]
+
+    def begin(self, run: Simulator) -> bool:
+        self.last = tuple(run.engine.numbers(place, 1)[0] for place in self.places)
+        return self.holds
+
+    def verdicts(self, looks: Looks) -> bytes:
+        held, registers = self.holds, [(*one,) for one in zip(*(looks.own(self.number, place) for place in self.places))]
+        same = bytes(map(operator.eq, chain((self.last,), registers), registers))
+        if any(same):
+            same = self.waited(looks, registers, same)
+        self.last = registers[-1] if registers else self.last
+        self.holds = bool(same[-1]) if same else held
+        return looks.spread(self.number, same, held)
+
+    def waited(self, looks: Looks, registers: Sequence[Tuple[int, ...]], same: bytes) -> bytes:
+        """Returns which turns waited, of those that changed no register."""
+        keys = {(registers[at][0], registers[at][3]) for at in indexes(same)}
+        written = looks.written() if any(not phase for _, phase in keys) else set()
+        known = {(p, phase): self.waits_at(looks, p, phase) for p, phase in keys
+                 if phase or flat.CELLS + CELLS * self.number + p not in written}
+        own, found = looks.first_own(self.number), bytearray(len(same))
+        for at in indexes(same):
+            key = registers[at][0], registers[at][3]
+            found[at] = known[key] if key in known else looks.processor_at(own + PROCESSORS * at).goes_on_in is not None
+        return bytes(found)
+
+    def waits_at(self, looks: Looks, p: int, phase: int) -> bool:
+        """Returns whether the instruction at P may wait, or the block transfer of a phase. The cell is as it was in all the turns."""
+        (word,) = looks.run.engine.numbers(flat.CELLS + CELLS * self.number + p, 1)
+        registers = {"P": f"{p:04o}", "PHASE": f"{phase:04o}", "A": "000000", "Q": "0000"}
+        return Processor(registers, [f"{word:04o}", "0000"]).goes_on_in is not None
+
+
+class Returns(Test):
+    """Whether a subroutine of a processor returned to another address than its RJM stored. Its cells are known by their labels."""
+
+    is_change = remembers = True
+
+    def __init__(self, number: int, entries: Dict[int, int]) -> None:
+        """The entries are the cells of return addresses by the addresses of the jumps back."""
+        self.number, self.jumps, self.firsts = number, entries, {cell + 1: jump for jump, cell in entries.items()}
+        self.column = Column(Place("P", (number,)))
+        self.stored: Dict[int, int] = {}  # by the address of the jump back: the return address
+
+    def begin(self, run: Simulator) -> bool:
+        (self.last,) = run.engine.numbers(flat.P + self.number, 1)
+        return False
+
+    def verdicts(self, looks: Looks) -> bytes:
+        own, first = looks.own(self.number, flat.P + self.number), looks.first_own(self.number)
+        if {self.last, *own}.isdisjoint({*self.jumps, *self.firsts}):
+            self.last = own[-1] if len(own) else self.last
+            return bytes(looks.turns)
+        return looks.once(self.number, bytes([self.verdict(address, first + PROCESSORS * at, looks) for at, address in enumerate(own)]))
+
+    def verdict(self, address: int, at: int, looks: Looks) -> bool:
+        was, self.last = self.last, address
+        if address in self.firsts and was != address:
+            processor = looks.processor_at(at)
+            if processor.name == RJM and not processor.phase:  # the subroutine was called
+                self.stored[self.firsts[address]] = (was + processor.row.words) % CELLS
+        if was not in self.jumps or was == address or looks.processor_at(at).phase:
+            return False
+        return self.stored.pop(was, address) != address
+
+
+def indexes(verdicts: bytes) -> Iterator[int]:
+    """Yields where verdicts are true."""
+    at = verdicts.find(1)
+    while at >= 0:
+        yield at
+        at = verdicts.find(1, at + 1)
+
+
+def parsed(text: str, symbols: Any = AllSymbols()) -> Condition:
+    """Returns the condition of a text. An address may be a label of its processor."""
+    condition, rest = first_of(text.split(), symbols)
+    if rest:
+        raise Failure(f"{' '.join(rest)} is too much: {FORM}")
+    return condition
+
+
+def first_of(words: List[str], symbols: Any = AllSymbols()) -> Tuple[Condition, List[str]]:
+    """Returns the condition that the words begin with, and the words after it."""
+    tests: List[Test] = []
+    words = ["and", *words]
+    while words and words[0].lower() == "and":
+        test, words = first_test(words[1:], symbols)
+        tests.append(test)
+    return Condition(tests), words
+
+
+def first_place(words: List[str], symbols: Any, also: Sequence[str] = ()) -> Tuple[Place, List[str]]:
+    """Returns the place that the words begin with, and the words after it. A label may be in the place of an address, and a name in
+    that of a channel. Places of the kinds `also` are allowed too."""
+    kind, at = words[0].upper() if words else "", 1
+    number = None
+    if kind == "M" and len(words) > 2 and re.fullmatch("[0-7]+", words[1]):
+        number, at = symbols.address(int(words[1], 8), words[2]), 2
+    elif kind in ("C", "H") and len(words) > 1 and not re.fullmatch("[0-7]+", words[1]):
+        number = symbols.number(words[1])
+    words = words if number is None else [*words[:at], f"{number:o}", *words[at + 1:]]
+    return Place.first_of(words, also)
+
+
+def first_test(words: List[str], symbols: Any) -> Tuple[Test, List[str]]:
+    """Returns the test that the words begin with, and the words after it."""
+    if words[:1] and words[0].upper() == "PP":
+        return processor_test(words, symbols)
+    if not words:
+        raise Failure(FORM)
+    place, rest = first_place(words, symbols)
+    if place.kind == "M" and [word.lower() for word in rest[1:2]] == ["changes"]:
+        last = number_of(rest[0], place, symbols)
+        if last < place.numbers[1]:
+            raise Failure(f"{rest[0]} is before the first cell of {place.short}")
+        return Changes(Column(place, last - place.numbers[1] + 1)), rest[2:]
+    kind = rest[0].lower() if rest else ""
+    if kind == "changes" and place.kind == "H" and rest[1:2] and rest[1].lower() == "state":
+        return OfClock(Column(place), False) if place.numbers[0] == CLOCK else Changes(column_of(place), True, False), rest[2:]
+    if kind == "changes":
+        return Changes(column_of(place)), rest[1:]
+    if kind == "is" and place.kind == "H":
+        return state_test(place, rest)
+    count = 1 if kind in COMPARISONS else 2 if kind in ("outside", "inside") else None
+    if count is None or len(rest) <= count:
+        raise Failure(FORM)
+    numbers = [number_up_to(text, place, symbols) for text in rest[1:count + 1]]
+    return Is(column_of(place), test_of(kind, numbers)), rest[count + 1:]
+
+
+def test_of(kind: str, numbers: Sequence[int]) -> Callable[[int], bool]:
+    """Returns whether a number is as it must be."""
+    if kind in COMPARISONS:
+        return lambda number: bool(COMPARISONS[kind](number, numbers[0]))
+    first, last = numbers
+    if first > last:
+        raise Failure(f"{first:o} is over {last:o}")
+    return lambda number: (first <= number <= last) == (kind == "inside")
+
+
+def processor_test(words: List[str], symbols: Any) -> Tuple[Test, List[str]]:
+    """Returns the test of a processor, and the words after it."""
+    if len(words) < 3:
+        raise Failure(FORM)
+    number = number_of(words[1])
+    kind = [word.lower() for word in words[2:6]]
+    is_in = kind[:1] != ["not"]
+    kind = kind if is_in else kind[1:]
+    if number >= PROCESSORS:
+        raise Failure(f"{words[1]} is no processor: it is 0 to {PROCESSORS - 1:o}")
+    if is_in and kind[:1] == ["waits"]:
+        return Waits(number), words[3:]
+    if is_in and kind[:2] == ["returns", "wrongly"]:
+        entries = symbols.of[number].entries() if number in symbols.of else {}
+        if not entries:
+            raise Failure(f"PP {number:o} returns wrongly needs labels of a subroutine: NAMEX, and NAME at the cell after it")
+        return Returns(number, entries), words[4:]
+    if kind[:3] == ["in", "a", "block"]:
+        return Is(Column(Place("PHASE", (number,))), lambda phase: (phase != 0) == is_in), words[5 if is_in else 6:]
+    if kind[:1] and kind[0].upper() in REGISTERS:
+        meant = " ".join((kind[0].upper(), f"{number:o}", *("=" if word.lower() == "is" else word for word in words[3:5])))
+        raise Failure(f"PP {number:o} comes before waits, in a block and returns wrongly; for a register write {meant}")
+    raise Failure(FORM)
+
+
+def state_test(place: Place, words: List[str]) -> Tuple[Test, List[str]]:
+    """Returns the test of the state of a channel, and the words after it."""
+    letter = words[1].upper() if len(words) > 1 else ""
+    if len(letter) != 1 or letter not in STATES:
+        raise Failure(f"a channel is {', '.join(STATES[:-1])} or {STATES[-1]}")
+    wanted = STATES.index(letter)
+    if place.numbers[0] == CLOCK:
+        return OfClock(Column(place), letter == STATE_OF_CLOCK), words[2:]
+    return StateIs(column_of(place), lambda state: state == wanted), words[2:]
+
+
+def column_of(place: Place) -> Column:
+    """Returns the column of a place."""
+    if place.kind == "H" and place.numbers[0] > CLOCK:
+        raise Failure(f"{place.short} is no channel: it is 0 to {CLOCK:o}")
+    return Column(place)
+
+
+def number_of(text: str, place: Optional[Place] = None, symbols: Any = AllSymbols()) -> int:
+    """Returns a number. Beside a place it may be a label or another name, of the processor if the place is of one."""
+    named = None
+    if place and place.kind in OF_A_PROCESSOR:
+        named = symbols.address(place.numbers[0], text)
+    elif place and not re.fullmatch("[0-7]+", text):
+        named = symbols.number(text)
+    return octal(text) if named is None else int(named)
+
+
+def number_up_to(text: str, place: Place, symbols: Any) -> int:
+    """Returns a number that may be at a place."""
+    number = number_of(text, place, symbols)
+    if number >= 8 ** place.digits:
+        raise Failure(f"{text} is more than {place.short} can be")
+    return number

@@ -1,0 +1,79 @@
+"""Cells as instructions."""
+
+from typing import Callable, Container, List, NamedTuple, Optional, Tuple
+
+from .forms import CELLS
+from .turn import NAMES, RELATIVE_JUMPS, TWO_WORDS, target_of
+
+Word = Callable[[int], str]  # the digits of a cell, by its address
+
+FROM_BEFORE = 8  # more cells before a window, so that its rows begin where the instructions do
+LEAST_ABOVE = 2  # rows in a window above the one that it must show, if it has room
+
+
+class Row(NamedTuple):
+    """An instruction: its address and its one or two words, each of four digits."""
+
+    address: int
+    words: Tuple[str, ...]
+
+    @property
+    def end(self) -> int:
+        """The address after it."""
+        return (self.address + len(self.words)) % CELLS
+
+    def has(self, address: int) -> bool:
+        return (address - self.address) % CELLS < len(self.words)
+
+    @property
+    def text(self) -> str:
+        """The name and d, with the second word; with the address to which a relative jump leads."""
+        code, d = int(self.words[0], 8) >> 6, self.words[0][2:]
+        target = f"to {target_of(self.address, int(d, 8)):04o}" if code in RELATIVE_JUMPS else ""
+        return " ".join(filter(None, (NAMES[code], d, *self.words[1:], target)))
+
+
+def row_at(word: Word, address: int, heads: Container[int]) -> Row:
+    """Returns the row that begins at an address. At a head another row begins, so that no second word is taken from there."""
+    address, second = address % CELLS, (address + 1) % CELLS
+    has_two = int(word(address), 8) >> 6 in TWO_WORDS and second not in heads
+    return Row(address, (word(address), word(second)) if has_two else (word(address),))
+
+
+def rows_from(word: Word, address: int, count: int, heads: Container[int]) -> List[Row]:
+    """Returns so many rows from an address on. The function `word` returns the digits of a cell."""
+    found: List[Row] = []
+    while len(found) < count:
+        found.append(row_at(word, found[-1].end if found else address, heads))
+    return found
+
+
+def rows_around(word: Word, address: int, before: int, after: int, heads: Container[int]) -> List[Row]:
+    """Returns the rows around that which has an address: so many before it, and so many after it."""
+    rows = rows_from(word, address - 2 * before - FROM_BEFORE, 2 * before + FROM_BEFORE + after + 1, heads)
+    at = next(number for number, row in enumerate(rows) if row.has(address))
+    return rows[at - before:at + after + 1]
+
+
+def window(word: Word, top: int, address: int, count: int, heads: Container[int]) -> List[Row]:
+    """Returns so many rows with an address in one of them: from the top on if it is there with rows above it, else with some rows
+    before it."""
+    rows = rows_from(word, top, count, heads)
+    before = rows_above(next((at for at, row in enumerate(rows) if row.has(address)), None), count, top)
+    if before is None:
+        return rows
+    return rows_around(word, address, before, count - before - 1, heads)
+
+
+def rows_above(at: Optional[int], count: int, top: int) -> Optional[int]:
+    """Returns how many rows a window of so many moves to have above the one that it must show; None if it stays. That one is at `at`
+    now, or not in the window; nothing is above address 0."""
+    if at is None:
+        return count // 3
+    least = min(LEAST_ABOVE, count // 3)
+    return None if at >= least or top == 0 else least
+
+
+def moved(word: Word, address: int, steps: int, heads: Container[int]) -> int:
+    """Returns the address of the row that comes so many rows after that which has an address, or before it."""
+    return rows_around(word, address, max(-steps, 0), max(steps, 0), heads)[-1 if steps > 0 else 0].address

@@ -1,0 +1,241 @@
+"""The words of the console: the places of the machine, and the named fields of each answer.
+
+This is the one reader of answers. Each form of a line is written once, as `PP <number:nn> P <P:nnnn> ..`: n is an octal digit, s the
+state of a channel, and each field has a name. From it come the regular expression that says whether a line is an answer at all, and
+the columns of its fields. These never move, because each number in an answer has a fixed width. So a reader of thousands of lines cuts
+columns, and a reader of one line takes named fields. docs/CONSOLE.md describes the answers."""
+
+from __future__ import annotations
+
+import functools
+import re
+from typing import Dict, Iterable, List, NamedTuple, Optional, Sequence, Tuple
+
+from ..failure import Failure
+
+PROCESSORS = 10
+CHANNELS = 12
+CLOCK = 0o14  # the number of the clock after those of the channels
+CELLS = 0o10000  # of a processor
+ROW = 8  # cells in a row of a dump
+ROWS = CELLS // ROW  # of a memory
+FRAME_WORDS = 16
+CENTRAL_ADDRESSES = 0o1000000  # those that A can hold
+SYMBOLS_OF_PAPER = 0o200000  # at most
+COLUMNS_OF_CARD = 80
+MOST_TURNS = 0o1000000  # of one STEP
+MOST_WATCHES = 8
+REGISTERS = ("P", "A", "Q", "PHASE")
+STATES = "IEFX"  # of a channel: inactive, empty, full with data, full with a function code
+
+Registers = Dict[str, str]  # the registers of a processor by their names, each as its digits
+Cut = Dict[str, slice]
+
+
+class Kind(NamedTuple):
+    """A kind of places: how many there are by each of its numbers, the widths of these, and that of the number at a place."""
+
+    sizes: Tuple[int, ...]
+    widths: Tuple[int, ...]
+    digits: int
+
+
+KINDS = {
+    "M": Kind((PROCESSORS, CELLS), (2, 4), 4),
+    "A": Kind((PROCESSORS,), (2,), 6),
+    "P": Kind((PROCESSORS,), (2,), 4),
+    "Q": Kind((PROCESSORS,), (2,), 4),
+    "C": Kind((CENTRAL_ADDRESSES,), (6,), 20),
+    "H": Kind((CLOCK + 1,), (2,), 4),
+}
+# Places that can't be watched: words of the frame, symbols of the paper, the phases of processors, and the states of channels.
+UNWATCHED = {
+    "XP": Kind((FRAME_WORDS,), (2,), 20),
+    "LP": Kind((SYMBOLS_OF_PAPER,), (6,), 2),
+    "PHASE": Kind((PROCESSORS,), (2,), 4),
+    "S": Kind((CHANNELS,), (2,), 1),
+}
+ALL_KINDS = {**KINDS, **UNWATCHED}
+
+
+class Place(NamedTuple):
+    """A place of the machine. Places have an order: by kind, then by their numbers."""
+
+    kind: str
+    numbers: Tuple[int, ...]
+
+    @classmethod
+    def parse(cls, text: str) -> Place:
+        """Returns the place of a text that is one which can be watched, as M 0 106 or A 00."""
+        place, rest = cls.first_of(text.split())
+        if rest:
+            raise Failure(f"{text} does not name one place")
+        return place
+
+    @classmethod
+    def first_of(cls, words: List[str], also: Sequence[str] = ()) -> Tuple[Place, List[str]]:
+        """Returns the place that the words begin with, and the words after it: one that can be watched, or of kinds that are
+        allowed also. The simulator says which places there are."""
+        kind = words[0].upper() if words else ""
+        end = 1 + len(ALL_KINDS[kind].sizes) if kind in (*KINDS, *also) else 0
+        if not 0 < end <= len(words):
+            more = f"; also {' or '.join(also)} with a number" if also else ""
+            raise Failure(f"a place is M n a, A n, P n, Q n, C a or H c, as on a console line{more}")
+        for number in words[1:end]:
+            if not re.fullmatch("[0-7]+", number):
+                raise Failure(f"{number} is not octal")
+        return cls(kind, tuple(int(number, 8) for number in words[1:end])), words[end:]
+
+    @property
+    def text(self) -> str:
+        """The place as answers have it, as M 00 0106."""
+        return " ".join([self.kind, *(f"{number:0{width}o}" for number, width in zip(self.numbers, ALL_KINDS[self.kind].widths))])
+
+    @property
+    def short(self) -> str:
+        """The place without leading zeros, as M 0 106."""
+        return " ".join([self.kind, *(f"{number:o}" for number in self.numbers)])
+
+    @property
+    def digits(self) -> int:
+        """How many digits the number at the place has."""
+        return ALL_KINDS[self.kind].digits
+
+    @property
+    def exists(self) -> bool:
+        """Whether the machine has it; of a central word and a symbol of the paper it depends on the machine."""
+        return all(number < size for number, size in zip(self.numbers, ALL_KINDS[self.kind].sizes))
+
+
+FIELD = re.compile(r"<(\w+):(.*?)>")
+
+
+class Form:
+    """The form of a line: whether a line has it, its fields by their names, and the columns of those that never move."""
+
+    def __init__(self, text: str) -> None:
+        self.pattern = re.compile(FIELD.sub(lambda field: f"(?P<{field[1]}>{expression(field[2])})", text))
+        self.columns: Cut = {}
+        column = end = 0
+        for field in FIELD.finditer(text):
+            column += field.start() - end
+            is_fixed = set(field[2]) <= set("ns")
+            self.columns[field[1]] = slice(column, column + len(field[2]) if is_fixed else None)
+            if not is_fixed:
+                break
+            column, end = column + len(field[2]), field.end()
+
+    def fields(self, line: str) -> Optional[Dict[str, str]]:
+        """Returns the fields of a line by their names; None if it has another form."""
+        found = self.pattern.fullmatch(line)
+        return found.groupdict() if found else None
+
+
+def expression(body: str) -> str:
+    """Returns the regular expression of a field."""
+    return re.sub("n+", lambda digits: f"[0-7]{{{len(digits[0])}}}", body).replace("s", f"[{STATES}]")
+
+
+PLACES = "|".join(f"{kind} {' '.join('n' * width for width in one.widths)}" for kind, one in KINDS.items())
+FORMS = {name: Form(text) for name, text in {
+    "OK": "OK",
+    "ERR": "ERR <code:nn> <text:[A-Z ]+>",
+    "TURNS": "(TURNS|BACK|FORWARD) <count:[1-7][0-7]{0,6}> SLOT <slot:nn>",
+    "HIT": f"HIT <place:{PLACES}> <was:[0-7]+> <now:[0-7]+>",
+    "M": f"<address:nnnn> <words:nnnn(?: nnnn){{0,{ROW - 1}}}>",
+    "PP": "PP <number:nn> P <P:nnnn> A <A:nnnnnn> Q <Q:nnnn> PHASE <PHASE:nnnn> SLOT <SLOT:nn>",
+    "H": "H <number:nn> <state:s> <register:nnnn>",
+    "C": f"C <address:nnnnnn> <word:{20 * 'n'}>",
+    "XP": f"XP <number:nn> <word:{20 * 'n'}>",
+    "CR": "CR H <channel:nn> CARD <CARD:nnnn> OF <OF:nnnn> COLUMN <COLUMN:nnn> MODE <MODE:[A-Z]+>",
+    "LP": "LP H <channel:nn> SYMBOLS <SYMBOLS:nnnnnn> COLUMN <COLUMN:nnn> MODE <MODE:[A-Z]+>",
+    "PAPER": "[|/].*",
+    "W": f"W <place:NONE|{PLACES}>",
+}.items()}
+KIND_OF_LINE = {"|": "PAPER", "/": "PAPER", **dict.fromkeys("01234567", "M")}  # by its first letter; else it is the first word
+
+
+def kind_of(line: str) -> str:
+    """Returns which form a line of an answer has; of TURNS, BACK and FORWARD the word."""
+    return KIND_OF_LINE.get(line[:1]) or line.split(" ", 1)[0]
+
+
+def fields(kind: str, line: str) -> Dict[str, str]:
+    """Returns the fields of a line of this form, by their names."""
+    found = FORMS[kind].fields(line)
+    if found is None:
+        raise Failure(f"what is run is not the simulator: it answers {line[:60]!r}")
+    return found
+
+
+def registers_of(line: str) -> Registers:
+    """Returns P, A, Q, PHASE and SLOT of an answer to DUMP PP."""
+    return {name: line[cut] for name, cut in REGISTER_COLUMNS.items()}
+
+
+REGISTER_COLUMNS = {name: cut for name, cut in FORMS["PP"].columns.items() if name != "number"}
+
+
+class Dump(NamedTuple):
+    """A line that asks for numbers, the form of its answer, and how many lines this has."""
+
+    line: str
+    form: str
+    lines: int = 1
+
+
+Answers = Dict[Dump, List[str]]  # the lines of the answer to each dump
+
+
+@functools.lru_cache(maxsize=10000)
+def cells_dump(number: int, first: int, last: int) -> Dump:
+    """Returns the dump of the cells of a processor from the first to the last one."""
+    return Dump(f"DUMP M {number:o} {first:o} {last:o}", "M", (last - first) // ROW + 1)
+
+
+@functools.lru_cache(maxsize=None)
+def registers_dump(number: int) -> Dump:
+    return Dump(f"DUMP PP {number:o}", "PP")
+
+
+def word_dumps(number: int, address: int) -> List[Dump]:
+    """Returns the dumps of the two words from an address on; after cell 7777 comes cell 0000."""
+    if address + 1 < CELLS:
+        return [cells_dump(number, address, address + 1)]
+    return [cells_dump(number, address, address), cells_dump(number, 0, 0)]
+
+
+def words_of(rows: Iterable[str]) -> List[str]:
+    """Returns the words of the rows of a dump of cells."""
+    return [word for row in rows for word in row.split()[1:]]
+
+
+CHANNELS_DUMP = Dump("DUMP H", "H", CLOCK + 1)
+FRAME_DUMP = Dump("DUMP XP", "XP", FRAME_WORDS)
+
+
+def central_dump(first: int, last: int) -> Dump:
+    return Dump(f"DUMP C {first:o} {last:o}", "C", last - first + 1)
+
+
+def dumps_from(dump: str, first: int, count: int, addresses: int, size: int) -> List[str]:
+    """Returns the lines that show so many numbers from the first on. After so many addresses comes address 0 again, and from the
+    size on there is nothing."""
+    last = first + count - 1
+    lines = [f"{dump} {first:o} {min(last, size - 1):o}"] if first < size else []
+    return lines + ([f"{dump} 0 {last - addresses:o}"] if last >= addresses else [])
+
+
+def is_refusal(answer: Sequence[str]) -> bool:
+    """Returns whether an answer refuses its line."""
+    return bool(answer) and answer[0].startswith("ERR ")
+
+
+def hit_of(answer: Sequence[str]) -> Optional[str]:
+    """Returns the line of an answer that says that a watched number changed, or None."""
+    return next((line for line in answer[1:2] if line.startswith("HIT ")), None)
+
+
+def refused(answers: Iterable[str]) -> Optional[str]:
+    """Returns the first refusal among the lines of answers, or None."""
+    return next((line for line in answers if line.startswith("ERR ")), None)

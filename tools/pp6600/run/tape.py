@@ -1,0 +1,344 @@
+"""The actions of a run, and a history as a place in them.
+
+A tape is a list of actions in the order of a script: each a line, and how often it was performed in a row. All turns are one kind of
+action, STEP, however they were asked for. A position is a number of actions: at position n so many are performed. A tape turns
+positions into turns and back by prefix sums and a search by halves, so 20 million turns cost no more than one.
+
+A history is a cursor on a tape. What is before its position is in effect, and what is after it is ahead. Of these the simulator
+itself can undo the nearest `kept` ones by BACK, and perform the next `ahead` ones by FORWARD; all others need a replay. A new action
+cuts what is ahead off the tape, as the console discards its redo list. An action that is replayed does not, so a session goes back
+and forward without a limit."""
+
+from __future__ import annotations
+
+import bisect
+import re
+from typing import Container, Dict, Iterable, Iterator, List, NamedTuple, Optional, Sequence, Tuple
+
+from ..failure import Failure
+from .forms import MOST_TURNS, PROCESSORS
+
+MOST_KEPT = 10000  # decimal, without --history
+STEP = "STEP"
+NOTE_OF_DEVICE = re.compile(r"\* DEVICE (\S+)\r?")  # the line after it is a reply of this device
+REPLY = "SET H "
+WATCH_WORDS = ("WATCH", "UNWATCH")
+
+
+def room_of(words: Sequence[str]) -> int:
+    """Returns how many actions a simulator keeps that was begun by these words. It has accepted them."""
+    return int(words[words.index("--history") + 1]) if "--history" in words else MOST_KEPT
+
+
+class ScriptLine(str):
+    """A line of a script with its number, from 1."""
+
+    number: int
+
+    def __new__(cls, text: str, number: int) -> ScriptLine:
+        line = super().__new__(cls, text)
+        line.number = number
+        return line
+
+
+class ReplyLine(str):
+    """A SET H that is the reply of a device of one's own, with the name of this."""
+
+    __slots__ = ("device",)
+    device: str
+
+    def __new__(cls, text: str, device: str) -> ReplyLine:
+        line = super().__new__(cls, text)
+        line.device = device
+        return line
+
+
+class SourceLine(str):
+    """A line before a script that loads words of a source. Of each of its numbers, by its number in the line, it has the place in the
+    source."""
+
+    places: Dict[int, str]
+
+    def __new__(cls, text: str, places: Dict[int, str]) -> SourceLine:
+        line = super().__new__(cls, text)
+        line.places = places
+        return line
+
+
+def counted(lines: Iterable[str]) -> Iterator[Tuple[int, str]]:
+    """Yields the lines of a script, each with its number, from 1; those of a source before it are not counted."""
+    number = 0
+    for line in lines:
+        number += not isinstance(line, SourceLine)
+        yield number, line
+
+
+def numbered(lines: Iterable[str]) -> List[str]:
+    """Returns the lines of a script, each with its number, or with the device whose reply it is by the note before it."""
+    found: List[str] = []
+    note: Optional["re.Match[str]"] = None
+    for number, line in counted(lines):
+        if isinstance(line, SourceLine):
+            found.append(line)
+        else:
+            found.append(ReplyLine(line, note[1]) if note and line.startswith(REPLY) else ScriptLine(line, number))
+        note = NOTE_OF_DEVICE.fullmatch(line)
+    return found
+
+
+def with_notes(lines: Iterable[str]) -> Iterator[str]:
+    """Yields lines, and before each reply the note that names its device."""
+    for line in lines:
+        if isinstance(line, ReplyLine):
+            yield f"* DEVICE {line.device}"
+        yield line
+
+
+class Action(NamedTuple):
+    """An action by its line, performed so many times in a row. All turns are one action, STEP."""
+
+    line: str
+    times: int = 1
+
+    @property
+    def word(self) -> str:
+        """The first word of its line."""
+        return self.line.upper().split()[0]
+
+    @property
+    def turns(self) -> int:
+        return self.times if self.line == STEP else 0
+
+    @property
+    def is_watch(self) -> bool:
+        return self.word in WATCH_WORDS
+
+
+class Tape:
+    """The actions of a run."""
+
+    def __init__(self, actions: Iterable[Action] = ()) -> None:
+        self.runs: List[Action] = []
+        # The actions, the turns and the slot before each run of actions, and at the end.
+        self.starts, self.turns_before, self.slots = [0], [0], [0]
+        self.watches = 0  # how many of them are WATCH or UNWATCH
+        for line, times in actions:
+            self.append(line, times)
+
+    def append(self, line: str, times: int = 1) -> None:
+        """Adds an action at the end, so many times."""
+        if not times:
+            return
+        turns = times if line == STEP else 0
+        if turns and self.runs and self.runs[-1].line == STEP:
+            self.runs[-1] = Action(line, self.runs[-1].times + times)
+        else:
+            self.runs.append(Action(line, times))
+            for sums in (self.starts, self.turns_before, self.slots):
+                sums.append(sums[-1])
+        self.starts[-1] += times
+        self.turns_before[-1] += turns
+        word = STEP if turns else self.runs[-1].word
+        self.slots[-1] = 0 if word == "DEADSTART" else (self.slots[-1] + turns) % PROCESSORS
+        self.watches += word in WATCH_WORDS
+
+    def cut(self, position: int) -> None:
+        """Removes what is after a position."""
+        while self.end > position:
+            for sums in (self.starts, self.turns_before, self.slots):
+                sums.pop()
+            action = self.runs.pop()
+            self.watches -= action.is_watch
+            self.append(action.line, max(position - self.end, 0))
+
+    # ---- how far
+
+    @property
+    def end(self) -> int:
+        return self.starts[-1]
+
+    @property
+    def turns(self) -> int:
+        return self.turns_before[-1]
+
+    def run_before(self, position: int) -> int:
+        """Returns the number of the run of actions that has the action before a position."""
+        return bisect.bisect_left(self.starts, position) - 1
+
+    def run_after(self, position: int) -> int:
+        """Returns the number of the run that has the action after a position."""
+        return bisect.bisect_right(self.starts, position) - 1
+
+    def turn(self, position: int) -> int:
+        """Returns the number of turns before a position."""
+        run = max(self.run_before(position), 0)
+        passed = position - self.starts[run]
+        return self.turns_before[run] + (passed if passed and self.runs[run].line == STEP else 0)
+
+    def slot(self, position: int) -> int:
+        """Returns the slot at a position: that of the turn that begins there."""
+        run = self.run_after(position)
+        passed = position - self.starts[run]
+        if passed and self.runs[run].line != STEP:
+            return self.slots[run + 1]
+        return (self.slots[run] + passed) % PROCESSORS
+
+    def after_turn(self, turn: int) -> int:
+        """Returns the position after so many turns, and after the other actions before the next turn."""
+        if turn > self.turns:
+            raise Failure(f"there is no turn {turn:o}: the run has {self.turns:o} turns, octal")
+        run = bisect.bisect_right(self.turns_before, turn) - 1
+        return self.end if run == len(self.runs) else self.starts[run] + turn - self.turns_before[run]
+
+    def at_turn(self, turn: int) -> int:
+        """Returns the position right after so many turns, before any other action."""
+        run = bisect.bisect_left(self.turns_before, turn)
+        return self.starts[run] - (self.turns_before[run] - turn)
+
+    def last_tick(self, position: int) -> int:
+        """Returns the position after the last turn before this one in which the clock changed; 0 if there is none."""
+        while position:
+            run = self.run_before(position)
+            first = self.starts[run]
+            if self.runs[run].line == STEP:
+                passed = (self.slots[run] + position - first) % PROCESSORS  # turns since the last turn of the last processor
+                if position - passed > first:
+                    return position - passed
+            position = first
+        return 0
+
+    # ---- what
+
+    def actions(self, first: int = 0, last: int | None = None) -> Iterator[Action]:
+        """Yields the actions from a position to a later one, or to the end."""
+        last = self.end if last is None else last
+        while first < last:
+            run = self.run_after(first)
+            count = min(last, self.starts[run + 1]) - first
+            yield Action(self.runs[run].line, count)
+            first += count
+
+    def lines(self, first: int, last: int) -> Iterator[str]:
+        """Yields the lines that perform the actions from a position to a later one, with the STEPs as long as they may be."""
+        return (line for action in self.actions(first, last) for line in lines_of(action))
+
+    def stops(self, first: int = 0, processors: Container[int] = range(PROCESSORS)) -> Iterator[Tuple[int, str]]:
+        """Yields the position before each turn of some processors, with STEP, from turn number `first` on (from 0); and the position
+        after each other action from there on, with its line."""
+        for run, action in enumerate(self.runs):
+            begin, end = self.starts[run] + max(first - self.turns_before[run], 0), self.starts[run + 1]
+            if action.turns:
+                slot = self.slots[run] - self.starts[run]
+                yield from ((position, STEP) for position in range(begin, end) if (position + slot) % PROCESSORS in processors)
+            elif begin == self.starts[run]:
+                yield end, action.line
+
+    def part(self, first: int, last: int) -> Tape:
+        """Returns a tape of the actions from a position to a later one."""
+        return Tape(self.actions(first, last))
+
+    def without_watches(self) -> Tape:
+        """Returns the tape of a replay, which stops nowhere."""
+        return Tape(action for action in self.runs if not action.is_watch)
+
+
+def lines_of(action: Action) -> Iterator[str]:
+    """Yields the lines that perform an action so many times."""
+    line, times = action
+    while line == STEP and times:
+        yield f"{STEP} {min(times, MOST_TURNS):o}"
+        times -= min(times, MOST_TURNS)
+    for _ in range(times):
+        yield line
+
+
+class History:
+    """A cursor on a tape, with what the simulator keeps on both sides of it."""
+
+    def __init__(self, room: int = MOST_KEPT, tape: Tape | None = None) -> None:
+        """The simulator keeps so many actions; it is at the beginning of the tape."""
+        self.room, self.tape = room, tape or Tape()
+        self.position = self.kept = self.ahead = 0
+
+    # ---- how far
+
+    @property
+    def turns(self) -> int:
+        """How many turns are in effect."""
+        return self.tape.turn(self.position)
+
+    @property
+    def last_turn(self) -> int:
+        """How many turns are in effect or ahead."""
+        return self.tape.turns
+
+    @property
+    def slot(self) -> int:
+        return self.tape.slot(self.position)
+
+    @property
+    def to_redo(self) -> int:
+        """How many actions are ahead, with those that the simulator no longer has."""
+        return self.tape.end - self.position
+
+    @property
+    def oldest(self) -> int:
+        """The first position to which the simulator can go back."""
+        return self.position - self.kept
+
+    def in_effect(self) -> Tape:
+        """Returns the actions that were not taken back, or were performed again."""
+        return self.tape.part(0, self.position)
+
+    def back_over(self, turns: int) -> int:
+        """Returns how many actions in effect have the last so many turns; more than there are if these have fewer turns."""
+        if turns > self.turns:
+            return self.position + turns - self.turns
+        return self.position - self.tape.after_turn(self.turns - turns) if turns else 0
+
+    def forward_over(self, turns: int) -> int:
+        """Returns how many actions ahead have the first so many turns."""
+        return self.tape.at_turn(self.turns + turns) - self.position if turns else 0
+
+    def over(self, actions: int) -> int:
+        """Returns how many actions, as BACK counts them, have so many of the tape."""
+        return actions
+
+    # ---- what the simulator did
+
+    def restarted(self) -> None:
+        """Notes that a fresh simulator is at the beginning of the tape."""
+        self.position = self.kept = self.ahead = 0
+
+    def performed(self, count: int) -> None:
+        """Notes that the simulator has performed the next so many actions of the tape by their lines."""
+        self.position += count
+        self.kept = min(self.kept + count, self.room)
+        self.ahead = 0
+
+    def moved(self, count: int) -> None:
+        """Notes that the simulator has gone forward by so many actions, or back if it is negative."""
+        if count > self.ahead or -count > self.kept:
+            raise Failure(f"what is run is not the simulator: it went by {abs(count):o} actions, and there are fewer")
+        self.position += count
+        self.kept += count
+        self.ahead -= count
+
+    def added(self, line: str, times: int = 1) -> None:
+        """Notes that the simulator has performed a new action: what was ahead is gone."""
+        self.tape.cut(self.position)
+        self.tape.append(line, times)
+        self.performed(times)
+
+    def take(self, line: str, answer: Sequence[str]) -> bool:
+        """Counts a line of the user by the lines of its answer. Returns whether it changed the machine, the history or the list."""
+        kind, *rest = answer[0].split() if answer else ["NOTE"]
+        if kind == "OK":
+            self.added(line)
+        elif kind == "TURNS":
+            self.added(STEP, int(rest[0], 8))
+        elif kind in ("BACK", "FORWARD"):
+            self.moved(int(rest[0], 8) * (-1 if kind == "BACK" else 1))
+        else:
+            return False
+        return True

@@ -1,0 +1,119 @@
+"""The option --device: a device of one's own on a channel, by its name, or by its file and its class."""
+
+import importlib
+import pkgutil
+import sys
+import types
+
+from .. import devices
+from ..failure import Failure
+from ..run.attached import Attached
+from ..run.device import Device, DeviceFailure
+from ..run.forms import CHANNELS
+from ..run.timeline import Timeline
+from .options import up_to
+from .script import Refusals
+from .text_files import bytes_of, lines_of
+
+FORM = "NAME[:WORD,..]@CHANNEL"
+NAMES = sorted({module.name for module in pkgutil.iter_modules(devices.__path__)} - {"converter", "pictures", "tape_file"})
+
+
+def add_devices(parser):
+    parser.add_argument("--device", metavar=FORM, action="append", default=[],
+                        help=f"put a device on a channel: {', '.join(NAMES)}, or FILE.py:CLASS; its constructor gets the words; "
+                             "for each one")
+
+
+def devices_of(asked):
+    """Returns the devices that a command line names."""
+    return [device_of(text) for text in asked.device]
+
+
+def timeline(words, attached):
+    """Returns a session that goes back without a limit, with these devices if there are any."""
+    return Attached(words, attached) if attached else Timeline(words)
+
+
+def script_with(words, attached, script):
+    """Performs a script, given as bytes, with devices. Returns the script for the simulator alone that gives the same session, as bytes
+    too, and the lines that were refused."""
+    run, refusals = Attached(words, attached), Refusals()
+    for number, line in enumerate(lines_of(script.decode("latin-1")), 1):
+        try:
+            refusals.note(number, line, run.act(line))
+        except DeviceFailure as failure:
+            raise Failure(f"line {number} (decimal): {failure}") from failure
+    run.end()
+    return "".join(f"{line}\n" for line in run.sent).encode("latin-1"), refusals
+
+
+def device_of(text):
+    """Returns the device that an option names."""
+    named, _, channel = text.rpartition("@")
+    if not (named and channel):
+        raise Failure(f"--device {text} names no channel: it is {FORM}")
+    try:
+        number = up_to(channel, CHANNELS - 1, "channel")
+        return made(named, number)
+    except Failure as failure:
+        raise Failure(f"--device {text}: {failure}") from failure
+
+
+def made(named, channel):
+    """Returns the device of a name with its words, on a channel."""
+    name, *more = named.split(":")
+    if name.endswith(".py"):
+        if not more:
+            raise Failure(f"{name} needs the name of a class, as {name}:CLASS")
+        kind, more = class_of_file(name, more[0]), more[1:]
+    else:
+        kind = class_of_package(name)
+    words = ":".join(more)
+    try:
+        device = kind(*(words.split(",") if words else ()))
+        device.channel = channel
+    except Failure:
+        raise
+    except Exception as error:
+        raise Failure(f"{kind.__name__} can't be made: {type(error).__name__}: {error}") from error
+    return device
+
+
+def class_of_package(name):
+    """Returns the class of a device of the package: the one that its module defines."""
+    if name not in NAMES:
+        raise Failure(f"there is no device {name}; there are {', '.join(NAMES)}, and FILE.py:CLASS")
+    module = importlib.import_module(f"{devices.__name__}.{name}")
+    return next(one for one in vars(module).values() if is_device(one) and one.__module__ == module.__name__)
+
+
+def class_of_file(path, name):
+    """Returns the class of a device in a file."""
+    module = module_of(path)
+    if not hasattr(module, name):
+        raise Failure(f"{path} has no {name}")
+    kind = getattr(module, name)
+    if not is_device(kind):
+        raise Failure(f"{name} in {path} is not a subclass of Device")
+    return kind
+
+
+def is_device(kind):
+    return isinstance(kind, type) and issubclass(kind, Device) and kind is not Device
+
+
+def module_of(path):
+    """Returns the module of a file, which is performed for it."""
+    module = types.ModuleType(f"device in {path}")
+    module.__file__ = path
+    sys.modules[module.__name__] = module  # a dataclass looks for it there
+    try:
+        exec(compile(bytes_of(path), path, "exec", dont_inherit=True), vars(module))
+    except Failure:
+        raise
+    except SyntaxError as error:
+        raise Failure(f"{path} is not Python: line {error.lineno} (decimal): {error.msg}") from error
+    except (Exception, SystemExit) as error:
+        raise Failure(f"{path} fails: {type(error).__name__}: {error}") from error
+    return module

@@ -1,0 +1,126 @@
+"""How a tool ends: whatever goes wrong is one line on standard error and status 2, never a traceback."""
+
+import os
+import signal
+import sys
+
+from ..failure import Failure, Faults
+
+FAILED = 2
+
+
+def complain(message):
+    """Writes one line to standard error, after the tool's name; the lines about a source as they are."""
+    line = " ".join(shown_text(str(message)).split())
+    lines = message.lines if isinstance(message, Faults) else [f"{os.path.basename(sys.argv[0])}: {line}"]
+    try:
+        print(*lines, sep="\n", file=sys.stderr, flush=True)
+    except OSError:
+        discard(sys.stderr)
+
+
+def shown_text(text):
+    """Returns a text without bytes that a terminal would obey, but for tabs and line ends."""
+    return "".join(letter if letter.isprintable() or letter in "\t\n" else letter.encode("unicode_escape", "surrogatepass").decode()
+                   for letter in text)
+
+
+def discard(stream):
+    """Makes a stream that can't be written one that takes everything, so that Python does not try again at its end."""
+    nowhere = os.open(os.devnull, os.O_WRONLY)
+    os.dup2(nowhere, stream.fileno())
+    os.close(nowhere)
+
+
+def unwritten(error):
+    """Returns what a fault of standard output is to the tool; nothing more is written there."""
+    discard(sys.stdout)
+    return error if isinstance(error, BrokenPipeError) else Failure(f"can't write to standard output: {error.strerror}")
+
+
+def flush():
+    """Writes what is still to be written to standard output."""
+    try:
+        sys.stdout.flush()
+    except OSError as error:
+        raise unwritten(error) from None
+
+
+def write(line, at_once=False):
+    """Writes a line to standard output; at once, if a reader waits for it."""
+    try:
+        sys.stdout.write(f"{line}\n")
+    except OSError as error:
+        raise unwritten(error) from None
+    if at_once:
+        flush()
+
+
+def write_bytes(data):
+    """Writes bytes to standard output."""
+    try:
+        sys.stdout.buffer.write(data)
+        sys.stdout.buffer.flush()
+    except OSError as error:
+        raise unwritten(error) from None
+
+
+def write_lines(lines, otherwise=None, at_once=False):
+    """Writes lines; if there is none, another one."""
+    for line in lines:
+        write(line, at_once)
+        otherwise = None
+    if otherwise:
+        write(otherwise)
+
+
+def open_streams():
+    """Opens each closed standard stream to nowhere, so that no other file takes its number; and lets any text be written."""
+    closed = [stream is None for stream in (sys.stdin, sys.stdout, sys.stderr)]
+    for is_closed in closed:
+        if is_closed:
+            os.open(os.devnull, os.O_RDWR)
+    if sys.stderr is None:
+        sys.stderr = open(os.devnull, "w", encoding="utf-8")
+    if sys.stdout is None:
+        raise Failure("standard output is closed, so there is nowhere to write to")
+    sys.stdout.reconfigure(errors="backslashreplace")
+
+
+def status_of(main):
+    """Runs a tool and returns its status; a parser ends it early after --help."""
+    try:
+        open_streams()
+        status = main()
+    except SystemExit as end:
+        status = end.code
+    flush()
+    return status or 0
+
+
+def run(main):
+    """Runs a tool, and ends with the status that it returns (None: 0), or with a message and status 2."""
+    if signal.getsignal(signal.SIGINT) is signal.default_int_handler:
+        signal.signal(signal.SIGINT, signal.SIG_DFL)  # it ends the tool without a word
+    try:
+        sys.exit(status_of(main))
+    except BrokenPipeError:  # the reader of the output has had enough
+        sys.exit(0)
+    except Failure as failure:
+        message = failure
+    except MemoryError:
+        message = "out of memory"
+    except Exception as error:  # a fault that is the tool's own
+        message = f"this is a fault of the tool; please report it: {type(error).__name__}: {error}"
+    end_with(message)
+
+
+def end_with(message):
+    """Writes what can still be written, then the message, and ends with status 2."""
+    try:
+        if sys.stdout is not None:
+            flush()
+    except (BrokenPipeError, Failure):
+        pass
+    complain(message)
+    sys.exit(FAILED)

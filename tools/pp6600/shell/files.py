@@ -1,0 +1,38 @@
+"""Programs that make files and folders: a fault of the file system ends them with a message in plain words."""
+
+import os
+import subprocess
+from typing import List
+
+from .command_line import Failure, run
+from .options import TOOLS
+
+
+def tool_names() -> List[str]:
+    """Returns the names of the tools: the files of that folder whose names have no ending."""
+    return sorted(name for name in os.listdir(TOOLS) if "." not in name and os.path.isfile(os.path.join(TOOLS, name)))
+
+
+def checked_program(path: str, *words: str) -> List[str]:
+    """Returns the words that run a program that answers as the simulator does, with its whole path; fails if it does not."""
+    try:
+        done = subprocess.run(["pp6600", *words], executable=path, input=b"STEP 12\n", capture_output=True, timeout=60, check=False)
+    except (OSError, ValueError, subprocess.TimeoutExpired):
+        done = None
+    if not done or done.stdout != b"TURNS 12 SLOT 00\n":
+        raise Failure(f"{path} is not the simulator")
+    return [os.path.abspath(path), *words]
+
+
+def in_plain_words(main):
+    """Returns what main returns. A fault of the file system is a failure that names the file."""
+    try:
+        return main()
+    except OSError as error:
+        named = f"{error.filename}: " if error.filename else ""
+        raise Failure(f"{named}{error.strerror or error}") from error
+
+
+def run_over_files(main):
+    """Runs a program as `run` does, of one that makes files."""
+    run(lambda: in_plain_words(main))

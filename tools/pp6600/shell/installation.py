@@ -1,0 +1,241 @@
+"""What an installation of the simulator has, and how it is put below a folder and taken away again; which program a checkout runs.
+
+An installation is a manifest: paths below a prefix, each with a file or a link. That of a checkout is made from its files, that of an
+installation is read from its list. Nothing but Python's standard library is used."""
+
+from __future__ import annotations
+
+import gzip
+import os
+import re
+import shutil
+import subprocess
+import sys
+import tempfile
+from typing import Dict, Iterable, Iterator, List, NamedTuple, Optional, Tuple, Union
+
+from ..engine.choice import HOME, NAMES, first_that_starts, handed_out, machine_here, of_checkout, verified
+from ..failure import Failure
+from .files import checked_program
+
+TOP = os.path.dirname(os.path.dirname(os.path.dirname(os.path.dirname(os.path.realpath(__file__)))))  # the checkout, or OWN below a prefix
+IS_CHECKOUT = os.path.exists(os.path.join(TOP, "share", "which-build"))
+
+# Below the prefix of an installation:
+OWN = "libexec/pp6600"
+PAGES = "share/pp6600"
+LIST = f"{OWN}/installed"  # the paths, one a line
+FILM = f"{PAGES}/docs/films/dead-start-from-cards.html"  # it shows the solution of an exercise
+LEFT_OUT = b'<!DOCTYPE html><meta charset="utf-8"><title>Left out</title>\n<p>This film shows the answer to an exercise. The lecturer has it.\n'
+
+IN_PAGES = ("README.md", "CHANGELOG.md", "CONTRIBUTING.md", "SECURITY.md", "docs", "examples", "exercises", "share/editors")
+IN_OWN = {"pp6600-python": "pp6600-python", "VERSION": "VERSION", "commands": "share/commands", "install": "share/install", "pp6600.cmd": "pp6600.cmd"}
+OF_CHECKOUT = re.compile(r"docs/(.*\.(py|txt)|evaluate)$")  # what makes pages, or needs the sources
+ALL = "all"  # for each machine
+LIBRARIES = {"x86_64": ("libpp6600.so",), "aarch64": ("libpp6600-aarch64.so",), "windows": ("pp6600.dll",)}  # beside the programs
+PAGE_MODULE = "pp6600.wasm"  # with which a page of any machine runs
+LOADED = (".so", ".dll", ".wasm")  # how files end that are loaded, and not run
+# A link of a page, with its text; the file that it leads to is before a #.
+LINKS = {".md": re.compile(r"!?\[(?P<text>[^\[\]]*)\]\((?P<file>[^)#:\s]+)[^)]*\)"),
+         ".html": re.compile(r"""<a\b[^>]*? href="(?P<file>[^"#:]+)[^>]*>(?P<text>.*?)</a>""", re.S)}
+
+
+class File(NamedTuple):
+    """The bytes of a file, and whether it is a program."""
+
+    data: bytes
+    runs: bool = False
+
+
+class Link(NamedTuple):
+    """A link, to a path from where it is."""
+
+    target: str
+
+
+Entry = Union[File, Link]
+Manifest = Dict[str, Entry]
+
+
+def read(path: str) -> File:
+    """Returns a file of the system."""
+    with open(path, "rb") as file:
+        return File(file.read(), os.access(path, os.X_OK))
+
+
+def entry_at(path: str) -> Entry:
+    """Returns a file or a link of the system."""
+    return Link(os.readlink(path)) if os.path.islink(path) else read(path)
+
+
+def files_below(folder: str) -> Manifest:
+    """Returns the files and links below a folder, by their paths from there, without what Python keeps."""
+    found = {}
+    for above, folders, names in os.walk(folder):
+        folders[:] = [name for name in folders if name != "__pycache__"]
+        for name in names:
+            path = os.path.join(above, name)
+            found[os.path.relpath(path, folder).replace(os.sep, "/")] = entry_at(path)
+    return found
+
+
+def part(path: str) -> Manifest:
+    """Returns a file of the checkout, or the files below a folder of it, by their paths from its top."""
+    whole = os.path.join(TOP, path)
+    return {path: read(whole)} if os.path.isfile(whole) else {f"{path}/{name}": entry for name, entry in files_below(whole).items()}
+
+
+def tool_names() -> List[str]:
+    """Returns the names of the tools of a checkout."""
+    return sorted(entry.name for entry in os.scandir(os.path.join(TOP, "tools")) if entry.is_file() and "." not in entry.name)
+
+
+def manual_pages() -> Manifest:
+    """Returns the manual pages of a checkout."""
+    with tempfile.TemporaryDirectory() as room:
+        done = subprocess.run([sys.executable, os.path.join(TOP, "share", "manual"), room], capture_output=True, text=True, check=False)
+        if done.returncode:
+            raise Failure(f"the manual pages can't be made: {done.stderr.strip()}")
+        return {f"share/man/man1/{name}.gz": packed(os.path.join(room, name)) for name in os.listdir(room)}
+
+
+def packed(path: str) -> File:
+    """Returns a file as gzip packs it, without its name and time."""
+    return File(gzip.compress(read(path).data, 9, mtime=0))
+
+
+def completions(tools: Iterable[str]) -> Manifest:
+    """Returns the completions of shells; bash and fish look for a file with the name of the command."""
+    share = os.path.join(TOP, "share")
+    bash, fish = "share/bash-completion/completions", "share/fish/vendor_completions.d"
+    return {f"{bash}/pp6600": read(os.path.join(share, "completion.bash")), f"{fish}/pp6600.fish": read(os.path.join(share, "completion.fish")),
+            "share/zsh/site-functions/_pp6600": read(os.path.join(share, "completion.zsh")),
+            **{f"{bash}/pp6600-{name}": Link("pp6600") for name in tools},
+            **{f"{fish}/pp6600-{name}.fish": Link("pp6600.fish") for name in tools}}
+
+
+def programs_for(machine: str, *options: str) -> Dict[str, str]:
+    """Returns the paths of the proved programs of a checkout, by their names, for a machine such as x86_64; those for any if it is all.
+    The options are those of share/which-build."""
+    names = [name for one in NAMES if machine in (one, ALL) for name in (*NAMES[one], *LIBRARIES[one])]
+    found: Dict[str, str] = {}
+    for path in verified(TOP, [*names, PAGE_MODULE] if names else [], *options):
+        found.setdefault(os.path.basename(path), path)
+    return found
+
+
+def of_this_checkout(programs: Dict[str, str]) -> Manifest:
+    """Returns what a checkout installs, with these programs by their names."""
+    tools = tool_names()
+    found: Manifest = {f"{OWN}/{name}": read(path)._replace(runs=not name.endswith(LOADED)) for name, path in programs.items()}
+    found.update({f"{OWN}/{name}": read(os.path.join(TOP, path)) for name, path in IN_OWN.items()})
+    found["bin/pp6600"] = read(os.path.join(TOP, "pp6600"))
+    found["bin/pp6600-python"] = Link(f"../{OWN}/pp6600-python")
+    found.update({f"bin/pp6600-{name}": Link(f"../{OWN}/tools/{name}") for name in tools})
+    found.update({f"{OWN}/{path}": entry for path, entry in part("tools").items()})
+    found.update({f"{PAGES}/{path}": entry for name in IN_PAGES for path, entry in part(name).items() if not OF_CHECKOUT.match(path)})
+    found[f"{PAGES}/tools"] = Link(f"../../{OWN}/tools")
+    found.update({f"share/doc/pp6600/{name}": Link(f"../../pp6600/{name}") for name in ("tools", *(path.split("/")[0] for path in IN_PAGES))})
+    found["share/doc/pp6600/changelog.gz"] = packed(os.path.join(TOP, "CHANGELOG.md"))
+    return without_lost_links({**found, **completions(tools), **manual_pages()})
+
+
+def of_this_installation(programs: Dict[str, str]) -> Manifest:
+    """Returns what this installation has, by its list, with these programs in the place of its own."""
+    prefix = os.path.join(TOP, os.pardir, os.pardir)
+    with open(os.path.join(prefix, LIST), encoding="utf-8") as file:
+        paths = [path for path in file.read().splitlines() if path != LIST]
+    return {**{path: entry_at(os.path.join(prefix, path)) for path in paths}, **{f"{OWN}/{name}": read(path) for name, path in programs.items()}}
+
+
+def whole(machine: Optional[str] = None, program: Optional[str] = None) -> Manifest:
+    """Returns all that is installed, with the programs for a machine, else for this one; or with another build of the program."""
+    if machine and not IS_CHECKOUT:
+        raise Failure("the programs of other machines are in a checkout alone")
+    if program is not None:
+        own = {"pp6600": checked_program(program)[0]}
+    elif IS_CHECKOUT:
+        own = programs_for(machine or machine_here())
+    else:
+        own = {}
+    return of_this_checkout(own) if IS_CHECKOUT else of_this_installation(own)
+
+
+def without_solutions(manifest: Manifest) -> Manifest:
+    """Returns a manifest without the solutions of the exercises."""
+    kept = {path: entry for path, entry in manifest.items() if not re.match(f"{PAGES}/exercises/.*/solution/", path)}
+    if FILM in kept:
+        kept[FILM] = File(LEFT_OUT)
+    return kept
+
+
+def without_lost_links(manifest: Manifest) -> Manifest:
+    """Returns a manifest in whose pages each link that leads to none of its files is replaced by its text."""
+    paths = {above for path in manifest for above in with_folders(path)}
+    folders = [(path, os.path.normpath(os.path.join(os.path.dirname(path), entry.target)))
+               for path, entry in manifest.items() if isinstance(entry, Link)]
+
+    def is_there(path: str) -> bool:
+        if path.split("/")[0] == "..":
+            return False
+        return path in paths or any(path.startswith(f"{link}/") and is_there(target + path[len(link):]) for link, target in folders)
+
+    changed = dict(manifest)
+    for path, entry in manifest.items():
+        pattern = LINKS.get(os.path.splitext(path)[1])
+        if pattern and isinstance(entry, File):
+            def kept(found: "re.Match[str]", folder: str = os.path.dirname(path)) -> str:
+                target = os.path.normpath(os.path.join(folder, found["file"]))
+                return found[0 if is_there(target) else "text"]
+            changed[path] = File(pattern.sub(kept, entry.data.decode("utf-8")).encode("utf-8"), entry.runs)
+    return changed
+
+
+def with_folders(path: str) -> Iterator[str]:
+    """Yields a path, and the folders above it."""
+    while path:
+        yield path
+        path = os.path.dirname(path)
+
+
+def put(manifest: Manifest, folder: str) -> None:
+    """Writes files and links below a folder."""
+    for path, entry in sorted(manifest.items()):
+        whole = os.path.join(folder, path)
+        os.makedirs(os.path.dirname(whole), exist_ok=True)
+        if os.path.lexists(whole):
+            os.remove(whole)
+        if isinstance(entry, Link):
+            os.symlink(entry.target, whole)
+            continue
+        with open(whole, "wb") as file:
+            file.write(entry.data)
+        os.chmod(whole, 0o755 if entry.runs else 0o644)
+
+
+def install(manifest: Manifest, prefix: str) -> None:
+    """Puts an installation below a prefix, in the place of an older one."""
+    if os.path.exists(os.path.join(prefix, LIST)):
+        take_away(prefix)
+    listed = "".join(f"{path}\n" for path in sorted([*manifest, LIST]))
+    put({LIST: File(listed.encode()), **manifest}, prefix)
+
+
+def take_away(prefix: str) -> None:
+    """Removes what is listed below a prefix, what Python has kept of it, and the folders that are then empty."""
+    with open(os.path.join(prefix, LIST), encoding="utf-8") as file:
+        paths = file.read().splitlines()
+    for path in [*paths, LIST]:
+        if os.path.lexists(os.path.join(prefix, path)):
+            os.remove(os.path.join(prefix, path))
+    folders = {above for path in paths for above in with_folders(os.path.dirname(path))}
+    for folder in sorted(folders, reverse=True):
+        shutil.rmtree(os.path.join(prefix, folder, "__pycache__"), ignore_errors=True)
+        if os.path.isdir(os.path.join(prefix, folder)) and not os.listdir(os.path.join(prefix, folder)):
+            os.rmdir(os.path.join(prefix, folder))
+
+
+def chosen_program() -> Tuple[str, ...]:
+    """Returns the words that run the simulator: of a checkout the build that ./pp6600 runs, or else the program of the class, the
+    installation or the package; or the one in Python, where none of these starts."""
+    return first_that_starts(of_checkout(TOP) if IS_CHECKOUT else handed_out(HOME))

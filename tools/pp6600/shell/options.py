@@ -1,0 +1,142 @@
+"""The words that a tool is given: the simulator's options, octal numbers and places."""
+
+import argparse
+import os
+import re
+import sys
+from functools import partial
+
+from ..engine.choice import HOME
+from ..engine.choose import default_engine
+from ..failure import Failure
+from ..run.forms import CELLS, CLOCK, PROCESSORS
+from .ending import write
+
+TOOLS = os.path.dirname(os.path.dirname(os.path.dirname(os.path.abspath(__file__))))
+OPTIONS = {"history": "N", "central": "K", "deck": "F", "reader": "C", "printer": "C", "panel": "F"}
+PLAIN = "\0"  # before a word that is no option, though it begins like one; no word of a command line has this byte
+
+
+class BadWord(Failure, argparse.ArgumentTypeError):
+    """A word of the command line is not what it must be; the parser names its option."""
+
+
+class Once(argparse.Action):
+    """Takes an option's value, and refuses the same option a second time."""
+
+    def __call__(self, parser, namespace, values, option_string=None):
+        given = vars(namespace).setdefault("given_options", set())
+        if option_string and self.dest in given:
+            raise Failure(f"{option_string} is given twice")
+        if option_string:
+            given.add(self.dest)
+        setattr(namespace, self.dest, values)
+
+
+class Version(argparse.Action):
+    """Writes the version and ends."""
+
+    def __call__(self, parser, namespace, values, option_string=None):
+        try:
+            with open(os.path.join(HOME, "VERSION"), encoding="ascii") as file:
+                version = file.readline().strip()
+        except (OSError, ValueError) as error:
+            raise Failure(f"can't read the file VERSION in {HOME}") from error
+        write(f"{parser.prog} {version}")
+        parser.exit()
+
+
+class Parser(argparse.ArgumentParser):
+    """The words of a tool. An option may come after other words and at most once; after -- no word is an option."""
+
+    def __init__(self, description, usage=None):
+        usage = usage and f"%(prog)s {usage}"
+        super().__init__(description=description, usage=usage, allow_abbrev=False)
+        self.register("action", None, Once)
+        self.register("action", "store", Once)
+        self.add_argument("--version", action=Version, nargs=0, help="show the version and exit")
+
+    def error(self, message):
+        raise Failure(f"{message}; {self.prog} --help shows what may be given".replace(PLAIN, ""))
+
+    def _print_message(self, message, file=None):  # argparse takes no notice of an output that is full
+        write(message.rstrip("\n"))
+
+    def parse(self):
+        """Returns what is asked by the words of the command line."""
+        words = sys.argv[1:]
+        if "--" in words:
+            at = words.index("--")
+            words = words[:at] + [PLAIN + word if word.startswith("-") else word for word in words[at + 1:]]
+        asked = self.parse_intermixed_args(words)
+        for name, value in vars(asked).items():
+            setattr(asked, name, unmarked(value))
+        return asked
+
+
+def unmarked(value):
+    """Returns a value without the marks of plain words."""
+    if isinstance(value, list):
+        return [unmarked(one) for one in value]
+    return value.replace(PLAIN, "") if isinstance(value, str) else value
+
+
+def octal(text: str) -> int:
+    """Returns a number of the command line."""
+    if not re.fullmatch("[0-7]+", text):
+        raise BadWord(f"{text} is not octal")
+    return int(text, 8)
+
+
+def up_to(text, most, what):
+    """Returns a number of the command line that is at most so great."""
+    number = octal(text)
+    if number > most:
+        raise BadWord(f"{text} is no {what}: it is 0 to {most:o}, octal")
+    return number
+
+
+processor = partial(up_to, most=PROCESSORS - 1, what="processor")
+cell = partial(up_to, most=CELLS - 1, what="cell")
+channel = partial(up_to, most=CLOCK, what="channel")
+
+
+def count(text):
+    number = octal(text)
+    if number == 0:
+        raise BadWord("a count is 1 or more")
+    return number
+
+
+def add_turn(parser):
+    parser.add_argument("--turn", metavar="N", type=octal, help="as it is after turn N, octal, with the settings before the next one")
+
+
+def words_after(words, most, what):
+    """Checks that at most so many words are left, and returns them, with None for each that is missing."""
+    if len(words) > most:
+        raise Failure(f"{what} and no other word, so not also {' '.join(words[most:])}")
+    return words + [None] * (most - len(words))
+
+
+def simulator(asked):
+    """Returns the words of the simulator: the program and its options."""
+    words = [asked.program]
+    for name in OPTIONS:
+        value = getattr(asked, name)
+        words += [] if value is None else [f"--{name}", value]
+    return words
+
+
+def arguments(description, usage=None):
+    """Returns a parser with the options that every tool with a simulator takes."""
+    parser = Parser(description, usage)
+    parser.add_argument("--program", metavar="FILE", help="the simulator (else $PP6600, else the one beside the tools)",
+                        default=default_engine())
+    for name, value in OPTIONS.items():
+        parser.add_argument(f"--{name}", metavar=value, help="as the simulator has it")
+    return parser
+
+
+def add_script(parser):
+    parser.add_argument("script", nargs="?", metavar="SCRIPT", help="without it, standard input is the script")

@@ -1,0 +1,44 @@
+"""Lines with their answers, as a session is shown."""
+
+import sys
+
+from ..failure import Failure
+from ..run.reasons import reason, size_of_central
+from ..run.tape import counted
+from .ending import complain, flush, shown_text, write
+from .script import Refusals
+from .text_files import shown
+
+
+def answer(run, line, number=0, refusals=None):
+    """Performs a line, and shows its answer. Returns whether the line was refused."""
+    lines = run.act(line)
+    show_answer(run, line, lines)
+    return (refusals or Refusals()).note(number, line, lines)
+
+
+def show_answer(run, line, lines):
+    """Shows the lines of an answer, at a terminal also why the line was refused."""
+    for text in lines:
+        write(text)
+    is_refused = bool(lines) and lines[0].startswith("ERR ")
+    if is_refused and sys.stdout is not None and sys.stdout.isatty():
+        why = reason(line, lines[0], size_of_central(run.words))
+        if why:
+            write(f"  {shown_text(why)}")
+
+
+def show_lines(run, lines, stop=False):
+    """Shows lines with their answers, to the first one that is refused if it is to stop there. Returns the exit status."""
+    refusals = Refusals()
+    for number, line in counted(lines):
+        write(f"> {shown(line)}".rstrip(), at_once=True)
+        try:
+            refused = answer(run, line, number, refusals)
+        except Failure as failure:
+            raise Failure(f"line {number} (decimal): {failure}") from failure
+        if stop and refused:
+            flush()
+            complain(f"stopped at line {number} (decimal), which was refused")
+            return 1
+    return refusals.status()

@@ -1,0 +1,57 @@
+"""The files that a tool reads."""
+
+import sys
+from typing import Optional
+
+from ..failure import Failure
+from .ending import shown_text
+
+
+def bytes_of(path: Optional[str]) -> bytes:
+    """Returns the bytes of a file, or of standard input if there is no path."""
+    if path is None and sys.stdin is None:
+        raise Failure("standard input is closed or a folder: name a file, or give the text over a pipe")
+    try:
+        with open(path, "rb") if path is not None else sys.stdin.buffer as file:
+            return file.read()
+    except OSError as error:
+        raise Failure(f"can't read {named(path)}: {error.strerror}") from error
+
+
+def named(path):
+    """Returns how a message names a file."""
+    return "standard input" if path is None else path
+
+
+def lines_of(text):
+    return text.removesuffix("\n").split("\n") if text else []
+
+
+def shown(line):
+    """Returns a line of a script as it is shown: as text, without bytes that a terminal would obey."""
+    return shown_text(line.encode("latin-1").decode("utf-8", "backslashreplace").rstrip())
+
+
+def script_lines(path):
+    """Returns the lines of a script. Each byte is a character, for the simulator judges them."""
+    return lines_of(bytes_of(path).decode("latin-1"))
+
+
+def input_lines():
+    """Yields each line of standard input as it comes."""
+    if sys.stdin is None:
+        raise Failure("standard input is closed or a folder, so no line can be typed")
+    try:
+        for line in sys.stdin.buffer:
+            yield line.decode("latin-1").removesuffix("\n")
+    except OSError as error:
+        raise Failure(f"can't read standard input: {error.strerror}") from error
+
+
+def read_lines(path: "Optional[str]") -> "List[str]":
+    """Returns the lines of a text."""
+    try:
+        text = bytes_of(path).decode("utf-8")
+    except UnicodeDecodeError as error:
+        raise Failure(f"{named(path)} is not text in UTF-8") from error
+    return [line.rstrip("\r") for line in lines_of(text)]
