@@ -4,9 +4,9 @@ import collections
 
 from tests import support as _  # it finds the package
 
-from pp6600.simulation.console import FORMS, Console
-from pp6600.simulation.machine import Machine
-from pp6600.simulation.program import console_of
+from pp6600.engine.plain.console import FORMS, Console
+from pp6600.engine.plain.machine import Machine
+from pp6600.engine.plain.program import console_of
 
 # How often each instruction, case, row of a device, form of a line, error and exit status has occurred.
 seen = collections.Counter()

@@ -9,7 +9,7 @@ import subprocess
 import tempfile
 import threading
 
-from tests.fixtures import DECK, WITH_FEW_LINES
+from tests.fixtures import DECK
 from tests.support import PATIENCE, PYTHON, TOP, Case, program, read, write
 
 ADAPTER = os.path.join(TOP, "tools", "debug-adapter")
@@ -49,10 +49,9 @@ class Refusal(Exception):
 class Client:
     """An adapter at the other end of pipes."""
 
-    def __init__(self, *words, environment=None, lines=None, before=(), folder=TOP):
-        """Starts an adapter, whose simulators are told at most so many lines; other words may come before its name."""
-        begin = ["-c", WITH_FEW_LINES, str(lines)] if lines else before
-        self.process = subprocess.Popen([*PYTHON, *begin, ADAPTER, *words], stdin=subprocess.PIPE, cwd=folder,
+    def __init__(self, *words, environment=None, before=(), folder=TOP):
+        """Starts an adapter; other words may come before its name."""
+        self.process = subprocess.Popen([*PYTHON, *before, ADAPTER, *words], stdin=subprocess.PIPE, cwd=folder,
                                         stdout=subprocess.PIPE, stderr=subprocess.PIPE,
                                         env={**os.environ, "PP6600": program(), **(environment or {})})
         self.seq = 0

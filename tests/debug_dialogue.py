@@ -79,7 +79,7 @@ class Dialogue:
                 answer = self.do_ask(line)
         except Refusal as refusal:
             answer = f"refused: {refusal}"
-        answer = re.sub("(arguments that are none|is not base64): .*", r"\1: ..", answer or "")  # what Python says
+        answer = re.sub("(is not base64): .*", r"\1: ..", answer or "")  # what Python says
         said = [text for text in self.client.shown if not answer.endswith(f": {text.strip()}")]  # a stop is said too
         self.client.shown.clear()
         text = "\n".join([answer, *(f"says: {line}" for line in "".join(said).splitlines())])

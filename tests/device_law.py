@@ -6,9 +6,8 @@ import random
 from tests.support import program
 
 from pp6600 import EMPTY, INACTIVE, NOTHING, Attached, Console, Device, full
-from pp6600.cells import set_lines
-from pp6600.device import Event
-from pp6600.simulation.program import console_of, read_words
+from pp6600.convert.cells import set_lines
+from pp6600.run.device import Event
 
 STEP = "STEP"
 OTHER_CHANNEL = 7  # without a device
@@ -18,32 +17,13 @@ DUMPS += ["DUMP H", "DUMP C 0 77", "DUMP LP", "DUMP W"]
 METHODS = {"X": "function", "F": "word", "I": "disconnected"}
 
 
-class InPython(Console):
-    """The simulator in Python, in this process: it answers as the program, and sooner."""
-
-    def start(self):
-        self.console, self.lines = console_of(read_words(self.words[1:])), 0
-
-    def ask_each(self, lines):
-        return (self.console.answer(line.encode()) for line in lines)
-
-    def question(self, line, beginning):
-        return self.ask(line)[0]
-
-    def dump(self, dump):
-        return self.ask(dump.line)
-
-    def end(self):
-        return 0
-
-
 class Definition:
     """What a session with devices is. A fresh machine performs the units in effect, one after the other. After each turn each
     device, in its order, looks at its channel. A unit is the line of an action, or a pair: the number of a device and what it is
     told."""
 
     def __init__(self, words, devices, units=()):
-        self.console, self.devices = InPython(words), devices
+        self.console, self.devices = Console(["plain", *words[1:]]), devices
         self.states = [device.start for device in devices]
         self.seen, self.due = ["I 0000"] * len(devices), [None] * len(devices)
         self.turn, self.units, self.hits, self.script, self.positions = 0, [], [], [], [0]
@@ -157,9 +137,6 @@ class Session:
         self.channels = [*channels, OTHER_CHANNEL]
         self.words = [program(), "--panel", panel, "--history", str(choose.choice((1, 2, 7, 40, 300, 10000)))]
         self.session = choose.choice((Attached, FewStates))(self.words, self.devices)
-        if choose.random() < 0.3:
-            self.session.most_lines = 12000  # so it goes on in fresh simulators
-        self.session.turns_for_zeros = choose.choice((0o100, self.session.turns_for_zeros))
         self.units, self.position = [], 0  # in effect and ahead
         self.definition = Definition(self.words[:3], self.devices)
         for at, number in enumerate(choose.sample(range(10), choose.choice((2, 4, 10)))):

@@ -2,7 +2,7 @@
 
     python3 -m tests.films
 
-makes the films of docs/films anew, with the picture of one of them. It needs chromium.
+makes the films of docs/films, and with chromium the picture of the one that is kept in git; `make films` calls it.
 """
 
 import atexit
@@ -21,7 +21,6 @@ from tests.generator import BUSY, Maker
 from tests.support import TOP, Case, read, tool
 
 from pp6600 import Console
-from pp6600.film.data import changes_of, numbers_of
 
 FOLDER = os.path.join(TOP, "docs", "films")
 LOADER, CARDS = "examples/overwritten-loader", "exercises/dead-start-from-cards"
@@ -54,18 +53,9 @@ def shown_film(name):
     return path
 
 
-def decode(text):
-    """Returns what `encode` was given, but for the numbers before each change and the writes: what else the page needs, and of each moment
-    its kind and a list of places with the growths of their numbers."""
-    whole = zlib.decompress(base64.b64decode(text))
-    size = int.from_bytes(whole[:4], "little")
-    about = json.loads(whole[4:4 + size])
-    rows, at = [], 4 + size
-    for length in about["streams"]:
-        rows.append(numbers_of(whole[at:at + length]))
-        at += length
-    kinds, places, growths, _ = rows
-    return about, [(head & 7, changes_of(head >> 3, places, growths)) for head in kinds]
+def stored():
+    """Returns the names of the films that are in docs/films: the one that is kept in git, and those that `make films` has made."""
+    return [name for name in SHOWN if name == PICTURED or os.path.exists(os.path.join(FOLDER, f"{name}.html"))]
 
 
 def random_session(seed):
@@ -78,26 +68,15 @@ def text_of(*files):
     return "".join(read(*file.split("/")) for file in files)
 
 
-def film_text(page):
-    """Returns the text of the film in a page."""
-    return re.search(r'<script type="text/plain" id="film">\n(.*?)\n</script>', page, flags=re.S)[1]
+def unpacked(page, part):
+    """Returns the bytes of a part of a page: film or simulator."""
+    text = re.search(rf'<script type="text/plain" id="{part}">\n(.*?)\n</script>', page, flags=re.S)[1]
+    return zlib.decompress(base64.b64decode(text))
 
 
 def about(page):
-    """Returns what a page knows beside the moments of its film."""
-    return decode(film_text(page))[0]
-
-
-def numbers_at(page, moments):
-    """Returns the numbers of all places at each of the moments, as they are kept in a page, and how many moments it has."""
-    known, changes = decode(film_text(page))
-    numbers, states = [0] * (known["layout"]["central"] + 2 * len(known["central"])), {}
-    for moment, (_, changed) in enumerate(changes):
-        for place, growth in changed:
-            numbers[place] += growth
-        if moment in moments:
-            states[moment] = list(numbers)
-    return states, len(changes)
+    """Returns what a page knows of its run."""
+    return json.loads(unpacked(page, "film"))
 
 
 def moments_of(words, lines):
@@ -162,8 +141,9 @@ class PageCase(FilmCase):
 def main():
     for name in SHOWN:
         shutil.copyfile(shown_film(name), os.path.join(FOLDER, f"{name}.html"))
+        print(f"films: docs/films/{name}.html")
     if not found():
-        sys.exit("films: there is no browser (chromium) to make the picture with")
+        sys.exit("films: without a browser (chromium) the picture stays as it is")
     browser = Browser(found())
     try:
         browser.look(*SIZE)

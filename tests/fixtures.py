@@ -49,16 +49,6 @@ def wait_text(code, channel, state, count, in_block):
     return f"{channel:02o} {name if channel < 0o14 else 'never'}"
 
 
-# Runs a tool in simulators that are told few lines, so that a run goes on in fresh ones.
-WITH_FEW_LINES = """import runpy, sys
-sys.path.insert(0, "tools")
-from pp6600.core.simulator import Simulator as Run
-Run.most_lines = int(sys.argv.pop(1))
-sys.argv = sys.argv[1:]
-runpy.run_path(sys.argv[0], run_name="__main__")
-"""
-
-
 def at_terminal(name, *words):
     """Returns what a tool writes at a terminal."""
     spawn = "import pty, sys; pty.spawn(sys.argv[1:])"

@@ -6,9 +6,9 @@ import shlex
 
 from tests import support as _  # it finds the package
 
-from pp6600.simulation.console import FORMS, Console
-from pp6600.simulation.instructions import TWO_WORDS
-from pp6600.simulation.machine import Machine
+from pp6600.engine.plain.console import FORMS, Console
+from pp6600.engine.plain.instructions import TWO_WORDS
+from pp6600.engine.plain.machine import Machine
 
 
 @dataclasses.dataclass
@@ -76,6 +76,23 @@ WORDS = (
     *(['--panel', path] for path in ('absent', '.', '/dev/null', 'script', 'deck', 'panel', '', '-')),
     ['absent'], ['.'], ['script'], ['script'], ['-'], ['--tape', 'deck'], ['-d'], ['--deck'], ['--help'], ['-h'],
     ['--history=7'], ['--central=32'], ['--reader=13'], ['--deck=deck'])
+
+
+OPTIONS = ('--history', '--central', '--deck', '--reader', '--printer', '--panel', '--help', '-h', '--', '-', '--deck\n')
+VALUES = ('1', '10000', '10001', '32', '128', '0', '7', '12', '13', '14', 'deck', 'panel', 'script', 'absent', '.', '', '-', '--', '-\n', '\n', ' ', '=',
+          'a=b', '\u00e9', '7\n', '+1', '08', '1_0', '\u0661')
+
+
+def word_line(seed):
+    """Returns random words of the command line, which follow from the seed."""
+    chosen = random.Random(seed)
+    words = []
+    for _ in range(chosen.randrange(1, 6)):
+        kind, option, value = chosen.random(), chosen.choice(OPTIONS), chosen.choice(VALUES)
+        letters = ''.join(chosen.choice('-=d1 \n') for _ in range(chosen.randrange(1, 5)))
+        words += (chosen.choice(WORDS) if kind < .3 else [option, value] if kind < .6 else [f'{option}={value}'] if kind < .75 and 'h' not in option else
+                  [value] if kind < .9 else [letters])
+    return words
 
 
 class Maker:

@@ -2,6 +2,7 @@
 
 import atexit
 import functools
+import hashlib
 import os
 import re
 import shutil
@@ -61,6 +62,11 @@ def commit(folder):
         subprocess.run(["git", *words], cwd=folder, env={**os.environ, **fixed}, check=True)
 
 
+def read_bytes(*names):
+    with open(os.path.join(*names), "rb") as file:
+        return file.read()
+
+
 def checkout(folder):
     """Copies this checkout with one crate and the program under test in dist/, and commits it."""
     shutil.copytree(TOP, folder, symlinks=True, ignore=shutil.ignore_patterns("out", ".git", "__pycache__", "tests", "crates"))
@@ -68,8 +74,10 @@ def checkout(folder):
         shutil.copytree(os.path.join(TOP, "crates", "pp_arith", part), os.path.join(folder, "crates", "pp_arith", part))
     shutil.copyfile(program(), os.path.join(folder, "dist", "pp6600"))
     os.chmod(os.path.join(folder, "dist", "pp6600"), 0o755)
-    sums = alone("sha256sum", "dist/pp6600", cwd=folder).out[:64], alone("share/which-build", "--checksum", cwd=folder).out
-    write(os.path.join(folder, "dist", "sources"), "program {}\nsources {}kit of these tests\n".format(*sums))
+    sums = "".join(f"{'program' if name == 'pp6600' else name} {hashlib.sha256(read_bytes(folder, 'dist', name)).hexdigest()}\n"
+                   for name in sorted(os.listdir(os.path.join(folder, "dist"))) if name != "sources")
+    checksum = alone("share/which-build", "--checksum", cwd=folder).out
+    write(os.path.join(folder, "dist", "sources"), f"{sums}sources {checksum}kit of these tests\n")
     subprocess.run(["git", "init", "-q"], cwd=folder, check=True)
     commit(folder)
     return folder

@@ -4,9 +4,9 @@ import re
 
 from tests.support import Case, program
 
-from pp6600.panel.app import Panel
-from pp6600.panel.session import Session
-from pp6600.sources import symbols_from
+from pp6600.front.panel.app import Panel
+from pp6600.front.panel.session import Session
+from pp6600.language.sources import symbols_from
 
 PROGRAM = program()
 

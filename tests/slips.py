@@ -2,8 +2,8 @@
 
     python3 -m tests.slips [NAME ..]
 
-tests/slips.txt has the slips. A slip is found if a worked row no longer holds, or if a session no longer has the outcome that the
-program has. The sessions are those of docs/chosen.txt, of tests/cases and random ones. It takes some minutes. That all are found
+tests/slips.txt has the slips. A slip is found if a worked row no longer holds, if an example of docs/examples.txt has another value,
+or if a session no longer has the outcome that the program has. The sessions are those of docs/chosen.txt, of tests/cases and random ones. It takes some minutes. That all are found
 says that docs/evaluate reads these definitions. It does not say how likely any slip is found: some sessions were chosen for these.
 """
 
@@ -24,11 +24,13 @@ from tests.ways import cases, part, words_of
 sys.path.insert(0, os.path.join(TOP, "docs"))
 from book.names import Unresolved  # noqa: E402
 from evaluating import asking  # noqa: E402
-from evaluating.examples import chosen, worked  # noqa: E402
+from evaluating.examples import FILE, chosen, faults_of, worked  # noqa: E402
 from evaluating.lists import Stuck  # noqa: E402
 
-from pp6600.simulation.program import run  # noqa: E402
+from pp6600.engine.plain.program import run  # noqa: E402
 
+with open(os.path.join(TOP, FILE), encoding="utf-8") as file:
+    EXAMPLES = file.read()
 RANDOM = 300  # random sessions, of which those with few turns are performed
 MOST_TURNS = 400
 STACK = 1 << 29  # bytes, for definitions that call themselves for each byte of a file
@@ -39,6 +41,11 @@ class Slip(NamedTuple):
     name: str
     old: str
     new: str
+
+    def plant(self, found):
+        """Writes it into the definitions."""
+        definition = found.named(self.name)
+        definition.text = definition.text.replace(self.old, self.new)
 
 
 class Session(NamedTuple):
@@ -153,8 +160,7 @@ class Battery:
     def finds(self, slip):
         """Returns what finds a slip, or nothing."""
         found = asking.Definitions(TOP)
-        definition = found.named(slip.name)
-        definition.text = definition.text.replace(slip.old, slip.new)
+        slip.plant(found)
         for name, text, scope in worked(TOP, found):
             try:
                 if deep(lambda text=text, scope=scope: found.value(text, scope)) is not True:
@@ -164,6 +170,9 @@ class Battery:
                     return f"worked row {name}, {what}"
             except Unresolved as name:
                 return f"no such name: {name}"
+        faults = deep(lambda: faults_of(TOP, EXAMPLES, slip.plant))
+        if faults:
+            return f"example {faults[0]}"
         for session in self.sessions:
             try:
                 outcome = in_folder(session.files, lambda it=session: performed(found, it.words, it.script))

@@ -17,7 +17,11 @@ PYTHON = (sys.executable, "-S")  # without what is installed beside the standard
 
 sys.dont_write_bytecode = True
 os.environ.pop("PYTHONDONTWRITEBYTECODE", None)  # a tool that has been compiled starts sooner
-os.environ.setdefault("PP6600_PATIENCE", str(PATIENCE))
+# The library of the proved program, or nothing: then the tools run on the simulator in Python.
+LIBRARY = os.environ.get("PP6600_ENGINE") or os.path.join(TOP, "dist", "libpp6600.so")
+PROVED = LIBRARY if os.path.exists(LIBRARY) else ""
+if not PROVED:
+    os.environ.setdefault("PP6600_ENGINE", "plain")
 sys.path.insert(0, os.path.join(TOP, "tools"))  # so that tests can import the tools' package, pp6600
 
 
@@ -30,7 +34,7 @@ def program():
     done = subprocess.run([os.path.join(TOP, "share", "which-build")], stdout=subprocess.PIPE, text=True, check=False)
     if done.returncode:
         raise RuntimeError("there is no program to test; the line above says why")
-    return done.stdout.splitlines()[0]
+    return os.path.join(TOP, done.stdout.splitlines()[0].partition(" ")[2])
 
 
 class Done(NamedTuple):

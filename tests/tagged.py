@@ -8,8 +8,8 @@ import operator
 
 from tests import support as _  # it finds the package
 
-from pp6600.simulation import devices, instructions, machine as machines, places
-from pp6600.simulation.places import CELLS, C, FRAME, H, PAPER
+from pp6600.engine.plain import devices, instructions, machine as machines, places
+from pp6600.engine.plain.places import CELLS, C, FRAME, H, PAPER
 
 TURNS = -1  # a place for the number of turns, which steps back and forward with the others
 # The names of places, by the first of each kind.

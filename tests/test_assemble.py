@@ -6,11 +6,12 @@ import os
 import random
 import re
 
-from .support import TOP, Case, add_tests, blocks, names_of_codes, read, run, tool
+from .support import TOP, Case, add_tests, blocks, names_of_codes, program, read, run, tool
 
-from pp6600.listing import Symbols
-from pp6600.source.forms import lines_of
-from pp6600.source.passes import assembled
+from pp6600.language.listing import Symbols
+from pp6600.language.source.forms import lines_of
+from pp6600.language.source.passes import assembled
+from pp6600.language.sources import texts_in
 
 PROGRAMS = os.path.join(TOP, "tests", "programs")
 COLUMN_OF_SOURCE = 22  # of a listing, counted from 0
@@ -48,7 +49,7 @@ def made(lines):
     """Returns the words of a source from cell 0100 on, by their addresses; its faults are a fault of the test."""
     found = assembled(["          ORG    100B", *lines])
     assert not found.messages, found.messages
-    return {address: cell.word for address, cell in found.cells.items()}
+    return {address: cell.word for address, cell in sorted(found.cells.items())}
 
 
 def digits(words):
@@ -114,7 +115,8 @@ class Faults(Case):
 
     @staticmethod
     def faults(lines):
-        return [f"{line}:{column}: {text}" for line, column, text in assembled(lines).messages] or ["right"]
+        found = assembled(lines)
+        return [f"{line}:{column}: {text}" for line, column, text in (*found.messages, *found.warnings)] or ["right"]
 
     def check(self, cases):
         for lines, wanted in cases:
@@ -144,6 +146,55 @@ class Faults(Case):
 
 add_tests(Words, Words.check, sections("words.txt").items())
 add_tests(Faults, Faults.check, sections("faults.txt").items())
+
+
+DECKS = os.path.join(PROGRAMS, "decks")
+
+
+class Decks(Case):
+    """Two routines as the systems of the time have them, of which no line is changed: what they compute is reasoned from their sources."""
+
+    def cells(self, script, *rows):
+        """Returns words of PP 00 after a script: each row is an address and how many words."""
+        dumps = "".join(f"DUMP M 0 {first:o} {first + count - 1:o}\n" for first, count in rows)
+        done = run(program(), script=script + dumps)
+        self.assertNotIn("ERR", done.out)
+        found = [line.split()[1:] for line in done.out.splitlines() if re.match("[0-7]{4} ", line)]
+        return [" ".join(words) for words in found]
+
+    def lines(self, name, *words):
+        done = tool("assemble", "--text", DECKS, "--set", "0", *words, os.path.join(DECKS, name))
+        self.assertEqual(0, done.status, done.err)
+        return done.out, done.err
+
+    def test_nos_style(self):
+        """Functions 1, 2 and 1 of the list: 1+2+4+10+20+3+7 and 1+2 are 54; HELLO, OPERATOR is copied, and a word of zero is behind it.
+        The overlays leave a 5, and the first word of the one before."""
+        script, said = self.lines("nos-style.pp")
+        self.assertEqual("", said)
+        wanted = ["0003 0054 0000 1207", "1005 1414 1756 5517 2005 2201 2417 2200", "0000", "7777 7777"]
+        rows = (0o30, 4), (0o1243, 8), (0o1253, 1), (0o1127, 2)
+        self.assertEqual(wanted, self.cells(f"{script}SET P 0 1100\nSTEP 10000\n", *rows))
+        for unit, wanted in (("3ZA", "0005"), ("3zb", "1405")):
+            overlay = "".join(self.lines("nos-style.pp", "--unit", name)[0] for name in ("3ZA", unit))
+            self.assertIn(f"SET M 0 2000 {'1405 3432' if unit == '3ZA' else '5000 2000 3432'}", overlay)
+            self.assertEqual([wanted if unit == "3ZA" else "5000"], self.cells(f"{overlay}SET P 0 2000\nSTEP 14\n", (0o32, 1)))
+
+    def test_scope_style(self):
+        """There are 12 (decimal) E, and 10 blanks, five of them behind the text; the last request is 2."""
+        script, said = self.lines("scope-style.pp")
+        deck = os.path.join(DECKS, "scope-style.pp")
+        self.assertEqual(f"{deck}:13:18: warning: 20 is decimal, as in COMPASS without BASE "
+                         "(in the common deck PPSYM: L.BUF    EQU    20)\n", said)
+        self.assertEqual(["0014 0012 0002", "7776", "0002"], self.cells(f"{script}STEP 30000\n", (0o10, 3), (0o1033, 1), (0o1061, 1)))
+
+    def test_read_back(self):
+        """A listing with blocks and fields of bits is checked, and has the same words."""
+        lines = read("tests", "programs", "decks", "scope-style.pp").splitlines()
+        found = assembled(lines, texts_in(DECKS))
+        symbols = Symbols(lines_of(found, "listing", 0))
+        self.assertEqual({address: f"{cell.word:04o}" for address, cell in found.cells.items()},
+                         {address: word for address, (word, _) in symbols.listing.cells.items()})
 
 
 class Listings(Case):
@@ -193,12 +244,12 @@ class Listings(Case):
 class Package(Case):
     def test_imports(self):
         """The package knows the machine in one place, and of the tools only their failures."""
-        folder = os.path.join(TOP, "tools", "pp6600", "source")
+        folder = os.path.join(TOP, "tools", "pp6600", "language", "source")
         names = [name for name in os.listdir(folder) if name.endswith(".py")]
-        found = {(name, line) for name in names for line in read("tools", "pp6600", "source", name).splitlines()
+        found = {(name, line) for name in names for line in read("tools", "pp6600", "language", "source", name).splitlines()
                  if re.match(r"\s*(from \.\.|import pp6600)", line)}
         self.assertEqual({"machine.py", "forms.py"}, {name for name, _ in found})
-        self.assertEqual({"from ..failure import Failure"}, {line for name, line in found if name == "forms.py"})
+        self.assertEqual({"from ...failure import Failure"}, {line for name, line in found if name == "forms.py"})
 
 
 # Each source beside a script: the processor, and the file with its words.

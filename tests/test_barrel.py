@@ -9,8 +9,8 @@ from tests.fixtures import wait_text
 from tests.support import program
 
 from pp6600 import Console
-from pp6600.core.state import state_of
-from pp6600.core.turn import NAMES
+from pp6600.run.state import state_of
+from pp6600.run.turn import NAMES
 
 MOMENTS, EARLY = 15, 15  # compared of each run: of all its moments, and of the first 100
 ALWAYS = 0o31  # in the handshake the question goes out in it

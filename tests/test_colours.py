@@ -16,7 +16,7 @@ SOURCE = """\
           BASE   OCTAL
  START    LDN    17B         COMMENT LDN 5
           MOVE   A,5         C
-          USE    X
+          OPDEF  X
 LABEL     RJM    SUB
  SUB      SUBR
           LDN    TOTL
@@ -24,7 +24,7 @@ LABEL     RJM    SUB
 # What is shown at a line and a column of it, from 1.
 SHOWN = {(1, 3): "Note", (2, 11): "Directive", (3, 2): "Label", (3, 11): "Instruction", (3, 18): "Number", (3, 30): "Comment",
          (4, 11): "", (5, 11): "Refused", (6, 1): "Label", (6, 11): "Instruction", (7, 11): "Macro"}
-FAULTS = [(4, 11, "MOVE is no instruction, directive or macro"), (5, 11, "USE is not taken: write ORG or LOC"),
+FAULTS = [(4, 11, "MOVE is no instruction, directive or macro; MACROE is"), (5, 11, "OPDEF is not taken: use MACRO"),
           (8, 18, "TOTL is not defined")]
 
 
@@ -46,7 +46,7 @@ class Files(Case):
         matches = [re.match(rules[1]["match"], line) for line in SOURCE.splitlines()[1:]]
         self.assertEqual([None, " START", None, None, "LABEL", " SUB", None], [found[1] for found in matches])
         operations = [next(filter(None, found.groups()[1:5]), None) for found in matches]
-        self.assertEqual(["BASE", "LDN", None, "USE", "RJM", "SUBR", "LDN"], operations)
+        self.assertEqual(["BASE", "LDN", None, "OPDEF", "RJM", "SUBR", "LDN"], operations)
         self.assertEqual(["OCTAL", "17B", "A,5", "X", "SUB", None, "TOTL"], [found[6] for found in matches])
         (matcher,) = package["contributes"]["problemMatchers"]
         found = re.match(matcher["pattern"]["regexp"], "a.pp:8:18: TOTL is not defined")

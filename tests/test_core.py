@@ -11,7 +11,7 @@ import unittest
 from tests.support import PYTHON, TOP, Case, read, run
 
 TOOLS = os.path.join(TOP, "tools")
-COMMANDS = [os.path.basename(path)[:-len(".py")] for path in glob.glob(os.path.join(TOOLS, "pp6600", "commands", "[!_]*.py"))]
+COMMANDS = [os.path.basename(path)[:-len(".py")] for path in glob.glob(os.path.join(TOOLS, "pp6600", "front", "commands", "[!_]*.py"))]
 
 
 class Package(Case):
@@ -23,7 +23,7 @@ class Package(Case):
 
     @unittest.skipUnless(shutil.which("ruff"), "ruff is not installed")
     def test_style(self):
-        done = subprocess.run(["ruff", "check", "--no-cache", "tools/pp6600/core"], cwd=TOP, capture_output=True, text=True, check=False)
+        done = subprocess.run(["ruff", "check", "--no-cache", "tools/pp6600/run"], cwd=TOP, capture_output=True, text=True, check=False)
         self.assertEqual(0, done.returncode, done.stdout)
 
     def test_launchers(self):
@@ -50,12 +50,12 @@ class Package(Case):
         self.assertEqual("2425\n", run(sys.executable, os.path.join(copy, "words"), "TU").out)
 
     def test_imports(self):
-        """No command is imported by another module, and the core imports no front end."""
+        """No command is imported by another module, and a run imports no front end."""
         for path in glob.glob(os.path.join(TOOLS, "pp6600", "**", "*.py"), recursive=True):
             text, below = read(path), os.path.relpath(path, os.path.join(TOOLS, "pp6600"))
             with self.subTest(below):
                 self.assertEqual([], re.findall(r"^from \.*commands\S* import .*", text, re.M))
-                if below.startswith("commands"):
+                if below.startswith("front/commands"):
                     self.assertEqual([], [name for name in re.findall(r"^from \.(\w+) import", text, re.M) if name in COMMANDS])
-                if below.startswith("core"):
-                    self.assertEqual([], re.findall(r"^from \.\.(?!choice|failure|options|pipe)\S+ import .*", text, re.M))
+                if below.startswith("run"):
+                    self.assertEqual([], re.findall(r"^from \.\.(?:convert|front)\S* import .*", text, re.M))

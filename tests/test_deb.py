@@ -7,9 +7,11 @@ import shutil
 import unittest
 
 from tests.installing import ANSWERED, InstallCase, alone, below, checkout, lasting_room, lost_links
-from tests.support import TOOLS, Done, program, read
+from tests.support import TOOLS, TOP, Done, program, read
 
-NAME = f"pp6600_{read('VERSION').strip()}-1_amd64.deb"
+ARCHITECTURES = ("amd64", *(["arm64"] if os.path.exists(os.path.join(TOP, "dist", "pp6600-aarch64")) else []), "all")
+NAMES = [f"pp6600_{read('VERSION').strip()}-1_{architecture}.deb" for architecture in ARCHITECTURES]
+NAME = NAMES[0]
 NEEDED = ("dpkg", "dpkg-deb", "git", "make")
 DPKG = ("--force-not-root", "--force-depends", "--force-script-chrootless", "--log=/dev/null")
 NO_LICENCE = "No licence has been chosen yet."
@@ -20,7 +22,7 @@ def original():
     """Returns a checkout that no test changes, with its package in out."""
     top = checkout(os.path.join(lasting_room(), "original"))
     done = alone("make", "deb", cwd=top)
-    assert done == Done(f"deb: {top}/out/{NAME}\n", "", 0), done
+    assert done == Done("".join(f"deb: {top}/out/{name}\n" for name in NAMES), "", 0), done
     return top
 
 
@@ -39,7 +41,9 @@ class Package(InstallCase):
         top = self.path("another")
         alone("git", "clone", "-q", original(), top, preexec_fn=lambda: os.umask(0o077))
         self.assertEqual(0, alone("share/deb", "made", cwd=top, env={"TZ": "Asia/Tokyo"}).status)
-        self.assertEqual(Done("", "", 0), alone("cmp", f"{original()}/out/{NAME}", f"{top}/made/{NAME}"))
+        for name in NAMES:
+            self.assertEqual(Done("", "", 0), alone("cmp", f"{original()}/out/{name}", f"{top}/made/{name}"))
+            self.assertEqual(Done("", "", 0), alone("sha256sum", "--quiet", "-c", f"{name}.sha256", cwd=f"{top}/made"))
 
     def test_refused(self):
         self.check_refused(alone("share/deb", "--bogus", cwd=original()), "give FOLDER")
@@ -49,7 +53,8 @@ class Package(InstallCase):
         for name in ("pp6600", "pp6600-python", *(f"pp6600-{name}" for name in TOOLS)):
             self.assertIn(f"usr/bin/{name}", there)
             self.assertIn(f"usr/share/man/man1/{name}.1.gz", there)
-        self.assertEqual(["changelog.Debian.gz", "changelog.gz", "copyright"], sorted(os.listdir(f"{unpacked()}/usr/share/doc/pp6600")))
+        self.assertEqual(["CHANGELOG.md", "CONTRIBUTING.md", "README.md", "SECURITY.md", "changelog.Debian.gz", "changelog.gz", "copyright", "docs", "examples",
+                          "exercises", "share", "tools"], sorted(os.listdir(f"{unpacked()}/usr/share/doc/pp6600")))
         self.assertIn("usr/share/pp6600/exercises/grade", there)
         self.assertEqual([], lost_links(unpacked()))
         self.assertEqual(Done("", "", 0), alone("md5sum", "--quiet", "-c", "DEBIAN/md5sums", cwd=unpacked()))
@@ -60,6 +65,15 @@ class Package(InstallCase):
     def test_program_as_it_was_proved(self):
         self.assertEqual(Done("", "", 0), alone("cmp", program(), f"{unpacked()}/usr/libexec/pp6600/pp6600"))
         self.assertIn("dist/sources", read(unpacked(), "usr/share/lintian/overrides/pp6600"))
+
+    def test_for_all_architectures(self):
+        """It has the simulator in Python alone, and says so."""
+        folder = self.path("unpacked")
+        alone("dpkg-deb", "-R", f"{original()}/out/{NAMES[-1]}", folder)
+        self.assertIn("this package has no other", read(folder, "DEBIAN/control"))
+        self.assertEqual([], [path for path in below(folder) if path.startswith("usr/libexec/pp6600/pp6600") and not path.endswith(("-python", ".cmd"))])
+        done = alone(f"{folder}/usr/bin/pp6600", script="STEP 12\n")
+        self.assertEqual(("TURNS 12 SLOT 00\n", 0), done[::2])
 
     def test_no_licence(self):
         for path in ("DEBIAN/control", "usr/share/doc/pp6600/copyright"):
@@ -84,5 +98,6 @@ class Package(InstallCase):
     @unittest.skipUnless(shutil.which("lintian"), "there is no lintian here: the package is not judged by it")
     def test_lintian(self):
         """It says nothing but that there is no licence."""
-        words = ["--no-cfg", "--tag-display-limit", "0", "--allow-root", f"{original()}/out/{NAME}"]
-        self.assertEqual("W: pp6600: copyright-without-copyright-notice\n", alone("lintian", *words, env={"LC_ALL": "C"}).out)
+        for name in NAMES:
+            words = ["--no-cfg", "--tag-display-limit", "0", "--allow-root", f"{original()}/out/{name}"]
+            self.assertEqual("W: pp6600: copyright-without-copyright-notice\n", alone("lintian", *words, env={"LC_ALL": "C"}).out, name)

@@ -35,7 +35,7 @@ class Messages(DebugCase):
 
 
 class Dialogues(DebugCase):
-    """The answers are those of docs/EDITORS.md and docs/CONSOLE.md, and of examples/overwritten-loader."""
+    """The answers are those of docs/PANEL.md and docs/CONSOLE.md, and of examples/overwritten-loader."""
 
     def check(self, requests):
         got = performed(self.client(folder=self.folder), self.folder, requests)
@@ -146,20 +146,6 @@ class BadHands(DebugCase):
         with self.assertRaises(Refusal):
             client.answer(901)
         self.assertEqual((0, ""), client.end())
-
-    def test_a_simulator_that_ends(self):
-        for command in ("stepIn", "continue"):
-            client = self.session(LOOPS)
-            child = child_of(client.process.pid)
-            if command == "continue":
-                client.ask(command, threadId=1)
-            os.kill(child, signal.SIGKILL)
-            if command == "stepIn":
-                client.ask(command, threadId=1)
-            client.event("terminated")
-            with self.assertRaisesRegex(Refusal, "no simulator runs"):
-                client.ask("stackTrace", threadId=1)
-            self.assertEqual((0, ""), client.end())
 
     def test_words(self):
         for words, said in ((["--nonsense"], "--help shows what may be given"), (["--log", "/none/log"], "can't write /none/log"),

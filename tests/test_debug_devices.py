@@ -6,10 +6,10 @@ import random
 from tests.device_law import DUMPS, PANEL, Definition, RandomDevice, random_program
 from tests.support import Case, program
 
-from pp6600.cells import set_lines
-from pp6600.core.tape import ReplyLine
-from pp6600.debug.attached import MachineWithDevices
-from pp6600.debug.running import Runner
+from pp6600.convert.cells import set_lines
+from pp6600.run.tape import ReplyLine
+from pp6600.front.debug.attached import MachineWithDevices
+from pp6600.front.debug.running import Runner
 
 
 class NoPoints:

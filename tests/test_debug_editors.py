@@ -1,4 +1,4 @@
-"""The debug adapter in editors, where they are there: docs/EDITORS.md is followed to the culprit of the overwritten loader."""
+"""The debug adapter in editors, where they are there: docs/PANEL.md is followed to the culprit of the overwritten loader."""
 
 import json
 import os
@@ -104,7 +104,7 @@ class Files(Case):
         vscode = GIVES["debuggers"][0]
         kate = json.loads(read("share", "editors", "kate", "dap.json"))["dap"]["pp6600"]
         names = set(vscode["configurationAttributes"]["launch"]["properties"])
-        page = read("docs", "EDITORS.md").split("## What a session is begun with", 1)[1]
+        page = read("docs", "PANEL.md").split("### What a session is begun with", 1)[1]
         for name in sorted(names):
             self.assertIn(f"`{name}`", page)
         self.assertLessEqual(set(kate["configurations"]["launch"]["request"]) - {"command"}, names)

@@ -267,7 +267,7 @@ class Session(Case):
         self.maker = Maker(seed, WATCHED)
         lines, self.numbers = self.maker.script(), self.maker.processors
         self.oracle = Oracle(lines)
-        self.client = Client(lines=chance.choice((None, None, 5000)))  # with few lines it goes on in fresh simulators
+        self.client = Client()
         self.addCleanup(self.client.end)
         history = chance.choice((None, 10000, 100, 50))
         self.what = f"seed {seed}, history {history}"

@@ -7,12 +7,14 @@ import sys
 
 from tests.support import TOP, Case, read
 
-ENTRY = re.compile(r"^### (`([^`]+)`.*)\n\n(.*)\n\n```(antt|rust)\n((?:(?!```).*\n)*)```\n\n(.*)", re.M)
+# A definition on the page: its heading, its sentence, its code and what is said below it. Long code is folded.
+ENTRY = re.compile(r"^### (`([^`]+)`.*)\n\n(.*)\n\n(?:<details>.*\n\n)?```(antt|rust)\n((?:(?!```).*\n)*)```\n\n((?:(?!###? |```).*\n)*)", re.M)
+MOST_WORDS, MOST_OF_THE_THEOREM = 30000, 3500  # to scroll, and of docs/THEOREM.md
 NOT_CODE = re.compile(r'"(?:\\.|[^"\\])*"|(?<!\S)(?:--|//)[^\n]*')
 TOKEN = re.compile(r"[^\s(){};,\[\]]+")
 NUMBER = re.compile(r"(?:0o)?[\d_]+")
 LANGUAGE = set("""→ × = : . λ | _ ⊥ Type Unit record data where let in pub abbrev unfoldable module infix infixl infixr ghost
-    enum struct const type crate Self Vec Option String bool u8 u16 u32 u64 usize""".split())
+    mut enum struct const type crate Self Vec Option String bool u8 u16 u32 u64 usize""".split())
 
 
 class Entry:
@@ -77,6 +79,22 @@ class Page(Case):
             with self.subTest(entry.name):
                 self.assertIn(users[1] or users[2], above)
             above.add(entry.anchor)
+
+    def test_words(self):
+        """What is not folded can be scrolled, and the theorem can be read at once."""
+        self.assertLess(len(re.sub(r"<details>.*?</details>", "", self.text, flags=re.S).split()), MOST_WORDS)
+        self.assertLess(len(read("docs", "THEOREM.md").split()), MOST_OF_THE_THEOREM)
+
+    def test_theorem(self):
+        """What docs/THEOREM.md shows of the sources is there, and its tables name each field of it."""
+        source, page = read("crates", "pp_program", "specs", "Run.antt"), read("docs", "THEOREM.md")
+        shown = re.findall(r"^```antt\n(.*?)^```", page, re.M | re.S)
+        self.assertEqual(["IsRun", "IsWhole"], [re.match(r"pub record (\w+)", code)[1] for code in shown])
+        for code in shown:
+            self.assertIn(code, source)
+            table = page.split(code)[1].split("\n## ")[0]
+            for field in re.findall(r"^  pub (\w+) :", code, re.M):
+                self.assertRegex(table, rf"(?m)^\| [^|]*`{field}`", field)
 
     def test_links_of_the_printed_page(self):
         """Each link leads to a place of the page or to a file, and each place is there once."""

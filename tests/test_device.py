@@ -10,11 +10,11 @@ from tests.device_law import DUMPS, PANEL, FewStates, first_difference
 from tests.support import Case, add_tests, program
 
 from pp6600 import INACTIVE, NOTHING, Attached, Device, Failure, full
-from pp6600 import attached, looks
-from pp6600.core.tape import ReplyLine
-from pp6600.device import Chain, Event, Reply, chain_of, is_value, looked
+from pp6600.run import attached
+from pp6600.run.tape import ReplyLine
+from pp6600.run.device import Chain, Event, Reply, chain_of, is_value, looked
 from pp6600.devices.paper_tape import PaperTape
-from pp6600.units import Units
+from pp6600.run.units import Units
 
 
 class Law(Case):
@@ -25,106 +25,9 @@ class Law(Case):
             self.assertIsNone(first_difference(number, panel))
 
 
-# Parts of the right session, which wrong ones call.
-ENDS, REACT, AFTER, PLAN = looks.ends_of_looks, looks.Planner.react, looks.Planner.after, looks.Planner.plan
-PERFORM, PERFORM_LINE, TOLD, ANEW, IS_ZERO = (
-    Attached._perform, Attached._perform_line, Attached._told, Attached._values_anew, Attached._is_zero)
-
-
 def without_dues(device, value, now, turn):
     """Looks as `looked`, but nothing is due."""
     return looked(device, value._replace(due=None), now, turn)
-
-
-def one_turn_late(slot, awake):
-    return tuple(turn + 1 for turn in ENDS(slot, awake))
-
-
-def after_without_quiet_replies(planner, moment, seen, looks, turns):
-    """As `Planner.after`, but the devices see the rows that they left."""
-    rows = tuple(value.seen for value in moment.values)
-    return AFTER(planner, moment, rows if turns > 3 else seen, looks, turns)
-
-
-def last_device_first(planner, values, seen, turn):
-    new, replies = REACT(planner, values, seen, turn)
-    return new, replies[::-1]
-
-
-def with_the_same_states(session, word, count, position):
-    """Goes to a position, as `_arrive`, but the devices stay as they are."""
-    session.goto(position)
-    return [f"{word} {count:o} SLOT {session.next_slot:02o}"]
-
-
-def back_to_inside(session, answer):
-    """Goes back by BACK W to where the simulator is then."""
-    if answer[0].startswith("BACK "):
-        here = session.unit
-        session.history.moved(-int(answer[0].split()[1], 8))
-        return session._arrive("BACK", here - session.unit, session.position)
-    return answer
-
-
-def back_within_history(session, count):
-    """Goes back as the simulator alone, by what it keeps."""
-    if count > session.counts.kept:
-        return [attached.TOO_FEW_KEPT]
-    return session._arrive("BACK", count, session.units.position(session.unit - count))
-
-
-def nearest_that_is_kept(session, entry):
-    return session.states.values[session.states.kept_before(entry)]
-
-
-def anew_without_told(session, entry):
-    session.told.clear()
-    return ANEW(session, entry)
-
-
-def told_with_a_look(session, number, what, values):
-    """Tells a device something, which then knows its channel as it is."""
-    new, replies = TOLD(session, number, what, values)
-    rows = session._rows_of_devices()
-    return tuple(one if replies else one._replace(seen=row) for one, row in zip(new, rows)), replies
-
-
-def refused_is_performed(session, line):
-    """Takes a SET H as performed, whatever the answer is."""
-    answer = PERFORM_LINE(session, line)
-    if answer[0].startswith("ERR") and line.startswith("SET H"):
-        session.forget_ahead()
-        session.history.added(line)
-    return answer
-
-
-def unseen(word):
-    """Returns what performs a line as `_perform_line`, but no device sees what a line with this word did."""
-    def perform(session, line):
-        answer = PERFORM_LINE(session, line)
-        if answer == ["OK"] and line.startswith(word):
-            rows = session._rows_of_devices()
-            session._note(tuple(value._replace(seen=row) for value, row in zip(session.values, rows)), ())
-        return answer
-    return perform
-
-
-def without_replies(session, actions):
-    """Performs actions of the tape anew, but for the replies."""
-    kept = [action for action in actions if not isinstance(action.line, ReplyLine)]
-    lines = PERFORM(session, kept)
-    session.history.performed(sum(action.times for action in actions) - sum(action.times for action in kept))
-    return lines
-
-
-def zeros_for_ever(session, number):
-    """Returns whether a memory has zeros alone, or had once."""
-    known = vars(session).setdefault("known", {})
-    return known.setdefault(number, IS_ZERO(session, number))
-
-
-def plan_beyond_history(planner, moment, left, most_looks, ahead, most):
-    return PLAN(planner, moment, left, most_looks, 1000, most)
 
 
 # Wrong sessions, each by what it does instead of a part of the right one: it must differ from the definition. The number is the first
@@ -134,26 +37,8 @@ WRONG = {
     "replies ahead are remembered": (1, Units, "cut", lambda self, units: None),
     "states ahead are remembered": (6, attached.States, "cut", lambda self, position: None),
     "the first state is that of every position": (0, attached.States, "entry", lambda self, position: 0),
-    "a device keeps its state when all goes back": (1, Attached, "_arrive", with_the_same_states),
-    "a state that was not kept is that before it": (4, Attached, "_values_anew", nearest_that_is_kept),
-    "what a device was told is lost in a replay": (72, Attached, "_values_anew", anew_without_told),
-    "a device that is told something looks at its channel": (16, Attached, "_told", told_with_a_look),
-    "BACK W goes to inside a unit": (48, Attached, "_back_to_unit", back_to_inside),
-    "BACK goes back over what is kept alone": (1, Attached, "_back", back_within_history),
-    "a SET H that is refused is an action": (1, Attached, "_perform_line", refused_is_performed),
-    "a SET of a channel is not looked at": (2, Attached, "_perform_line", unseen("SET H")),
-    "a DEADSTART is not looked at": (19, Attached, "_perform_line", unseen("DEADSTART")),
-    "a fresh simulator gets no replies": (1, Attached, "_perform", without_replies),
-    "looks ahead push out what is kept": (1, looks.Planner, "plan", plan_beyond_history),
-    "memories of zeros stay so": (98, Attached, "_is_zero", zeros_for_ever),
-    "nothing is due": (0, looks, "looked", without_dues),
-    "no sleeper wakes": (2, looks.Sleepers, "woken", lambda self, *rows: 0),
-    "looks are one turn late": (0, looks, "ends_of_looks", one_turn_late),
-    "the last device looks first": (26, looks.Planner, "react", last_device_first),
-    "a change is seen at the end of a leg": (1, attached.Check, "first_change", lambda self, channel, row, count: count),
-    "a device does not look again": (3, looks.Planner, "after", after_without_quiet_replies),
-    "what was wrong is not taken back": (0, attached.Check, "take_back", lambda self: None),
-    "the HIT of a reply is no HIT": (27, attached.Check, "hit_of", lambda self, seen, after: self.hit),
+    "nothing is due": (0, attached, "looked", without_dues),
+    "the HIT of a reply is no HIT": (27, attached, "hit_with_replies", lambda watched, hit, seen, after: hit),
 }
 
 
@@ -265,32 +150,6 @@ class Notes(Device):
         return (*state, event), INACTIVE if event.kind == "function" else NOTHING
 
     function = word = activated = taken = disconnected = told = note
-
-
-class Sleepers(Case):
-    """Processors whose memory has zeros alone pass for ever, and need no look."""
-
-    LINES = ("STEP 10000", "SET M 1 1000 7411", "STEP 10000", "STEP 200", "BACK 10200", "STEP 10200")
-
-    def events(self, lines, kind=Attached):
-        session = kind([program()], [Notes()])
-        self.addCleanup(session.close)
-        session.act("SET M 0 0 300")
-        for line in lines:
-            session.act(line)
-        return session.state()
-
-    def test_zeros(self):
-        # At 1000 (octal) PP 01 activates channel 11, in its 1001st turn. That is turn 12 * 1000 + 2 (octal).
-        self.assertEqual((Event("activated", 0, 0o12 * 0o1000 + 2),), self.events(("SET M 1 1000 7411", "STEP 20000")))
-        # The memory is looked at again after a SET, though it had zeros once. Then the turn is the same after 10000 (octal) turns.
-        self.assertEqual((Event("activated", 0, 0o12002),), self.events(("STEP 10000", "SET M 1 1000 7411", "STEP 10000")))
-        self.assertEqual((Event("activated", 0, 0o12002),), self.events(self.LINES))
-
-    def test_zeros_are_not_looked_at(self):
-        with mock.patch.object(looks, "ends_of_looks", wraps=looks.ends_of_looks) as ends:
-            self.assertEqual((), self.events(("STEP 20000",)))
-        self.assertEqual({0}, {awake for _, awake in (call.args for call in ends.call_args_list)})
 
 
 class Told(Case):

@@ -1,4 +1,4 @@
-"""The devices of the package, each by short runs, and their files and pictures. Expected values are those of docs/DEVICES.md."""
+"""The devices of the package, each by short runs, and their files and pictures. Expected values are those of docs/PYTHON.md."""
 
 import os
 import random
@@ -8,18 +8,18 @@ from unittest import mock
 from tests.films import PageCase
 from tests.support import EXAMPLES, PYTHON, Case, program, read, run, tool, write
 
-from pp6600 import Attached, Failure
-from pp6600.core.simulator import Simulator
-from pp6600.device import Event
-from pp6600.device_options import device_of, script_with
+from pp6600 import Attached, Console, Failure
+from pp6600.run.device import Event
+from pp6600.shell.device_options import NAMES, device_of, script_with
 from pp6600.devices import console_display
+from pp6600.devices.card_reader import CardReader
 from pp6600.devices.console_display import ConsoleDisplay
+from pp6600.devices.line_printer import LinePrinter
 from pp6600.devices.magnetic_tape import MagneticTape
 from pp6600.devices.paper_tape import PaperTape
-from pp6600.film import pictures as film_pictures
-from pp6600.film.camera import LINE, Film, Transcript, to_film
-from pp6600.pictures import Mark, Picture, braille, svg
-from pp6600.tape_file import read_tape, write_tape
+from pp6600.devices.pictures import Mark, Picture, braille, svg
+from pp6600.devices.tape_file import read_tape, write_tape
+from pp6600.front.film.pictures import moments_of, pictures_of
 
 MARK = ()
 STATUSES, LEFTS, BUFFER = 0o1000, 0o1100, 0o2000  # cells
@@ -45,6 +45,55 @@ class DeviceCase(Case):
 
     def cells(self, session, first, count):
         return [int(word, 8) for word in session.cells(0, first, first + count - 1)]
+
+
+# ---- a reader and a printer behind a converter
+
+class Converters(DeviceCase):
+    """A driver that connects its equipment first. The codes are those of docs/PYTHON.md."""
+
+    def test_reader(self):
+        """FNC 4000, FNC 1, a card (FNC 1400, ACN, IAM), and the status after it (FNC 1300, ACN, IAN, DCN, STM), twice; then a third card,
+        of which there is none: IAM ends at once, and A is 7777 as before."""
+        card = "7705 1400 7405 2000 7777 7105 {} 5400 {}"
+        status = "7705 1300 7405 7005 7505 5400 {}"
+        words = " ".join(["7705 4000 7705 1", *(f"{card.format(f'{0o2000 + 0o200 * at:o}', f'{0o1100 + at:o}')} {status.format(f'{0o1000 + at:o}')}"
+                                                for at in range(3))])
+        session = self.begun(CardReader([(1, 2, 3), (7,)], channel=0o5), words)
+        self.ask(session, "STEP 20000")
+        self.assertEqual([0o1, 0o140, 0o140], self.cells(session, 0o1000, 3))
+        self.assertEqual([0o7777 - 80, 0o7777 - 80, 0o7777], self.cells(session, 0o1100, 3))
+        self.assertEqual([1, 2, 3, 0], self.cells(session, 0o2000, 4))
+        self.assertEqual([7, 0], self.cells(session, 0o2200, 2))
+
+    def test_rejects(self):
+        """The converter's status after a function without an equipment, a connect of another number, of the right one, and a function that
+        the reader has not; and after a connect by a word."""
+        status = "7705 1200 7405 7005 7505 5400 {}"
+        codes = ("7705 1", "7705 5000", "7705 4000", "7705 77", "7705 1000 7405 2000 4000 7205 6605 * 7505", "7705 1")
+        words = " ".join(f"{code} {status.format(f'{0o1000 + at:o}')}" for at, code in enumerate(codes))
+        session = self.begun(CardReader([(1,)], channel=0o5), words)
+        self.ask(session, "STEP 20000")
+        self.assertEqual([1, 1, 0, 1, 0, 0], self.cells(session, 0o1000, 6))
+
+    def test_printer(self):
+        """Two lines of output, a new page between them: HI and OK."""
+        line = "7705 1600 7405 2000 {} 7205 6605 * 7505"
+        words = " ".join(["7705 5000 7705 4", line.format("1011"), "7705 4", line.format("1713"), "7705 2"])
+        printer = LinePrinter(channel=0o5)
+        session = self.begun(printer, words)
+        self.ask(session, "STEP 20000")
+        self.assertEqual("\fHI\n\fOK\n\n\n", printer.output(session.state()))
+
+    def test_words(self):
+        self.assertEqual(["card_reader", "line_printer"], [name for name in NAMES if name in ("card_reader", "line_printer")])
+        path = write(self.path("deck"), "1 2\n* a note\n7777\n")
+        self.assertEqual([(1, 2), (0o7777,)], device_of(f"card_reader:{path},6@12").deck)
+        for text, wrong in (("card_reader:,3@12", "an equipment has a number from 4 to 7, and not 3"),
+                            (f"card_reader:{write(self.path('bad'), '18')}@12", "line 1 (decimal) is no card")):
+            with self.subTest(text):
+                with self.assertRaisesRegex(Failure, re.escape(wrong)):
+                    device_of(text)
 
 
 # ---- magnetic tape
@@ -364,20 +413,18 @@ class Films(Case):
     SCRIPT = ("SET M 0 100 7710 7001 7410 1407 7310 112 6610 106\nSET M 0 110 7510 366 6100 7200 1411 2425 102 304\n"
               "SET M 0 120 506\nSET P 0 100\nSTEP 300\nBACK 60\nSTEP 20\nSET M 0 114 555\nSTEP 400\nBACK 150\nFORWARD 30\n")
 
-    def filmed(self, last=None):
-        """Returns a film of the script with a console display, and the turn of each moment."""
+    def filmed(self):
+        """Returns the pictures of a film of the script with a console display, and the answer of each moment."""
         words, display = [program()], ConsoleDisplay()
-        script, _ = script_with(words, [display], self.SCRIPT.encode())
-        transcript = Transcript(words, script.decode().splitlines())
-        film = Film(Simulator(words), transcript, 0o12, 0o13, (), [display])
-        film.shoot(*to_film(transcript, last, None))
-        return film
+        lines = script_with(words, [display], self.SCRIPT.encode())[0].decode().splitlines()
+        with Console(words) as console:
+            answers = [answer for answer, _ in moments_of(console, lines)]
+        return pictures_of(words, [display], lines)["pictures"], answers
 
     def shown(self, film, moment):
         """Returns the picture that a film shows at a moment."""
-        (shown,) = film.pictures.shown
-        lines = list(film.pictures.lines)
-        return "".join(f"{lines[number]}\n" for number in next(one for first, one in reversed(shown) if first <= moment))
+        shown = film["devices"][0]["shown"]
+        return "".join(f"{film['lines'][number]}\n" for number in next(one for first, one in reversed(shown) if first <= moment))
 
     def pictures(self):
         """Returns the picture of the session after each of its lines, turn by turn."""
@@ -394,24 +441,21 @@ class Films(Case):
 
     def test_pictures(self):
         """Each turn and each step back is a moment, and so is each reply, which changes no picture."""
-        film, wanted = self.filmed(), self.pictures()
-        kinds = [film.rows.streams[0][start] & 7 for start in film.rows.starts[0][:-1]]
-        moments = [moment for moment, kind in enumerate(kinds) if moment and kind != LINE]
+        (film, answers), wanted = self.filmed(), self.pictures()
+        moments = [moment for moment, answer in enumerate(answers, 1) if answer.startswith(("TURNS", "BACK", "FORWARD"))]
         self.assertEqual(wanted, [self.shown(film, moment) for moment in moments])
         self.assertGreater(len(set(wanted)), 5)
-        short = self.filmed(0o100)
-        self.assertEqual([self.shown(film, moment) for moment in range(len(kinds) - 0o101, len(kinds))],
-                         [self.shown(short, moment) for moment in range(0o101)])
+        self.assertEqual(len(answers) + 1, film["moments"])
 
     def test_a_picture_that_fails(self):
-        path = write(self.path("own.py"), "from pp6600 import Device\nfrom pp6600.pictures import Mark, Picture\nclass Own(Device):\n"
+        path = write(self.path("own.py"), "from pp6600 import Device\nfrom pp6600.devices.pictures import Mark, Picture\nclass Own(Device):\n"
                                           "    start = 0\n    def picture(self, state):\n        return Picture((Mark(0, 0, 8, '!'),),)\n")
         done = tool("film", "--device", f"{path}:Own@5", "-o", self.path("film.html"), script="STEP\n")
         self.assertRegex(done.err, r"^film: picture of Own fails: [A-Z]\w+: .*\n$")
         self.assertEqual((2, False), (done.status, os.path.exists(self.path("film.html"))))
 
     def test_without_a_picture(self):
-        self.assertEqual({}, film_pictures.Pictures([PaperTape()]).table(0, 0))
+        self.assertEqual({}, pictures_of([program()], [PaperTape()], []))
 
 
 class Page(PageCase):

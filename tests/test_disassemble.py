@@ -9,8 +9,8 @@ import random
 
 from .support import Case
 
-from pp6600.source.disassembler import Disassembler
-from pp6600.source.passes import assembled
+from pp6600.language.source.disassembler import Disassembler
+from pp6600.language.source.passes import assembled
 
 SEED, COUNT = map(int, os.environ.get("PP6600_WINDOWS", "0:1200").split(":"))
 WHOLE = 200  # windows for each whole memory
@@ -19,8 +19,8 @@ LIKELY = (0, 0o100, 0o200, 0o300, 0o376, 0o2400, 0o1077, 0o7777)  # words that a
 
 
 class Law(Case):
-    def check(self, cells, entries):
-        lines = list(Disassembler(cells, entries).lines())
+    def check(self, cells, entries, labels={}):
+        lines = list(Disassembler(cells, entries, labels).lines())
         found = assembled(lines)
         self.assertEqual([], found.messages[:1])
         got = {address: cell.word for address, cell in found.cells.items()}
@@ -38,6 +38,16 @@ class Law(Case):
             if len(cells) > 1:
                 del cells[choose.choice(list(cells))]
         return cells
+
+    def test_labels(self):
+        """Labels of a listing are kept, also inside instructions, on subroutines and outside the cells; whatever they are."""
+        choose = random.Random(SEED)
+        for number in range(COUNT // 4):
+            cells = self.window(choose, choose.choice((3, 8, 20, 60)))
+            first = min(cells)
+            labels = {(first + choose.randrange(-3, 64)) % CELLS: [choose.choice((f"A{number}", "LDN", "L0100", "SUB", "SUBX", "1A", ".X", "TOOLONGAB"))]
+                      for _ in range(choose.randrange(6))}
+            self.check(cells, [choose.choice(list(cells))], labels)
 
     def test_windows(self):
         choose = random.Random(SEED)

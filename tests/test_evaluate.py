@@ -12,12 +12,12 @@ import sys
 
 from tests import slips
 from tests.generator import Maker
-from tests.support import EXAMPLES, PYTHON, TOP, Case, add_tests, names_of_codes, read, run
+from tests.support import EXAMPLES, PYTHON, TOP, Case, add_tests, names_of_codes, program, read, run
 from tests.ways import PLAIN, cases, part, words_of
 
 sys.path.insert(0, os.path.join(TOP, "docs"))
 from evaluating.asking import Definitions  # noqa: E402
-from evaluating.examples import faults_of, worked  # noqa: E402
+from evaluating.examples import faults_of, load, worked  # noqa: E402
 from evaluating.lists import Stuck  # noqa: E402
 
 EVALUATE = os.path.join(TOP, "docs", "evaluate")
@@ -98,6 +98,8 @@ class Command(Case):
                         ("add18 0o777776 1", "0\n"),
                         ("5 - 7", "2 ^ 5", "0\n0o40\n"),
                         ("--text", "octal_text 0o1465 6", "001465\n"),
+                        ("octal_text 0o1465 6", 'codes "001465"\n'),
+                        ('codes "OK" ≡ codes "OK"', '[] ≡ codes "OK"', "true\nfalse\n"),
                         ("slice_index (1 ∷ 2 ∷ []) 9", "0\n"),
                         ("split60 0o01234567012345670123", "0o123 ∷ 0o4567 ∷ 0o123 ∷ 0o4567 ∷ 0o123 ∷ []\n"),
                         ("turn at_rest", "over at_rest ((Place.RegP 0, 1) ∷ (Slot, 1) ∷ [])\n"),
@@ -111,11 +113,15 @@ class Command(Case):
         self.assertEqual("1: P = 7776, Q = 0002, PHASE = 6110, M 0000 = 0101", steps[0])
         self.assertEqual("4: P = 0004, PHASE = 0000", steps[3])
         self.assertEqual("waits\n", evaluate("--step", "7003").out)
+        self.assertEqual("P = 0101\nM 0005 = 1111\nM 0006 = 2222\nM 0007 = 3333\nM 0010 = 4444\nM 0011 = 5555\n",
+                         evaluate("--step", "6005", "A=377777", "C 377777=11112222333344445555").out)
 
     def test_script(self):
         done = evaluate("--script", "--central", "32", script="SET A 0 5\nDUMP PP 0\nGO\n")
         self.assertEqual(("OK\nPP 00 P 0000 A 000005 Q 0000 PHASE 0000 SLOT 00\nERR 01 NOT A COMMAND\n", "", 1), done)
         self.assertEqual(("", "pp6600: BAD CHANNEL\n", 2), evaluate("--script", "--reader", "14"))
+        self.assertEqual(("", "pp6600: BAD ARGUMENTS\n", 2), evaluate("--script", "--deck"))
+        self.assertEqual(evaluate("--script", "--help"), evaluate("--script", "-help"))
 
     def test_refusals(self):
         """What can't be computed is said in one line."""
@@ -131,6 +137,16 @@ class Command(Case):
                              ("record {", "a text with the end in place of more"),
                              ("--python", "IsRun", "IsRun, which is no function"),
                              ("--python", "Place.RegP", "Place.RegP, which is no function"),
+                             ("5 / 0", "a division by 0"), ("5 % 0", "a division by 0"),
+                             ("add18 0o999 1", "0o999, which is no number"),
+                             ('codes "OK" == codes "OK"', "`==` of lists: it compares numbers, and `≡` all else"),
+                             ("--text", "at_rest", "the text of what is no list of bytes"),
+                             ("--text", "0o777 ∷ []", "the text of what is no list of bytes"),
+                             ("--step", "3520", "M 10000=5", "'M 10000=5': there is no M 10000"),
+                             ("--step", "3520", "C 400000=5", "'C 400000=5': there is no C 400000"),
+                             ("--step", "3520", "A=7777777", "'A=7777777': no number of A is 7777777"),
+                             ("--step", "3520", "S 5=4", "'S 5=4': no number of S is 4"),
+                             ("--step", "3520", "XP 0=1", "'XP 0=1': no number of XP is 1"),
                              ("--step", "3520", "B=1", "'B=1': write an instruction word, as 3520, or a place and its number, "
                                                        "as A=777777 or 'M 20=5'"),
                              ("--script", folder, "a run that a failed read cuts short: IsCut says what that is, "
@@ -145,19 +161,49 @@ class Command(Case):
 
     def test_route(self):
         """The commands of the route of one hour do what they are there for."""
-        front = read("docs", "DEFINITIONS.md").split("\n## The theorem, read aloud\n")[0]
-        commands = re.findall(r"^```text\n(.*?)\n```", front, re.M | re.S)
+        route = read("docs", "DEFINITIONS.md").split("\n## A route of one hour\n")[1].split("\n## ")[0]
+        commands = re.findall(r"^```text\n(.*?)\n```", route, re.M | re.S)
         self.assertEqual(["0", "OK", "P = 0101", "1: P = 7776, Q = 0002, PHASE = 6110, M 0000 = 0101"],
                          [run("bash", "-c", command).out.split("\n")[0] for command in commands])
+
+    def test_route_of_the_theorem(self):
+        """Each step of the route of 25 minutes shows what it is there for. The prover is not asked."""
+        route = read("docs", "THEOREM.md").split("\n## A route of 25 minutes\n")[1].split("\n## ")[0].replace("/tmp/", self.room() + "/")
+        begin, compare, differ, slip, mutant, _ = re.findall(r"^```text\n(.*?)\n```", route, re.M | re.S)
+        answers = "OK\nOK\nTURNS 13 SLOT 01\nPP 00 P 0102 A 000005 Q 0000 PHASE 0000 SLOT 01\nBACK 1 SLOT 00\n" \
+                  "PP 00 P 0101 A 000005 Q 0000 PHASE 0000 SLOT 00\n"
+        shell = ["bash", "-c", f"cd {TOP}; {begin}\n{compare.splitlines()[0]}"]
+        self.assertEqual((answers, "", 0), run(*shell))
+        differs = differ.replace("./pp6600", program())
+        self.assertEqual(("the same\n", "", 0), run("bash", "-c", f"cd {TOP}; {differs}"))
+        first, *planted = slip.splitlines()  # the copy has what is not committed, too
+        for name in ("crates", "docs", "tests"):
+            shutil.copytree(os.path.join(TOP, name), os.path.join(first.split()[2], name), ignore=shutil.ignore_patterns("out"))
+        done = run("bash", "-c", "\n".join(planted))
+        self.assertEqual((1, ""), (done.status, done.err))
+        self.assertRegex(done.out, "^worked row .* does not hold\n")
+        self.assertIn("\nold: ", run("bash", "-c", f"cd {TOP}; {mutant}").out)
 
     def test_help(self):
         done = evaluate("--help")
         self.assertIn("no proof", done.out)
         self.assertEqual(done._replace(status=2), evaluate())
 
+    def test_words(self):
+        """Words that fit together with no others end with how the command is used."""
+        for words in (["--text"], ["--step"], ["--steps", "0", "3520"], ["--check", "1"], ["--record", "1"]):
+            with self.subTest(words):
+                done = evaluate(*words)
+                self.assertEqual(("", 2, 1), (done.out, done.status, done.err.count("error:")))
+
     def test_examples(self):
         """Each example of the page has the value that the page says, and each case has an example or is said to have none."""
         self.assertEqual(("", "", 0), evaluate("--check"))
+
+    def test_examples_as_typed(self):
+        """Examples that are typed are shown as the page shows them."""
+        examples = [one for own in load(read("docs", "examples.txt")).values() for one in own if one.text]
+        self.assertEqual([one.value for one in examples[::9]], evaluate(*(one.text for one in examples[::9])).out.splitlines())
 
 
 class Tables(Case):

@@ -9,43 +9,10 @@ import re
 import stat
 import subprocess
 
-from tests.films import DEVICES, FOLDER, SHOWN, FilmCase, about, decode, film_text, numbers_at, random_session, shown_film
-from tests.fixtures import WITH_FEW_LINES
-from tests.support import PYTHON, TOP, read, run, tool, write
-
-from pp6600.film.camera import LINE
+from tests.films import FOLDER, FilmCase, about, shown_film, stored, unpacked
+from tests.support import TOP, read, run, tool, write
 
 BYTE = "\udcff"  # a byte of a command line that is not UTF-8, as Python has it
-
-
-class Camera(FilmCase):
-    """How a run is filmed."""
-
-    def setUp(self):
-        self.script = "".join(f"{line}\n" for line in random_session(3)) + "STEP 20\n"
-
-    def test_fresh_simulators(self):
-        """A film that goes on in fresh simulators is the same, and one that begins late has the same end."""
-        whole = read(self.film(*DEVICES, script=self.script, status=None))
-        path = self.path("film.html")
-        run(*PYTHON, "-c", WITH_FEW_LINES, "700", os.path.join(TOP, "tools", "film"), *DEVICES, "-o", path, script=self.script)
-        self.assertEqual(whole, read(path))
-        late = read(self.film(*DEVICES, "--last", "30", script=self.script, status=None))
-        about, changes = decode(film_text(whole))
-        self.assertEqual(0o30, len(decode(film_text(late))[1]) - 1)
-        ends = [numbers_at(page, [end])[0][end][:about["layout"]["paper"]] for page, end in ((whole, len(changes) - 1), (late, 0o30))]
-        self.assertEqual(*ends)
-
-    def test_around(self):
-        """The turn is one in effect: what was undone does not count."""
-        script = "SET A 0 1\nSTEP 10\nBACK 4\nSET A 1 1\nSTEP 10\n"
-        opens = [about(read(self.film("--around", turn, script=script)))["opens"] for turn in ("0", "2", "4", "5", "14")]
-        self.assertEqual([0, 3, 5, 0o14, 0o23], opens)  # 1 SET and 10 turns; 4 undone by one BACK; 1 SET and 10 turns
-        done = tool("film", "-o", self.path("film.html"), "--around", "15", script=script)
-        self.assertEqual(("", "film: there is no turn 15: the highest is 14 (octal)\n", 2), done)
-        for turn, first, count in (("40000", 0o34000, 0o10000), ("77777", 0o73777, 0o4001)):
-            known, changes = decode(film_text(read(self.film("--around", turn, script="STEP 100000\n"))))
-            self.assertEqual((first, count), (known["turns_before"], len(changes) - 1))
 
 
 class Tool(FilmCase):
@@ -55,7 +22,7 @@ class Tool(FilmCase):
         """One line in plain words, status 2, and no file."""
         path = self.path("none.html")
         for words, script in (((), "STEP\n"), (("-o", self.path("no/folder.html")), "STEP\n"), (("-o", path, "no-such-file"), ""),
-                              (("-o", path), "STEP 1000000\nSTEP\n"), (("-o", path, "--last", "9"), "STEP\n"),
+                              (("-o", ""), "STEP\n"), (("-o", path, "--around", "9"), "STEP\n"), (("-o", path, "--last", "7"), "STEP\n"),
                               (("-o", self.folder), "STEP\n"),
                               (("-o", path, "--deck", "no-such-file"), "STEP\n"), (("-o", path, "--reader", "99"), "STEP\n"),
                               (("-o", path, "--around", "2"), "STEP\n"), (("-o", path, "--around", "1", "--last", "1"), "STEP\n"),
@@ -70,19 +37,30 @@ class Tool(FilmCase):
         path = self.path("film.html")
         self.assertEqual(("", "film: 2 lines (decimal) were refused, the first is line 2 (decimal), ERR 01 NOT A COMMAND: GO\n", 1),
                          tool("film", "-o", path, script="STEP\nGO\nSTEP\nBACK W\n"))
-        self.assertEqual([["TURNS 1 SLOT 01"], ["ERR 01 NOT A COMMAND"], ["TURNS 1 SLOT 02"], ["ERR 15 NOTHING WATCHED"]],
-                         [line["answer"] for line in about(read(path))["lines"]])
+        self.assertEqual(["STEP\nGO\nSTEP\nBACK W\n"], [file["bytes"] for file in about(read(path))["files"]])
 
     def test_pipe(self):
         """A page goes through a pipe, which stays one."""
         pipe = self.path("pipe")
         os.mkfifo(pipe)
-        with subprocess.Popen(["cat", pipe], stdout=subprocess.PIPE) as reader:
+        with subprocess.Popen(["tail", "-n", "1", pipe], stdout=subprocess.PIPE) as reader:
             self.assertEqual(("", "", 0), tool("film", "-o", pipe, script="STEP\n"))
-            self.assertTrue(reader.stdout.read().endswith(b"</html>\n"))
+            self.assertEqual(b"</html>\n", reader.stdout.read())
         self.assertTrue(stat.S_ISFIFO(os.stat(pipe).st_mode))
         piped = run("bash", "-c", "tools/film -o /dev/stdout | tail -n 1", script="STEP\n")
         self.assertEqual(("</html>\n", "", 0), piped)
+
+    def test_around(self):
+        """docs/FILM.md: it opens after a turn, which must be one of the run."""
+        script = "SET A 0 1\nSTEP 10\nBACK 4\nSET A 1 1\nSTEP 10\n"
+        self.assertEqual([0, 0o14], [about(read(self.film("--around", turn, script=script)))["opens"] for turn in ("0", "14")])
+        done = tool("film", "-o", self.path("film.html"), "--around", "15", script=script)
+        self.assertEqual(("", "film: there is no turn 15: the highest is 14 (octal)\n", 2), done)
+
+    def test_module(self):
+        """The simulator in a page is that of dist/, byte for byte."""
+        with open(os.path.join(TOP, "dist", "pp6600.wasm"), "rb") as file:
+            self.assertEqual(file.read(), unpacked(read(self.film(script="STEP\n")), "simulator"))
 
     def test_central_memory_of_a_number_in_another_form(self):
         self.film("--central", "032", script="SET A 0 100000\nSET M 0 0 6200\nSTEP\n")
@@ -109,7 +87,7 @@ class Tool(FilmCase):
     def test_one_page(self):
         """The page's script is all files of its folder, each once, and no mark of the template is left."""
         made = read(self.film(script="STEP\n"))
-        for path in glob.glob(os.path.join(TOP, "tools", "pp6600", "film", "web", "*.js")):
+        for path in glob.glob(os.path.join(TOP, "tools", "pp6600", "front", "film", "web", "*.js")):
             self.assertEqual(1, made.count(read(path).strip()), path)
         self.assertEqual([], re.findall(r"<!--\w+-->|/\*--\w+--\*/", made))
 
@@ -125,7 +103,6 @@ class Tool(FilmCase):
         self.assertEqual(contents, {file["name"]: file["bytes"].encode("latin-1") for file in kept["files"]})
         self.assertEqual(["script", "deck", "panel"], [file["kind"] for file in kept["files"]])
         self.assertEqual("pp6600 --central 32 --deck deck --panel 'my panel' script", kept["again"])
-        self.assertEqual(([[1, 2]], [*range(1, 13)]), (kept["deck"], kept["panel"]))
         os.mkdir(self.path("other"))
         os.rename(f"{room}/deck", f"{room}/other/script")
         same = about(read(self.film("--deck", f"{room}/other/script", f"{room}/script", status=1)))
@@ -135,21 +112,9 @@ class Tool(FilmCase):
 
     def test_docs_films(self):
         """docs/films has what tools/film makes today. Only the deflated bytes may differ, by the zlib that made them."""
-        for name in SHOWN:
+        for name in stored():
             pages = read(shown_film(name)), read(FOLDER, f"{name}.html")
             with self.subTest(name, part="page"):
-                self.assertEqual(*(re.sub(r'(?s)(id="film">\n).*?(\n</script>)', r"\1\2", page) for page in pages))
+                self.assertEqual(*(re.sub(r'(?s)(id="(?:film|simulator)">\n).*?(\n</script>)', r"\1\2", page) for page in pages))
             with self.subTest(name, part="film"):
-                self.assertEqual(*(decode(film_text(page)) for page in pages))
-
-    def test_links(self):
-        """In the turn of a link of the pages its place changes."""
-        for page in ("README.md", "docs/FILM.md"):
-            for name, turn, place in re.findall(r"films/([\w-]+)\.html#turn=([0-7]+)&place=([\w+]+)\)", read(page)):
-                known, changes = decode(film_text(read(FOLDER, f"{name}.html")))
-                kind, *numbers = place.split("+")
-                cell = known["layout"][{"M": "cells", "H": "words", "SYMBOLS": "paper"}[kind]] + sum(
-                    int(number, 8) * 0o10000 ** at for at, number in enumerate(reversed(numbers)))
-                turns = [moment for moment, (kind_of_moment, _) in enumerate(changes) if kind_of_moment < LINE]
-                with self.subTest(page, film=name):
-                    self.assertIn(cell, dict(changes[turns[int(turn, 8) - 1]][1]))
+                self.assertEqual(*map(about, pages))

@@ -7,6 +7,7 @@ import os
 import re
 
 from tests.films import PageCase, shown_film, text_of
+from tests.support import read
 
 CHOSEN = "byId('chosen-text').textContent"
 TURN_AND_PLACE = "[film.turn[film.at], shown.chosen && shown.chosen.name]"
@@ -77,7 +78,7 @@ class Answers(PageCase):
         self.value("scrollTo(0, 0)")
         self.browser.click_at(*self.value("(() => { const box = byId('picture').getBoundingClientRect();"
                                           "return [box.x + LABEL + pictureWidth() / 2, box.y + 40]; })()"))
-        self.assertTrue(self.value("Math.abs(film.at - film.count / 2) <= 2"), "a click in the middle of a lane")
+        self.assertTrue(self.value("Math.abs(film.at - (lanes.from + lanes.to) / 2) <= 2"), "a click in the middle of a lane")
 
     def test_exercise(self):
         """docs/EXERCISES.md, the exercise with a film alone: what its answers say."""
@@ -126,7 +127,7 @@ class Program(PageCase):
         self.browser.open(self.film("--symbols", "0", listing, "--deck", f"{loader}/deck", f"{loader}/script"), "#turn=113")
         self.browser.key("i")
         texts = ("[...document.querySelectorAll('#program tbody tr')]"
-                 ".map((row) => row.cells[1].textContent + ' ' + row.cells[4].textContent)")
+                 ".map((row) => `${row.cells[1].textContent} ${row.cells[4].textContent}`.replace(/ +/g, ' '))")
         self.assertEqual(["0104 INPUT IAM 12 60", "0106 DCN 12", "0107 INPUT+3"],
                          [text for text in self.value(texts) if text[:4] in ("0104", "0106", "0107")])
         self.value("moveTo(momentOfTurn(0o405))")
@@ -148,7 +149,7 @@ class Controls(PageCase):
         self.assertEqual(["<b>&", "<b>&"], self.value("[document.title, document.querySelector('h1').textContent]"))
         last = self.LAST
         for key, shift, wanted in (
-                ("End", False, last), ("ArrowRight", False, last), ("ArrowLeft", False, last - 1), ("Home", False, 0),
+                ("End", False, last), ("ArrowLeft", False, last - 1), ("Home", False, 0),
                 ("ArrowLeft", False, 0),
                 ("ArrowRight", False, 1), ("ArrowRight", False, 2), ("ArrowRight", True, 12), ("ArrowRight", True, 22),
                 ("ArrowLeft", True, 12),
@@ -166,7 +167,7 @@ class Controls(PageCase):
     def test_around(self):
         """docs/FILM.md: a film around a turn opens there."""
         self.browser.open(self.film("--around", "40000", script=f"{COUNTER}STEP 100000\nBACK 20\n"))
-        self.assertEqual([0o40000, 0o10001, 0o34002], self.value("[film.turn[film.at], film.count, film.turn[0] + 2]"))
+        self.assertEqual([0o40000, 0o100004], self.value("[film.turn[film.at], film.count]"))
         self.assertIn("After turn 40000.", self.value("byId('position').innerText"))
 
     def test_turns(self):
@@ -183,8 +184,6 @@ class Controls(PageCase):
             self.browser.key("Escape")
         self.check_rows(lambda address: self.value(f"location.hash = '{address}'; followAddress(); byId('no-turn').innerText"),
                         ("#turn=1001", "no turn 1001: the highest is 1000"), ("#turn=18", "not an octal number"), ("#turn=20", ""))
-        self.browser.open(self.film("--last", "10", script="STEP 100\n"), "#turn=5")
-        self.assertEqual([0, "the film begins at turn 70"], self.value(shown)[:2])
 
     def test_place_box(self):
         """docs/FILM.md: the box of the place has the name of the number that was clicked; what it says if there is no such place."""
@@ -216,13 +215,13 @@ class Controls(PageCase):
         buttons = ("['previous-change', 'next-change'].map(byId)"
                    ".map((one) => (one.offsetParent ? [one.innerText, !one.disabled] : null))")
         self.assertEqual("M 00 0020 is 0000. First change: turn 13, by PP 00, STD 20 at 0101.", self.value(CHOSEN))
-        self.assertEqual([None, ["first change ]", True]], self.value(buttons))
+        self.assertEqual([["[ previous change", False], ["first change ]", True]], self.value(buttons))
         self.browser.click("#next-change")
         self.assertEqual([0o13, "M 00 0020"], self.value(TURN_AND_PLACE))
-        self.assertEqual("M 00 0020 is 0005. Changed here, by PP 00, STD 20 at 0101. No change after this.", self.value(CHOSEN))
+        self.assertEqual("M 00 0020 is 0005. Changed here, by PP 00, STD 20 at 0101. No change after this so far.", self.value(CHOSEN))
         self.value("choose(placeNamed('M 5 0'))")
-        self.assertEqual("M 05 0000 is 0000. No change in this run.", self.value(CHOSEN))
-        self.assertEqual([None, ["next change ]", False]], self.value(buttons))
+        self.assertEqual("M 05 0000 is 0000. No change in this run so far.", self.value(CHOSEN))
+        self.assertEqual([["[ previous change", False], ["next change ]", True]], self.value(buttons))
         # The script goes back to before the change, and makes it later in another turn.
         self.browser.open(self.film(script=f"{COUNTER}STEP 5\nBACK 3\nSET M 0 30 1\nSTEP 20\n"), "#turn=3&place=M+0+20")
         self.assertIn("First change: turn 13, by PP 00, STD 20 at 0101.", self.value(CHOSEN))
@@ -315,6 +314,15 @@ class Opening(PageCase):
         self.assertEqual("no such place", self.value("byId('no-place').innerText"))
         self.value("moveTo(film.turn.indexOf(0o400)); choose(placeNamed('M 0 106'))")
         self.browser.wait_for("location.hash === '#moment=406&place=M+00+0106'")
+
+
+    def test_links(self):
+        """In the turn of a link of the pages its place changes."""
+        for page in ("README.md", "docs/FILM.md"):
+            for name, address in re.findall(r"films/([\w-]+)\.html(#turn=[0-7]+&place=[\w+]+)\)", read(page)):
+                self.browser.open(shown_film(name), address)
+                with self.subTest(page, film=name):
+                    self.assertIn(self.value("shown.chosen.name"), self.value("changesOf(film.at).map(({ name }) => name)"))
 
 
 class Looks(PageCase):

@@ -4,14 +4,30 @@ Expected values are those of docs/FILM.md, of `Source.line_of` for the numbers t
 
 import os
 import random
+from typing import NamedTuple, Optional
 
-from tests.films import PageCase, about, moments_of, numbers_at, shown_film
+from tests.films import PageCase, about, moments_of, shown_film
 from tests.support import EXAMPLES, TOP, program, read, write
 
-from pp6600.film.lines import NOT_YET, WHOLE, Mark
-from pp6600.sources import Source
+from pp6600.language.sources import Source
+
+
+
+class Mark(NamedTuple):
+    """What is said of a line with words, and the address of the cell that has another word."""
+
+    text: str
+    address: Optional[int] = None
+
 
 CELLS = 0o10000
+WHOLE, NOT_YET = Mark(""), Mark("not yet")
+# In the page: of each source the line where its processor is, and what is said of each line with words.
+LINES = """[...source.of.values()].map((one) => {
+  const { number, note } = lineOfNext(one.processor), rows = one.rows.filter((row) => row.words.length);
+  return [number ? [number, note] : [], rows.map((row) => (row.loadedAt >= 0 && resolve(film.at) >= row.loadedAt
+    ? markOf(one.processor, row.words) : ["not yet", null]))];
+})"""
 PROGRAMS = os.path.join(TOP, "tests", "programs")
 # Runs with sources: options of the machine, the sources by their processors, and the lines of a script.
 RUNS = (
@@ -78,58 +94,38 @@ def marks_of(source, cells):
     return {number: min(some, key=lambda mark: worst.index(mark.text)) for number, some in sorted(marks.items())}
 
 
-class Film(PageCase):
-    """What is kept in a film."""
-
-    needs_browser = False
+class Lines(PageCase):
+    """Where a processor is, and which lines have been overwritten."""
 
     def test_lines(self):
         """At random moments the lines are those of the machine that was there then."""
         for options, sources, script in RUNS:
-            page = read(self.film(*options, *sources_of(sources), script="".join(f"{line}\n" for line in script)))
+            self.browser.open(self.film(*options, *sources_of(sources), script="".join(f"{line}\n" for line in script)))
             loaded = {number: Source.of_file(path) for number, path in sources.items()}
             loading = [line for number, source in loaded.items() for line in source.loading(number)]
-            machines = moments_of([program(), *options], [*loading, *script])
-            total = numbers_at(page, [])[1]
-            moments = sorted(random.Random(script[0]).sample(range(len(loading), total), 40))
-            numbers = numbers_at(page, moments)[0]
-            for moment, console in enumerate(machines):
+            total = self.value("film.count")
+            moments = random.Random(script[0]).sample(range(len(loading), total), 40)
+            for moment, console in enumerate(moments_of([program(), *options], [*loading, *script])):
                 if moment in moments:
                     with self.subTest(script=script, moment=f"{moment:o}"):
-                        self.check(page, numbers[moment], console, loaded)
+                        self.check(self.value(f"goTo({moment}), {LINES}"), console, loaded)
 
-    def check(self, page, numbers, console, sources):
-        """Compares the numbers of a moment with the dumps there."""
-        known, marks = about(page), []
-        for number, source in sources.items():
+    def check(self, got, console, sources):
+        """Compares the lines of a moment with the dumps there."""
+        for (line, marks), (number, source) in zip(got, sources.items()):
             cells = [int(word, 8) for word in console.cells(number, 0, CELLS - 1)]
-            row = known["next"][numbers[known["layout"]["next"] + number]]
-            self.assertEqual(line_at_p(source, console.registers(number), cells), row[5] if len(row) > 5 else [])
-            marks += marks_of(source, cells).values()
-        first, last = known["layout"]["lines"], known["layout"]["central"]
-        self.assertEqual(marks, [Mark(*known["marks"][number]) for number in numbers[first:last]])
+            self.assertEqual(line_at_p(source, console.registers(number), cells), line)
+            self.assertEqual(list(marks_of(source, cells).values()), [Mark(*mark) for mark in marks])
 
     def test_loading(self):
         """Before a line is loaded, nothing is said to be overwritten."""
-        page = read(self.film("--source", "0", write(self.path("count.pp"), COUNT), script="STEP\n"))
-        known, numbers = about(page), numbers_at(page, [0, 1])[0]
-        marks = [[known["marks"][one] for one in numbers[moment][known["layout"]["lines"]:known["layout"]["central"]]] for moment in (0, 1)]
-        self.assertEqual([[list(NOT_YET)] * 9, [list(WHOLE)] * 6 + [list(NOT_YET)] * 3], marks)
+        self.browser.open(self.film("--source", "0", write(self.path("count.pp"), COUNT), script="STEP\n"))
+        marks = [[Mark(*mark) for mark in self.value(f"goTo({moment}), {LINES}")[0][1]] for moment in (0, 1)]
+        self.assertEqual([[NOT_YET] * 9, [WHOLE] * 6 + [NOT_YET] * 3], marks)
 
     def test_without_a_source(self):
         """A film without a source knows nothing of lines."""
-        known = about(read(shown_film("handshake")))
-        self.assertEqual((set(), {5}), ({"sources", "marks"} & set(known) | {"lines"} & set(known["layout"]), set(map(len, known["next"]))))
-
-    def test_late(self):
-        """In a film that begins late a line that is gone has been overwritten, and the line of a block that began before is not known."""
-        options, sources, _ = RUNS[0]
-        for turns, texts, length in (("200", {""}, 5), ("1300", {"now"}, 6)):
-            page = read(self.film(*options, *sources_of(sources), "--last", "10", script=f"STEP {turns}\n"))
-            known, numbers = about(page), numbers_at(page, [0])[0][0]
-            marks = [known["marks"][one] for one in numbers[known["layout"]["lines"]:known["layout"]["central"]]]
-            with self.subTest(turns=turns):
-                self.assertEqual((texts, length), ({text for text, _ in marks}, len(known["next"][numbers[known["layout"]["next"]]])))
+        self.assertNotIn("sources", about(read(shown_film("handshake"))))
 
 
 class Page(PageCase):

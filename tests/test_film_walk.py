@@ -1,20 +1,20 @@
-"""The film of a run beside the dumps of the program: its numbers as they are kept, and what its page shows.
+"""The page of a run beside the dumps of the program: its numbers, and what it shows.
 
-The examples, a session on channels that do not exist, and random sessions are filmed; at ten moments of each the film and its
-page are compared with what the program answers there. Each run is the same: a session follows from its seed alone, and the
+The examples, a session on channels that do not exist, and random sessions are filmed; at ten moments of each the
+page is compared with what the program answers there. Each run is the same: a session follows from its seed alone, and the
 moments of a film from its name. Other seeds: FILM_SEEDS="100 50" compares 50 sessions from seed 100 on (decimal).
 """
 
 import os
 import random
 
-from tests.films import DEVICES, PageCase, about, moments_of, numbers_at, random_session, text_of
+from tests.films import DEVICES, PageCase, moments_of, random_session, text_of
 from tests.fixtures import wait_text
 from tests.support import TOP, program
 
 from pp6600 import Console
-from pp6600.core.state import state_of
-from pp6600.sentences import sentence
+from pp6600.run.state import state_of
+from pp6600.run.sentences import sentence
 
 MOMENTS = 10  # compared of each run
 SEEDS = "0 5"  # of the random sessions: the first, and how many
@@ -51,8 +51,9 @@ STATE = """(processor, first) => {
       : [...document.querySelectorAll("#watches .list div")].map((line) => `W ${line.firstChild.textContent.trim()}`),
     window: [...document.querySelectorAll("#cells tbody button")].map((button) => button.textContent),
     cells: [...film.numbers.subarray(0, 40960)].flatMap((word, at) => (word ? [[at, word]] : [])),
-    central: film.central.map((address) => [address, textAt(placeNamed(`C ${address.toString(8)}`))])
-      .filter(([, word]) => /[1-7]/.test(word)).sort(([one], [other]) => one - other),
+    central: range(layout.size)
+      .filter((address) => [layout.central + address, upperOf(layout.central + address)].some((at) => film.numbers[at]))
+      .map((address) => [address, textAt(placeNamed(`C ${address.toString(8)}`))]),
   };
 }"""
 
@@ -122,34 +123,18 @@ def chosen_moments(choose, words, lines):
 
 
 class Walk(PageCase):
-
-    needs_browser = False  # what is kept in the films is compared without one
-
     def walk(self, name, options, lines):
-        """Compares the film of a run, and its page where there is a browser, with the dumps."""
+        """Compares the page of a run with the dumps."""
         choose = random.Random(name)
         words = [program(), *(os.path.join(TOP, word) if "/" in word else word for word in options)]
         windows, states, total, status = chosen_moments(choose, words, lines)
         path = self.film(*options, script="".join(f"{line}\n" for line in lines), status=status)
-        with open(path, encoding="utf-8") as file:
-            self.compare_numbers(file.read(), states, total)
-        if self.browser:
-            self.compare_page(choose, path, windows, states, total)
-
-    def compare_numbers(self, page, states, total):
-        got, count = numbers_at(page, states)
-        self.assertEqual(total, count, "how many moments")
-        for moment, wanted in states.items():
-            with self.subTest(moment=f"{moment:o}", part="as it is kept"):
-                numbers = got[moment]
-                self.assertEqual(wanted["cells"], [[at, word] for at, word in enumerate(numbers[:0o10000 * 10]) if word])
-                registers = [[int(word, 8) for word in line.split()[3:10:2]] for line in wanted["processors"]]
-                first = about(page)["layout"]["registers"]
-                self.assertEqual(sum(registers, []), numbers[first:first + 40])
+        self.compare_page(choose, path, windows, states, total)
 
     def compare_page(self, choose, path, windows, states, total):
         """Walks the page to and fro, and compares what it shows."""
         self.browser.open(path)
+        self.assertEqual(total, self.value("film.count"), "how many moments")
         self.assertEqual([], self.value(f"({WAITED_WRONGLY})()"), "turns that wait")
         moments = list(states)
         choose.shuffle(moments)

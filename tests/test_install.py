@@ -4,14 +4,36 @@ import functools
 import os
 import re
 import shutil
+import sys
 import unittest
 
 from tests.installing import (
     ANSWERED, INSTALL, OWN, PAGES, InstallCase, alone, below, checkout, commit, installation, lasting_room, lost_links)
 from tests.support import TOOLS, Done, program, read, write
 
-ARCHIVE = f"pp6600-{read('VERSION').strip()}-x86_64-linux.tar.gz"
+from pp6600.engine.choice import NAMES
+from pp6600.shell.installation import LIBRARIES, PAGE_MODULE
+
+ARCHIVE = f"pp6600-{read('VERSION').strip()}-linux.tar.gz"
+# The programs and libraries beside the program itself.
+OTHERS = {name for names in (*NAMES.values(), *LIBRARIES.values()) for name in names} - {"pp6600"} | {PAGE_MODULE}
 ADVICE = ": put this folder on the path; see man pp6600\n"
+
+
+def without_others(paths):
+    """Returns paths without those of the programs that the installation of the tests does not have."""
+    return {path: mode for path, mode in paths.items() if os.path.basename(path) not in OTHERS}
+
+
+def bare_path(case):
+    """Returns a folder with the commands of busybox alone, and Python; without busybox, with those that are needed."""
+    folder = case.path("bare")
+    busybox = shutil.which("busybox")
+    os.makedirs(folder)
+    for name in ("sh", "uname", "find", "sort", "sha256sum", "head", "stat", "cat", "mv", "env", "readlink"):
+        os.symlink(busybox or shutil.which(name), f"{folder}/{name}")
+    os.symlink(sys.executable, f"{folder}/python3")
+    return folder
 
 
 @functools.lru_cache(maxsize=None)
@@ -45,8 +67,11 @@ class Installed(InstallCase):
         there = below(self.prefix)
         self.assertEqual({"0o755", "0o644"}, {mode for mode in there.values() if mode.startswith("0o")}, "all may read it")
         for name in ("pp6600", *(f"pp6600-{name}" for name in TOOLS)):
-            for path in (f"bin/{name}", f"share/man/man1/{name}.1.gz", f"share/bash-completion/completions/{name}"):
+            for path in (f"bin/{name}", f"share/man/man1/{name}.1.gz", f"share/bash-completion/completions/{name}",
+                         f"share/fish/vendor_completions.d/{name}.fish"):
                 self.assertIn(path, there)
+        for path in ("README.md", "docs/CONSOLE.md", "examples/README.md"):
+            self.assertTrue(os.path.exists(f"{self.prefix}/share/doc/pp6600/{path}"), path)
         for path in ("docs/CONSOLE.md", "docs/card.html", "docs/drawings/session.svg", "examples/clock/script", "exercises/grade",
                      "share/editors/kate/dap.json", "share/editors/vscode/package.json"):
             self.assertIn(f"{PAGES}/{path}", there)
@@ -64,6 +89,29 @@ class Installed(InstallCase):
                 complete -p {words[0]} >/dev/null"""
             with self.subTest(words):
                 self.assertEqual((f"{wanted}\n", "", 0), alone("bash", "-c", script))
+
+    def test_completion_of_other_shells(self):
+        """What zsh and fish propose: the options that --help prints, and the values of options."""
+        path = f"PATH={self.prefix}/bin:$PATH"
+        if shutil.which("fish"):
+            folder = f"{self.prefix}/share/fish/vendor_completions.d"
+            for words, wanted in (("pp6600 --pa", "--panel"), ("pp6600 --central 3", "32"), ("pp6600-trace --pro", "--processor\n--program")):
+                done = alone("fish", "-c", f"set {path.replace('=', ' ').replace(':', ' ')}; source {folder}/{words.split()[0]}.fish; complete -C '{words}'")
+                self.assertEqual((wanted, 0), ("\n".join(line.split("\t")[0] for line in done.out.splitlines()), done.status), words)
+        if shutil.which("zsh"):
+            functions = f"{self.prefix}/share/zsh/site-functions"
+            text = f"{path}; fpath=({functions} $fpath); autoload -Uz compinit; compinit -u -d {self.path('dump')}; print $_comps[pp6600] $_patcomps[pp6600-*]"
+            self.assertEqual(("_pp6600 _pp6600\n", 0), alone("zsh", "-f", "-c", text, env={"HOME": self.folder})[::2])
+
+    def test_in_a_bare_system(self):
+        """With the commands of busybox and Python, into a folder and out again."""
+        prefix, bare = self.path("prefix"), bare_path(self)
+        done = alone(sys.executable, INSTALL, "--program", program(), prefix, env={"PATH": bare})
+        self.assertEqual((f"install: pp6600 is in {prefix}/bin{ADVICE}", "", 0), done)
+        self.assertEqual(below(self.prefix), below(prefix))
+        self.assertEqual(ANSWERED, alone(f"{prefix}/bin/pp6600", script="STEP 12\n", env={"PATH": bare}))
+        self.assertEqual(0, alone(f"{prefix}/{OWN}/install", "--uninstall", prefix, env={"PATH": bare}).status)
+        self.assertEqual({}, below(prefix))
 
     def test_uninstall(self):
         """What was installed is taken away, with what Python has compiled; what else is there stays."""
@@ -86,7 +134,8 @@ class Installed(InstallCase):
         write(f"{prefix}/{OWN}/pp6600", "#!/bin/sh\nexit 1\n", 0o755)
         self.assertEqual(("TURNS 12 SLOT 00\n", said, 0), alone(f"{prefix}/bin/pp6600", script="STEP 12\n"))
         self.assertEqual(("TURNS 12 SLOT 00\n", "", 0), alone(f"{prefix}/bin/pp6600-python", script="STEP 12\n"))
-        self.assertEqual(("> STEP 12\nTURNS 12 SLOT 00\n", said, 0), alone(f"{prefix}/bin/pp6600-show", script="STEP 12\n"))
+        said_by_tools = said.replace("the proved program does not start here", "there is no library of the proved program for this machine")
+        self.assertEqual(("> STEP 12\nTURNS 12 SLOT 00\n", said_by_tools, 0), alone(f"{prefix}/bin/pp6600-show", script="STEP 12\n"))
         exercises = f"{prefix}/{PAGES}/exercises"
         done = alone(f"{exercises}/check-exercise", "first-program", f"{exercises}/first-program/solution")
         self.assertEqual(("first-program: solved\n", said, 0), done)
@@ -114,10 +163,10 @@ class Made(InstallCase):
 
     def test_make(self):
         top, stage = original(), self.path("a stage")
-        self.assertEqual((f"{top}/dist/pp6600\ndist\n", "", 0), alone("make", cwd=top))
+        self.assertEqual(("dist dist/pp6600\n", "", 0), alone("make", cwd=top))
         self.assertEqual((f"install: pp6600 is in {stage}/usr/bin; see man pp6600\n", "", 0),
                          alone("make", "install", f"DESTDIR={stage}", "PREFIX=/usr", cwd=top))
-        self.assertEqual(below(installation()), below(f"{stage}/usr"))
+        self.assertEqual(below(installation()), without_others(below(f"{stage}/usr")))
         self.assertEqual(ANSWERED, alone(f"{stage}/usr/bin/pp6600", script="STEP 12\n"))
         self.assertEqual(0, alone("make", "uninstall", f"DESTDIR={stage}", "PREFIX=/usr", cwd=top).status)
         self.assertEqual(["usr"], list(below(stage)))
@@ -145,8 +194,17 @@ class Release(InstallCase):
     def test_not_committed(self):
         write(f"{self.top}/docs/NEW.md")
         self.check_refused(alone("share/release", cwd=self.top), "docs/NEW.md")
+
+    def test_git_says_why(self):
+        """What hinders git is said in its own words."""
+        write(f"{self.top}/.git/HEAD", "nonsense\n")
+        self.check_refused(alone("share/release", cwd=self.top), "fatal: not a git repository")
+
+    def test_without_git(self):
+        """What was unpacked without a checkout makes the same bytes."""
         shutil.rmtree(f"{self.top}/.git")
-        self.assertIn("no checkout of git", alone("share/release", cwd=self.top).err)
+        self.assertEqual(0, alone("share/release", "made", cwd=self.top, env={"PATH": bare_path(self)}).status)
+        self.assertEqual(Done("", "", 0), alone("cmp", archive(), f"{self.top}/made/{ARCHIVE}"))
 
     def test_another_program_or_source(self):
         """Neither is packed, installed or measured."""
@@ -192,8 +250,9 @@ class Unpacked(InstallCase):
     def test_install(self):
         prefix = self.path("prefix")
         self.assertEqual(0, alone("./install", prefix, cwd=self.top).status)
-        self.assertEqual(below(installation()), below(prefix))
-        self.assertEqual(Done("", "", 0), alone("diff", "-r", prefix, installation()))
+        self.assertEqual(below(installation()), without_others(below(prefix)))
+        left_out = [f"--exclude={name}" for name in ("installed", *OTHERS)]
+        self.assertEqual(Done("", "", 0), alone("diff", "-r", *left_out, prefix, installation()))
         self.assertEqual(0, alone("./install", "--uninstall", prefix, cwd=self.top).status)
         self.assertEqual({}, below(prefix))
 

@@ -1,8 +1,9 @@
-"""What ./pp6600 adds at a terminal, in the repository of tests/launched. tests/sessions/launcher.txt has what it does elsewhere, the
-choice of the build that it runs, ./prove and ./check."""
+"""What ./pp6600 adds at a terminal, in the repository of tests/launched, and pp6600.cmd under Wine. tests/sessions/launcher.txt and
+launcher-elsewhere.txt have what it does elsewhere, the choice of the build that it runs, ./prove and ./check."""
 
 import os
 import shutil
+import subprocess
 import unittest
 
 from tests.support import TOP, Case, program, run
@@ -35,6 +36,16 @@ class AtTerminal(Case):
         self.assertNotIn("> ", shown)
         self.assertLessEqual(max(map(len, shown.split("\r\n"))), 80)
 
+    def test_folder_whose_name_is_no_text(self):
+        """The proved program runs in a folder whose name is not UTF-8."""
+        folder = os.fsencode(self.path("odd")) + b"\xff"
+        os.rename(self.path("repository"), folder)
+        odd = subprocess.run([b"\xff", "--help"], executable=program(), capture_output=True, check=False)
+        if odd.returncode:
+            self.skipTest("this build of the program looks at its name")
+        done = subprocess.run([os.path.join(folder, b"pp6600")], input=b"STEP 12\n", capture_output=True, check=False)
+        self.assertEqual((b"TURNS 12 SLOT 00\n", b""), (done.stdout, done.stderr))
+
     def test_words_that_are_not_accepted(self):
         self.assertEqual(("pp6600: CANNOT OPEN DECK\r\n", 2), self.at_terminal(words=["--deck", "none"]))
 
@@ -49,3 +60,17 @@ class AtTerminal(Case):
         empty = self.room()
         shown, _ = self.at_terminal(("> ", "STEP 12\r"), ("TURNS 12", "\x04"), path=["/usr/bin", "/bin"], home=False, folder=empty)
         self.assertEqual((True, False, []), ("TURNS 12" in shown, "warning" in shown, os.listdir(empty)))
+
+
+@unittest.skipUnless(shutil.which("wine") and os.path.exists(os.path.join(TOP, "dist", "pp6600.exe")), "there is no Wine or no dist/pp6600.exe here")
+class OnWindows(Case):
+    def command(self, top, *words, script=""):
+        """Runs pp6600.cmd of a folder, from another one."""
+        path = f"Z:{os.path.join(top, 'pp6600.cmd')}".replace("/", "\\")
+        done = run("wine", "cmd", "/c", path, *words, script=script, cwd=self.folder, env={"WINEPREFIX": self.path("wine"), "WINEDEBUG": "-all"})
+        return done.out.replace("\r", ""), done.err.replace("\r", "").splitlines()[-1:], done.status
+
+    def test_command(self):
+        self.command(TOP, "--help")  # makes the folder of Wine
+        self.assertEqual(("TURNS 12 SLOT 00\nERR 01 NOT A COMMAND\n", [], 1), self.command(TOP, script="STEP 12\nGO\n"))
+        self.assertEqual(("", ["pp6600: BAD ARGUMENTS"], 2), self.command(TOP, "--history", "0"))

@@ -1,14 +1,73 @@
-"""Printed listings of other assemblers, beside tests/sessions/printed-listings.txt, where each is read by hand."""
+"""Printed listings of other assemblers, beside tests/sessions/printed-listings.txt, where each is read by hand.
 
+    PP6600_ERRORS=SEED:COUNT   makes COUNT errors of each kind from seed SEED on (decimal)
+"""
+
+import glob
+import os
 import random
 import re
+import time
 
-from .support import Case, read
+from .support import TOP, Case, read
 
 from pp6600.failure import Failure
-from pp6600.listing import Symbols
+from pp6600.language.listing import Listing, Symbols
+from pp6600.language.source.forms import lines_of
+from pp6600.language.source.passes import assembled
 
 LISTINGS = [text.splitlines() for text in re.findall("<<END\n(.*?)^END$", read("tests", "sessions", "printed-listings.txt"), re.M | re.S)]
+SEED, COUNT = map(int, os.environ.get("PP6600_ERRORS", "70:150").split(":"))
+WORDS_OF_LINE = 2
+PAGE = 20  # lines
+
+
+def sources():
+    """Returns the lines of each source of the repository that can be assembled by itself."""
+    paths = sorted([*glob.glob(f"{TOP}/tests/programs/*.pp"), *glob.glob(f"{TOP}/ex*/**/*.pp", recursive=True)])
+    return [read(path).splitlines() for path in paths]
+
+
+def rows_of(source):
+    """Yields the address, the words, the number that is named and the text of each line of a listing of a source."""
+    for row in assembled(source).rows:
+        named = "" if row.value is None or row.is_set or not 0 <= row.value < 0o10000 else f"{row.value:04o}"
+        address = f"{row.location:04o}" if row.has_address else named
+        words = [f"{word:04o}" for word in row.words]
+        yield address, words[:WORDS_OF_LINE], row.line.text
+        for at in range(WORDS_OF_LINE, len(words), WORDS_OF_LINE):
+            yield f"{row.location + at:04o}", words[at:at + WORDS_OF_LINE], ""
+
+
+def numbered(source):
+    """With the number of each line before it."""
+    return [f"{number:5}   {address:4}  {' '.join(words):9} {text}".rstrip()
+            for number, (address, words, text) in enumerate(rows_of(source), 1)]
+
+
+def paged(source):
+    """With a column that moves the printer's paper, addresses without the zeros before them, and heads of pages."""
+    found = []
+    for number, (address, words, text) in enumerate(rows_of(source)):
+        if number % PAGE == 0:
+            found.append(f"1          PROGRAM               12 MARCH 1971     PAGE   {number // PAGE + 1}")
+        found.append(f"     {address.lstrip('0') or address[-1:]:>4}  {' '.join(words):9}   {text}".rstrip())
+    return found
+
+
+def sequenced(source):
+    """With sequence numbers at the right."""
+    return [f"{address:4}  {' '.join(words):11}  {text:50} DECK {number:5}" for number, (address, words, text) in enumerate(rows_of(source), 1)]
+
+
+def own(source):
+    return lines_of(assembled(source), "listing", 0)
+
+
+STYLES = (numbered, paged, sequenced, own)
+ERRORS = {"a digit lost": lambda line, at: f"{line[:at]} {line[at + 1:]}", "a digit deleted": lambda line, at: line[:at] + line[at + 1:],
+          "a letter": lambda line, at: f"{line[:at]}{'OISBZG'[at % 6]}{line[at + 1:]}",
+          "a point": lambda line, at: f"{line[:at]}.{line[at + 1:]}"}
 
 
 class Listings(Case):
@@ -31,3 +90,67 @@ class Listings(Case):
                 Symbols(lines).lines()
             except Failure as failure:
                 self.assertIn("(decimal)", str(failure))
+
+
+class Errors(Case):
+    """A listing in which one sign was read wrongly is refused, or has the same words."""
+
+    @staticmethod
+    def words(lines):
+        return {address: word for address, (word, _) in Listing(lines).cells.items()}
+
+    @classmethod
+    def good(cls):
+        """Returns listings in each style, with their words, which are those of the source."""
+        found = []
+        for source in sources():
+            wanted = {address: f"{cell.word:04o}" for address, cell in assembled(source).cells.items()}
+            found += [(style(source), wanted) for style in STYLES]
+        return found
+
+    def test_right(self):
+        for lines, wanted in self.good():
+            self.assertEqual(wanted, self.words(lines), "\n".join(lines))
+
+    def test_one_error(self):
+        good, choose, refused = [lines for lines in self.good() if len(lines[0]) > 5], random.Random(SEED), 0
+        for kind, change in ERRORS.items():
+            for _ in range(COUNT):
+                lines, wanted = choose.choice(good)
+                number, at = self.place(lines, choose)
+                changed = [*lines[:number], change(lines[number], at), *lines[number + 1:]]
+                with self.subTest(kind, line=lines[number], changed=changed[number]):
+                    try:
+                        self.assertEqual(wanted, self.words(changed))
+                    except Failure:
+                        refused += 1
+        self.assertGreater(refused, COUNT * len(ERRORS) // 2)
+
+    @staticmethod
+    def place(lines, choose):
+        """Returns a line and the column of a digit of it, mostly one of the columns of numbers."""
+        while True:
+            number = choose.randrange(len(lines))
+            digits = [found.start() for found in re.finditer("[0-9]", lines[number][:choose.choice((24, 24, 24, 90))])]
+            if digits:
+                return number, choose.choice(digits)
+
+    def test_another_digit(self):
+        """Another digit in a word is found if the operand says what it is: here each does but the second word of the SUBR's jump."""
+        lines = own(["          BASE   OCTAL", " N        EQU    20", "          ORG    100", " A        LDN    N", "          LDC    123456",
+                     "          LDM    B,5", "          UJN    A", " B        CON    1,B", "          DATA   3HABC", "          SHN    -6"])
+        for number, line in enumerate(lines):
+            for at in (at for at, symbol in enumerate(line[11:20], 11) if symbol in "01234567"):
+                changed = f"{line[:at]}{int(line[at]) ^ 1}{line[at + 1:]}"
+                with self.subTest(changed):
+                    self.assertRaises(Failure, Listing, [*lines[:number], changed, *lines[number + 1:]])
+
+    def test_speed(self):
+        """A listing of 5,000 lines is read in 5 seconds of this process."""
+        source = ["          BASE   OCTAL", "          ORG    100"]
+        source += [" A{0:<8}LDN    {1:o}".format(number, number % 64) if number % 5 else f"          LJM    A{number + 1}"
+                   for number in range(1, 3000)]
+        source += [f"*         NOTE {number}" for number in range(2000)]
+        lines, began = own(source[:5000]), time.process_time()
+        self.assertGreater(len(self.words(lines)), 3000)
+        self.assertLess(time.process_time() - began, 5)

@@ -86,11 +86,12 @@ class ManualPages(InstallCase):
 
 
 class Version(InstallCase):
-    """VERSION moves with CHANGELOG.md, and is on the manual pages."""
+    """VERSION moves with CHANGELOG.md and CITATION.cff, and is on the manual pages."""
 
     def test_newest(self):
         version, date = re.search(r"^## (\S+) - (\d{4}-\d\d-\d\d)$", read("CHANGELOG.md"), flags=re.M).groups()
         self.assertEqual(f"{version}\n", read("VERSION"))
+        self.assertIn(f"version: {version}\ndate-released: {date}\n", read("CITATION.cff"))
         first = alone(os.path.join(TOP, "share", "manual"), "--print").out.splitlines()[0]
         self.assertEqual(f'.TH PP6600 1 "{date}" "pp6600 {version}" "User Commands"', first)
 

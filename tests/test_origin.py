@@ -12,10 +12,10 @@ from tests import tagged
 from tests.generator import Maker
 from tests.support import Case, names_of_codes, read, tool, write
 
-from pp6600.simulation.console import Rejected, reject_if
-from pp6600.simulation.devices import READING
-from pp6600.simulation.places import PAPER_LENGTH
-from pp6600.simulation.program import console_of, read_words
+from pp6600.engine.plain.console import Rejected, reject_if
+from pp6600.engine.plain.devices import READING
+from pp6600.engine.plain.places import PAPER_LENGTH
+from pp6600.engine.plain.program import console_of, read_words
 
 KINDS = {"frame": "XP", "paper": "LP"}  # places that have another name
 LINE = re.compile(r' *(M [0-7]+ [0-7]+|\w+ [0-7]+) (?:([0-7]+)|"."|LINE END|\.\.)(?: TURN ([0-7]+))? (.*?)(?:, NOW [0-7]+)?$')

@@ -15,7 +15,7 @@ import sys
 
 from tests.support import TOP, Case, blocks, read
 
-PLACES = ("*.md", "docs/*.md", "crates/*/README.md", "examples/*.md", "exercises/*.md", "bench/*.md", "share/*.md")
+PLACES = ("*.md", "docs/*.md", "crates/*/README.md", "targets/*.md", "examples/*.md", "exercises/*.md", "bench/*.md", "share/*.md")
 PAGES = sorted(os.path.relpath(path, TOP) for place in PLACES for path in glob.glob(os.path.join(TOP, place)))
 PROOFS = runpy.run_path(os.path.join(TOP, "docs", "proofs.py"))
 CONTRACTS = PROOFS["contracts"]()
@@ -25,7 +25,8 @@ CRATES = [line.split(":")[0].split()[0] for line in read("crates.txt").splitline
 OTHERS = set("""ci crate doc lemma logic plant version specs proofs ghost prove inline auto using unfolding clause functions proof failed
     --anew --allow-holes --fix-imports --only --start --test Display Read Write File cd echo cp gz python3 tar zip Ctrl Shift Tab
     End Home WORD FILE FILE.html FUNCTION word /usr/local ~/.local ~/.pp6600_history PREFIX/bin PREFIX/libexec/pp6600/tools
-    share/pp6600/exercises pp6600-VERSION-x86_64-linux.tar.gz work.html
+    share/pp6600/exercises pp6600-VERSION-linux.tar.gz work.html
+    wasm-opt BigInt XNAME SNAME OP /Q/NAME
     WHO Who slot_text kept_text must-fail/who_shows_p.edit pp_console/who_shows_p""".split())
 COMMENT_OR_TEXT = re.compile(r'//[^\n]*|--[^\n]*|b?("(?:\\.|[^"\\])*")')
 OF_A_PROGRAM = re.compile(r"--?[a-z][a-z-]*|\b[A-Z][A-Z\d_]*\b|(?<=[\"'])\w+(?=[\"'])|(?<=def )\w+|(?<=class )\w+")
@@ -172,7 +173,7 @@ class Pages(Case):
         """The table of docs/ARCHITECTURE.md has the crates of crates.txt, each with those that it uses."""
         table = read("docs/ARCHITECTURE.md").split("| Crate |")[1].split("\n\n")[0]
         rows = [line.split("|") for line in table.splitlines() if line.startswith("| `")]
-        listed = {crate: set(uses.split()) for crate, _, uses in (line.partition(":") for line in read("crates.txt").splitlines())}
+        listed = {crate.split()[0]: set(uses.split()) for crate, _, uses in (line.partition(":") for line in read("crates.txt").splitlines())}
         self.assertEqual(listed, {row[1].strip(" `"): set(re.findall(r"`([^`]+)`", row[3])) for row in rows})
 
     def test_what_scripts_make(self):

@@ -1,5 +1,5 @@
 """What the panel shows of a state, without a terminal. The states are those of the simulator in Python after sessions of
-README.md, docs/TUTORIAL-2.md and docs/CONSOLE.md, and what else docs/HOWTO.md and docs/MACHINE.md say."""
+README.md, docs/TUTORIAL-2.md and docs/CONSOLE.md, and what else docs/TOOLS.md and docs/MACHINE.md say."""
 
 import os
 import re
@@ -7,14 +7,14 @@ import re
 from tests.fixtures import BLOCKS_GO_ON, COMPLETES
 from tests.support import EXAMPLES, Case, blocks
 
-from pp6600.core.state import State, questions
-from pp6600.panel.screen import Shown, layout, screen, small_screen
-from pp6600.panel.text import CHANGED, CURSOR, REFUSED
-from pp6600.panel.view import View, memory_top
-from pp6600.simulation.console import SYMBOLS, Console
-from pp6600.simulation.machine import Machine
-from pp6600.simulation.places import CLOCK, EMPTY, PAPER, PAPER_LENGTH, PHASE, SLOT, STATE, WATCHES, A, C, P, place_of
-from pp6600.simulation.program import console_of, read_words
+from pp6600.run.state import State, questions
+from pp6600.front.panel.screen import Shown, layout, screen, small_screen
+from pp6600.front.panel.text import CHANGED, CURSOR, REFUSED
+from pp6600.front.panel.view import View, memory_top
+from pp6600.engine.plain.console import SYMBOLS, Console
+from pp6600.engine.plain.machine import Machine
+from pp6600.engine.plain.places import CLOCK, EMPTY, PAPER, PAPER_LENGTH, PHASE, SLOT, STATE, WATCHES, A, C, P, place_of
+from pp6600.engine.plain.program import console_of, read_words
 
 
 def console_at(page, first, last):
@@ -90,7 +90,7 @@ class WholeScreen(Case):
         self.assertEqual("", texts(shown_of(state_of(machine)))[2][40:54].strip(), "PP 00 goes on")
 
     def test_each_wait(self):
-        """docs/HOWTO.md and docs/MACHINE.md: in which states each instruction waits, and for what."""
+        """docs/TOOLS.md and docs/MACHINE.md: in which states each instruction waits, and for what."""
         cases = [(f"{code:o}", f"{code:o}03" if of_block else "0000", letter, "" if letter in completes else f"03 {name}")
                  for of_block, table in enumerate((COMPLETES, BLOCKS_GO_ON))
                  for code, (completes, name) in table.items() for letter in "IEFX"]

@@ -1,11 +1,11 @@
-"""Devices in the panel: their pictures and keys, and runs with them. Expected values are those of docs/DEVICES.md and docs/PANEL.md."""
+"""Devices in the panel: their pictures and keys, and runs with them. Expected values are those of docs/PYTHON.md and docs/PANEL.md."""
 
 from tests.fixtures import COUNTS, DISPLAYS, FAILS, READS
 from tests.panels import PanelCase, bottom, press
 from tests.support import program, read
 
 from pp6600 import Console
-from pp6600.device_options import device_of
+from pp6600.shell.device_options import device_of
 from pp6600.devices.console_display import ConsoleDisplay
 from pp6600.devices.magnetic_tape import MagneticTape
 from pp6600.devices.paper_tape import PaperTape
@@ -103,7 +103,7 @@ class Runs(PanelCase):
         press(panel, "<Down><Enter>")  # to before the turn of the reply
         self.assertEqual((0o50, "0000", 1), self.at(panel)[:3])
         self.assertEqual("NONE: P 0 = 77, in turns 51 to 200", bottom(panel, "uP 0 = 77<Enter>"))
-        self.assertEqual("the next turn, PP 00 in the block of IAM 11 at 0104, makes the change", bottom(panel, ">gH 11<Enter>W"))
+        self.assertEqual("the next turn, PP 00 in IAM 11 at 0104, makes the change", bottom(panel, ">gH 11<Enter>W"))
         self.assertEqual((0o50, "0000", 1), self.at(panel)[:3])
 
     def test_a_device_fails(self):

@@ -8,7 +8,7 @@ from tests.fixtures import DECK, LOADER, OVERWRITTEN
 from tests.panels import PanelCase, bottom, press
 from tests.support import EXAMPLES, TOP, blocks, read, tool
 
-from pp6600.panel import text
+from pp6600.front.panel import text
 
 LOOP = os.path.join(EXAMPLES, "loop", "loop.pp")
 MOVER, MONITOR = (os.path.join(TOP, "tests", "programs", f"{name}.pp") for name in ("mover", "monitor"))
@@ -66,6 +66,16 @@ class Pane(SourceCase):
                           ">0107 0100 0060   11           LJM    PROGRAM"], rows(press(panel, "404G405G")))
         self.assertEqual(["was loader.pp:10"], panel.screen().lines[16].marked(text.OVERWRITTEN))
         self.assertIn(">0106 7512*       10           DCN    CR", rows(press(panel, "b")))
+
+    def test_culprit(self):
+        """At each size the line of the culprit is above the cursor, and the last line of the screen ends with it."""
+        for size in (80, 24), (80, 40), (100, 30), (120, 30), (160, 50):
+            panel = self.loader(size=size)
+            got = rows(press(panel, "g106<Enter>W"), 52)
+            at = next(number for number, line in enumerate(got) if line.startswith(">0106 7512"))
+            with self.subTest(size):
+                self.assertEqual(" 0105 0026       PSN 26          was loader.pp:9", got[at - 1])
+                self.assertEqual("the next turn, PP 00 in IAM 12 at 0104, changes M 0 106 from 7512; loader.pp:9", bottom(panel))
 
     def test_second_word(self):
         """RJM puts the return address into the second word of the subroutine's exit, a line that the macro SUBR made."""
@@ -189,6 +199,19 @@ class Keys(SourceCase):
                         ("P 0", f">P 00 0100 TURN 0 FROM {LOADER}:12, NOW 0104"),
                         ("A 0", ">A 00 000077 TURN 25 PP 00 AT 0103 START+3 LDN 77 CONSTANT 77  "
                          f"{LOADER}:8: LDN    77          SHOULD BE 20"))
+
+
+class Calls(SourceCase):
+    def test_calls(self):
+        """After turn 51 PP 00 is in DOWN, called in turn 25; after turn 75 in none. PP 01 has no source."""
+        lines = press(self.counter("STEP 51\n"), "r")
+        self.assertEqual(["The subroutines that PP 00 is in", "DOWN called from LOOP, turn 25"], [line.strip() for line in lines[:2]])
+        self.assertIn("none that was called", press(self.counter("STEP 75\n"), "r")[1])
+
+    def test_names_in_typed_lines(self):
+        panel = self.counter("STEP 1\n")
+        press(panel, ":SET M 0 COUNT 5<Enter>")
+        self.assertEqual(("SET M 0 20 5", ["OK"]), tuple(panel.session.log[-1]))
 
 
 class Lines(SourceCase):

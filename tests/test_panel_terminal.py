@@ -174,23 +174,6 @@ class Keys(TerminalCase):
 class Failures(TerminalCase):
     """One line and status 2."""
 
-    def test_killed_simulator(self):
-        saved, pid = self.path("saved"), self.path("pid")
-        wrapper = write(self.path("simulator"), f"#!/bin/bash\necho $$ >{pid}\nexec {PROGRAM} \"$@\"\n", 0o755)
-        terminal = self.terminal([*TOOL, "--program", wrapper])
-        terminal.shows("q quit")
-        terminal.type("s")
-        terminal.shows("> STEP ")
-        os.kill(int(read(pid)), signal.SIGKILL)
-        terminal.type("s")
-        self.assert_shows(terminal, "ended early, by signal 9")
-        terminal.type(f"w{saved}\r")
-        self.assert_shows(terminal, "saved in")
-        self.assertEqual("STEP", read(saved).splitlines()[1])
-        terminal.type("q")
-        self.assertEqual(2, terminal.status())
-        self.assertEqual(1, sum("panel: the simulator ended early, by signal 9" in line for line in terminal.screen.text()))
-
     def test_one_line(self):
         without = os.path.dirname(self.file("raise ImportError\n", "curses.py"))
         for words, environment, wanted in (

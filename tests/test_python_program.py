@@ -3,23 +3,27 @@
     PP6600_PYTHON=SEED:COUNT   compares COUNT random sessions from seed SEED on; the default is 0:40
 
 Here it is a program of its own, with the system's files, streams and statuses. tests/test_random.py compares more sessions in one
-process. Not tried: standard input that is a folder, with which Python itself does not start.
+process.
 """
 
+import contextlib
+import itertools
 import os
 import re
 import shutil
+import signal
 import subprocess
 import sys
 
 from tests import slips
 from tests.fixtures import sessions
 from tests.generator import Maker, commands
-from tests.support import EXAMPLES, PATIENCE, TOP, Case, add_tests, program, read, run
+from tests.support import EXAMPLES, PATIENCE, TOP, Case, add_tests, program, read, run, write
+from tests.test_program import writer
 from tests.ways import CaseFolders, cases
 
 PYTHON_PROGRAM = os.path.join(TOP, "pp6600-python")
-BY_PATH = os.path.join(TOP, "tools", "pp6600", "simulation", "__main__.py")
+BY_PATH = os.path.join(TOP, "tools", "pp6600", "engine", "plain", "__main__.py")
 
 
 class Cases(CaseFolders):
@@ -31,6 +35,60 @@ class Cases(CaseFolders):
 
 add_tests(Cases, Cases.check_python, cases(os.path.join(TOP, "tests", "cases")))
 add_tests(Cases, Cases.check_python, [(f"example_{name}", case) for name, case in cases(EXAMPLES)])
+
+
+@contextlib.contextmanager
+def pipe(data=b"", blocking=True, lasts=True):
+    """Yields the end to read of a pipe with some bytes, and the other end if it lasts; a read may not wait."""
+    reader, end = os.pipe()
+    os.write(end, data)
+    os.set_blocking(reader, blocking)
+    if not lasts:
+        os.close(end)
+    yield reader
+    os.close(reader)
+    if lasts:
+        os.close(end)
+
+
+@contextlib.contextmanager
+def full_pipe():
+    """Yields the end to write of a pipe without room, at which a write does not wait."""
+    reader, end = os.pipe()
+    os.set_blocking(end, False)
+    with contextlib.suppress(BlockingIOError):
+        while True:
+            os.write(end, b"*" * 4096)
+    yield end
+    os.close(reader)
+    os.close(end)
+
+
+@contextlib.contextmanager
+def broken_pipe():
+    """Yields the end to write of a pipe that nobody reads."""
+    reader, end = os.pipe()
+    os.close(reader)
+    yield end
+    os.close(end)
+
+
+@contextlib.contextmanager
+def opened(path, flags):
+    """Yields a file."""
+    file = os.open(path, flags)
+    yield file
+    os.close(file)
+
+
+SOURCES = {
+    "a pipe that ends": lambda: pipe(b"STEP\nGO\nDUMP PP 0", lasts=False), "an empty pipe that ends": lambda: pipe(lasts=False),
+    "no data now": lambda: pipe(blocking=False), "data, and none now": lambda: pipe(b"STEP\nGO\nSTE", blocking=False),
+    "a folder": lambda: opened("/", os.O_RDONLY), "a file to write": lambda: opened("/dev/null", os.O_WRONLY), "closed": None}
+SINKS = {
+    "a file to read": lambda: opened("/dev/null", os.O_RDONLY), "a full device": lambda: opened("/dev/full", os.O_WRONLY),
+    "no room now": full_pipe, "nobody reads": broken_pipe, "closed": None, "read": lambda: contextlib.nullcontext(subprocess.PIPE)}
+OF_FAULTS = (["--help"], ["/"], ["--deck", "/", "/dev/null"], ["--panel", "/dev/full"], ["script"])
 
 
 class Compared(Case):
@@ -64,11 +122,42 @@ class Compared(Case):
         with open("script", "wb") as file:
             file.write(b"SET A 0 1\nDUMP PP 0\n")
         for words in (["--", "script"], ["--", "--help"], ["--", "--"], ["--deck", "--", "script"], ["--deck=", "script"],
-                      ["--help", b"\xff"],
+                      ["--help", b"\xff"], ["-help"], ["-hx"], ["-h="], ["-xh"], ["--help="], ["--history", "-h"],
                       [b"\xff", "--help"], ["script", "--", "script"], ["--history", "0" * 5000 + "7", "script"], ["--history", "9" * 5000],
-                      ["--deck", "/dev/zero", "script"], ["--panel", "/dev/zero", "script"], ["-"], ["--history", "7\n", "script"]):
+                      ["--deck", "/dev/zero", "script"], ["--panel", "/dev/zero", "script"], ["-"], ["--history", "7\n", "script"],
+                      ["-\n"], ["--deck", "-\n"], ["--\n", "script"]):
             with self.subTest(words):
                 self.compare(str(words)[:80], words, "script")
+
+    def fault(self, simulator, source, sink, words):
+        """Runs a simulator with what is odd at its standard input and output; None is nothing there."""
+        closed = [number for number, stream in enumerate((source, sink)) if stream is None]
+        with contextlib.ExitStack() as stack:
+            streams = [stack.enter_context(stream()) if stream else subprocess.DEVNULL for stream in (source, sink)]
+            done = subprocess.run([simulator, *words], stdin=streams[0], stdout=streams[1], stderr=subprocess.PIPE, timeout=PATIENCE,
+                                  preexec_fn=lambda: list(map(os.close, closed)), check=False)
+        return done.stdout, done.stderr, done.returncode
+
+    def test_faults(self):
+        """Streams that fail, at their first byte or later."""
+        write(os.path.join(os.getcwd(), "script"), b"STEP\n" * 3)
+        cases = [*itertools.product(SOURCES, SINKS, [[]]), *(("a folder", sink, words) for sink in ("read", "a full device") for words in OF_FAULTS)]
+        for source, sink, words in cases:
+            with self.subTest(source=source, sink=sink, words=words):
+                wanted, got = (self.fault(simulator, SOURCES[source], SINKS[sink], words) for simulator in (program(), PYTHON_PROGRAM))
+                self.assertEqual(wanted, got)
+        self.assertGreaterEqual(len(cases), 50)
+
+    def test_line_limit(self):
+        """It ends at the first byte after the last line, and does not wait for that line's end."""
+        reader, end = os.pipe()
+        with subprocess.Popen([PYTHON_PROGRAM], stdin=reader, stdout=subprocess.PIPE, stderr=subprocess.PIPE) as process:
+            os.close(reader)
+            with open(end, "wb") as file:
+                file.write(b"\n" * 1000000 + b"S")
+                file.flush()
+                self.assertEqual(3, process.wait(PATIENCE))
+            self.assertEqual((b"", b"pp6600: LINE LIMIT\n"), (process.stdout.read(), process.stderr.read()))
 
     def test_lines_without_end(self):
         """A byte too many, and a line of a million bytes."""
@@ -93,9 +182,22 @@ add_tests(Compared, Compared.check, sessions())
 class Said(Case):
     def test_version(self):
         self.assertEqual((f"pp6600-python {read('VERSION').strip()}: not the proved program\n", "", 0), run(PYTHON_PROGRAM, "--version"))
+        self.assertEqual(("pp6600: WRITE FAILED\n", 3), run("sh", "-c", '"$0" --version >/dev/full', PYTHON_PROGRAM)[1:])
+
+    def test_interrupted_while_it_starts(self):
+        """It ends without a word, here before its package is there."""
+        own = write(self.path("pp6600-python"), read("pp6600-python"), 0o755)
+        os.mkfifo(self.path("fifo"))
+        write(self.path("tools", "pp6600", "__init__.py"), f"open({self.path('fifo')!r}).read()\n")
+        with subprocess.Popen([own], stdin=subprocess.DEVNULL, stderr=subprocess.PIPE,
+                              preexec_fn=lambda: signal.signal(signal.SIGINT, signal.SIG_DFL)) as process:
+            end = writer(self.path("fifo"))
+            process.send_signal(signal.SIGINT)
+            self.assertEqual((b"", -signal.SIGINT), (process.stderr.read(), process.wait(PATIENCE)))
+            os.close(end)
 
     def test_each_way_to_start_it(self):
-        for words in ([PYTHON_PROGRAM], [sys.executable, "-S", "-I", BY_PATH], [sys.executable, "-m", "pp6600.simulation"]):
+        for words in ([PYTHON_PROGRAM], [sys.executable, "-S", "-I", BY_PATH], [sys.executable, "-m", "pp6600.engine.plain"]):
             with self.subTest(words):
                 self.assertEqual(("TURNS 12 SLOT 00\n", "", 0), run(*words, script="STEP 12\n", cwd=os.path.join(TOP, "tools")))
 
@@ -104,11 +206,21 @@ class Said(Case):
         folder = os.path.dirname(BY_PATH)
         for name in sorted(os.listdir(folder)):
             if name.endswith(".py"):
-                self.assertIsNone(re.search(r"from \.\.|pp6600\.(?!simulation)", read(folder, name)), name)
+                self.assertIsNone(re.search(r"from \.\.|pp6600\.(?!engine\.plain)", read(folder, name)), name)
+
+    def test_no_memory(self):
+        """For the machine, or later."""
+        from pp6600.engine.plain.program import run as run_program
+
+        def without_memory(*_):
+            raise MemoryError
+        with open("/dev/null") as script:
+            self.assertEqual((2, "pp6600: NO MEMORY\n"), run_program([], script.fileno(), print, without_memory))
+        self.assertEqual((2, "pp6600: NO MEMORY\n"), run_program([self.file(b"STEP\n")], 0, without_memory))
 
     def test_undo_records_are_small(self):
         """A turn's record has the numbers that it overwrote and no others: of a pass the P of its processor and the slot."""
-        from pp6600.simulation.machine import Machine
+        from pp6600.engine.plain.machine import Machine
         machine = Machine()
         machine.turn()
         self.assertEqual(2, len(machine.history[-1]))

@@ -14,12 +14,12 @@ import sys
 import unittest
 
 from tests.counted import counted, seen
-from tests.generator import WORDS, Maker, Session, commands
+from tests.generator import WORDS, Maker, Session, commands, word_line
 from tests.support import Case, program
 
-from pp6600.simulation.console import FORMS
-from pp6600.simulation.instructions import INSTRUCTIONS
-from pp6600.simulation.program import run as run_python
+from pp6600.engine.plain.console import FORMS
+from pp6600.engine.plain.instructions import INSTRUCTIONS
+from pp6600.engine.plain.program import run as run_python
 
 
 def shrunk(session, differs):
@@ -144,6 +144,13 @@ class RandomSessions(Case):
         for number in range(seed, seed + count):
             self.compare(f'PP6600_RANDOM={number}:1', Maker(number).session())
         self.check_seen([] if 'PP6600_RANDOM' in os.environ else EXPECTED)
+
+    @unittest.skipIf('PP6600_RANDOM' in os.environ, 'only random sessions are asked for')
+    def test_words(self):
+        """Words of the command line, right and wrong, of which all but a few end the program at once."""
+        files = {'deck': b'1', 'panel': b'1 2 3 4 5 6 7 10 11 12 13 14'}
+        for number in range(3000):
+            self.compare(f'words {number}', Session(word_line(number), files, [b'STEP']))
 
     @unittest.skipIf('PP6600_RANDOM' in os.environ, 'only random sessions are asked for')
     def test_limits(self):

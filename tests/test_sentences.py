@@ -7,10 +7,10 @@ import re
 from .support import Case, program
 
 from pp6600 import Console
-from pp6600.disassembly import row_at, rows_from
-from pp6600.core.turn import NAMES, Processor
-from pp6600.core.state import Channel
-from pp6600.sentences import ROWS, sentence
+from pp6600.run.disassembly import row_at, rows_from
+from pp6600.run.turn import NAMES, Processor
+from pp6600.run.state import Channel
+from pp6600.run.sentences import ROWS, sentence
 
 STATES, CELLS, CHANNELS = "IEFX", 0o10000, 12
 

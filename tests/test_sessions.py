@@ -18,7 +18,9 @@ import re
 import shutil
 
 from tests.fixtures import PAGES, sessions
-from tests.support import EXAMPLES, TOP, Case, add_tests, blocks, program, read, run, tool, write
+from tests.support import EXAMPLES, TOP, Case, add_tests, blocks, program, read, run, write
+
+from pp6600 import Console
 
 EXERCISES = [path for path in sorted(glob.glob(os.path.join(TOP, "exercises", "*"))) if os.path.isdir(os.path.join(path, "solution"))]
 
@@ -44,22 +46,27 @@ class Sessions(Case):
         done = run(program(), *words, script="".join(script), cwd=self.folder)
         self.assertEqual("".join(answers), done.out)
         self.assertEqual(("", int(any(line.startswith("ERR ") for line in answers))), done[1:])
-        shown = tool("show", *words, script="".join(script), cwd=self.folder).out.splitlines(keepends=True)
-        self.assertEqual(answers, [line for line in shown if not line.startswith(">")], "tools/show knows each answer")
+        files = [os.path.join(self.folder, word) if os.path.exists(os.path.join(self.folder, word)) else word for word in words]
+        with Console([program(), *files]) as console:
+            asked = [f"{line}\n" for answer in console.ask_each(line.rstrip("\n") for line in script) for line in answer]
+        self.assertEqual(answers, asked, "the tools know each answer")
 
 
 class Commands(Case):
-    """The shell commands of the pages, which a reader types at the top of the repository. None of them writes there."""
+    """The shell commands of the pages, which a reader types at the top of the repository. What they write there git does not see."""
 
     def check(self, block):
         commands, wanted, files = block
         os.symlink(program(), self.path("pp6600"))
         for name in ("examples", "exercises", "tools"):
             os.symlink(os.path.join(TOP, name), self.path(name))
+        there = os.listdir(self.folder)
         for name, text in files.items():
             write(self.path(name), text)
         done = run("bash", "-c", f"exec 2>&1\n{commands}", cwd=self.folder)
         self.assertEqual(wanted, done.out)
+        ignored = [pattern.strip("/") for pattern in read(".gitignore").splitlines()]
+        self.assertEqual([], [name for name in os.listdir(self.folder) if name not in (*there, *ignored)])
 
 
 AT_TERMINAL = """#!/bin/sh

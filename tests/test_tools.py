@@ -4,7 +4,7 @@ import os
 import random
 import re
 
-from tests.fixtures import COMPLETES, WITH_FEW_LINES, at_terminal
+from tests.fixtures import COMPLETES, at_terminal
 from tests.generator import BUSY, JUNK, Maker
 from tests.support import PYTHON, TOOLS, TOP, Case, names_of_codes, program, read, run, tool
 
@@ -88,25 +88,6 @@ class Answers(Case):
                 with self.subTest(seed=seed, count=count):
                     got = tool("trace", *words, "--last", f"{count:o}", script=script).out
                     self.assertEqual(touches[-count:], got.splitlines())
-
-    def test_fresh_simulators(self):
-        """A run that needs more lines than one simulator reads goes on in another one."""
-        for words in ("trace --processor 3", "changes P 3", "until P 3 = 100", "show", "waits", "state --turn 4000", "origin A 0",
-                      "changes --turns 20", "save 0 0 177"):
-            name, *words = words.split()
-            script = busy_script(1) + "SET M 3 7000 1\nSTEP 40000\nSET M 4 7000 1\nSTEP 1750\n"
-            whole = tool(name, *words, *DEVICES, script=script)
-            few = run(*PYTHON, "-c", WITH_FEW_LINES, "20000", os.path.join(TOP, "tools", name), *words, *DEVICES, script=script)
-            with self.subTest(name, words=words):
-                self.assertEqual(whole, few)
-
-    def test_settings_that_nearly_fill_a_simulator(self):
-        script = "".join(f"SET M 0 20 {number % 0o10000:o}\n" for number in range(14000)) + "STEP 5\n"
-        for name, words in (("changes", ["M", "0", "20"]), ("until", ["P", "0", "=", "1"])):
-            few = run(*PYTHON, "-c", WITH_FEW_LINES, "20000", os.path.join(TOP, "tools", name), *words, script=script)
-            with self.subTest(name, words=words):
-                self.assertEqual(tool(name, *words, script=script), few)
-                self.assertEqual("", few.err)
 
     def test_three_forms(self):
         """Words that were loaded from a file of each form are saved as the same file."""

@@ -9,11 +9,17 @@ import unittest
 import zipfile
 
 from tests.installing import InstallCase, alone, checkout, lasting_room, lost_links
-from tests.support import EXAMPLES, TOOLS, Done, blocks, read
+from tests.support import EXAMPLES, TOOLS, TOP, Done, blocks, read
 
 VERSION = read("VERSION").strip()
-PLATFORM, ANY = (f"pp6600-{VERSION}-py3-none-{machine}.whl" for machine in ("manylinux_2_34_x86_64", "any"))
+DIST = os.listdir(os.path.join(TOP, "dist"))
+PLATFORMS = ("manylinux_2_17_x86_64.musllinux_1_1_x86_64" if "pp6600-static" in DIST else "manylinux_2_34_x86_64",
+             *(["manylinux_2_17_aarch64.musllinux_1_1_aarch64"] if "pp6600-aarch64" in DIST else []),
+             *(["win_amd64"] if "pp6600.exe" in DIST else []), "any")
+NAMES = [f"pp6600-{VERSION}-py3-none-{platform}.whl" for platform in PLATFORMS]
+PLATFORM, ANY = NAMES[0], NAMES[-1]
 SAID = "pp6600: the proved program does not start here; this is pp6600-python, which is not proved\n"
+SAID_BY_TOOLS = SAID.replace("the proved program does not start here", "there is no library of the proved program for this machine")
 
 
 @functools.lru_cache(maxsize=None)
@@ -21,7 +27,7 @@ def original():
     """Returns a checkout that no test changes, with its packages in out."""
     top = checkout(os.path.join(lasting_room(), "original"))
     done = alone("make", "wheel", cwd=top)
-    assert done == Done("".join(f"wheel: {top}/out/{name}\n" for name in (PLATFORM, ANY)), "", 0), done
+    assert done == Done("".join(f"wheel: {top}/out/{name}\n" for name in NAMES), "", 0), done
     return top
 
 
@@ -48,8 +54,20 @@ class Wheel(InstallCase):
         top = self.path("another")
         alone("git", "clone", "-q", original(), top, preexec_fn=lambda: os.umask(0o077))
         self.assertEqual(0, alone("share/wheel", "made", cwd=top, env={"TZ": "Asia/Tokyo"}).status)
-        for name in (PLATFORM, ANY):
+        for name in NAMES:
             self.assertEqual(Done("", "", 0), alone("cmp", f"{original()}/out/{name}", f"{top}/made/{name}"))
+            self.assertEqual(Done("", "", 0), alone("sha256sum", "--quiet", "-c", f"{name}.sha256", cwd=f"{top}/made"))
+
+    def test_install_of_a_folder(self):
+        """pip install . of what was unpacked without git has the proved program and the commands."""
+        top, folder = self.path("another"), self.path("environment")
+        alone("git", "clone", "-q", original(), top)
+        shutil.rmtree(f"{top}/.git")
+        subprocess.run([sys.executable, "-m", "venv", folder], check=True)
+        done = alone(f"{folder}/bin/pip", "install", "--quiet", "--no-index", "--disable-pip-version-check", ".", cwd=top)
+        self.assertEqual(0, done.status, done.err)
+        self.assertEqual(("TURNS 12 SLOT 00\n", "", 0), alone(f"{folder}/bin/pp6600", script="STEP 12\n", cwd=self.folder))
+        self.assertEqual(("> STEP 12\nTURNS 12 SLOT 00\n", "", 0), alone(f"{folder}/bin/pp6600-show", script="STEP 12\n", cwd=self.folder))
 
     def test_refused(self):
         top = self.path("another")
@@ -63,7 +81,7 @@ class Wheel(InstallCase):
         for package, said in ((PLATFORM, ""), (ANY, SAID)):
             own = os.path.dirname(environment(package))
             self.assertEqual([], lost_links(f"{own}/share"))
-            for path in ("pp6600/docs/CONSOLE.md", "pp6600/docs/films/handshake.html", "man/man1/pp6600-python.1.gz"):
+            for path in ("pp6600/docs/CONSOLE.md", "pp6600/docs/films/overwritten-loader.html", "man/man1/pp6600-python.1.gz"):
                 self.assertTrue(os.path.exists(f"{own}/share/{path}"), path)
             exercises = f"{own}/share/pp6600/exercises"
             done = alone(f"{own}/bin/python", f"{exercises}/check-exercise", "exchange", f"{exercises}/exchange/solution")
@@ -98,7 +116,7 @@ class Wheel(InstallCase):
             self.assertEqual((wanted.strip(), "", 0), (done.out.strip(), *done[1:]))
 
     def test_tools_and_console(self):
-        for package, said in ((PLATFORM, ""), (ANY, SAID)):
+        for package, said in ((PLATFORM, ""), (ANY, SAID_BY_TOOLS)):
             with self.subTest(package):
                 done = alone(f"{environment(package)}/pp6600-show", script="STEP 12\n", cwd=self.folder)
                 self.assertEqual(("> STEP 12\nTURNS 12 SLOT 00\n", said, 0), done)

@@ -1,11 +1,8 @@
 """Tests the tools as on Windows, where pipes can't be waited for and only Python runs: by tests/without_unix.py, which takes away all
 else. They write what they write elsewhere. Windows itself is not tried."""
 
-import http.client
 import os
-import re
 import shutil
-import subprocess
 
 from tests.debug_client import Client
 from tests.support import PYTHON, TOOLS, TOP, Case, run, tool, write
@@ -14,6 +11,7 @@ WITHOUT = (*PYTHON, os.path.join(TOP, "tests", "without_unix.py"))
 SAID = "pp6600: the proved program does not start here; this is pp6600-python, which is not proved\n"
 SCRIPT, DECK = (f"examples/overwritten-loader/{name}" for name in ("script", "deck"))
 LOADER = ["--deck", DECK, SCRIPT]
+NO_LIBRARY = "pp6600: there is no library of the proved program for this machine; this is pp6600-python, which is not proved\n"
 # The words of each tool that runs the simulator; standard input is empty.
 WITH_SIMULATOR = {"changes": ["M", "0", "106", *LOADER], "compare": ["--other-panel", "examples/dead-start/panel", *LOADER],
                   "film": ["-o", "FILM", *LOADER],
@@ -26,7 +24,7 @@ WITHOUT_SIMULATOR = {"assemble": ["exercises/first-program/solution/first-progra
 
 def outcome(words, **how):
     """Returns what a command does as on Windows."""
-    return run(*WITHOUT, *words, env={"PP6600": ""}, **how)
+    return run(*WITHOUT, *words, env={"PP6600": "", "PP6600_ENGINE": ""}, **how)
 
 
 class Tools(Case):
@@ -34,13 +32,13 @@ class Tools(Case):
         return [self.path("film.html") if word == "FILM" else word for word in words]
 
     def test_each_is_here(self):
-        self.assertEqual(sorted([*WITH_SIMULATOR, *WITHOUT_SIMULATOR, "debug-adapter", "page", "panel"]), TOOLS)
+        self.assertEqual(sorted([*WITH_SIMULATOR, *WITHOUT_SIMULATOR, "debug-adapter", "panel"]), TOOLS)
 
     def test_with_simulator(self):
         for name, words in WITH_SIMULATOR.items():
             with self.subTest(name):
                 wanted, got = tool(name, *self.words(words)), outcome([f"tools/{name}", *self.words(words)])
-                self.assertEqual((wanted.out, SAID + wanted.err, wanted.status), got)
+                self.assertEqual((wanted.out, NO_LIBRARY + wanted.err, wanted.status), got)
                 self.assertNotEqual(2, got.status, got.err)
 
     def test_without_simulator(self):
@@ -52,30 +50,18 @@ class Tools(Case):
         self.assertEqual(("", "panel: this Python has no module curses, so it can't draw on a terminal; the tool talk needs none\n", 2),
                          outcome(["tools/panel"]))
 
-    def test_page(self):
-        """It is served to who has the address."""
-        with subprocess.Popen([*WITHOUT, "tools/page", *LOADER], cwd=TOP, env={**os.environ, "PP6600": ""}, stdout=subprocess.PIPE,
-                              stderr=subprocess.DEVNULL, text=True) as server:
-            self.addCleanup(server.kill)
-            address = re.search("http://(.*?)/", server.stdout.readline())[1]
-            reply = http.client.HTTPConnection(address, timeout=600)
-            reply.request("GET", "/")
-            self.assertEqual(200, reply.getresponse().status)
-            reply.close()
-            server.kill()
-
     def test_many_lines(self):
         """More than a pipe holds, both ways, while nothing is read."""
         script = "DUMP M 0 0 7777\n" * 100
         self.assertEqual(tool("show", script=script).out, outcome(["tools/show"], script=script).out)
 
     def test_debug_adapter(self):
-        client = Client(environment={"PP6600": ""}, before=WITHOUT[-1:])
+        client = Client(environment={"PP6600": "", "PP6600_ENGINE": ""}, before=WITHOUT[-1:])
         self.addCleanup(client.end)
         client.launch(script=SCRIPT, deck=DECK)
         listing = client.ask("stackTrace", threadId=1)["stackFrames"][0]["source"]["path"]
         self.assertTrue(os.path.exists(listing))
-        self.assertEqual((0, SAID), client.end())
+        self.assertEqual((0, NO_LIBRARY), client.end())
         self.assertFalse(os.path.exists(listing))
 
 
@@ -88,7 +74,7 @@ class Programs(Case):
     def test_that_ends_early(self):
         """What it said is shown, as elsewhere."""
         done = outcome(["tools/show", "--deck", "absent"])
-        self.assertEqual(SAID + tool("show", "--deck", "absent").err, done.err)
+        self.assertEqual(NO_LIBRARY + tool("show", "--deck", "absent").err, done.err)
 
     def test_check(self):
         for name, status in (("exchange", 0), ("first-program", 1)):

@@ -12,10 +12,10 @@ from tests.support import TOP, Case
 sys.path.insert(0, os.path.join(TOP, "docs"))
 from evaluating.asking import Definitions  # noqa: E402
 from evaluating.examples import worked  # noqa: E402
-from pp6600.simulation import places  # noqa: E402
-from pp6600.simulation.devices import printer, reader  # noqa: E402
-from pp6600.simulation.instructions import processor  # noqa: E402
-from pp6600.simulation.machine import Machine, dead_start  # noqa: E402
+from pp6600.engine.plain import places  # noqa: E402
+from pp6600.engine.plain.devices import printer, reader  # noqa: E402
+from pp6600.engine.plain.instructions import processor  # noqa: E402
+from pp6600.engine.plain.machine import Machine, dead_start  # noqa: E402
 
 PAIR = re.compile(r"\((\w+)(?: \(?(\w+)(?: (\w+))?\)?)?, (\w+)\)")  # a place and its number
 READER, PRINTER = 0o12, 0o13

@@ -1,0 +1,411 @@
+"""Tests that the artefacts of dist/ for other machines and other programs answer as the program does, byte for byte: the rows of pp_console,
+the sessions of the pages, the stored cases, and 500 random sessions. What can't run here is skipped, and said.
+
+PP6600_ARTEFACTS names another folder than dist/."""
+
+import base64
+import concurrent.futures
+import functools
+import hashlib
+import json
+import os
+import re
+import resource
+import shlex
+import shutil
+import struct
+import subprocess
+import sys
+import tempfile
+from typing import Dict, List, NamedTuple
+
+from tests import browser
+from tests.fixtures import sessions as sessions_of_pages
+from tests.generator import Maker
+from tests.support import EXAMPLES, PATIENCE, TOP, Case, program, read, write
+from tests.ways import PLAIN, CaseFolders, cases, part, words_of
+
+from pp6600.engine import library
+from pp6600.engine.plain.console import Rejected
+from pp6600.engine.plain.program import read_options, read_words
+
+FOLDER = os.path.abspath(os.environ.get("PP6600_ARTEFACTS") or os.path.join(TOP, "dist"))
+TARGETS, CLIENTS = os.path.join(TOP, "targets"), os.path.join(TOP, "tests", "artefacts")
+WEB = os.path.join(TOP, "tools", "pp6600", "front", "film", "web")
+HEADER = os.path.join(TOP, "crates", "pp_library", "pp6600.h")
+RANDOM = 500
+OF_WINE = {"WINEDEBUG": "-all", "WINEDLLOVERRIDES": "mscoree,mshtml="}  # it says nothing, and starts no more than it must
+CORES = len(os.sched_getaffinity(0))
+WARNINGS = "-Wall -Wextra -Wconversion -Wsign-conversion -Werror".split()
+# A session of the tests of pp_console, and what its machine has.
+ROW = re.compile(r'(?:With::(\w+),\s*)?"\\\n((?:> .*\n)(?:.*\n)*?)"')
+WITH = {"Nothing": [], "Card": ["--deck", "deck"], "Panel": ["--panel", "panel"], "LittleMemory": ["--central", "32"]}
+FILES = {"deck": b"1 2 3\n", "panel": b"1405 3420 300 0 0 0 0 0 0 0 0 0\n"}
+
+
+class Session(NamedTuple):
+    """What the program is given."""
+    name: str
+    words: List[str]
+    files: Dict[str, bytes]
+    script: bytes
+
+
+def rows():
+    """Yields the sessions of the tests of pp_console."""
+    folder = os.path.join(TOP, "crates", "pp_console", "src", "tests")
+    for name in sorted(os.listdir(folder)):
+        for number, (machine, text) in enumerate(ROW.findall(read("crates", "pp_console", "src", "tests", name))):
+            script = "".join(line[2:] + "\n" for line in text.splitlines() if line.startswith("> "))
+            yield Session(f"{name}, session {number + 1}", WITH[machine or "Nothing"], FILES, script.encode("ascii"))
+
+
+def pages():
+    """Yields the sessions of the pages. The files that they name are those of examples/."""
+    for place, (words, script, _) in sessions_of_pages():
+        files = {word: part(EXAMPLES, word) for word in words if os.path.isfile(os.path.join(EXAMPLES, word))}
+        yield Session(place, words, files, "".join(script).encode("latin-1"))
+
+
+def stored():
+    """Yields the cases that are run in the plain way."""
+    for root in (os.path.join(TOP, "tests", "cases"), EXAMPLES):
+        for name, case in cases(root):
+            if not part(case, "how"):
+                files = {name: part(case, name) for name in os.listdir(case) if name not in PLAIN and os.path.isfile(os.path.join(case, name))}
+                yield Session(name, words_of(case), files, part(case, "stdin"))
+
+
+def by_chance():
+    """Yields random sessions."""
+    for seed in range(RANDOM):
+        made = Maker(f"artefacts {seed}").session()
+        yield Session(f"random {seed}", made.words, made.all_files(), b"\n".join(made.lines))
+
+
+def run(session, *command, **how):
+    """Runs a session. Returns what was written to standard output and to standard error, and the status."""
+    with tempfile.TemporaryDirectory(prefix="pp6600-test-") as folder:
+        for name, data in session.files.items():
+            write(os.path.join(folder, name), data)
+        done = subprocess.run([*command, *session.words], cwd=folder, input=session.script, capture_output=True, timeout=PATIENCE, check=False,
+                              **how)
+    return done.stdout, done.stderr, done.returncode
+
+
+def run_all(sessions, *command, **how):
+    """Returns what each session comes to; as many run at a time as there are cores."""
+    with concurrent.futures.ThreadPoolExecutor(CORES) as pool:
+        return list(pool.map(lambda session: run(session, *command, **how), sessions))
+
+
+@functools.lru_cache(maxsize=None)
+def all_sessions():
+    """Returns all sessions, and what the program comes to."""
+    sessions = [*rows(), *pages(), *stored(), *by_chance()]
+    return sessions, run_all(sessions, program())
+
+
+def artefact(name):
+    """Returns the path of an artefact."""
+    path = os.path.join(FOLDER, name)
+    if not os.path.isfile(path):
+        raise AssertionError(f"{path} is not there: ./prove --renew makes it")
+    return path
+
+
+class Artefacts(Case):
+    """What tests of artefacts share."""
+
+    def tool(self, *names):
+        """Returns the path of a tool, the first of these names that is here, or skips the test."""
+        found = next(filter(None, map(shutil.which, names)), None)
+        return found or self.skipTest(f"{names[0]} is missing")
+
+    def check_all(self, name, sessions, wanted, found):
+        differing = [session.name for session, one, other in zip(sessions, wanted, found) if one != other]
+        self.assertEqual((len(sessions), []), (len(found), differing), f"{name} differs from the program in {len(differing)} sessions")
+
+    def wine(self):
+        """Returns the command of wine and the environment for it: a Windows of its own, which ends with the test."""
+        wine = self.tool("wine64", "wine")
+        environment = {**os.environ, **OF_WINE, "WINEPREFIX": self.path("windows"), "HOME": self.folder}
+        self.addCleanup(subprocess.run, [shutil.which("wineserver") or "true", "-k"], env=environment, check=False)
+        subprocess.run([wine, "cmd", "/c", "ver"], env=environment, capture_output=True, timeout=PATIENCE, check=True)
+        return wine, environment
+
+
+class Programs(Artefacts):
+    """The program for other systems."""
+
+    def check(self, name, *command, leaves_out=None, **how):
+        sessions, wanted = all_sessions()
+        chosen = [(session, one) for session, one in zip(sessions, wanted) if not (leaves_out and leaves_out(session))]
+        self.assertGreater(len(chosen), 0.9 * len(sessions))
+        sessions, wanted = zip(*chosen)
+        self.check_all(name, sessions, wanted, run_all(sessions, *command, artefact(name), **how))
+
+    def check_ways(self, name, *command, **how):
+        """Runs the stored cases that are not run in the plain way: with streams that fail, or that end in a dialogue."""
+        words = shlex.join([*command, artefact(name)])
+        path = write(self.path("program"), f'#!/bin/sh\nexec {words} "$@"\n', mode=0o755)
+        for case_name, case in cases(os.path.join(TOP, "tests", "cases")):
+            if part(case, "how") and b"file-size-limit" not in part(case, "how"):  # which is the launcher's to handle
+                with self.subTest(case_name):
+                    CaseFolders.check(self, case, path)
+        with self.subTest("the reader of the answers has ended"):
+            reader, writer = os.pipe()
+            os.close(reader)
+            done = subprocess.run([path], input=b"STEP\n", stdout=writer, stderr=subprocess.PIPE, timeout=PATIENCE, check=False)
+            os.close(writer)
+            self.assertEqual((b"pp6600: WRITE FAILED\n", 3), (done.stderr, done.returncode))
+        with self.subTest("a long word"):
+            self.assertEqual((b"", b"pp6600: CANNOT OPEN SCRIPT\n", 2), run(Session("", ["a" * 20000], {}, b""), path))
+
+    def test_static(self):
+        self.check("pp6600-static")
+        self.check_ways("pp6600-static")
+
+    def test_static_in_an_empty_root(self):
+        """With no file beside it but a script."""
+        if os.geteuid() != 0:
+            self.skipTest("only root can change the root")
+        root = self.folder
+        shutil.copy(artefact("pp6600-static"), os.path.join(root, "pp6600"))
+        write(os.path.join(root, "script"), b"STEP\n")
+        done = subprocess.run(["/pp6600", "script"], preexec_fn=lambda: (os.chroot(root), os.chdir("/")), capture_output=True, check=False)
+        self.assertEqual((b"TURNS 1 SLOT 01\n", b"", 0), (done.stdout, done.stderr, done.returncode))
+
+    def test_static_with_little_memory(self):
+        limit = (4 << 20, 4 << 20)
+        found = run(Session("", [], {}, b"STEP\n"), artefact("pp6600-static"), preexec_fn=lambda: resource.setrlimit(resource.RLIMIT_AS, limit))
+        self.assertEqual((b"", b"pp6600: NO MEMORY\n", 2), found)
+
+    def test_aarch64(self):
+        runner = self.tool("qemu-aarch64", "qemu-aarch64-static")
+        self.check("pp6600-aarch64", runner)
+        self.check_ways("pp6600-aarch64", runner)
+
+    def test_windows(self):
+        """But for words that name a file of Unix."""
+        wine, environment = self.wine()
+        self.check("pp6600.exe", wine, leaves_out=lambda session: any("/dev/" in word for word in session.words), env=environment)
+        self.check_ways("pp6600.exe", "env", *(f"{name}={environment[name]}" for name in (*OF_WINE, "WINEPREFIX", "HOME")), wine)
+
+
+# ---- the library
+
+def options_of(session):
+    """Returns what the library is given for a session: seven numbers of 32 bits, and the bytes of the deck, the panel and the script.
+    Returns None if the words, or a file that they name, are not for it to judge."""
+    try:
+        given = read_words(session.words)
+        options = read_options(given)
+    except Rejected:
+        return None
+    names = [given.get(name) for name in ("--deck", "--panel", "SCRIPT")]
+    if any(name is not None and name not in session.files for name in names):
+        return None
+    deck, panel, script = (session.files[name] if name else default for name, default in zip(names, (b"", b"", session.script)))
+    if names[1] and not panel:  # a panel without bytes is none for the library
+        return None
+    return struct.pack("<7I", *(options[name] for name in ("history", "central", "reader", "printer")), len(deck), len(panel),
+                       len(script)) + deck + panel + script
+
+
+@functools.lru_cache(maxsize=None)
+def sessions_of_library():
+    """Returns the sessions for the library, what the program comes to in each, and the bytes of each for the clients."""
+    chosen = [(session, one, options) for session, one in zip(*all_sessions()) if (options := options_of(session)) is not None]
+    return tuple(zip(*chosen))
+
+
+def answers_in(data):
+    """Returns what is in the answers of a client: for each session the output, standard error and the status, as of the program."""
+    found, at = [], 0
+    while at < len(data):
+        status, size, _ = struct.unpack_from("<3I", data, at)
+        text = data[at + 12:at + 12 + size]
+        at += 12 + size
+        found.append((text, b"", status) if status < 2 else (b"", text + b"\n", status))
+    return found
+
+
+def answer_in_python(options):
+    """Runs one of the sessions in this process. Returns the output, standard error and the status, as of the program."""
+    *machine, deck, panel, script = struct.unpack_from("<7I", options)
+    files = options[28:28 + deck], options[28 + deck:28 + deck + panel]
+    try:
+        with library.Session(*machine, *files, path=artefact("libpp6600.so")) as session:
+            done = session.answer(options[len(options) - script:])
+        return done.text, b"", int(done.refused > 0)
+    except library.Refused as refused:
+        return b"", f"{refused}\n".encode("ascii"), refused.status
+
+
+def compiled(compiler, source, *words):
+    """Compiles a file in C, without a warning."""
+    done = subprocess.run([compiler, "-O1", *WARNINGS, "-I", os.path.dirname(HEADER), source, *words], capture_output=True, text=True, check=False)
+    if done.returncode or done.stderr:
+        raise AssertionError(f"{compiler} {source}: {done.stderr}")
+
+
+def answers_of(folder, *command, **how):
+    """Runs a client on the sessions, with files in this folder. Returns the bytes of its answers."""
+    paths = write(os.path.join(folder, "sessions"), b"".join(sessions_of_library()[2])), os.path.join(folder, "answers")
+    done = subprocess.run([*command, *paths], cwd=folder, capture_output=True, timeout=PATIENCE, check=False, **how)
+    if (done.returncode, done.stdout, done.stderr) != (0, b"", b""):
+        raise AssertionError(f"{command}: {done}")
+    return part(folder, "answers")
+
+
+def client_in_c(folder, compiler, name, library):
+    """Returns the path of the client in C, linked with an artefact that has this name in the folder."""
+    shutil.copy(artefact(name), os.path.join(folder, library))
+    path = os.path.join(folder, "client.exe")  # the name is of no account but for Windows
+    compiled(compiler, os.path.join(CLIENTS, "client.c"), os.path.join(folder, library), "-o", path, f"-Wl,-rpath,{folder}")
+    return path
+
+
+@functools.lru_cache(maxsize=None)
+def answers_here():
+    """Returns the answers of the client in C on this system; none if there is no compiler."""
+    if not shutil.which("gcc"):
+        return None
+    with tempfile.TemporaryDirectory(prefix="pp6600-test-") as folder:
+        return answers_of(folder, client_in_c(folder, "gcc", "libpp6600.so", "libpp6600.so"))
+
+
+class Library(Artefacts):
+    """The library for other systems and languages: tests/artefacts has a client in C and one in JavaScript, which do the same."""
+
+    def check(self, name, answers):
+        """Checks the answers of a client beside those of the program, and all else that the calls returned beside the client in C."""
+        sessions, wanted, _ = sessions_of_library()
+        self.check_all(name, sessions, wanted, answers_in(answers))
+        self.assertTrue(answers == (answers_here() or answers), f"{name}: a call returns another number, beside the answers")
+
+    def test_python(self):
+        sessions, wanted, options = sessions_of_library()
+        self.check_all("libpp6600.so by ctypes", sessions, wanted, tuple(map(answer_in_python, options)))
+
+    def test_c(self):
+        self.tool("gcc")
+        self.check("libpp6600.so", answers_here())
+
+    def test_aarch64(self):
+        compiler, runner = self.tool("aarch64-linux-gnu-gcc"), self.tool("qemu-aarch64", "qemu-aarch64-static")
+        client = client_in_c(self.folder, compiler, "libpp6600-aarch64.so", "libpp6600.so")
+        self.check("libpp6600-aarch64.so", answers_of(self.folder, runner, "-L", "/usr/aarch64-linux-gnu", client))
+
+    def test_windows(self):
+        compiler = self.tool("x86_64-w64-mingw32-gcc")
+        wine, environment = self.wine()
+        client = client_in_c(self.folder, compiler, "pp6600.dll", "pp6600.dll")
+        self.check("pp6600.dll", answers_of(self.folder, wine, client, env=environment))
+
+    def test_node(self):
+        node, scripts = self.tool("node", "nodejs"), (os.path.join(CLIENTS, "client.js"), os.path.join(WEB, "library.js"))
+        self.check("pp6600.wasm", answers_of(self.folder, node, *scripts, artefact("pp6600.wasm")))
+
+    def test_node_is_told_what_is_wrong(self):
+        """A session of the module rejects a deck, a count and a place; it answers more lines than one call takes, and none after its end."""
+        script = """const { LibrarySession, openLibrary } = require(process.argv[1]);
+        openLibrary(require("fs").readFileSync(process.argv[2])).then((calls) => {
+          const said = (call) => { try { call(); } catch (error) { console.log(error.message); } };
+          said(() => new LibrarySession(calls, { deck: [49, 32, 56] }));
+          const session = new LibrarySession(calls);
+          said(() => session.back(-1));
+          said(() => session.back(1));
+          said(() => session.numbers(106592 + 131072, 1));
+          console.log(session.answer("STEP\\n".repeat(1000001)).lines);
+          session.close();
+          said(() => session.back(1));
+        });"""
+        shown = run_tool(self.tool("node", "nodejs"), "-e", script, os.path.join(WEB, "library.js"), artefact("pp6600.wasm"))
+        self.assertEqual(["pp6600: DECK LINE 1 NOT OCTAL", "pp6600.wasm: -1 is no number of 32 bits", "pp6600.wasm: rejected",
+                          "pp6600.wasm: rejected", "1000001", "pp6600.wasm: the session is closed"], shown.splitlines())
+
+    def test_chromium(self):
+        path = browser.found() or self.skipTest("a browser is missing")
+        page = browser.Browser(path)
+        self.addCleanup(page.end)
+        for script in (os.path.join(WEB, "library.js"), os.path.join(CLIENTS, "client.js")):
+            page.evaluate(read(script) + "\n;0")
+        given = (base64.b64encode(data).decode() for data in (part(FOLDER, "pp6600.wasm"), b"".join(sessions_of_library()[2])))
+        answers = page.evaluate(f"answersInPage(...{json.dumps(list(given))})")
+        self.assertEqual([], page.log)
+        self.check("pp6600.wasm", base64.b64decode(answers))
+
+
+class Files(Artefacts):
+    """What is in the artefacts."""
+
+    def test_exports(self):
+        """A shared library has the calls of the header and no other symbol, and asks for none and for no other library."""
+        calls = sorted(re.findall(r"^uint32_t (pp6600_\w+)\(", read(HEADER), flags=re.M))
+        self.assertIn("pp6600_answer", calls)
+        reader = self.tool("readelf")
+        for name in ("libpp6600.so", "libpp6600-aarch64.so"):
+            symbols = run_tool(reader, "--dyn-syms", "--wide", artefact(name))
+            self.assertEqual(calls, sorted(line.split()[-1] for line in symbols.splitlines()[4:]))
+            self.assertNotIn("NEEDED", run_tool(reader, "--dynamic", artefact(name)))
+
+    def test_the_module_imports_nothing(self):
+        node = self.tool("node", "nodejs")
+        shown = run_tool(node, "-e", "console.log(WebAssembly.Module.imports(new WebAssembly.Module(require('fs').readFileSync(process.argv[1]))))",
+                         artefact("pp6600.wasm"))
+        self.assertEqual("[]\n", shown)
+
+    def test_windows_asks_for_two_libraries(self):
+        reader = self.tool("x86_64-w64-mingw32-objdump", "objdump")
+        for name, wanted in (("pp6600.exe", ["KERNEL32.dll", "SHELL32.dll"]), ("pp6600.dll", ["KERNEL32.dll"])):
+            self.assertEqual(wanted, sorted(re.findall(r"DLL Name: (\S+)", run_tool(reader, "-p", artefact(name)))))
+
+    def test_sources_names_each(self):
+        """dist/sources has a line with the checksum of each artefact."""
+        named = dict(line.split(" ", 1) for line in read(FOLDER, "sources").splitlines())
+        for name in run_tool(sys.executable, os.path.join(TARGETS, "build"), "--list").split():
+            with self.subTest(name):
+                self.assertEqual(named.get(name), hashlib.sha256(part(FOLDER, name)).hexdigest())
+
+
+COMMENTS = {".c": r"/\*.*?\*/", ".h": r"/\*.*?\*/", ".ll": r";[^\n]*", ".py": r'""".*?"""|#[^\n]*'}
+
+
+def lines_of(name):
+    """Returns how many lines a file of targets/ has, without empty ones and comments."""
+    text = re.sub(COMMENTS[os.path.splitext(name)[1]], "", read("targets", name), flags=re.S)
+    return sum(bool(line.strip()) for line in text.splitlines())
+
+
+class Shims(Artefacts):
+    """What the compiled code calls of its system is compiled without a warning by other compilers than the kit's: a first one lost the
+    sign of a failed write, of which only gcc said a word."""
+
+    def check(self, compiler, *names):
+        compiler = self.tool(compiler)
+        for name in names:
+            compiled(compiler, os.path.join(TARGETS, "shim", f"{name}.c"), "-ffreestanding", "-fno-builtin", "-c", "-o", os.devnull)
+
+    def test_linux(self):
+        self.check("gcc", "linux_program", "linux_memory", "bytes")
+
+    def test_aarch64(self):
+        self.check("aarch64-linux-gnu-gcc", "linux_program", "linux_memory", "bytes")
+
+    def test_windows(self):
+        self.check("x86_64-w64-mingw32-gcc", "windows_program", "windows_memory", "windows_library", "bytes")
+
+    def test_lines(self):
+        """targets/README.md counts each file that is trusted."""
+        table = re.findall(r"^\| `([\w./]+)` \| (\d+) \|", read("targets", "README.md"), flags=re.M)
+        self.assertEqual(table, [(name, str(lines_of(name))) for name, _ in table])
+        named = {name for name, _ in table}
+        files = {f"shim/{name}" for name in os.listdir(os.path.join(TARGETS, "shim")) if not name.endswith(".def")}
+        self.assertEqual(files | {"retarget.py"}, named)
+
+
+def run_tool(*command):
+    """Returns what a tool writes."""
+    return subprocess.run(command, capture_output=True, text=True, timeout=PATIENCE, check=True).stdout

@@ -1,0 +1,275 @@
+"""Tests what is done in the page of a film: lines, searches, branches, sharing. Expected values are those of README.md, docs/FILM.md,
+docs/CONSOLE.md and of the program for the same lines."""
+
+import json
+import os
+import unittest
+
+from tests import firefox
+from tests.films import DEVICES, FilmCase, PageCase, random_session, shown_film
+from tests.support import EXAMPLES, TOP, program, read, run
+
+from pp6600 import Console
+
+COUNTER = "SET M 0 100 1405 3420 300\nSET P 0 100\n"  # LDN 5, STD 20, UJN 0
+LOADER = ("--deck", f"{EXAMPLES}/overwritten-loader/deck", f"{EXAMPLES}/overwritten-loader/script")
+SAID = "byId('said').textContent"
+QUESTIONS = [*(f"DUMP PP {n:o}" for n in range(10)), "DUMP M 0 0 77", "DUMP H", "DUMP C 0 20", "DUMP CR", "DUMP LP"]
+
+
+class SessionCase(PageCase):
+    def act(self, *lines):
+        """Performs lines in the page. Returns what it says."""
+        self.value(f"engine.act({json.dumps(lines)})")
+        return self.value(SAID)
+
+    def script(self):
+        """Returns the script that the page saves."""
+        return self.value("ask('script').then(({ script }) => script)")
+
+    def dumps(self, script, *options):
+        """Returns what the program dumps after a script."""
+        with Console([program(), *options]) as console:
+            for line in script.splitlines():
+                self.assertNotIn("ERR", (console.ask(line) or [""])[0], line)
+            return [console.ask(line) for line in QUESTIONS]
+
+    def page_dumps(self):
+        """Returns what the page answers to the same dumps."""
+        asked = "(line) => ask('act', { lines: [line], at: film.count - 1 }).then(() => film.lines.at(-1).answer)"
+        return [self.value(f"({asked})('{line}')") for line in QUESTIONS]
+
+
+class Lines(SessionCase):
+    """Lines that are typed."""
+
+    def test_typed(self):
+        """A line is performed at the end, and its answer is said."""
+        self.browser.open(self.film(script=f"{COUNTER}STEP 12\n"))
+        self.browser.key("Enter")
+        for letter in "step 3":
+            self.browser.key(letter)
+        self.browser.key("Enter")
+        self.browser.wait_for(f"{SAID} === 'TURNS 3 SLOT 03'")
+        self.assertEqual([0o15, "step 3"], self.value("[film.turn[film.at], film.lines.at(-1).text]"))
+        self.browser.key("Escape")
+        self.browser.key("ArrowRight")
+        self.browser.wait_for("film.turn[film.at] === 0o16")
+
+    def test_refused(self):
+        """A line that is refused ends what is pasted."""
+        self.browser.open(self.film(script=COUNTER))
+        self.assertEqual("ERR 01 NOT A COMMAND", self.act("STEP 5", "GO", "STEP 5"))
+        self.assertEqual([5, "GO"], self.value("[film.turn[film.at], film.lines.at(-1).text]"))
+
+    def test_who(self):
+        """README.md: BACK W finds the turn that changed the word at 0106, and says who is about to change it."""
+        self.browser.open(self.film(*LOADER), "#moment=0")
+        self.value("moveTo(film.count - 1)")
+        said = self.act("SET A 0 77", "STEP 20", "WATCH A 0", "BACK W")
+        self.assertRegex(said, r"^BACK [0-7]+ SLOT \d\d: the next (turn, PP 00|line), .*, changes A 00$")
+        self.assertEqual("A 00", self.value("shown.chosen.name"))
+
+    def test_as_the_program(self):
+        """A saved script gives the program the machine of the page."""
+        for seed in range(3):
+            lines = random_session(seed)
+            path = self.film(*DEVICES, script="".join(f"{line}\n" for line in lines[:len(lines) // 2]), status=None)
+            self.browser.open(path)
+            for line in lines[len(lines) // 2:]:
+                self.act(line)
+            options = [os.path.join(TOP, word) if "/" in word else word for word in DEVICES]
+            pairs = self.value("film.lines.map(({ text, answer }) => [text, answer[0] || ''])")
+            saved = "".join(f"{text}\n" for text, answer in pairs if not answer.startswith("ERR"))
+            with self.subTest(seed=seed):
+                self.assertEqual(self.dumps(saved, *options), self.page_dumps())
+
+    def test_set_by_hand(self):
+        self.browser.open(self.film(script=f"{COUNTER}STEP 12\n"), "#place=M+0+20")
+        self.browser.key("e")
+        self.value("byId('set-to').value = '77'")
+        self.browser.key("Enter")
+        self.browser.wait_for("textAt(placeNamed('M 0 20')) === '0077'")
+
+
+class Searches(SessionCase):
+    def until(self, back, *texts):
+        self.value(f"engine.until({json.dumps(texts)}, {str(back).lower()})")
+        return self.value(f"[{SAID}, film.turn[film.at]]")
+
+    def test_until(self):
+        """PP 00 has turns 1, 13 and 25: at 0101 it is after the first, at 0102 after the second."""
+        self.browser.open(self.film(script=COUNTER))
+        self.assertEqual(["found: turn 13", 0o13], self.until(False, "P 0 = 102"))
+        self.assertEqual(["found: turn 1", 1], self.until(True, "P 0 = 101"))
+        self.assertEqual(["found: turn 13", 0o13], self.until(False, "P 0 = 102", "A 0 = 7"))
+        self.assertRegex(self.until(True, "M 0 20 = 77")[0], "^not before this$")
+        self.assertRegex(self.until(False, "P 0 is")[0], "^a condition is PLACE = 105")
+
+    def test_breakpoint(self):
+        self.browser.open(shown_film("overwritten-loader"), "#moment=0")
+        self.value("moveTo(film.lines.find(({ text }) => text.startsWith('SET P')).moment)")
+        self.browser.click("#source tr:nth-child(9) .name button")
+        self.assertEqual("true", self.value("document.querySelector('#source tr:nth-child(9) .name button').getAttribute('aria-pressed')"))
+        self.browser.key("r")
+        self.browser.wait_for("textAt(placeNamed('P 0')) === '0104'")
+
+
+class Waiting(SessionCase):
+    """What is asked for while something is performed."""
+
+    def test_keys(self):
+        """Each key counts."""
+        self.browser.open(self.film(script=COUNTER))
+        self.value("[1, 2, 3, 4, 5].forEach(() => KEYS.ArrowRight())")
+        self.browser.wait_for("film.turn[film.at] === 5")
+        self.assertEqual(COUNTER + "STEP 1\n" * 5, self.script())
+
+    def test_stop(self):
+        """A long step is stopped, and the script has the turns that it made."""
+        self.browser.open(self.film(script=COUNTER))
+        self.value("void engine.act(Array(40).fill('STEP 1000000'))")
+        self.browser.wait_for("film.highestTurn > 0o1000")
+        self.browser.click("#stop")
+        self.browser.wait_for(f"{SAID}.includes('stopped')")
+        self.assertEqual(self.value("film.highestTurn"), sum(int(line.split()[1], 8) for line in self.script().splitlines()[2:]))
+
+
+class Past(SessionCase):
+    """Acting at an earlier moment."""
+
+    def test_branch(self):
+        """An action in effect is gone back to; one whose place another has taken begins a branch, which can be undone."""
+        self.browser.open(self.film(script=f"{COUNTER}STEP 20\nBACK 10\nSET A 0 1\nSTEP 4\n"), "#moment=4")
+        self.assertEqual("TURNS 1 SLOT 03", self.act("STEP"))
+        self.assertTrue(self.value("byId('leave-branch').hidden"))
+        self.value("moveTo(16)")  # turn 16 is one that was taken back
+        self.act("STEP")
+        self.assertEqual([False, 0o17], self.value("[byId('leave-branch').hidden, film.turn[film.at]]"))
+        self.browser.click("#leave-branch")
+        self.browser.wait_for(f"{SAID} === 'the session before'")
+        self.assertTrue(self.value("byId('leave-branch').hidden"))
+
+    def test_back_without_a_limit(self):
+        """Beyond what the simulator keeps, BACK performs the session anew, and the saved script has no step back."""
+        self.browser.open(self.film("--history", "4", script=f"{COUNTER}STEP 40\n"))
+        self.assertEqual("BACK 20 SLOT 06\nreplayed", self.act("BACK 20"))
+        self.assertEqual(0o20, self.value("film.turn[film.at]"))
+        self.assertEqual(f"{COUNTER}STEP 20\n", self.script())
+
+    def test_skipped_turns(self):
+        """Of a STEP that makes a session too long the last turns are recorded, and others when one goes to them."""
+        self.browser.open(self.film(script=f"{COUNTER}STEP 1000000\n" * 5))
+        self.assertTrue(self.value("film.skips.size > 0 && film.count <= 0o4000000"))
+        self.value("goToTurn(0o4100000)")
+        self.assertEqual([0o4100000, False], self.value("[film.turn[film.at], isAtSkipped()]"))
+
+
+class Sharing(SessionCase):
+    def test_link(self):
+        """A link opens the session; one that is cut short says so."""
+        path = self.film(script=COUNTER)
+        self.browser.open(path)
+        self.act("STEP 12", "SET A 0 77")
+        script = self.value("ask('script').then(({ script }) => deflated(script))")
+        self.browser.open(path, f"#script={script}")
+        self.assertEqual([0o12, "000077"], self.value("[film.turn[film.at], textAt(placeNamed('A 0'))]"))
+        self.browser.ask("Page.navigate", url="about:blank")
+        self.browser.ask("Page.navigate", url=f"file://{path}#script={script[:-9]}")
+        self.browser.wait_for("document.getElementById('fault') && !document.getElementById('fault').hidden")
+        self.assertEqual("This film can't be shown: the link is cut short: its script can't be read",
+                         self.value("byId('fault').textContent"))
+
+    def test_save(self):
+        """The page with its session is a page that opens at it."""
+        path = self.film(script=COUNTER)
+        room = self.room()
+        self.browser.save_into(room)
+        self.browser.open(path)
+        self.act("STEP 12", "SET A 0 77")
+        self.browser.click("#save-film")
+        saved = os.path.join(room, "session.html")
+        while not os.path.exists(saved) or not os.path.getsize(saved):
+            self.value("new Promise((done) => setTimeout(done, 50))")
+        self.browser.open(saved)
+        self.assertEqual([0o12, "000077"], self.value("[film.turn[film.at], textAt(placeNamed('A 0'))]"))
+
+    def test_kept(self):
+        """What was typed is offered when the page is opened again."""
+        path = self.film("--title", "kept", script=COUNTER)
+        self.browser.open(path)
+        self.act("STEP 7")
+        self.browser.wait_for("keptBefore() && keptBefore().script.endsWith('STEP 7\\n')")
+        self.browser.open(path)
+        self.assertEqual(0, self.value("film.turn[film.at]"))
+        self.browser.click("#restore")
+        self.browser.wait_for("film.turn[film.at] === 7")
+
+    def test_damaged(self):
+        """A page that is cut or changed says so in one sentence."""
+        with open(self.film(script=COUNTER), encoding="utf-8") as file:
+            text = file.read()
+        at = text.index('id="simulator">') + 2000
+        path = self.path("damaged.html")
+        with open(path, "w", encoding="utf-8") as file:
+            file.write(text[:at] + text[at + 4000:])
+        self.browser.ask("Page.navigate", url=f"file://{path}")
+        self.browser.wait_for("document.getElementById('fault') && !document.getElementById('fault').hidden")
+        self.assertEqual("This film can't be shown: it is damaged: a part of it is missing", self.value("byId('fault').textContent"))
+
+
+class Class(SessionCase):
+    """The page of a class."""
+
+    def page(self):
+        path = self.path("class.html")
+        done = run("exercises/hand-out", path)
+        self.assertEqual((f"hand-out: {path} has 8 exercises\n", "", 0), done)
+        return path
+
+    def test_check(self):
+        """Each exercise is not solved as it was handed out, and solved by its solution; the check is that of check-exercise."""
+        self.browser.open(self.page())
+        for name in self.value("exercises.all.map(({ name }) => name)"):
+            folder = os.path.join(TOP, "exercises", name, "solution")
+            parts = {part: read(folder, part) for part in ("script", "panel") if os.path.exists(os.path.join(folder, part))}
+            with self.subTest(name):
+                self.value(f"byId('exercise-of').value = {json.dumps(name)}; byId('exercise-of').onchange()")
+                self.value("beginExercise()")
+                self.assertEqual([True, name], self.value("[byId('task').textContent.length > 20, exercises.now.name]"))
+                said = self.value("checkExercise().then(() => byId('checked').textContent)")
+                self.assertTrue(said.startswith(f"{name}: not solved\nexpected"), said)
+                script = parts.get("script") or read("exercises", name, "script")
+                given = {"script": f"* EXERCISE {name}\n{script}", **({"panel": parts["panel"]} if "panel" in parts else {})}
+                self.value(f"beginAnew({json.dumps(given)}, 'begun')")
+                self.assertEqual(f"{name}: solved", self.value("checkExercise().then(() => byId('checked').textContent)"))
+
+    def test_handed_in(self):
+        """What the page saves is what grade takes: a script, and a link."""
+        self.browser.open(self.page())
+        self.value("beginExercise()")
+        self.act("SET M 0 100 3020 3121 3422 300", "STEP 7", "SET A 0 1", "BACK 1")
+        self.assertEqual("first-program: solved", self.value("checkExercise().then(() => byId('checked').textContent)"))
+        folder = self.room()
+        with open(os.path.join(folder, "ada.txt"), "w", encoding="latin-1") as file:
+            file.write(self.script())
+        with open(os.path.join(folder, "grace"), "w", encoding="latin-1") as file:
+            file.write(f"file:///class.html#script={self.value('ask(`script`).then(({ script }) => deflated(script))')}&moment=3\n")
+        done = run("exercises/grade", folder)
+        self.assertEqual(["ada      +  .  .  .  .  .  .  .       1", "grace    +  .  .  .  .  .  .  .       1"], done.out.splitlines()[1:3])
+
+
+@unittest.skipUnless(firefox.found(), "there is no Firefox")
+class OtherBrowser(FilmCase):
+    """Firefox opens a page from its file, and goes on."""
+
+    def test_firefox(self):
+        browser = firefox.Firefox(firefox.found())
+        self.addCleanup(browser.end)
+        browser.open(f"file://{self.film(script=f'{COUNTER}STEP 12{chr(10)}')}")
+        browser.wait_for("document.body && document.body.dataset.open === 'yes'")
+        position = "document.getElementById('position').textContent"
+        self.assertTrue(browser.evaluate(position).startswith("After turn 12."))
+        browser.key("ArrowRight")
+        browser.wait_for(f"{position}.startsWith('After turn 13.')")
+        self.assertEqual("000005", browser.evaluate("document.querySelector('[data-place=\"A 00\"]').textContent"))
