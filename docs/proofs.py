@@ -62,7 +62,7 @@ def contracts_of(text):
     """Yields (trait, type, function, clauses) of each function, and of each `ghost` item. A clause without a name is ''."""
     owner, function, clauses = (None, None), None, []
     for line in text.splitlines() + ["}"]:
-        found = re.match(r"\s*(?:pub(?:\([^)]*\))? )?(?:const )?(fn|ghost) (\w+)", line)
+        found = re.match(r'\s*(?:pub(?:\([^)]*\))? )?(?:const )?(?:extern "C" )?(fn|ghost) (\w+)', line)
         if function and (found or line in ("}", "    }")):
             yield (*owner, function, clauses)
             function = None

@@ -13,7 +13,7 @@ FIXITIES = """infixr 75 ◌^◌  infixl 70 ◌*◌ ◌/◌ ◌%◌  infixr 67 �
     infixl 35 ◌&&◌  infixl 30 ◌||◌  infix 4 ◌≡◌ ◌≢◌  infixr 2 ◌×◌  infixr 1 ◌⊎◌  infixr 0 ◌→◌"""
 
 # A name with the fields that are read of it, a number or a text in quotes, as it is written; a function or an operator and its
-# arguments; and so on. A binder has the names of (x y : A).
+# arguments; and so on. A binder has the names and the type of (x y : A).
 Name = namedtuple("Name", "word")
 Apply = namedtuple("Apply", "head given")
 Pair = namedtuple("Pair", "parts")
@@ -22,8 +22,8 @@ Record = namedtuple("Record", "base fields")  # the base is a record of which so
 If = namedtuple("If", "test yes no")
 Let = namedtuple("Let", "name value body")
 Lambda = namedtuple("Lambda", "patterns body")
-Binder = namedtuple("Binder", "names")
-IMPLICIT = Binder([])  # an argument in braces, which is not written by who calls the function
+Binder = namedtuple("Binder", "names type")
+IMPLICIT = Binder([], None)  # an argument in braces, which is not written by who calls the function
 STOPS = {")", "]", "}", ",", ";", "=", ":", "then", "else", "in", "", ".", "|"}
 # What begins with a keyword: its kind, the words before its second and third part, and how strongly the third binds.
 KEYWORDS = {"let": (Let, "=", "in", 0), "if": (If, "then", "else", 5)}
@@ -165,13 +165,13 @@ class Parser:
     def bracket(self, end: str) -> Any:
         """Reads what follows an opening bracket, up to this end. Names before a colon are bound from there on."""
         outer, since, self.depth = self.bound, len(self.seen), self.depth + 1
-        parts, names = [self.expression()], []
+        parts, names, kind = [self.expression()], [], None
         if self.word == ":":
             names = [name.word for name in ([parts[0].head, *parts[0].given] if isinstance(parts[0], Apply) else parts)]
             self.bind(since)
-            self.behind(":")
+            kind = self.behind(":")
         while self.has(","):
             parts += [self.expression()] if self.word != end else []
         self.take(end)
         self.bound, self.depth = outer.union(names), self.depth - 1
-        return Binder(names) if names else parts[0] if len(parts) == 1 else Pair(parts)
+        return Binder(names, kind) if names else parts[0] if len(parts) == 1 else Pair(parts)

@@ -6,7 +6,8 @@ from html import escape
 
 import card
 from book.facts import PAGE
-from book.pages import MADE, examples_of, filled, notes, place_of, slug, users_of
+from book.pages import LONG as FOLDED
+from book.pages import MADE, examples_of, filled, notes, place_of, slug, summary_of, users_of
 
 STYLE = """\
 @page { margin: 15mm 12mm 17mm 8mm; @bottom-right { content: counter(page); font: 8pt Helvetica, Arial, sans-serif; } }
@@ -77,6 +78,8 @@ def block_of(block):
     heading = re.match(r"(#+) (.*)", block)
     if heading:
         return f'<h{len(heading[1])} id="{slug(heading[2])}">{card.inline(heading[2])}</h{len(heading[1])}>'
+    if re.match("</?details>", block):
+        return block
     picture = re.fullmatch(r"!\[([^]]*)\]\(([^)]*)\)", block)
     if picture:
         return f'<p><img src="{picture[2]}" alt="{escape(picture[1])}"></p>'
@@ -103,13 +106,17 @@ def entry_of(entry, book):
     """Returns a definition with a link at each name, and all that the page says of it."""
     linked = [(book.entries.get(target), escape(piece, quote=False)) for piece, target in entry.pieces]
     shown = "".join(f'<a href="#{other.anchor}">{piece}</a>' if other not in (None, entry) else piece for other, piece in linked)
-    said = card.inline(" ".join([place_of(entry.definition), users_of(entry), *notes(entry, book.entries)]))
+    said = card.inline(" ".join(notes(entry, book.entries)))
     examples = examples_of(entry, book)
     examples = code(escape(examples, quote=False)).replace("<pre>", '<pre class="examples">') + "\n" if examples else ""
+    source = numbered(card.inline(f"{place_of(entry.definition)} {users_of(entry)}"), book)
+    is_long = entry.lines() > FOLDED
+    more = (f'<details class="said"><summary>{summary_of(entry, book)}</summary>\n{code(shown) * is_long}\n<p>{source}</p>\n'
+            f"{examples}</details>\n")
     return (f'<div class="{"word long" if entry.lines() > LONG else "word"}">\n'
             f'<h3 id="{entry.anchor}"><small>{entry.number}</small> {card.inline(entry.title)}</h3>\n'
-            f"{facts_of(entry, book)}<p>{card.inline(entry.definition.sentence())}</p>\n{code(shown)}\n"
-            f'<p class="said">{numbered(said, book)}</p>\n{examples}</div>')
+            f"{facts_of(entry, book)}<p>{card.inline(entry.definition.sentence())}</p>\n{code(shown) * (not is_long)}\n"
+            + (f'<p class="said">{numbered(said, book)}</p>\n' if said else "") + f"{more}</div>")
 
 
 def index(book):

@@ -12,6 +12,7 @@ from evaluating.tables import made as made_table
 MADE = "<!-- docs/definitions.py makes this page from docs/definitions.txt and the sources: change those. -->\n\n"
 COMMENT = re.compile(r"^\s*(?:--|//)")
 MOST_USERS = 8
+LONG = 60  # lines: a longer definition is folded
 
 # A chapter of the text, with the files whose definitions it has. Those of the machine name their source.
 Chapter = collections.namedtuple("Chapter", "title files is_machine introduction")
@@ -198,16 +199,31 @@ def examples_of(entry, book):
     return "\n".join(f"-- no example of {one.without}" if one.without else f"{one.text}\n    = {one.value}" for one in found)
 
 
+def summary_of(entry, book):
+    """Returns what is shown of the part of a definition that is folded."""
+    has_examples = entry.definition.whole_name in book.examples
+    parts = [f"its {entry.lines()} lines"] * (entry.lines() > LONG) + ["source", "users"] + ["examples"] * has_examples
+    return ", ".join(parts).capitalize()
+
+
+def folded(summary, *parts):
+    """Returns parts of the page that are shown only to those who open them."""
+    return "\n\n".join([f"<details><summary>{summary}</summary>", *parts, "</details>"])
+
+
 def entry_page(entry, book):
     """Returns the part of the page that shows a definition. What is not code in a sentence has no marks of Markdown."""
     parts = re.split(r"(`[^`]+`)", entry.definition.sentence() or "(no sentence)")
     sentence = "".join(part if part.startswith("`") else re.sub(r"([*_<\\])", r"\\\1", part) for part in parts)
     facts = fact_links(entry, book)
     sentence += f" ({facts})" if facts else ""
-    said = " ".join([place_of(entry.definition), users_of(entry), *notes(entry, book.entries)])
+    code = f"```{entry.language}\n{entry.code}\n```"
     examples = examples_of(entry, book)
-    shown = f"\n```text\n{examples}\n```\n" if examples else ""
-    return f"### {entry.title}\n\n{sentence}\n\n```{entry.language}\n{entry.code}\n```\n\n{said}\n{shown}"
+    more = [f"{place_of(entry.definition)} {users_of(entry)}", *([f"```text\n{examples}\n```"] if examples else [])]
+    shown = [code, *notes(entry, book.entries)]
+    if entry.lines() > LONG:
+        shown, more = [], [*shown, *more]
+    return "\n\n".join([f"### {entry.title}", sentence, *shown, folded(summary_of(entry, book), *more)]) + "\n"
 
 
 def contents(book):
@@ -224,7 +240,7 @@ def kit_table(book):
     for module, name in book.reach.kit():
         word = name.replace("|", "\\|")
         rows.append(f"| `{word}` | {module} | {book.text.kit.get(name, '(no line)')} |")
-    return "\n".join(rows)
+    return folded(f"The {len(rows) - 2} words", "\n".join(rows))
 
 
 def filled(text, book):

@@ -156,7 +156,7 @@ def parsed_rust(text, scope):
         scope.crates.update(dict.fromkeys(re.findall(r"\b[A-Z]\w*", names), crate))
     for item in RUST_ITEM.finditer(text):
         start, end = item.end("above"), rust_end(text, item.end())
-        written = re.sub(r"^ *#\[.*\n", "", text[start:end], flags=re.M)
+        written = re.sub(r"^ *#\[.*\n| by \{[^{}]*\}", "", text[start:end], flags=re.M)  # nor how the logic stores ghost data
         comment = "\n".join(re.findall(r"^///.*", item["above"], re.M))
         found = Definition(item["kind"], item["name"], scope, text.count("\n", 0, start) + 1, comment, written)
         scope.definitions[found.name] = found

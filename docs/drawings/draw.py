@@ -189,6 +189,7 @@ ROW, BOX_WIDTH, BOX_HEIGHT = 86, 164, 50
 # the middle of each box, and what is written below the crate's name
 PLACES = {
     "pp6600": (560, "the program"),
+    "pp_library": (330, "the calls for C"),
     "pp_program": (560, "the program over a host"),
     "pp_console": (560, "answers to a script"),
     "pp_host": (770, "words and files"),
@@ -219,7 +220,8 @@ TESTS = {"test_memory": 1, "test_client": 2, "pp_worked": 3}
 def read_uses():
     """Returns the crates that each crate uses, without those of the kit."""
     with open(CRATES, encoding="utf-8") as file:
-        listed = dict(row.split(":") for row in file.read().splitlines())
+        rows = [row.split(":") for row in file.read().splitlines()]
+    listed = {name.split()[0]: words for name, words in rows}  # a static library has a second word
     return {crate: [used for used in words.split() if used in listed] for crate, words in listed.items()}
 
 

@@ -14,11 +14,11 @@ HERE = os.path.dirname(os.path.abspath(__file__))
 TOP = os.path.dirname(os.path.dirname(HERE))
 sys.path.insert(0, os.path.join(TOP, "tools"))
 
-from pp6600.command_line import Failure, arguments, run, script_lines, simulator
-from pp6600.panel.app import Panel
-from pp6600.panel.session import Session
-from pp6600.panel.text import CHANGED, CHOSEN, CURSOR, HEAD, HERE as AT_P, REFUSED, SLOT, TITLE
-from pp6600.sources import symbols_from
+from pp6600.shell.command_line import Failure, arguments, run, script_lines, simulator
+from pp6600.front.panel.app import Panel
+from pp6600.front.panel.session import Session
+from pp6600.front.panel.text import CHANGED, CHOSEN, CURSOR, HEAD, HERE as AT_P, REFUSED, SLOT, TITLE
+from pp6600.language.sources import symbols_from
 
 EXAMPLE = os.path.join(TOP, "examples", "overwritten-loader")
 LINES = 6  # of its script, up to the first question

@@ -1,16 +1,18 @@
 """Asks for the value of an expression, for the steps of a processor, and for a run of the program."""
 
 import functools
+import operator
 import os
 import re
-from typing import Any, Callable, Dict, Iterator, List, Tuple
+from typing import Any, Callable, Dict, Iterator, List, Optional, Tuple
 
+from book.expressions import Apply, Parser
 from book.names import Names, Sources, Unresolved
 from book.sources import Definition, Scope
 from evaluating import lists
-from evaluating.functions import Function, remembering
+from evaluating.functions import Facts, Function, remembering
 from evaluating.kit import KIT, NONE, text_of
-from evaluating.lists import Stuck, items, listed
+from evaluating.lists import NIL, Stuck, items, listed, replicate
 
 # Of several definitions with one name, the only one of the first crate has it alone, or else the only one outside of the second;
 # those of inner files count as the second's, and a definition comes before the constructors with its name.
@@ -72,7 +74,7 @@ class Definitions:
     def function(self, definition: Definition) -> Function:
         """Returns the function of a definition, which is made before anything is computed."""
         if definition not in self.functions:
-            self.functions[definition] = self.kind(self, definition)
+            self.functions[definition] = (Facts if definition.kind == "record" else self.kind)(self, definition)
             self.queue.append(self.functions[definition])
         return self.functions[definition]
 
@@ -106,8 +108,20 @@ class Definitions:
         except Unresolved as fault:
             self.named(str(fault))  # says which definitions have the name, if several have it
             raise
-        except (TypeError, KeyError, IndexError, AttributeError):
+        except ZeroDivisionError:
+            raise Stuck("a division by 0") from None
+        except (TypeError, KeyError, IndexError, AttributeError, ValueError):
             raise Stuck("an argument has another type than its definition says") from None
+
+    def head(self, text: str) -> Optional[Definition]:
+        """Returns the definition that an expression calls, if it calls one."""
+        tree = Parser(text, self.fixity).whole()
+        word = getattr(tree.head if isinstance(tree, Apply) else tree, "word", "")
+        try:
+            found = self.names(self.scope).target(word)
+        except Unresolved:
+            return None
+        return found if isinstance(found, Definition) else None
 
 
 # ---- the program
@@ -126,58 +140,96 @@ def content(path: tuple) -> tuple:
         return ("Found.Missing",)
 
 
-def meaning(definitions: Definitions, words: Any) -> tuple:
-    """Returns what the words mean: of what the relation `Means` allows, the first."""
-    faults = list(items(definitions.call("pp_arguments/CommandLine:faults_of", words)))
-    if faults:
-        return ("Err", ("Trouble.Help",) if ("ErrorKind.DisplayHelp",) in faults else ("Trouble.BadArguments",))
-    asked = definitions.call("asked_by", words)
-    return asked if asked[0] == "Ok" else ("Err", definitions.call("of_arguments", asked[1]))
+def meaning(definitions: Definitions, words: tuple) -> tuple:
+    """Returns what the words mean: what they ask for, help, or bad arguments, the first that `Means` allows."""
+    asked = definitions.call("asked_by", words[1])
+    asked = asked if asked[0] == "Ok" else ("Err", definitions.call("of_arguments", asked[1]))
+    for found in (asked, ("Err", ("Trouble.Help",)), ("Err", ("Trouble.BadArguments",))):
+        if definitions.call("Means", words, found):
+            return found
+    raise Stuck("words of which `Means` allows no meaning")
+
+
+# What is outside of a run: what each device shows of itself to contracts, before it.
+HOST = {"known_words": NONE, "known_files": lambda path: NONE, "log": NIL, "failure_count": 0}
+SOURCE = {"rest": NONE, "given": NIL, "ended": False, "failure_count": 0}
+SINK = {"text": {"bytes": NIL, "held": ("Some", NIL)}, "failure_count": 0}
+
+
+def outside(definitions: Definitions, output: dict, errors: dict) -> dict:
+    """Returns what is outside of a run, with these sinks."""
+    shown = [{name: operator.itemgetter(name) for name in device} for device in (HOST, SOURCE, SINK, SINK)]
+    terminal = {"source": {"now": SOURCE}, "output": {"now": output}, "log": {"at_reads": NIL}}
+    return definitions.call("outside_of", *shown, HOST, terminal, errors)
+
+
+def holds(definitions: Definitions, name: str, *given: Any) -> bool:
+    """Tells whether a relation holds. If one way to fulfil it can't be computed, the others do not hold."""
+    try:
+        return definitions.call(name, *given)
+    except Stuck:
+        return False
+
+
+def check_written(definitions: Definitions, course: dict, output: Any, errors: Any) -> None:
+    """Asks whether what is written, and a sink that did not fail, are as IsOutput and IsReported say."""
+    before = outside(definitions, SINK, SINK)
+    after = outside(definitions, *({**SINK, "text": {"bytes": text, "held": ("Some", text)}} for text in (output, errors)))
+    if not holds(definitions, "IsOutput", course, before["output"], after["output"]):
+        raise Stuck("a run whose output is not as IsOutput says")
+    if not holds(definitions, "IsReported", course["ended"], before["errors"], after["errors"]):
+        raise Stuck("a run whose errors are not as IsReported says")
 
 
 def performed(definitions: Definitions, words: List[str], read: Callable[[], bytes]) -> Tuple[bytes, bytes, int]:
     """Returns what `program` writes to standard output and to standard error, and its exit status; `read` reads standard input."""
     definitions.memory.clear()
-    texts = listed(listed(os.fsencode(word)) for word in ["pp6600", *words])
+    texts = ("Words.Texts", listed(listed(os.fsencode(word)) for word in ["pp6600", *words]))
     means = meaning(definitions, texts)
-    asked = means[1] if means[0] == "Ok" else {}
-    files = functools.lru_cache(None)(lambda kind: content(asked[kind[0].split(".")[1].lower()]))
+    asked = means[1] if means[0] == "Ok" else None
+    files = functools.lru_cache(None)(lambda kind: content(definitions.call("path_of", asked, kind)))
     try:
-        typed = read() if asked.get("script") == NONE else b""
+        typed = read() if asked and definitions.call("path_of", asked, ("FileKind.Script",)) == NONE else b""
     except OSError:
         raise Stuck(CUT) from None
-    given = {"words": ("Words.Texts", texts), "files": files, "input": listed(typed)}
-    course = definitions.call("program", given, means)
-    out, ended = bytes(items(course["answers"])), course["ended"]
-    line = b"" if ended[0] == "Ok" else bytes(items(definitions.call("line_of", ended[1])))
-    is_help = ended == ("Err", ("Trouble.Help",))
-    return out + line * is_help, line * (not is_help), definitions.call("exit_of", ended)
+    course = definitions.call("program", {"words": texts, "files": files, "input": listed(typed)}, means)
+    line = NIL if course["ended"][0] == "Ok" else definitions.call("line_of", course["ended"][1])
+    check_written(definitions, course, course["answers"], line)
+    return bytes(items(course["answers"])), bytes(items(line)), definitions.call("exit_of", course["ended"])
 
 
 # ---- the steps of a processor
 
 # The places of a processor: how they are typed, their names in PpPlace, the fields with their numbers in what it sees of the machine,
-# and the digits of their addresses and of their numbers.
-PLACES = (("P", "P", "p", 0, 4), ("A", "A", "a", 0, 6), ("Q", "Q", "q", 0, 4), ("PHASE", "Phase", "phase", 0, 4),
-          ("M", "Cell", "cells", 4, 4), ("S", "State", "states", 2, 1), ("H", "Register", "registers", 2, 4),
-          ("C", "Central", "central", 6, 20), ("XP", "FrameWord", "frame", 2, 20))
+# the digits of their addresses and of their numbers, and the largest number.
+PLACES = (("P", "P", "p", 0, 4, 0o7777), ("A", "A", "a", 0, 6, 0o777777), ("Q", "Q", "q", 0, 4, 0o7777),
+          ("PHASE", "Phase", "phase", 0, 4, 0o7777), ("M", "Cell", "cells", 4, 4, 0o7777), ("S", "State", "states", 2, 1, 3),
+          ("H", "Register", "registers", 2, 4, 0o7777), ("C", "Central", "central", 6, 20, 2 ** 60 - 1),
+          ("XP", "FrameWord", "frame", 2, 20, 2 ** 60 - 1))
+CENTRAL = 0o400000  # words of central memory
 
 
-def place_and_number(word: str) -> Tuple[tuple, int]:
-    """Returns what A=5 or `M 20=5` says."""
+def place_and_number(word: str, view: dict) -> Tuple[tuple, int]:
+    """Returns what A=5 or `M 20=5` says of a processor that sees this."""
     found = re.fullmatch(r"([A-Z]+)(?: +([0-7]+))?=([0-7]+)", word.upper())
-    for short, name, _, digits, _ in PLACES:
+    for short, name, field, digits, _, largest in PLACES:
         if found and found[1] == short and bool(digits) == bool(found[2]):
-            return (f"PpPlace.{name}", *([int(found[2], 8)] if found[2] else [])), int(found[3], 8)
+            number, at = int(found[3], 8), [int(found[2], 8)] if found[2] else []
+            if at and at[0] >= sum(1 for _ in items(view[field])):
+                raise Stuck(f"{word!r}: there is no {short} {at[0]:o}")
+            if number > largest or name == "FrameWord" and at == [0] and number % 2 ** 18:
+                raise Stuck(f"{word!r}: no number of {short} is {number:o}")
+            return (f"PpPlace.{name}", *at), number
     raise Stuck(f"{word!r}: write an instruction word, as 3520, or a place and its number, as A=777777 or 'M 20=5'")
 
 
 def stepped(definitions: Definitions, words: List[str], steps: int) -> Iterator[Any]:
     """Yields what each step writes, of a program at 0100 of a blank processor with these numbers."""
+    view = {**definitions.call("pp_worked/Processors:blank"), "central": replicate(CENTRAL, 0)}
     program = [int(word, 8) for word in words if re.fullmatch("[0-7]{1,4}", word)]
-    others = [place_and_number(word) for word in words if not re.fullmatch("[0-7]{1,4}", word)]
+    others = [place_and_number(word, view) for word in words if not re.fullmatch("[0-7]{1,4}", word)]
     cells = definitions.call("cells_from", 0o100, listed(program))
-    view, writes = definitions.call("pp_worked/Processors:blank"), listed([*others, (("PpPlace.P",), 0o100), *items(cells)])
+    writes = listed([*others, (("PpPlace.P",), 0o100), *items(cells)])
     for _ in range(steps):
         view = definitions.call("pp_step/View:over", view, writes)
         writes = definitions.call("pp_writes", view)
@@ -187,5 +239,5 @@ def stepped(definitions: Definitions, words: List[str], steps: int) -> Iterator[
 def written(write: Tuple[tuple, int]) -> str:
     """Returns a place with its number, as A = 000005 or M 0020 = 0005."""
     (name, *address), number = write
-    short, *_, digits, width = next(place for place in PLACES if name == f"PpPlace.{place[1]}")
+    short, *_, digits, width, _ = next(place for place in PLACES if name == f"PpPlace.{place[1]}")
     return f"{' '.join([short, *(f'{one:0{digits}o}' for one in address)])} = {number:0{width}o}"

@@ -11,19 +11,17 @@ import re
 import tempfile
 from typing import Any, Callable, Dict, Iterator, List, NamedTuple, Optional, Tuple
 
-from book.expressions import Apply, Name, Parser
+from book.expressions import Name
 from book.names import Unresolved, find_token
 from book.pages import Book, Text
 from book.sources import Definition
 from evaluating.asking import Definitions, performed
 from evaluating.functions import Function, Locals
 from evaluating.lists import Stuck
-from evaluating.showing import Shower
+from evaluating.showing import Shower, has_texts
 from evaluating.writing import Writer
 
 CHOSEN, FILE = "docs/chosen.txt", "docs/examples.txt"
-TEXT_CRATES = ("pp_lines", "pp_command", "pp_console", "pp_files", "pp_arguments", "pp_trouble", "pp_host", "pp_program")
-TEXT_FILES = ("pp_arith/Octal", "pp_arith/OctalRead")
 HEAD = """# Made by docs/evaluate --record from docs/chosen.txt and crates/pp_worked. Of each definition, for each of its cases: an
 # expression and its value; or what a case returns that has no example. docs/evaluate --check computes each again."""
 LONGEST, GOOD_SIZE, MOST_PARTS = 600, 48, 160  # characters and parts of an example
@@ -44,11 +42,6 @@ class Source(NamedTuple):
     words: List[str] = []
     files: Dict[str, bytes] = {}
     script: bytes = b""
-
-
-def has_texts(definition: Definition) -> bool:
-    """Tells whether lists of numbers are texts in a definition."""
-    return definition.crate in TEXT_CRATES or definition.place in TEXT_FILES
 
 
 def chosen(text: str) -> Iterator[Source]:
@@ -106,8 +99,9 @@ class HeardDefinitions(Definitions):
 class Recorder:
     """Hears each call, and keeps the best ones of each case."""
 
-    def __init__(self, top: str):
+    def __init__(self, top: str, change: Callable = lambda definitions: None):
         self.top, self.definitions = top, HeardDefinitions(top, self.hear)
+        change(self.definitions)
         with open(os.path.join(top, "docs", "definitions.txt"), encoding="utf-8") as file:
             book = Book(self.definitions.sources, Text(file.read()))
         titles = [chapter.title for chapter in book.text.chapters]
@@ -182,18 +176,12 @@ class Recorder:
             finally:
                 os.chdir(here)
 
-    def head(self, text: str) -> Definition:
-        """Returns the definition that an expression calls."""
-        tree = Parser(text, self.definitions.fixity).whole()
-        word = tree.head.word if isinstance(tree, Apply) else tree.word
-        return self.definitions.names(self.definitions.scope).target(word)
-
     def value(self, text: str) -> Tuple[Case, Example]:
         """Returns the value of an expression as an example, and the case of the call that it is."""
-        definition = self.head(text)
+        definition = self.definitions.head(text)
         self.definitions.memory.clear()  # so that the call is heard
         value = self.definitions.ask(text)
-        return self.last[definition], Example(text, Shower(self.definitions, has_texts(definition)).text(value))
+        return self.last.get(definition), Example(text, Shower(self.definitions, has_texts(definition)).text(value))
 
     def examples(self, definition: Definition) -> List[Example]:
         """Returns the examples of a definition, for each of its cases in their order."""
@@ -266,20 +254,12 @@ def record(top: str) -> int:
     return 1 if faults else 0
 
 
-def faults_of(top: str, text: str) -> List[str]:
-    """Returns what is wrong with the examples of a text, after it has computed each."""
-    recorder, examples, faults = Recorder(top), load(text), []
+def faults_of(top: str, text: str, change: Callable = lambda definitions: None) -> List[str]:
+    """Returns what is wrong with the examples of a text, after it has computed each. The definitions may be changed before."""
+    recorder, examples, faults = Recorder(top, change), load(text), []
     for definition in recorder.chapter:
         left = list(recorder.definitions.cases[definition])
         for example in examples.pop(definition.whole_name, []):
             faults += recorder.fault(example, left)
         faults += [f"{definition.whole_name}: no line for the case {recorder.returns(case)}" for case in left]
     return faults + [f"{name}: no computable definition on the page" for name in examples]
-
-
-def check(top: str) -> int:
-    """Computes each example again, prints what is no longer so, and returns 1 if there is something."""
-    with open(os.path.join(top, FILE), encoding="utf-8") as file:
-        faults = faults_of(top, file.read())
-    print("".join(f"{FILE}: {fault}\n" for fault in faults) + "run docs/evaluate --record\n" * bool(faults), end="")
-    return 1 if faults else 0

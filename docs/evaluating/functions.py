@@ -4,6 +4,9 @@ A clause becomes an `if`, and a function that is passed on takes its arguments o
 effects, so when and how often one is computed can't be seen. Four things rest on that: a constant is computed once; some functions
 remember their results; an argument of some is computed when it is read; and a pattern `x ∷ xs` that is built again is the list that
 it took apart. Types are not checked.
+
+A statement is true or false. One about each or some x is computed if x is one of a few constructors, and a record of facts if none of
+its fields is data.
 """
 
 import functools
@@ -13,8 +16,8 @@ from typing import Any, Callable, Dict, List, Sequence
 
 from book.expressions import Apply, Binder, If, Let, Name, Pair, Parser
 from book.names import NUMBER, Library, Unresolved
-from book.sources import Constructor, Definition
-from evaluating.kit import KIT
+from book.sources import MEMBER, Constructor, Definition
+from evaluating.kit import KIT, VALUES
 from evaluating.lists import Stuck, listed
 
 # Without memory a session of n turns would take n * n steps, since each definition replays it from its start.
@@ -72,6 +75,16 @@ def fields_text(fields: List[str]) -> str:
     return "".join(f"[{field}]" if field.isdigit() else f"[{field!r}]" for field in fields if field)
 
 
+def names_in(header: str) -> List[str]:
+    """Returns the names that a header binds, as `module _ (x y : A) where`."""
+    return [name for binder in re.findall(r"\(([^:()]+) :", header) for name in binder.split()]
+
+
+def parameters(definition: Definition) -> List[str]:
+    """Returns the names of the arguments of a record, those of its module first."""
+    return names_in(definition.header + definition.text.split(" where", 1)[0].rsplit(" : ", 1)[0])
+
+
 class Function:
     """A definition, which becomes a function of Python with the arguments _0, _1 .."""
 
@@ -80,7 +93,7 @@ class Function:
         (_, end), *clauses = definition.clauses()
         sides = [Parser(definition.text[start:stop], maker.fixity).clause() for start, stop in clauses]
         self.clauses = [(left.given if isinstance(left, Apply) else [], body) for left, body in sides]
-        self.module = [name for binder in re.findall(r"\(([^:()]+) :", definition.header) for name in binder.split()]
+        self.module = names_in(definition.header)
         self.result = Parser(definition.text[definition.text.index(" : ") + 3:end], maker.fixity).expression()
         arrows, counts = 0, [len(patterns) for patterns, _ in self.clauses]
         while isinstance(self.result, Apply) and self.result.head == Name("→"):
@@ -158,7 +171,10 @@ class Function:
     def of_name(self, scope: Locals, word: str) -> str:
         if word.startswith('"'):
             return self.maker.constant(listed(map(ord, re.sub(r"\\(.)", lambda one: ESCAPES.get(one[1], one[1]), word[1:-1]))))
-        return str(int(word, 0)) if NUMBER.fullmatch(word) else self.call(scope, word, [])
+        try:
+            return str(int(word, 0)) if NUMBER.fullmatch(word) else self.call(scope, word, [])
+        except ValueError:
+            raise Stuck(f"{word}, which is no number") from None
 
     def of_binder(self, *_: Any) -> str:
         return "stuck('a statement about each or some x')"
@@ -185,9 +201,30 @@ class Function:
             self.match(pattern, name, scope)
         return f"({''.join(f'lambda {name}: ' for name in names)}{self.text(body, scope)})"
 
-    def of_apply(self, scope: Locals, head: Any, given: List) -> str:
-        if head == Name("→") or isinstance(given[0], Binder):
+    def of_each(self, scope: Locals, word: str, binder: Binder, body: Any) -> str:
+        """Returns the text of a statement about each x, `→`, or some x, `×`."""
+        values, x = self.values(binder.type), self.fresh("x")
+        if not values or len(binder.names) > 1:
             return self.of_binder()
+        made = self.text(body, {**scope, binder.names[0]: x})
+        return f"{'all' if word == '→' else 'any'}({made} for {x} in {self.maker.constant(values)})"
+
+    def values(self, kind: Any) -> List[tuple]:
+        """Returns the values of a type whose constructors take no arguments."""
+        try:
+            target = self.names.resolved(kind.word, {})[0] if isinstance(kind, Name) else None
+        except Unresolved:
+            return []
+        members = list(getattr(target, "members", {}).values())
+        if any(member.arity for member in members):
+            return []
+        return [(member.whole_name,) for member in members] or VALUES.get(getattr(target, "name", ""), [])
+
+    def of_apply(self, scope: Locals, head: Any, given: List) -> str:
+        if isinstance(given[0], Binder):
+            return self.of_each(scope, head.word, *given)
+        if head == Name("→"):
+            return "(not {} or {})".format(*self.texts(given, scope))
         if isinstance(head, Apply):
             return self.of_apply(scope, head.head, head.given + given)
         if isinstance(head, Name):
@@ -202,7 +239,7 @@ class Function:
         if fields:
             base = word[:-len(".".join(["", *fields]))]
             return applied(self.call(scope, base, []) + fields_text(fields), self.texts(given, scope))
-        what = self.word(target) if target else Word("", 0, scope[word]) if word in scope else kit_word(word)
+        what = self.word(target, len(given)) if target else Word("", 0, scope[word]) if word in scope else kit_word(word)
         parts = list(what.own)
         for at, one in enumerate(given, len(parts)):
             is_lazy = target and LAZY.get(target.name) == at
@@ -211,15 +248,16 @@ class Function:
             return f"Partial({', '.join([what.function, str(what.arity - len(parts)), *parts])})"
         return applied(what.call.format(*parts) if what.arity else what.call, parts[what.arity:])
 
-    def word(self, target: Any) -> Word:
-        """Returns what a word of the kit, a constructor or a definition is."""
+    def word(self, target: Any, given: int) -> Word:
+        """Returns what a word of the kit, a constructor or a definition is, with so many arguments."""
         if isinstance(target, Library):
             return kit_word(target.name.strip("◌"))
         if isinstance(target, Constructor):
             return word_of("together", 1 + target.arity, [repr(target.whole_name)], "({1},)")
         if target.kind == "const":
             return Word("", 0, re.search(r"= ([\d_]+);", target.text)[1])
-        if target.kind != "function":
+        is_facts = target.kind == "record" and 0 < len(parameters(target)) <= given
+        if target.kind != "function" and not is_facts:
             return Word("", 0, f"Partial(stuck, 1, '{target.name}, which is a type or a relation')")
         is_near = (target.scope, target.header) == (self.definition.scope, self.definition.header)
         try:
@@ -227,3 +265,19 @@ class Function:
         except (Unresolved, Stuck) as what:
             return Word("", 0, f"stuck({f'{target.name}: {what}'!r})")
         return word_of(function.name, len(function.given), self.given[:len(self.module)] if is_near else [])
+
+
+class Facts(Function):
+    """A record of facts, which becomes a function of Python that tells whether all of them hold."""
+
+    def __init__(self, maker: Any, definition: Definition):  # pylint: disable=super-init-not-called
+        self.maker, self.definition, self.names, self.count = maker, definition, maker.names(definition.scope), 0
+        self.module, self.result, self.clauses = names_in(definition.header), Name("Type"), []
+        self.given = [f"_{at}" for at in range(len(parameters(definition)))]
+        self.name = self.fresh(f"{definition.name}_{len(maker.functions)}")
+
+    def whole(self) -> str:
+        """Returns the text of the function."""
+        text, scope = re.sub(r"^ *--.*\n", "", self.definition.text, flags=re.M), dict(zip(parameters(self.definition), self.given))
+        facts = [self.text(Parser(fact, self.maker.fixity).whole(), scope) for _, fact in MEMBER.findall(text + "\n")]
+        return f"def {self.name}({', '.join(self.given)}):\n    return {' and '.join(facts)}\n"

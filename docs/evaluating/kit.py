@@ -9,14 +9,17 @@ import re
 from itertools import islice
 from typing import Any, Dict, Tuple
 
-from evaluating.lists import NIL, Cons, append, drop, element, items, listed, replicate, with_element
+from evaluating.lists import NIL, Cons, Stuck, append, drop, element, is_same, items, listed, replicate, with_element
 
 NONE = ("None",)
 
 
 def text_of(codes: Any) -> str:
     """Returns a list of character codes as a text."""
-    return bytes(items(codes)).decode("utf-8", "surrogateescape")
+    try:
+        return bytes(items(codes)).decode("utf-8", "surrogateescape")
+    except (TypeError, ValueError):
+        raise Stuck("the text of what is no list of bytes") from None
 
 
 # ---- clap. Its definitions in the kit are some 800 lines. This is its rule for a command whose options all have a long name and
@@ -58,6 +61,10 @@ def read_words(app: dict, words: Any) -> Tuple[Dict[str, Any], str]:
     return values, ""
 
 
+# The values of a type of the kit.
+VALUES = {"ErrorKind": [(f"ErrorKind.{kind}",) for kind in
+                        ("DisplayHelp", "TooManyValues", "UnknownArgument", "InvalidValue", "ArgumentConflict")]}
+
 # ---- The words: each a function, or a text of Python in which {0}, {1} .. are the arguments.
 
 KIT: Dict[str, Any] = {
@@ -68,6 +75,9 @@ KIT: Dict[str, Any] = {
     "nat_lt": "({0} < {1})", "nat_le": "({0} <= {1})", "is_ascii_digit": "(48 <= {0} <= 57)", "cond": "({1} if {0} else {2})",
     "⊤": "True", "⊥": "False", "Unit": "True", "tt": "True", "×": "({0} and {1})", "⊎": "({0} or {1})", "<": "({0} < {1})",
     "≤": "({0} <= {1})", "≡": "is_same({0}, {1})", "≢": "(not is_same({0}, {1}))",
+    "DisplayHelp": "('ErrorKind.DisplayHelp',)",
+    "IsAmong": lambda kind, kinds: kind in items(kinds),
+    "Appends": lambda old, new, more: old == NONE or new != NONE and is_same(new[1], append(old[1], more)),
     "IfOk": lambda x, fact: x[0] != "Ok" or fact(x[1]),
     "IfSome": lambda x, fact: x[0] != "Some" or fact(x[1]),
     "All": lambda test, xs: all(map(test, items(xs))),

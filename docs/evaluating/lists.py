@@ -29,6 +29,11 @@ class Cons:
     __slots__ = ("head", "tail")
     width = 0
 
+    def __eq__(self, other: Any) -> bool:
+        raise Stuck("`==` of lists: it compares numbers, and `≡` all else")
+
+    __hash__ = object.__hash__
+
     def __init__(self, head: Any, tail: Any):
         self.head, self.tail = head, tail
 
@@ -111,6 +116,8 @@ def is_same(x: Any, y: Any) -> bool:
         return True
     if callable(x) or callable(y):
         raise Stuck("whether two functions are the same")
+    if x is NIL or y is NIL:
+        return False
     if isinstance(x, Cons) and isinstance(y, Cons):
         x, y = tuple(items(x)), tuple(items(y))
     if type(x) is dict and type(y) is dict:

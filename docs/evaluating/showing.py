@@ -1,8 +1,9 @@
 """Shows a value as an expression that has this value: of a machine, what is not as in the machine at rest."""
 
 from itertools import groupby
-from typing import Any, Iterable, Iterator, List, Tuple
+from typing import Any, Iterable, Iterator, List, Optional, Tuple
 
+from book.sources import Definition
 from evaluating.asking import PLACES, Definitions
 from evaluating.lists import NIL, Cons, Partial, Stuck, items, listed, stuck, together
 
@@ -19,6 +20,15 @@ MACHINE = [("processors", PROCESSOR), ("channels", [("states", "Place.ChannelMod
            ("channels", [("clock", "Place.Clock")]), ("slot", "Place.Slot")]
 VIEW = [(field, f"PpPlace.{name}") for _, name, field, *_ in PLACES]
 ESCAPES = {**{code: chr(code) for code in range(32, 127)}, 9: "\\t", 10: "\\n", 13: "\\r", 34: '\\"', 92: "\\\\"}
+
+
+TEXT_CRATES = ("pp_lines", "pp_command", "pp_console", "pp_files", "pp_arguments", "pp_trouble", "pp_host", "pp_program")
+TEXT_FILES = ("pp_arith/Octal", "pp_arith/OctalRead")
+
+
+def has_texts(definition: Optional[Definition]) -> bool:
+    """Tells whether lists of numbers are texts in a definition."""
+    return definition is not None and (definition.crate in TEXT_CRATES or definition.place in TEXT_FILES)
 
 
 def is_list(value: Any) -> bool:

@@ -6,7 +6,7 @@ steps that were computed.
 
 import functools
 import re
-from typing import Any, Container, Iterator, List, Tuple
+from typing import Any, Container, Iterator, List, Optional, Tuple
 
 from book.expressions import Apply, Lambda, Let, Name, Pair
 from book.sources import Definition
@@ -17,8 +17,8 @@ from evaluating.writing import Writer, cases, put_in
 MNEMONIC = re.compile(r"-- ([0-7]{2}) ([A-Z]{3})$", re.M)
 TWO_WORDS = ("Memory", "Unindexed")
 # What a processor finds before each step of the table; P is 0100, d is 05, and m is 0300.
-BEFORE = ["A=1003", "M 5=200", "M 200=7", "M 500=7", "C 1003=12345670123456701234", "H 5=1234", "XP 0=00123400000005123456"]
-STATES = (("inactive", 5, 0), ("empty", 5, 1), ("full", 5, 2), ("with a function", 5, 3), ("14", 0o14, 0), ("15", 0o15, 0))
+BEFORE = ["A=1003", "M 5=200", "M 200=7", "M 500=7", "C 1003=12345670123456701234", "H 5=1234", "XP 0=00123400000005000000"]
+STATES = (("inactive", 5, 0), ("empty", 5, 1), ("full", 5, 2), ("with a function", 5, 3), ("14", 0o14, None), ("15", 0o15, None))
 NEXT = "P := i.next"  # is left out of a row that writes more, and of its example
 MOST = 9  # places of a step that are all shown; of more the first three
 
@@ -119,16 +119,16 @@ class Tables:
             tree = tree.given[1]
         return found
 
-    def step(self, code: str, mode: str, channel: int = 5, state: int = 2, is_move: bool = False) -> str:
+    def step(self, code: str, mode: str, channel: int = 5, state: Optional[int] = 2, is_move: bool = False) -> str:
         """Returns what a step writes: of an instruction, or of its block transfer."""
         word = f"{int(code, 8) << 6 | channel:04o}"
         program = [word, *["0300"] * (mode in TWO_WORDS)]
-        before = [*BEFORE, f"S {channel:o}={state}"]
+        before = [*BEFORE, *([f"S {channel:o}={state}"] if state is not None else [])]
         if is_move:
             program, before = [], [*before, "M 0=101", "M 300=5670", f"PHASE={word}", "P=300"]
         writes = list(items(next(stepped(self.definitions, program + before, 1))))
         writes = writes[1:] if len(writes) > 1 and writes[0] == (("PpPlace.P",), 0o100 + len(program)) else writes
-        more = [f"and {len(writes) - 3:o} more"] if len(writes) > MOST else []
+        more = [f"and {len(writes) - 3} (decimal) more"] if len(writes) > MOST else []
         return ", ".join([*map(written, writes[:3] if more else writes), *more]) or "waits"
 
     def instructions(self) -> str:

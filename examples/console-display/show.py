@@ -13,7 +13,7 @@ import sys
 sys.path.append(os.path.join(os.path.dirname(os.path.realpath(__file__)), "..", "..", "tools"))  # or the variable PYTHONPATH
 from pp6600 import Attached
 from pp6600.devices.console_display import ConsoleDisplay
-from pp6600.pictures import braille, svg
+from pp6600.devices.pictures import braille, svg
 
 WIDTH = 129  # decimal: 64 cells a screen, so that each small symbol has its own
 
