@@ -241,7 +241,7 @@ const KEYS = {
   "[": byHand(() => moveToChange(-1)), "]": byHand(() => moveToChange(1)),
   o: () => findOrigin(), "/": () => byId("place").select(), g: () => byId("turn").select(), "?": () => showHelp(byId("help").hidden),
   n: byHand(() => moveByLine(1)), p: byHand(() => moveByLine(-1)),
-  r: byHand(() => runTo(false)), "Shift+r": byHand(() => runTo(true)), e: () => shown.chosen && byId("set-to").select(),
+  r: byHand(() => runTo(false)), "Shift+r": byHand(() => runTo(true)), e: byHand(edit),
   i: () => nextForm(), f: () => followTurns(), b: () => foldBarrel(), z: () => project(),
   Enter: () => byId("typed").focus(), Escape: () => (byId("help").hidden ? chooseNone() : showHelp(false)),
 };
@@ -292,6 +292,9 @@ function buildControls() {
   for (const [id, key] of Object.entries(buttons)) byId(id).onclick = KEYS[key];
   byId("choose-none").onclick = chooseNone;
   byId("go-turn").onsubmit = (event) => { event.preventDefault(); goToTyped(); };
+  byId("set").onclick = KEYS.e;
+  byId("set-to").onblur = endEditing;
+  document.addEventListener("dblclick", (event) => event.target.closest("button.number") && edit());
   byId("set-form").onsubmit = (event) => { event.preventDefault(); setChosen(); };
   byId("go-place").onsubmit = (event) => { event.preventDefault(); chooseTyped(); };
   document.addEventListener("click", (event) => {
@@ -334,7 +337,7 @@ function chooseTyped() {
 
 function build() {
   for (const part of [buildControls, buildProcessors, buildChannels, buildMemory, buildProgram, buildSource, buildPictures, buildCentral,
-    buildFrame, buildReader, buildPrinter, buildFiles, buildLanes, buildBarrel, buildSigns, buildExercises, buildConsole]) part();
+    buildFrame, buildReader, buildPrinter, buildFiles, buildLanes, buildBarrel, buildSigns, buildExercises, buildMeanings, buildConsole]) part();
   const redraw = () => { drawLegend(); drawLanes(); showHead(); showSigns(); showBarrel(); };
   for (const query of ["(prefers-color-scheme: dark)", "print"]) matchMedia(query).addEventListener("change", redraw);
   window.addEventListener("resize", redraw);
