@@ -10,6 +10,7 @@ from tests.panels import PanelCase, bottom, press
 from tests.support import EXAMPLES, TOP, read, run
 
 from pp6600 import Failure
+from pp6600.front import keys
 
 CULPRIT = "the next turn, PP 00 in IAM 12 at 0104, changes M 0 106 from 7512"
 
@@ -28,7 +29,7 @@ class Lines(PanelCase):
     def test_lines(self):
         """The lines of README.md and docs/TOOLS.md, and turns counted by the barrel's order."""
         self.check_rows(self.sent,
-                ("", "s", "STEP"), ("", "12s", "STEP 12"), ("", " ", "STEP"), ("STEP 3", "S", "STEP 12"), ("", "3S", "STEP 36"),
+                ("", "s", "STEP"), ("", "12s", "STEP 12"), ("STEP 3", "S", "STEP 12"), ("", "3S", "STEP 36"),
                 ("", "3)n", "STEP 3"), ("", "n", "STEP 12"), ("STEP", "n", "STEP 11"), ("STEP 11", "n", "STEP"),
                 ("STEP 4", "2n", "STEP 20"),
                 ("STEP 10", "b", "BACK"), ("STEP 1000", "675b", "BACK 675"), ("", "2000001s", "STEP 1000000, STEP 1000000, STEP"),
@@ -45,7 +46,7 @@ class Lines(PanelCase):
         self.check_rows(self.sent, (script, "b", "BACK"), (script, "B", "BACK 14"), (script, "2B", "BACK 26"), (script, "p", "BACK 6"),
                         (script, "2p", "BACK 20"), (script, "3B", "BACK 41"), (script, "<Home>", "BACK 33"), (script, "4)p", "BACK 14"))
         script += "BACK 6\n"
-        self.check_rows(self.sent, (script, "s", "FORWARD"), (script, " ", "FORWARD"), (script, "<End>", "FORWARD 6"),
+        self.check_rows(self.sent, (script, "s", "FORWARD"), (script, "<End>", "FORWARD 6"),
                         (script, "S", "FORWARD 6, STEP 6"), (script, "n", "FORWARD 6, STEP 6"), (script, "2)n", "FORWARD 4"))
         self.assertIn(" KEPT 25  AHEAD 6 ", press(self.panel(script))[0])
         self.assertIn(" KEPT 26  AHEAD 0 ", press(self.panel(script + "STEP\n"))[0], "a new action discards what is ahead")
@@ -297,6 +298,7 @@ class Until(PanelCase):
     def test_stopped(self):
         """Ctrl-C ends a search, and the machine is where it was."""
         panel, shown = self.wide_panel(FIRST_PROGRAM), []
+        panel.between_reports = 0
         panel.show = lambda: shown.append(panel.message)
         panel.is_stopped = lambda: True
         self.assert_goes(panel, "uH 13 is X<Enter>", 0, "^the search was stopped$")
@@ -453,12 +455,20 @@ class Typed(PanelCase):
 
     def test_help(self):
         """The help and docs/PANEL.md have each key, in the same order."""
-        keys = read("docs", "PANEL.md").partition("\n## The keys\n")[2].partition("\n## ")[0]
-        rows = re.findall(r"^\| (`.*?`) \| (.*) \|$", keys, flags=re.M)
+        page = read("docs", "PANEL.md").partition("\n## The keys\n")[2].partition("\n## ")[0]
+        rows = re.findall(r"^\| (`.*?`) \| (.*) \|$", page, flags=re.M)
         wanted = [f"{'  '.join(re.findall('`(.*?)`', names)):17}{text}" for names, text in rows]
         got = [line.rstrip() for line in press(self.panel(size=(80, 60)), "?")]
         first, last = got.index("makes ten turns.") + 1, next(at for at, line in enumerate(got) if line.startswith("A star is"))
         self.assertEqual(wanted, [line for line in got[first:last] if line])
+
+    def test_one_table(self):
+        """A key has one action, in the panel and in the page; its help is not empty in both."""
+        actions = {}
+        for row in keys.ROWS:
+            self.assertTrue(row.panel or row.page, row)
+            for key, action in row.actions.items():
+                self.assertEqual(action, actions.setdefault(key, action), key)
 
     def test_quit(self):
         panel = self.panel(FIRST_PROGRAM)
