@@ -6,7 +6,7 @@ from tests.support import Case, program
 
 from pp6600.front.panel.app import Panel
 from pp6600.front.panel.session import Session
-from pp6600.language.sources import symbols_from
+from pp6600.language.symbol_options import symbols_from
 
 PROGRAM = program()
 

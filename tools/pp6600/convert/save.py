@@ -1,6 +1,6 @@
 """The cells of a processor at the end of a script, in each form that load takes, and as a deck or a panel."""
 
-from ..language.sources import add_sources, symbols_of
+from ..language.symbol_options import add_sources, symbols_of
 from ..run.forms import COLUMNS_OF_CARD, ROW
 from ..shell.command_line import Failure, arguments, cell, processor, words_after, write_bytes, write_lines
 from ..shell.script import replayed

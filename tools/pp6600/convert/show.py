@@ -1,7 +1,7 @@
 """Lines with their answers, as a session is shown."""
 
-from ..language.sources import add_sources, symbols_of
-from ..run.simulator import Simulator
+from ..language.symbol_options import add_sources, symbols_of
+from ..run.session import Session
 from ..shell.command_line import add_script, add_turn, arguments, script_lines, simulator
 from ..shell.script import performed
 from ..shell.shown import show_lines
@@ -24,6 +24,6 @@ def main():
     if asked.turn is not None:
         script = performed(words, lines)
         lines, status = script.tape.lines(0, script.tape.after_turn(asked.turn)), script.status()
-    run = Simulator(words)
+    run = Session(words)
     status |= show_lines(run, lines, asked.stop)
     return max(run.end(), status)

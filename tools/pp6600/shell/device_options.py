@@ -10,7 +10,7 @@ from ..failure import Failure
 from ..run.attached import Attached
 from ..run.device import Device, DeviceFailure
 from ..run.forms import CHANNELS
-from ..run.timeline import Timeline
+from ..run.session import Session
 from .options import up_to
 from .script import Refusals
 from .text_files import bytes_of, lines_of
@@ -32,7 +32,7 @@ def devices_of(asked):
 
 def timeline(words, attached):
     """Returns a session that goes back without a limit, with these devices if there are any."""
-    return Attached(words, attached) if attached else Timeline(words)
+    return Attached(words, attached) if attached else Session(words)
 
 
 def script_with(words, attached, script):

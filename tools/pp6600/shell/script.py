@@ -1,7 +1,8 @@
 """A script that is performed: the tape of what is in effect at its end, and the lines that were refused."""
 
 from ..run.forms import is_refusal
-from ..run.simulator import Console, Replay
+from ..run.console import Console
+from ..run.session import Session
 from ..run.tape import History, counted, room_of
 from .ending import complain, flush
 from .options import simulator
@@ -69,4 +70,4 @@ def replayed(asked, symbols, path, turn=None):
     words = simulator(asked)
     script = performed(words, symbols.loading(script_lines(path)))
     tape = script.tape
-    return Replay(words, tape if turn is None else tape.part(0, tape.after_turn(turn))), script
+    return Session.of_tape(words, tape if turn is None else tape.part(0, tape.after_turn(turn))), script

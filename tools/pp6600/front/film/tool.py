@@ -1,6 +1,6 @@
 """The tool that makes a film: a run as one web page, from which one goes on."""
 
-from ...language.sources import add_symbols, symbols_of
+from ...language.symbol_options import add_symbols, symbols_of
 from ...run.attached import names_of
 from ...shell.command_line import Failure, add_script, arguments, bytes_of, octal, simulator
 from ...shell.device_options import add_devices, devices_of, script_with
