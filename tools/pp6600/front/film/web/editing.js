@@ -55,7 +55,10 @@ function edit() {
   field.select();
 }
 
-const endEditing = () => { byId("set-form").hidden = true; };
+function endEditing() {
+  byId("set-form").hidden = true;
+  byId("set-to").blur();
+}
 
 // Sets the chosen number to what the field has. If it is refused, the field stays.
 async function setChosen() {

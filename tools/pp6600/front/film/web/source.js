@@ -14,7 +14,6 @@ function lineOfSource(n, { number, note }) {
 function buildSource() {
   if (!film.sources) return;
   for (const one of Object.values(film.sources)) one.index = indexOfWords(one.words);
-  document.querySelector(".column").prepend(byId("lanes"));
   byId("source").hidden = false;
   for (const [text, { name, lines }] of Object.entries(film.sources)) {
     const n = Number(text), body = tableOf("source").createTBody();
@@ -112,7 +111,8 @@ function showSource() {
   const did = isTurn(film.at) && film.processor[film.at] === n ? lineOfMoment(film.at) : NO_LINE, performed = did.note ? 0 : did.number;
   one.rows.forEach((row, at) => showSourceRow(row, n, line.number === at + 1 ? line : null, performed === at + 1));
   showTimes(one);
-  if (source.scrolled !== `${n} ${film.at}`) keepInView(one.rows[(film.at === one.led ? one.line : line.number) - 1]);
+  byId("source").classList.toggle("marked", one.rows.some(({ text }) => text.data));
+  if (source.scrolled !== `${n} ${film.at}`) keepInView(one.rows[(film.at === one.led ? one.line : line.number) - 1], !source.scrolled);
   source.scrolled = `${n} ${film.at}`;
 }
 
@@ -150,10 +150,11 @@ function moveToTime(one, direction) {
 }
 
 // Scrolls the lines, not the page, so that a row is seen, and some rows around it.
-function keepInView(row) {
+function keepInView(row, anew) {
   if (!row) return;
   const box = tableOf("source").parentElement, { offsetTop: top, offsetHeight: height } = row.element;
-  if (top - 2 * height < box.scrollTop || top + 3 * height > box.scrollTop + box.clientHeight) box.scrollTop = top - box.clientHeight / 3;
+  if (!anew && top - 2 * height >= box.scrollTop && top + 3 * height <= box.scrollTop + box.clientHeight) return;
+  box.scrollTop = [...row.element.parentElement.rows].findLast((one) => one.offsetTop <= Math.max(0, top - box.clientHeight / 3)).offsetTop;
 }
 
 // To where the processor of the source that is seen begins its next line, or back to where it began a line; at the end of the film turns are
