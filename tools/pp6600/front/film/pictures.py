@@ -10,7 +10,7 @@ from typing import Any, Dict, Iterator, List, Sequence, Tuple
 from ...devices.pictures import svg
 from ...failure import Failure
 from ...run.attached import COUNTED
-from ...run.device import Device, Value, drawn, looked, value_at_start
+from ...run.device import Device, Value, channel_of, drawn, looked, value_at_start
 from ...run.simulator import Console
 
 MOST_MOMENTS = 0o1000000  # the page records all of them
@@ -51,7 +51,7 @@ class Pictures:
             return
         values, turn = self.values[self.position], self.turns[self.position] + bool(rows)
         if rows:
-            values = tuple(looked(device, value, rows[device.channel], turn)[0] for device, value in zip(self.devices, values))
+            values = tuple(looked(device, value, channel_of(rows[device.channel]), turn)[0] for device, value in zip(self.devices, values))
         self.position += 1
         self.values[self.position:], self.turns[self.position:] = [values], [turn]
 
