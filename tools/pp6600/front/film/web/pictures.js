@@ -3,8 +3,11 @@
 const pictures = []; // of each device its element, the line below it, and the lines of the picture that is seen
 
 function buildPictures() {
-  byId("pictures").hidden = !film.pictures;
-  for (const { name, channel } of film.pictures ? film.pictures.devices : []) {
+  const devices = film.pictures ? film.pictures.devices : [];
+  byId("pictures").hidden = !devices.length;
+  document.body.classList.toggle("pictured", devices.length > 0);
+  document.body.style.setProperty("--pictures", devices.length);
+  for (const { name, channel } of devices) {
     const figure = document.createElement("figure"), title = document.createElement("figcaption"), element = document.createElement("div");
     const line = document.createElement("p");
     title.textContent = `${name} on channel ${two(channel)}`;
