@@ -9,8 +9,8 @@ import tempfile
 import unittest
 from typing import NamedTuple
 
-TOP = os.path.dirname(os.path.dirname(os.path.abspath(__file__)))
-EXAMPLES = os.path.join(TOP, "examples")
+from tests.cases import EXAMPLES, TOP
+
 TOOLS = sorted(entry.name for entry in os.scandir(os.path.join(TOP, "tools")) if entry.is_file() and "." not in entry.name)
 PATIENCE = 600  # seconds for a command
 PYTHON = (sys.executable, "-S")  # without what is installed beside the standard library: it starts sooner
