@@ -18,7 +18,7 @@ FORMS = {"listing": "a listing: the address, the words and the line of the sourc
 WRONG = 1
 
 
-def main():
+def main() -> int:
     parser = Parser(DESCRIPTION, "[--set N | --listing | --panel | --deck | --words] [--text DIR] [--unit NAME] FILE")
     forms = parser.add_mutually_exclusive_group()
     forms.add_argument("--set", metavar="N", type=processor,

@@ -12,7 +12,7 @@ there, with the last STEP cut short. At a terminal a line that is refused has th
 own is written first and after each DUMP, and once something is watched, after each STEP."""
 
 
-def main():
+def main() -> int:
     parser = arguments(DESCRIPTION)
     parser.add_argument("--stop", action="store_true", help="stop at the first line that is refused")
     add_turn(parser)
@@ -23,7 +23,7 @@ def main():
     lines, status = symbols_of(asked).loading(script_lines(asked.script)), 0
     if asked.turn is not None:
         script = performed(words, lines)
-        lines, status = script.tape.lines(0, script.tape.after_turn(asked.turn)), script.status()
+        lines, status = list(script.tape.lines(0, script.tape.after_turn(asked.turn))), script.status()
     run = Session(words)
     status |= show_lines(run, lines, asked.stop)
     return max(run.end(), status)

@@ -10,6 +10,7 @@ from ..run.forms import CELLS, PROCESSORS, Place
 from ..run.origin import SET, TURN, Search, Step
 from ..run.search import Made, around, last_moments
 from ..run.session import Session
+from ..run.tape import Tape
 from ..run.turn import Processor
 from .names import AllSymbols
 
@@ -89,7 +90,7 @@ def has_returned(run: Session, number: int, call: Call, position: int) -> bool:
     return False
 
 
-def next_turn(tape, number: int, turn: int) -> int:
+def next_turn(tape: Tape, number: int, turn: int) -> int:
     """Returns the number of the first turn of a processor after another one."""
     return turn + 1 + (number - tape.slot(tape.after_turn(turn))) % PROCESSORS
 

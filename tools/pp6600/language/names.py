@@ -101,7 +101,7 @@ class AllSymbols:
     def name(self, processor: int, digits: str) -> str:
         """Returns an address of a processor, of which these are the digits, as START+3; nothing if no label is near."""
         symbols = self.of.get(processor)
-        return symbols.name(int(digits, 8)) if symbols and digits.isdigit() else ""
+        return str(symbols.name(int(digits, 8))) if symbols and digits.isdigit() else ""
 
     def tables(self) -> Dict[int, Dict[str, Any]]:
         """Returns for each processor with symbols the names of its addresses, and the texts of its lines with their words."""
@@ -114,7 +114,7 @@ class AllSymbols:
         number serves too."""
         label, _, more = text.partition("+")
         symbols, distance = self.of.get(processor), octal_number(more or "0")
-        number = symbols.address(label) if symbols else None
+        number: Optional[int] = symbols.address(label) if symbols else None
         if distance is None or number is None:
             return None
         return (number + distance) % CELLS if number < CELLS else number + distance
@@ -165,12 +165,12 @@ class AllSymbols:
     def text(self, processor: int, digits: str, word: str) -> str:
         """Returns the text of the line beside a cell, if the word is that of the line; or nothing."""
         symbols = self.of.get(processor)
-        return symbols.text(int(digits, 8), word) if symbols else ""
+        return str(symbols.text(int(digits, 8), word)) if symbols else ""
 
     def line(self, processor: int, digits: str, words: Sequence[str]) -> str:
         """Returns the line of a source whose instruction is in a cell, with these words, or was there; nothing without one."""
         symbols = self.of.get(processor)
-        return symbols.beside(int(digits, 8), words) if symbols and digits.isdigit() else ""
+        return str(symbols.beside(int(digits, 8), words)) if symbols and digits.isdigit() else ""
 
     def line_at_p(self, number: int, processor: Any) -> str:
         """Returns the line of a source at P of a processor, after two blanks; nothing in a block transfer."""

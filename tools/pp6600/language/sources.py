@@ -47,7 +47,7 @@ def texts_in(folder: Optional[str]) -> Optional[Texts]:
 
     def lines(deck: str) -> Optional[List[str]]:
         found = [name for name in names if deck and deck.upper() in (name.upper(), name.upper().partition(".")[0])]
-        return source_lines(os.path.join(folder, found[0])) if found else None
+        return source_lines(os.path.join(str(folder), found[0])) if found else None
     return lines
 
 
@@ -211,7 +211,7 @@ def program_of(listing: Listing) -> Program:
     rows, origin, symbols = [], 0, Symbols()
     for entry in listing.entries:
         load, address = (entry.load, entry.address) if entry.words else (origin, origin)
-        words = tuple(int(word, 8) for word in entry.words)
+        words = tuple(int(word, 8) for word in entry.words if word is not None)
         rows.append(Row(Line(entry.number, entry.source), load, address, words, bool(words)))
         origin = load + len(words)
         symbols.seen.update({name: Symbol(number, entry.number, True) for name, number in entry.labels})
@@ -247,8 +247,9 @@ def names_of(program: Program) -> Names:
     """Returns the names of a source: labels, and names of numbers that are not minus; those that a macro has for itself are none."""
     names = Names()
     for name, symbol in program.symbols.named():
-        if symbol.value >= 0 and name not in program.symbols.made:
-            names.add(name, symbol.value, symbol.is_address and symbol.value < CELLS)
+        value = symbol.value
+        if value is not None and value >= 0 and name not in program.symbols.made:
+            names.add(name, value, symbol.is_address and value < CELLS)
     return names
 
 
