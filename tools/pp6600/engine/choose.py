@@ -11,7 +11,7 @@ from typing import Optional, Sequence
 from ..failure import Failure
 from .choice import HOME, THIS_IS
 from .interface import Engine
-from .library_engine import LibraryEngine, library_of
+from .library import LibraryEngine, loaded
 from .plain_engine import PlainEngine
 
 PLAIN = "plain"  # names the simulator in plain Python
@@ -63,7 +63,7 @@ def library_named(name: str) -> Optional[str]:
 def loads(path: str) -> bool:
     """Returns whether a library can be used on this machine."""
     try:
-        library_of(path)
+        loaded(path)
     except Failure:
         return False
     return True

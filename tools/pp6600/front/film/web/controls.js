@@ -241,7 +241,7 @@ const KEYS = {
   "[": byHand(() => moveToChange(-1)), "]": byHand(() => moveToChange(1)),
   o: () => findOrigin(), "/": () => byId("place").select(), g: () => byId("turn").select(), "?": () => showHelp(byId("help").hidden),
   n: byHand(() => moveByLine(1)), p: byHand(() => moveByLine(-1)),
-  r: byHand(() => runTo(false)), "Shift+r": byHand(() => runTo(true)), e: () => shown.chosen && byId("set-to").select(),
+  r: byHand(() => runTo(false)), "Shift+r": byHand(() => runTo(true)), e: byHand(edit),
   i: () => nextForm(), f: () => followTurns(), b: () => foldBarrel(), z: () => project(),
   Enter: () => byId("typed").focus(), Escape: () => (byId("help").hidden ? chooseNone() : showHelp(false)),
 };
@@ -250,12 +250,17 @@ const KEYS = {
 const isProjected = () => document.body.classList.contains("projector");
 
 function project() {
+  const box = tableOf("source").parentElement;
+  if (!isProjected()) shown.before = { as: memory.as, scrolled: scrollY, scrolledSource: box.scrollTop };
   document.body.classList.toggle("projector");
-  if (isProjected()) shown.formBefore = memory.as;
-  memory.as = isProjected() && memory.as === "numbers" ? "instructions" : shown.formBefore;
+  memory.as = isProjected() && memory.as === "numbers" ? "instructions" : shown.before.as;
+  if (isProjected()) source.scrolled = "";
   byId("barrel-picture").removeAttribute("viewBox"); // else its old size makes its column wider
   window.dispatchEvent(new Event("resize"));
   show();
+  if (isProjected()) return;
+  scrollTo(0, shown.before.scrolled);
+  box.scrollTop = shown.before.scrolledSource;
 }
 
 function showHelp(on) {
@@ -292,6 +297,9 @@ function buildControls() {
   for (const [id, key] of Object.entries(buttons)) byId(id).onclick = KEYS[key];
   byId("choose-none").onclick = chooseNone;
   byId("go-turn").onsubmit = (event) => { event.preventDefault(); goToTyped(); };
+  byId("set").onclick = KEYS.e;
+  byId("set-to").onblur = endEditing;
+  document.addEventListener("dblclick", (event) => event.target.closest("button.number") && edit());
   byId("set-form").onsubmit = (event) => { event.preventDefault(); setChosen(); };
   byId("go-place").onsubmit = (event) => { event.preventDefault(); chooseTyped(); };
   document.addEventListener("click", (event) => {
@@ -332,11 +340,26 @@ function chooseTyped() {
   setAddress();
 }
 
+// In one column, and with a source, sections come in another order than that of the two columns.
+const NARROW = "(max-width: 999px)";
+
+function placeSections() {
+  const [left, right] = document.querySelectorAll(".column"), isNarrow = matchMedia(NARROW).matches;
+  const first = film.sources || isNarrow ? ["lanes"] : [], second = ["source", "memory", "central", "frame"];
+  const sections = (names) => names.map(byId);
+  left.prepend(...sections(isNarrow ? [...first, "source"] : first));
+  if (!first.length) document.querySelector("main").before(byId("lanes"));
+  if (isNarrow) byId("watches").after(...sections(second.slice(1)));
+  else right.prepend(...sections(second));
+}
+
 function build() {
   for (const part of [buildControls, buildProcessors, buildChannels, buildMemory, buildProgram, buildSource, buildPictures, buildCentral,
-    buildFrame, buildReader, buildPrinter, buildFiles, buildLanes, buildBarrel, buildSigns, buildExercises, buildConsole]) part();
+    buildFrame, buildReader, buildPrinter, buildFiles, buildLanes, buildBarrel, buildSigns, buildExercises, buildMeanings, buildConsole]) part();
+  placeSections();
   const redraw = () => { drawLegend(); drawLanes(); showHead(); showSigns(); showBarrel(); };
   for (const query of ["(prefers-color-scheme: dark)", "print"]) matchMedia(query).addEventListener("change", redraw);
+  matchMedia(NARROW).addEventListener("change", placeSections);
   window.addEventListener("resize", redraw);
   window.addEventListener("beforeprint", redraw);
   window.addEventListener("afterprint", redraw);

@@ -1,7 +1,9 @@
 // ---- the lanes
 
 const GAP = 3, SIGN = 9; // between lanes, and the width of a sign
-let LANE = 13, LABEL = 46, LETTERS = 11; // the height of a lane, the width of the names, and the height of letters, in pixels
+const MOST_PROJECTED = 8; // lanes on a projector
+// The height of a lane, the width of the names, the height of letters, all in pixels; and in how many columns the names are, one after another.
+let LANE = 13, LABEL = 46, LETTERS = 11, NAMES = 1;
 const lanes = { all: [], processors: [], channels: [], firstTurn: -1, from: 0, to: 0, isDrawn: false, folded: true }; // folded: the quiet ones are one line
 
 // Begins with no moments. The lanes are those of the processors, and then those of the channels.
@@ -97,13 +99,21 @@ function moveToPixel(event) {
   moveTo(Math.min(film.count - 1, lanes.from + Math.floor((x / pictureWidth()) * (lanes.to - lanes.from))));
 }
 
-const lanesShown = () => lanes.all.filter((lane) => !lane.quiet || !(lanes.folded || isProjected()));
+// On a projector the lanes of the processor that is shown and of the one whose turn it was come first, if they are too many.
+function lanesShown() {
+  if (!isProjected()) return lanes.all.filter((lane) => !lane.quiet || !lanes.folded);
+  const loud = lanes.all.filter((lane) => !lane.quiet), first = [memory.processor, film.processor[film.at]].map((n) => lanes.processors[n]);
+  const chosen = new Set([...first.filter((lane) => !lane.quiet), ...loud].slice(0, MOST_PROJECTED));
+  return loud.filter((lane) => chosen.has(lane));
+}
 
-// The line that stands for the quiet lanes, and unfolds them.
-function showFold() {
-  const quiet = lanes.all.filter((lane) => lane.quiet), kinds = [...new Set(quiet.map((lane) => lane.quiet))], fold = byId("fold");
-  const texts = kinds.map((kind) => `${inRanges(quiet.filter((lane) => lane.quiet === kind))}: ${kind}`);
-  fold.hidden = !quiet.length;
+// The line that stands for the quiet lanes, and unfolds them; on a projector for those that have no room.
+function showFold(drawn) {
+  const left = lanes.all.filter((lane) => !drawn.includes(lane)), quiet = lanes.all.filter((lane) => lane.quiet), fold = byId("fold");
+  const kinds = [...new Set(quiet.map((lane) => lane.quiet))], loud = left.filter((lane) => !lane.quiet);
+  const texts = isProjected() ? [`${inRanges(loud)}: not here`]
+    : kinds.map((kind) => `${inRanges(quiet.filter((lane) => lane.quiet === kind))}: ${kind}`);
+  fold.hidden = isProjected() ? !loud.length : !quiet.length;
   fold.setAttribute("aria-expanded", !lanes.folded);
   setText(fold, `${lanes.folded ? "▸" : "▾"} ${texts.join("; ")}`);
 }
@@ -155,17 +165,21 @@ function coloursOf(element) {
 
 // On a projector the lanes have a ninth of the height for them all, and larger letters.
 function sizeLanes(rows) {
-  LANE = isProjected() ? Math.max(5, Math.floor(innerHeight / Math.max(45, 9 * rows)) - GAP) : 13;
-  LETTERS = isProjected() ? LANE + GAP : 11;
-  LABEL = isProjected() ? 4 * LETTERS : 46;
+  LANE = isProjected() ? Math.max(5, Math.floor(innerHeight / Math.max(27, 9 * rows)) - GAP) : 13;
+  LETTERS = isProjected() ? Math.ceil(parseFloat(getComputedStyle(document.body).fontSize)) : 11;
+  NAMES = Math.ceil(LETTERS / (LANE + GAP));
+  LABEL = isProjected() ? 4 * LETTERS * NAMES : 46;
 }
+
+// Writes the name of the lane in a row.
+const nameLane = (context, name, row) => context.fillText(name, (row % NAMES) * LABEL / NAMES, GAP + row * (LANE + GAP) + LANE / 2 + 1);
 
 function drawLanes() {
   lanes.isDrawn = true;
   const drawn = lanesShown(), rows = drawn.length + 1 + (shown.chosen ? 1 : 0);
   sizeLanes(rows);
   const canvas = byId("canvas"), ratio = window.devicePixelRatio || 1;
-  const width = Math.floor(pictureWidth()), height = rows * (LANE + GAP) + GAP;
+  const width = Math.floor(pictureWidth()), height = Math.max(rows * (LANE + GAP), isProjected() ? LETTERS : 0) + GAP;
   canvas.width = (width + LABEL) * ratio;
   canvas.height = height * ratio;
   canvas.style.height = `${height}px`;
@@ -173,18 +187,18 @@ function drawLanes() {
   context.scale(ratio, ratio);
   context.font = `${LETTERS}px ui-monospace, Consolas, monospace`;
   context.textBaseline = "middle";
+  context.fillStyle = colours.ink;
+  ["lines", ...drawn.map(({ name }) => name), ...(shown.chosen ? ["chosen"] : [])].forEach((name, row) => nameLane(context, name, row));
   drawn.forEach((lane, at) => drawLane(context, colours, lane, GAP + (at + 1) * (LANE + GAP), width));
   drawLines(context, colours, height);
   drawSkips(context, colours, height);
   if (shown.chosen) drawChanges(context, colours, GAP + (rows - 1) * (LANE + GAP));
   if (shown.origin) drawOrigin(context, colours, drawn);
-  showFold();
+  showFold(drawn);
   canvas.setAttribute("aria-label", `Lanes of the processors and channels from moment ${octal(lanes.from)} to ${octal(lanes.to - 1)}.`);
 }
 
 function drawLane(context, colours, lane, y, width) {
-  context.fillStyle = colours.ink;
-  context.fillText(lane.name, 0, y + LANE / 2 + 1);
   const columns = tallest(lane, width);
   for (let x = 0; x < width;) {
     let end = x + 1;
@@ -203,8 +217,6 @@ function drawEnds(context, x, end, y) {
 
 // A tick where each line of the script begins, taller and with < or > where the run goes back or forward again.
 function drawLines(context, colours, height) {
-  context.fillStyle = colours.ink;
-  context.fillText("lines", 0, GAP + LANE / 2);
   let free = 0; // from where on there is room for a sign
   film.lines.forEach((line) => {
     if (!line.acts || line.first < lanes.from || line.first >= lanes.to) return;
@@ -239,7 +251,6 @@ function drawSkips(context, colours, height) {
 // A tick for each change of the chosen number.
 function drawChanges(context, colours, y) {
   context.fillStyle = colours.ink;
-  context.fillText("chosen", 0, y + LANE / 2 + 1);
   for (let moment = shown.marks.indexOf(1, lanes.from); moment >= 0 && moment < lanes.to; moment = shown.marks.indexOf(1, moment + 1)) {
     context.fillRect(LABEL + Math.floor(pixelOf(moment)), y, 2, LANE);
   }

@@ -24,6 +24,13 @@ function setText(element, text) {
   if (element.textContent !== text) element.textContent = text;
 }
 
+// Shows an instruction; what it does is said to who points at it.
+function setInstruction(element, text) {
+  if (element.textContent === text) return;
+  element.textContent = text;
+  element.title = meaningOf(text.slice(0, 3));
+}
+
 function showNumbers() {
   const changed = new Set(film.places.subarray(film.starts[film.at], film.starts[film.at + 1]));
   const chosen = shown.chosen && shown.chosen.name;
@@ -82,7 +89,7 @@ function showProcessors() {
     words.forEach((button, at) => setPlace(button, `M ${two(n)} ${four((p + at) % CELLS)}`));
     words[1].hidden = !next.second;
     setText(mark, isNext ? ">" : "");
-    setText(name, next.block ? `${next.name} in its block` : next.name);
+    setInstruction(name, next.block ? `${next.name} in its block` : next.name);
     setText(wait, next.waits);
     row.classList.toggle("next", isNext);
     row.classList.toggle("acted", isTurn(film.at) && film.processor[film.at] === n);
