@@ -3,6 +3,7 @@ docs/CONSOLE.md and of the program for the same lines."""
 
 import json
 import os
+import random
 import re
 import unittest
 
@@ -11,6 +12,10 @@ from tests.films import DEVICES, FilmCase, PageCase, about, random_session, show
 from tests.support import EXAMPLES, TOP, program, read, run
 
 from pp6600 import Console
+from pp6600.devices.pictures import svg
+from pp6600.run.attached import Attached
+from pp6600.run.device import drawn
+from pp6600.shell.device_options import device_of
 
 COUNTER = "SET M 0 100 1405 3420 300\nSET P 0 100\n"  # LDN 5, STD 20, UJN 0
 LOADER = ("--deck", f"{EXAMPLES}/overwritten-loader/deck", f"{EXAMPLES}/overwritten-loader/script")
@@ -317,6 +322,59 @@ class Class(SessionCase):
             file.write(f"file:///class.html#script={self.value('ask(`script`).then(({ script }) => deflated(script))')}&moment=3\n")
         done = run("exercises/grade", folder)
         self.assertEqual(["ada      +  .  .  .  .  .  .  .       1", "grace    +  .  .  .  .  .  .  .       1"], done.out.splitlines()[1:3])
+
+
+class Devices(SessionCase):
+    """Devices of one's own: their replies are in the script, and what they show is in the page."""
+
+    PICTURE = "document.querySelector('#pictures figure div').innerHTML"
+    SAID = "document.querySelector('#pictures p').textContent"
+
+    def test_console_display(self):
+        """docs/FILM.md: the picture at each moment is the device's; beyond the script the page says that it has none."""
+        device = device_of("console_display@10")
+        script = [line if line[:4] != "STEP" else "STEP 1400" for line in read("examples", "console-display", "script").splitlines()]
+        shown, moment = {}, 0
+        with Attached([program()], [device]) as run:
+            for line in script:
+                for part in ["STEP 1"] * int(line.split()[1], 8) if line.startswith("STEP") else [line]:
+                    before = len(run.sent)
+                    answer = run.act(part)
+                    moment += sum(line.split()[0] in ("SET", "STEP", "WATCH") for line in run.sent[before:]) if answer else 0
+                    shown[moment] = drawn(device, run.state(), svg)
+        self.browser.open(self.film("--device", "console_display@10", script="".join(f"{line}\n" for line in script)))
+        self.assertEqual(moment, self.value("film.count - 1"))
+        for at in random.Random(1).sample(sorted(shown), 12) + [moment]:
+            with self.subTest(moment=at):
+                self.value(f"moveTo({at})")
+                wanted = json.dumps("".join((shown[at] or "").splitlines()))
+                self.assertTrue(self.value(f"((one) => {{ one.innerHTML = {wanted}; return one.innerHTML === {self.PICTURE}; }})"
+                                           "(document.createElement('div'))"))
+                self.assertEqual("", self.value(self.SAID))
+        self.act("STEP 1")
+        self.assertEqual("this page has no ConsoleDisplay: this is what it showed at the end of the script", self.value(self.SAID))
+        self.value("beginAnew({ script: 'STEP 5\\n' }, 'begun')")
+        self.browser.wait_for("film.count === 6")
+        self.assertEqual(["this page has no ConsoleDisplay: it is known for the script of the file alone", ""],
+                         self.value(f"[{self.SAID}, {self.PICTURE}]"))
+
+    def test_saved_script(self):
+        """A script that was saved has the replies: they play, once, with the same pictures; and so they do in a page that was saved."""
+        options = "--device", "console_display@10"
+        first = about(read(shown_film("console-display")))
+        path = self.film(*options, script=first["files"][0]["bytes"])
+        self.assertEqual((first["files"][0]["bytes"], first["pictures"]), (about(read(path))["files"][0]["bytes"], about(read(path))["pictures"]))
+        self.browser.open(path)
+        self.act("STEP 12")
+        self.browser.save_into(self.folder)
+        self.browser.click("#save-film")
+        saved = self.path("session.html")
+        while not os.path.exists(saved) or not os.path.getsize(saved):
+            self.value("new Promise((done) => setTimeout(done, 50))")
+        self.browser.open(saved)
+        self.assertIn("this is what it showed at the end of the script", self.value(self.SAID))
+        self.value("moveTo(film.pictures.moments - 1)")
+        self.assertEqual(["", True], self.value(f"[{self.SAID}, {self.PICTURE}.length > 1000]"))
 
 
 @unittest.skipUnless(firefox.found(), "there is no Firefox")

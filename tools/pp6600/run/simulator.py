@@ -8,7 +8,7 @@ from __future__ import annotations
 
 import functools
 import re
-from typing import Any, Iterable, Iterator, List, Optional, Sequence, Tuple, TypeVar, Union
+from typing import Iterable, Iterator, List, Optional, Sequence, Tuple, TypeVar, Union
 
 from ..engine.choose import default_engine, engine_of
 from ..engine.interface import Rejection
@@ -16,7 +16,7 @@ from ..failure import Failure
 from .forms import (
     CHANNELS_DUMP, CLOCK, FRAME_DUMP, MOST_TURNS, PROCESSORS, Answers, Dump, Place, Registers, cells_dump, central_dump, fields, is_refusal,
     refused, registers_dump, registers_of, word_dumps, words_of)
-from .tape import STEP, Action, History, Tape, lines_of, room_of
+from .tape import STEP, Action, Counts, History, Tape, lines_of, room_of
 from .turn import Processor
 
 SIZES_OF_CENTRAL = (0o400000, 0o200000, 0o100000)
@@ -226,7 +226,7 @@ class Simulator(Console):
         """It begins at the beginning of the tape."""
         super().__init__(words)
         self.history = History(room_of(self.words), tape)
-        self.counts: Any = self.history  # as BACK and FORWARD count it
+        self.counts = Counts(self.history)
         self.watched: List[str] = []  # places, beside those of the tape
 
     @property

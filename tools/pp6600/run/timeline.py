@@ -29,14 +29,14 @@ class Timeline(Simulator):
     def act_by_move(self, line: str) -> List[str]:
         """As `act`, but BACK goes back over all actions in effect, and FORWARD on over all that are ahead."""
         asked = MOVE.fullmatch(line)
-        count, history = int(asked[2] or "1", 8) if asked else 0, self.history
+        count, history = int(asked[2] or "1", 8) if asked else 0, self.counts
         if asked and asked[1].upper() == "BACK" and history.kept < count <= history.position:
             self.replays += 1
             self.sent = []
-            self._go_anew(history.position - count)
+            self._go_anew(self.position - count)
             return [f"BACK {count:o} SLOT {self.next_slot:02o}", REPLAYED]
         if asked and asked[1].upper() == "FORWARD" and history.ahead < count <= history.to_redo:
-            self.goto(history.position + count)
+            self.goto(self.position + count)
             return [f"FORWARD {count:o} SLOT {self.next_slot:02o}"]
         return self.act(line)
 

@@ -4,7 +4,7 @@ replies. So the machine and its scouts perform what is on the tape, and know no 
 from ...run.attached import Attached
 from ...run.forms import PROCESSORS
 from ...run.simulator import without_history
-from ...run.units import UnitHistory
+from ...run.tape import Counts
 from .machine import Machine, next_turn
 
 MADE_AT_ONCE = 0o2000  # turns
@@ -23,17 +23,17 @@ class MachineWithDevices(Machine):
         except BaseException:
             super().close()
             raise
-        self.counts = UnitHistory(self.history, self.maker.units, self.maker.plain)
+        self.counts = Counts(self.history, self.maker.plain.history)
 
     def close(self):
         self.maker.close()
         super().close()
 
     def settled(self, position):
-        return self.maker.units.position(self.maker.units.count(position))
+        return self.tape.after_units(self.tape.units(position))
 
     def before(self, position):
-        return self.maker.units.position(self.maker.units.whole(position))
+        return self.tape.after_units(self.tape.whole_units(position))
 
     # ---- new actions
 
