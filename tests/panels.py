@@ -25,7 +25,7 @@ from tests.support import EXAMPLES, TOP, Case, program, write
 
 from pp6600.front.panel.app import Panel
 from pp6600.front.panel.session import Session
-from pp6600.language.sources import symbols_from
+from pp6600.language.symbol_options import symbols_from
 from pp6600.shell.device_options import device_of
 
 PROGRAM = program()

@@ -52,14 +52,14 @@ class Lines(SessionCase):
     def test_typed(self):
         """A line is performed at the end, and its answer is said."""
         self.browser.open(self.film(script=f"{COUNTER}STEP 12\n"))
-        self.browser.key("Enter")
+        self.browser.key(":")
         for letter in "step 3":
             self.browser.key(letter)
         self.browser.key("Enter")
         self.browser.wait_for(f"{SAID} === 'TURNS 3 SLOT 03'")
         self.assertEqual([0o15, "step 3"], self.value("[film.turn[film.at], film.lines.at(-1).text]"))
         self.browser.key("Escape")
-        self.browser.key("ArrowRight")
+        self.browser.key("s")
         self.browser.wait_for("film.turn[film.at] === 0o16")
 
     def test_refused(self):
@@ -167,7 +167,7 @@ class Searches(SessionCase):
         self.value("moveTo(film.lines.find(({ text }) => text.startsWith('SET P')).moment)")
         self.browser.click("#source tr:nth-child(9) .name button")
         self.assertEqual("true", self.value("document.querySelector('#source tr:nth-child(9) .name button').getAttribute('aria-pressed')"))
-        self.browser.key("r")
+        self.browser.key("}")
         self.browser.wait_for("textAt(placeNamed('P 0')) === '0104'")
         self.browser.key("i")
         point = "[...document.querySelectorAll('#program .break')].find((one) => one.textContent === '{}')"
@@ -176,7 +176,7 @@ class Searches(SessionCase):
         self.assertEqual("false", self.value("document.querySelector('#source tr:nth-child(9) .break').getAttribute('aria-pressed')"))
         self.browser.click("#source tr:nth-child(8) td:nth-child(3) button")
         self.assertEqual("M 00 0103", self.value("shown.chosen.name"))
-        self.browser.key("r", shift=True)
+        self.browser.key("{")
         self.browser.wait_for("textAt(placeNamed('P 0')) === '0103'")
 
 
@@ -186,7 +186,7 @@ class Waiting(SessionCase):
     def test_keys(self):
         """Each key counts."""
         self.browser.open(self.film(script=COUNTER))
-        self.value("[1, 2, 3, 4, 5].forEach(() => KEYS.ArrowRight())")
+        self.value("[1, 2, 3, 4, 5].forEach(() => ACTIONS.on())")
         self.browser.wait_for("film.turn[film.at] === 5")
         self.assertEqual(COUNTER + "STEP 1\n" * 5, self.script())
 
@@ -221,6 +221,27 @@ class Past(SessionCase):
         self.assertEqual("BACK 20 SLOT 06\nreplayed", self.act("BACK 20"))
         self.assertEqual(0o20, self.value("film.turn[film.at]"))
         self.assertEqual(f"{COUNTER}STEP 20\n", self.script())
+
+    def test_full(self):
+        """docs/FILM.md: a film has at most 5000000 moments; then it says so, and performs no line. The end of the film is drawn as all is."""
+        self.browser.open(self.film(script=f"{COUNTER}STEP 777777\n" + "STEP 7777\n" * 3), "#place=A+0")
+        self.assertEqual("TURNS 1 SLOT 11", self.act("STEP"))
+        self.value("ask('act', { lines: Array(400).fill('STEP 7777'), at: film.at })")
+        self.assertTrue(self.value("film.count >= 0o5000000 && film.count < 0o5010000"))
+        self.assertEqual("the film is full, it has 5000000 moments: save the script", self.act("STEP"))
+        self.value("moveTo(film.count - 1)")
+        self.assertTrue(self.value(self.DRAWN))
+
+    # In the page: whether its lanes are drawn as they are if all is drawn anew.
+    DRAWN = "((seen) => { drawLanes(); return seen === byId('canvas').toDataURL(); })(byId('canvas').toDataURL())"
+
+    def test_lanes_as_they_grow(self):
+        """What is added at the end is in the lanes."""
+        lines = random_session(7)
+        self.browser.open(self.film(*DEVICES), "#place=A+0")
+        for line in [*lines, *["STEP"] * 20, "BACK 3", "STEP 2"]:
+            self.act(line)
+            self.assertTrue(self.value(self.DRAWN), line)
 
     def test_skipped_turns(self):
         """Of a STEP that makes a session too long the last turns are recorded, and others when one goes to them."""
@@ -388,6 +409,6 @@ class OtherBrowser(FilmCase):
         browser.wait_for("document.body && document.body.dataset.open === 'yes'")
         position = "document.getElementById('position').textContent"
         self.assertTrue(browser.evaluate(position).startswith("After turn 12."))
-        browser.key("ArrowRight")
+        browser.key("s")
         browser.wait_for(f"{position}.startsWith('After turn 13.')")
         self.assertEqual("000005", browser.evaluate("document.querySelector('[data-place=\"A 00\"]').textContent"))

@@ -29,6 +29,10 @@ class Refused(Rejection):
     """The program refuses the options or the files: its line, and its exit status."""
 
 
+class Unloadable(Failure):
+    """A file can't be loaded, or is not this library."""
+
+
 class Answers(NamedTuple):
     """The text of the answers, how many lines were performed and rejected, and how many bytes were taken: all, up to the limits."""
     text: bytes
@@ -72,7 +76,7 @@ def loaded(path: str) -> Any:
         for name in CALLS:
             getattr(library, f"pp6600_{name}").restype = c_uint32
     except (OSError, AttributeError) as error:
-        raise Failure(f"the library of the simulator can't be loaded: {error}") from error
+        raise Unloadable(f"the library of the simulator can't be loaded: {error}") from error
     return library
 
 
@@ -186,7 +190,10 @@ class LibraryEngine:
         except Rejected as rejected:
             status, text = rejected.args
             raise Rejection(f"pp6600: {text}", status) from None
-        self.session = Session(**options, path=path)
+        try:
+            self.session = Session(**options, path=path)
+        except Unloadable as failure:
+            raise Failure(f"{path} is not the library of the simulator: {failure.__cause__}") from failure
         self.text: Any = ctypes.create_string_buffer(ANSWER_ROOM)
         self.size, self.room = c_size_t(), c_size_t(ANSWER_ROOM)
         self.answered = c_size_t(), c_size_t(), c_uint32(), c_uint32()

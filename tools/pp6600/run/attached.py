@@ -17,9 +17,9 @@ from ..failure import Failure
 from .device import Channel, Device, DeviceFailure, Event, Reply, Value, called, is_value, looked, value_at_start
 from .forms import CHANNELS, MOST_TURNS, STATES, Place, is_refusal
 from .plain_script import PlainScript
-from .simulator import LONGEST_LINE, Simulator
+from .console import LONGEST_LINE
+from .session import REPLAYED, Session
 from .tape import STEP, Counts, ReplyLine
-from .timeline import REPLAYED
 
 COUNTED = re.compile(r"[ \t]*(STEP|BACK|FORWARD)(?:[ \t]+0*([1-7][0-7]{0,6}))?[ \t\r]*", re.I)
 BACK_W = re.compile(r"[ \t]*BACK[ \t]+W[ \t\r]*", re.I)
@@ -72,10 +72,12 @@ def names_of(devices: Sequence[Device]) -> Dict[int, str]:
     return {device.channel: type(device).__name__.encode("ascii", "replace").decode()[:MOST_NAME] for device in devices}
 
 
-class Attached(Simulator):
-    """A simulator with devices. A front end can take it in the place of a Timeline."""
+class Attached(Session):
+    """A simulator with devices. A front end can take it in the place of a Session."""
 
     exact_states, every_state = 20000, 1000
+    values: Values  # of the devices, and the number of the entry that they are; -1 if they are those of none
+    entry: int
 
     def __init__(self, words: Sequence[str] = (), devices: Sequence[Device] = ()) -> None:
         """Begins a session with devices, no two of them on one channel."""
@@ -83,7 +85,7 @@ class Attached(Simulator):
         super().__init__(words)
         try:
             self._check_channels()
-            self._have(tuple(map(value_at_start, self.devices)))
+            self._have(tuple(map(value_at_start, self.devices)), 0)
         except Failure:
             self.close()
             raise
@@ -114,6 +116,7 @@ class Attached(Simulator):
 
     def state(self, number: int = 0) -> Any:
         """Returns the present state of a device."""
+        self._recall()
         return self.values[number].state
 
     @property
@@ -140,6 +143,7 @@ class Attached(Simulator):
 
     def act(self, line: str) -> List[str]:
         """Performs a line of any kind. Returns the lines of its answer."""
+        self._recall()
         before = self.position
         try:
             answer = self._perform_line(line)
@@ -167,7 +171,7 @@ class Attached(Simulator):
         if BACK_W.fullmatch(line):
             return self._back_to_unit(answer)
         if answer == ["OK"]:
-            self.forget_ahead()
+            self.cut(self.position)
             self.history.added(line)
         return answer
 
@@ -175,8 +179,9 @@ class Attached(Simulator):
         """Tells a device something, which is an action. What it is told is a value that can't be changed in place."""
         if not is_value(what):
             raise Failure(f"a device can't be told {what!r:.60}: it can be changed in place")
+        self._recall()
         values, replies = self._told(number, what, self.values)
-        self.forget_ahead()
+        self.cut(self.position)
         self._perform_new(f"SET Q 0 {self.registers(0)['Q']}")
         self.told[self.position] = number, what
         self._note(values, replies)
@@ -190,14 +195,15 @@ class Attached(Simulator):
             new = new._replace(seen=value.seen)
         return (*values[:number], new, *values[number + 1:]), [] if reply is None else [self._line_of(number, reply)]
 
-    def forget_ahead(self) -> None:
-        """Discards what is ahead, as each new action does."""
-        if self.position < self.tape.end:
-            self.tape.cut(self.position)
-            self.history.ahead = 0
-            self.states.cut(self.position)
-            self.plain.cut(self.position)
-            self.told = {position: told for position, told in self.told.items() if position <= self.position}
+    def cut(self, position: int) -> None:
+        if position < self.tape.end:
+            self.plain.go(self.position)
+            super().cut(position)
+            self.states.cut(position)
+            if self.entry >= len(self.states.at):
+                self.entry = -1
+            self.plain.cut(position)
+            self.told = {at: told for at, told in self.told.items() if at <= position}
 
     def _perform_new(self, line: str) -> None:
         """Performs a new action, which is not refused."""
@@ -219,31 +225,30 @@ class Attached(Simulator):
         """Notes what the devices are after the present unit, and performs their replies."""
         if values is not self.values:
             self.states.add(self.history.position + len(replies), values)
-            self._have(values)
+            self._have(values, len(self.states.at) - 1)
         for line in replies:
             self._perform_new(line)
 
-    def _have(self, values: Values) -> None:
-        """Takes the present values of the devices."""
-        self.values = values
+    def _have(self, values: Values, entry: int) -> None:
+        """Takes the values of an entry as those at hand."""
+        self.values, self.entry = values, entry
         dues = [value.due for value in values if value.due is not None]
         self.due = min(dues) if dues else None  # the turn for which the first one is due
 
     # ---- back and forward
 
-    def go_to(self, position: int) -> None:
-        """Goes to a position of the tape, which the replies of no action come after."""
-        if position != self.position:
-            self._arrive("BACK", 0, position)
-            self.plain.go(position)
-
     def _arrive(self, word: str, count: int, position: int) -> List[str]:
         """Goes to a position. Returns the answer."""
-        entry = self.states.entry(position)
-        values = self.states.values[entry]
-        self._have(self._values_anew(entry) if values is None else values)
         self.goto(position)
         return [f"{word} {count:o} SLOT {self.next_slot:02o}"]
+
+    def _recall(self) -> None:
+        """Sees that the values at hand are those at the position."""
+        entry, here = self.states.entry(self.position), self.position
+        if entry != self.entry:
+            values = self.states.values[entry]
+            self._have(self._values_anew(entry) if values is None else values, entry)
+            self.goto(here)
 
     def _values_anew(self, entry: int) -> Values:
         """Returns the values of an entry that were not kept: the devices look at their channels again."""
@@ -282,12 +287,13 @@ class Attached(Simulator):
 
     def _step(self, turns: int) -> List[str]:
         begin, ahead = self.position, Ahead(self)
-        self.forget_ahead()
+        self.cut(self.position)
         try:
             made, hit = self._turns(turns, [Place.parse(line[2:]) for line in self.demand("DUMP W") if line != "W NONE"])
         except DeviceFailure:
-            self._arrive("BACK", 0, begin)
-            self.forget_ahead()
+            self.goto(begin)
+            self.cut(self.position)
+            self._recall()
             ahead.put_back(self)
             raise
         return [f"TURNS {made:o} SLOT {self.next_slot:02o}", *([hit] if hit else [])]

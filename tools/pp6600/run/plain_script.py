@@ -37,7 +37,7 @@ class PlainScript:
 
     def cut(self, position: int) -> None:
         """Forgets what is after a position."""
-        self.history.ahead = 0
+        self.history.ahead = min(self.history.ahead, position - self.history.position)
         del self.stops[bisect.bisect_right(self.stops, position):]
 
     def go(self, position: int) -> None:

@@ -11,7 +11,7 @@ from ...devices.pictures import svg
 from ...failure import Failure
 from ...run.attached import COUNTED
 from ...run.device import Device, Value, channel_of, drawn, looked, value_at_start
-from ...run.simulator import Console
+from ...run.console import Console
 
 MOST_MOMENTS = 0o1000000  # the page records all of them
 TURN, LOOK = "STEP 1", "DUMP H"

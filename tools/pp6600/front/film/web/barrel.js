@@ -6,10 +6,6 @@ const CIRCLE = 2.2, RING = 7.3, BOX_WIDTH = 7.6, BOX_HEIGHT = 1.75, BOX_APART = 
 const STATE_CLASSES = ["inactive", "empty", "full", "function"];
 const barrel = { folded: false, all: [], channels: [], used: new Set() }; // channels: those of all used ones that have room
 
-function buildBarrel() {
-  byId("barrel-fold").onclick = foldBarrel;
-}
-
 function foldBarrel() {
   barrel.folded = !barrel.folded;
   show();
@@ -98,7 +94,7 @@ function drawn(parent, kind, words, text) {
 function showBarrel() {
   const svg = byId("barrel-picture");
   byId("barrel-fold").setAttribute("aria-expanded", !barrel.folded);
-  setText(byId("barrel-fold"), barrel.folded ? "▸ The barrel (B)" : "▾ The barrel (B)");
+  setText(byId("barrel-fold"), `${barrel.folded ? "▸" : "▾"} The barrel`);
   svg.toggleAttribute("hidden", barrel.folded && !isProjected());
   if (svg.hasAttribute("hidden")) return;
   chooseChannels();

@@ -19,6 +19,7 @@ const typed = { lines: [], at: 0 };
 
 async function sendTyped() {
   const field = byId("typed"), text = field.value, until = /^\s*(back\s+)?until\s+(.*)$/i.exec(text);
+  if (until) shown.searched = [until[2]];
   const isDone = await (until ? engine.until([until[2]], Boolean(until[1])) : engine.act([text]));
   if (!isDone) return;
   typed.at = typed.lines.push(text);

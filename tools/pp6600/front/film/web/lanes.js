@@ -12,7 +12,7 @@ function forgetLanes() {
   lanes.all = [];
   lanes.processors = Array.from({ length: PROCESSORS }, (_, n) => lane(`PP ${two(n)}`));
   lanes.channels = Array.from({ length: CHANNELS }, (_, c) => lane(`H ${two(c)}`));
-  lanes.firstTurn = -1;
+  Object.assign(lanes, { firstTurn: -1, look: "", key: "" });
 }
 
 // Notes what the moments from a first one on are: a lane has the stretches of moments that are of one kind.
@@ -37,6 +37,9 @@ function growLanes(first) {
     }
   }
   chooseLanes();
+  noteFollowed(first);
+  setView();
+  if (lookOfEnd() !== lanes.look) lanes.isDrawn = false;
 }
 
 // A processor is quiet if it only passes, or only waits; a channel if no turn changes it. One that is always inactive has no lane.
@@ -49,9 +52,29 @@ function chooseLanes() {
     const last = lane.kinds.length - 1, isBefore = lanes.firstTurn < 0 || lane.begins[last] < lanes.firstTurn;
     lane.quiet = isBefore && `always ${film.states[lane.kinds[last]][1]}`;
   }
-  lanes.all = [...lanes.processors, ...lanes.channels.filter((lane) => lane.kinds.some((kind) => kind > 0))];
-  lanes.isDrawn = false;
+  lanes.all = [...lanes.processors, ...lanes.channels.filter((lane) => lane.seen.size > (lane.seen.has(0) ? 1 : 0))];
   offerParts();
+}
+
+// Notes after which moments the memory follows which processor: that of the turn, if it did not pass and its lane is not quiet; or one that
+// a line has set. If another lane has become quiet or loud, all are noted anew.
+function noteFollowed(first) {
+  const quiet = lanes.processors.map((lane) => (lane.quiet ? 1 : 0)), key = quiet.join("");
+  const { follows, kinds, processor, jumps } = film;
+  for (let moment = lanes.key === key ? Math.max(first, 1) : 1; moment < film.count; moment++) {
+    const n = processor[moment], isTold = isTurn(moment) ? kinds[moment] !== IDLE && !quiet[n] : kinds[moment] === LINE;
+    const found = !isTold ? -1 : isTurn(moment) ? n : processorSet(moment);
+    follows[moment] = found >= 0 ? found : follows[kinds[moment] === JUMP ? Math.max(0, jumps.get(moment)[0]) : moment - 1];
+  }
+  lanes.key = key;
+}
+
+// What the lanes show at their end: it tells whether they are to be drawn anew as the film grows.
+function lookOfEnd() {
+  const width = Math.floor(pictureWidth()), x = Math.floor(pixelOf(film.count - 1)), line = film.lines.findLast((one) => one.acts);
+  const ticks = [line ? line.first : 0, shown.changes ? shown.changes.at(-1) || 0 : 0].map((moment) => Math.floor(pixelOf(moment)));
+  return [lanes.from, lanes.to, width, x, ticks, line && film.kinds[line.first], film.skips.size, film.breaks.length,
+    ...lanesShown().map((lane) => `${lane.name} ${tallest(lane, width)[x]}`)].join();
 }
 
 // Offers to see parts of a longer run.
@@ -175,7 +198,7 @@ function sizeLanes(rows) {
 const nameLane = (context, name, row) => context.fillText(name, (row % NAMES) * LABEL / NAMES, GAP + row * (LANE + GAP) + LANE / 2 + 1);
 
 function drawLanes() {
-  lanes.isDrawn = true;
+  Object.assign(lanes, { isDrawn: true, look: lookOfEnd() });
   const drawn = lanesShown(), rows = drawn.length + 1 + (shown.chosen ? 1 : 0);
   sizeLanes(rows);
   const canvas = byId("canvas"), ratio = window.devicePixelRatio || 1;
@@ -251,8 +274,10 @@ function drawSkips(context, colours, height) {
 // A tick for each change of the chosen number.
 function drawChanges(context, colours, y) {
   context.fillStyle = colours.ink;
-  for (let moment = shown.marks.indexOf(1, lanes.from); moment >= 0 && moment < lanes.to; moment = shown.marks.indexOf(1, moment + 1)) {
-    context.fillRect(LABEL + Math.floor(pixelOf(moment)), y, 2, LANE);
+  for (let at = countUpTo(shown.changes, lanes.from - 1); shown.changes[at] < lanes.to;) {
+    const x = Math.floor(pixelOf(shown.changes[at]));
+    context.fillRect(LABEL + x, y, 2, LANE);
+    at += firstNot(shown.changes.length - at, (more) => pixelOf(shown.changes[at + more]) < x + 1);
   }
 }
 

@@ -1,6 +1,5 @@
 // ---- cells as instructions, and what the next turn of a processor does
 
-const SHOWN_AS = ["numbers", "instructions", "text"]; // text: instructions and display code
 const FROM_BEFORE = 8; // more cells before a window, so that its rows begin where the instructions do
 
 const cellOf = (n, address) => film.numbers[n * CELLS + (((address % CELLS) + CELLS) % CELLS)];
@@ -75,11 +74,6 @@ function buildProgram() {
     program.rows.push({ row, buttons, point: addBreakpoint(row.cells[1]) });
   }
   byId("memory-as").onchange = () => { memory.as = byId("memory-as").value; show(); };
-}
-
-function nextForm() {
-  memory.as = SHOWN_AS[(SHOWN_AS.indexOf(memory.as) + 1) % SHOWN_AS.length];
-  show();
 }
 
 function showProgram() {
