@@ -97,11 +97,8 @@ class Looks:
 
     def processor_at(self, at: int) -> Processor:
         """Returns the processor of a turn as it was before it."""
-        here = self.run.position
-        self.run.goto(self.position(at))
-        processor = self.run.processor(self.run.next_slot)
-        self.run.goto(here)
-        return processor
+        with self.run.at(self.position(at)) as run:
+            return run.processor(run.next_slot)
 
     def records(self) -> Records:
         """Returns what the turns overwrote. They are made once more."""

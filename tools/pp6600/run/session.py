@@ -7,13 +7,14 @@ nowhere. One with devices is an `Attached`."""
 
 from __future__ import annotations
 
+import contextlib
 import itertools
 import re
-from typing import Dict, Iterable, Iterator, List, Mapping, Optional, Sequence
+from typing import Iterable, Iterator, List, Optional, Sequence
 
 from ..failure import Failure
 from .console import Console
-from .forms import MOST_TURNS, Answers, Dump, hit_of, refused
+from .forms import MOST_TURNS, hit_of, refused
 from .tape import STEP, Action, Counts, History, Tape, lines_of, room_of
 
 MOVE = re.compile(r"[ \t]*(BACK|FORWARD)(?:[ \t]+([0-7]{1,10}))?[ \t\r]*", re.I)
@@ -119,6 +120,14 @@ class Session(Console):
             self.move(count)
             self._play(position)
 
+    @contextlib.contextmanager
+    def at(self, position: int) -> Iterator[Session]:
+        """Goes to a position, and at the end of the block back to where it was."""
+        here = self.position
+        self.goto(position)
+        yield self
+        self.goto(here)
+
     def move(self, count: int) -> None:
         """Goes by so many actions that the engine keeps, back if it is negative. That is no line of the session."""
         passed = self._watches_over(count) if self.is_search and self.tape.watches else 0
@@ -200,12 +209,3 @@ class Session(Console):
         """Discards what comes after a position, which is not before the present one."""
         self.tape.cut(position)
         self.history.ahead = min(self.history.ahead, position - self.position)
-
-    def answers_at(self, wanted: Mapping[int, Iterable[Dump]]) -> Dict[int, Answers]:
-        """Returns the answers to dumps at some positions, of a search. It stays where it is."""
-        here, found = self.position, {}
-        for position in sorted(wanted):
-            self.goto(position)
-            found[position] = {dump: self.dump(dump) for dump in wanted[position]}
-        self.goto(here)
-        return found
