@@ -38,7 +38,7 @@ class Counts(NamedTuple):
 
 
 class Moment(NamedTuple):
-    """A turn: its processor, and each place that it overwrote with its old number."""
+    """A turn: its processor, and each place that it overwrote with its old number. The processor of another action is 10."""
     processor: int
     olds: List[Tuple[int, int]]
 
@@ -122,10 +122,20 @@ class Session:
 
     def turns(self, most: int) -> Tuple[List[Moment], bool]:
         """Performs turns, up to the first that changes a watched number. Returns them, and whether the last one did."""
-        made, olds, turns, used = (_Turn * max(most, 1))(), (_Old * (MOST_OLDS * max(most, 1)))(), c_size_t(), c_size_t()
-        status = self._call("turns", c_uint32(most), made, c_size_t(len(made)), olds, c_size_t(len(olds)), byref(turns), byref(used))
+        moments, status = self._recorded("turns", most)
+        return moments, status == WATCHED
+
+    def again(self, count: int) -> Optional[List[Moment]]:
+        """Performs undone actions again, and returns them; None if there are too few, and then none is performed."""
+        moments, status = self._recorded("again", count)
+        return None if status == REFUSED else moments
+
+    def _recorded(self, call: str, most: int) -> Tuple[List[Moment], int]:
+        """Makes a call that records actions. Returns them, and its status."""
+        made, olds, count, used = (_Turn * max(most, 1))(), (_Old * (MOST_OLDS * max(most, 1)))(), c_size_t(), c_size_t()
+        status = self._call(call, c_uint32(most), made, c_size_t(len(made)), olds, c_size_t(len(olds)), byref(count), byref(used))
         rest = iter([(old.place, old.number) for old in olds[:used.value]])
-        return [Moment(turn.processor, [next(rest) for _ in range(turn.count)]) for turn in made[:turns.value]], status == WATCHED
+        return [Moment(turn.processor, [next(rest) for _ in range(turn.count)]) for turn in made[:count.value]], status
 
     def looks(self, most: int, places: Sequence[int]) -> Tuple[List[List[int]], bool]:
         """Performs turns as `turns` does. Returns the numbers at the places after each, and whether the last changed a watched number."""
