@@ -15,7 +15,7 @@ from pp6600.engine.interface import CARD, CLOCK, PHASE, SLOT, A, P, Q, place_num
 from pp6600.front.film import page
 from pp6600.run.forms import CELLS, CHANNELS, PROCESSORS, STATES
 from pp6600.run.recording import Recording
-from pp6600.run.simulator import Simulator
+from pp6600.run.session import Session
 from pp6600.run.turn import (
     AT_END_OF_BLOCK, AT_END_OF_INPUT, NO_WORD, RETURN, ZERO, TurnKind, device_put_a_word, is_made_by, places_of_setting)
 from pp6600.shell.command_line import arguments
@@ -129,7 +129,7 @@ class Truth(Case):
         first, count = map(int, os.environ.get("TRUTH_SEEDS", SEEDS).split())
         sessions, turns = [*(lines_of(seed) for seed in range(first, first + count)), EXCHANGE], 0
         for seed, (lines, got) in enumerate(zip(sessions, self.page_sessions(sessions)), first):
-            with self.subTest(seed=seed), Simulator([program(), *OPTIONS]) as run:
+            with self.subTest(seed=seed), Session([program(), *OPTIONS]) as run:
                 answers, dumps = [line for answer in got["answers"] for line in answer], dumped(got["numbers"])
                 self.assertEqual([*answers, *dumps], self.answers([*lines, *DUMPS]))
                 turns += self.compare(run, lines, iter(got["moments"]), got["deck"])

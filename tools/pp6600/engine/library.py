@@ -7,7 +7,7 @@ import ctypes
 import functools
 import os
 from array import array
-from ctypes import POINTER, byref, c_size_t, c_uint8, c_uint32, c_uint64
+from ctypes import byref, c_size_t, c_uint8, c_uint32, c_uint64
 from typing import Any, Dict, List, NamedTuple, Optional, Sequence, Tuple
 
 from ..failure import Failure
@@ -29,6 +29,10 @@ class Refused(Rejection):
     """The program refuses the options or the files: its line, and its exit status."""
 
 
+class Unloadable(Failure):
+    """A file can't be loaded, or is not this library."""
+
+
 class Answers(NamedTuple):
     """The text of the answers, how many lines were performed and rejected, and how many bytes were taken: all, up to the limits."""
     text: bytes
@@ -46,26 +50,22 @@ class Counts(NamedTuple):
 
 
 class Moment(NamedTuple):
-    """A turn: its processor, and each place that it overwrote with its old number."""
+    """A turn: its processor, and each place that it overwrote with its old number. The processor of another action is 10."""
     processor: int
     olds: List[Tuple[int, int]]
+
+
+def moments_of(made: Sequence[int], records: Records) -> List[Moment]:
+    """Returns the turns of a recording, one by one."""
+    rest = iter(zip(records.places, records.numbers))
+    return [Moment(processor, [next(rest) for _ in range(count)]) for processor, count in zip(made[::2], made[1::2])]
 
 
 class Handle(ctypes.Structure):
     _fields_ = [("at", ctypes.c_void_p)]
 
 
-AT, SIZE, WORD = POINTER(Handle), POINTER(c_size_t), POINTER(c_uint32)
-CALLS: Dict[str, Tuple[Any, ...]] = {
-    "open": (c_uint32, c_uint32, c_uint8, c_uint8, ctypes.c_char_p, c_size_t, ctypes.c_char_p, c_size_t, AT, ctypes.c_char_p, c_size_t, SIZE, WORD),
-    "answer": (AT, ctypes.c_char_p, c_size_t, ctypes.c_void_p, c_size_t, SIZE, SIZE, WORD, WORD),
-    "numbers": (AT, c_uint32, ctypes.c_void_p, c_size_t),
-    "counts": (AT, WORD, WORD, WORD, WORD),
-    "turns": (AT, c_uint32, ctypes.c_void_p, c_size_t, ctypes.c_void_p, c_size_t, SIZE, SIZE),
-    "back": (AT, c_uint32),
-    "forward": (AT, c_uint32),
-    "looks": (AT, c_uint32, WORD, c_size_t, ctypes.c_void_p, c_size_t, SIZE),
-    "close": (AT,)}
+CALLS = ("open", "answer", "numbers", "counts", "turns", "again", "looks", "back", "forward", "close")
 
 
 def load(path: Optional[str] = None) -> Any:
@@ -79,11 +79,10 @@ def loaded(path: str) -> Any:
     """Returns the library of a file."""
     try:
         library = ctypes.CDLL(path)
-        for name, kinds in CALLS.items():
-            call = getattr(library, f"pp6600_{name}")
-            call.restype, call.argtypes = c_uint32, kinds
+        for name in CALLS:
+            getattr(library, f"pp6600_{name}").restype = c_uint32
     except (OSError, AttributeError) as error:
-        raise Failure(f"the library of the simulator can't be loaded: {error}") from error
+        raise Unloadable(f"the library of the simulator can't be loaded: {error}") from error
     return library
 
 
@@ -93,24 +92,22 @@ class Session:
     def __init__(self, history: int = 10000, central: int = 131072, reader: int = 0o12, printer: int = 0o13, deck: bytes = b"",
                  panel: bytes = b"", path: Optional[str] = None) -> None:
         self._handle = Handle()
-        self._library = load(path)
-        self._calls = {name: getattr(self._library, f"pp6600_{name}") for name in CALLS}
-        self._at = byref(self._handle)
+        library, self._at = load(path), byref(self._handle)
+        self._calls = {name: getattr(library, f"pp6600_{name}") for name in CALLS}
         text, count, status = ctypes.create_string_buffer(TEXT_ROOM), c_size_t(), c_uint32()
         if not all(0 <= number < MOST_OF_BYTE for number in (reader, printer)) or \
                 not all(0 <= number < MOST_OF_WORD for number in (history, central)):
             raise Refused("pp6600: BAD ARGUMENTS", 2)
-        opened = self._library.pp6600_open(history, central, reader, printer, deck, len(deck), panel, len(panel),
-                                           self._handle, text, len(text), count, status)
+        opened = self._calls["open"](
+            c_uint32(history), c_uint32(central), c_uint8(reader), c_uint8(printer), deck, c_size_t(len(deck)), panel, c_size_t(len(panel)),
+            self._at, text, c_size_t(len(text)), byref(count), byref(status))
         if opened != DONE:
             raise Refused(text.raw[:count.value].decode("ascii"), status.value)
 
     def _call(self, name: str, *arguments: object) -> int:
-        status = int(self._calls[name](self._at, *arguments))
+        status: int = self._calls[name](self._at, *arguments)
         if status == CLOSED:
             raise Failure("the session is closed")
-        if status == NO_MEMORY:
-            raise MemoryError
         return status
 
     def __enter__(self) -> Session:
@@ -131,7 +128,7 @@ class Session:
         texts, lines, refused, taken, size, status = [], 0, 0, 0, max(room, 1), ROOM
         while status == ROOM:
             into, left, numbers = ctypes.create_string_buffer(size), typed[taken:], (c_size_t(), c_size_t(), c_uint32(), c_uint32())
-            status = self._call("answer", left, len(left), into, size, *map(byref, numbers))
+            status = self._call("answer", left, c_size_t(len(left)), into, c_size_t(size), *map(byref, numbers))
             more, count, performed, rejected = (number.value for number in numbers)
             texts.append(into.raw[:count])
             lines, refused, taken = lines + performed, refused + rejected, taken + more
@@ -141,7 +138,7 @@ class Session:
     def numbers(self, first: int, count: int) -> List[int]:
         """Returns the numbers at consecutive places."""
         into = (c_uint64 * max(count, 0))()
-        if not 0 <= first < MOST_OF_WORD or self._call("numbers", first, into, count) != DONE:
+        if not 0 <= first < MOST_OF_WORD or self._call("numbers", c_uint32(first), into, c_size_t(count)) != DONE:
             raise Failure(f"the machine does not have the places {first} to {first + count - 1}")
         return into[:]
 
@@ -153,35 +150,43 @@ class Session:
 
     def turns(self, most: int) -> Tuple[List[Moment], bool]:
         """Performs turns, up to the first that changes a watched number. Returns them, and whether the last one did."""
-        made, records = self.records(most, MOST_OLDS)
-        rest = iter(zip(records.places, records.numbers))
-        moments = [Moment(processor, [next(rest) for _ in range(count)]) for processor, count in zip(made[::2], made[1::2])]
-        return moments, records.is_watched
+        _, made, records = self._recorded("turns", most, MOST_OLDS)
+        return moments_of(made, records), records.is_watched
+
+    def again(self, count: int) -> Optional[List[Moment]]:
+        """Performs undone actions again, and returns them; None if there are too few, and then none is performed."""
+        status, made, records = self._recorded("again", count, MOST_OLDS)
+        return None if status == REFUSED else moments_of(made, records)
 
     def records(self, most: int, pairs_of_turn: int = PAIRS_OF_TURN) -> Tuple[Sequence[int], Records]:
         """As `turns`, in as few as the room of so many pairs for each turn makes it. Returns of each the processor and the number of places,
         in turn, and what they overwrote."""
+        return self._recorded("turns", most, pairs_of_turn)[1:]
+
+    def _recorded(self, call: str, most: int, pairs_of_turn: int) -> Tuple[int, Sequence[int], Records]:
+        """Makes a call that records actions, with room for so many pairs for each. Returns its status, and what `records` returns."""
         pairs = pairs_of_turn * most + MOST_OLDS
         made, olds, turns, used = (c_uint32 * (2 * most))(), (c_uint64 * (2 * pairs))(), c_size_t(), c_size_t()
-        status = self._call("turns", most, made, most, olds, pairs, byref(turns), byref(used))
+        status = self._call(call, c_uint32(most), made, c_size_t(most), olds, c_size_t(pairs), byref(turns), byref(used))
         of_turns = array("I", memoryview(made).cast("B")[:8 * turns.value].tobytes())
-        return of_turns, Records(of_turns[1::2], memoryview(olds).cast("B")[:16 * used.value].tobytes(), status == WATCHED)
+        return status, of_turns, Records(of_turns[1::2], memoryview(olds).cast("B")[:16 * used.value].tobytes(), status == WATCHED)
 
     def looks(self, most: int, places: Sequence[int]) -> Tuple[List[List[int]], bool]:
         """Performs turns as `turns` does. Returns the numbers at the places after each, and whether the last changed a watched number."""
         width, turns, into = len(places), c_size_t(), (c_uint64 * (most * len(places)))()
-        status = self._call("looks", most, (c_uint32 * width)(*places), width, into, most * width, byref(turns))
+        chosen = (c_uint32 * width)(*places)
+        status = self._call("looks", c_uint32(most), chosen, c_size_t(width), into, c_size_t(most * width), byref(turns))
         if status == REFUSED:
             raise Failure("looks are at 1 to 16 places that the machine has")
         return [into[at * width:(at + 1) * width] for at in range(turns.value)], status == WATCHED
 
     def back(self, count: int) -> bool:
         """Undoes actions. Returns whether there were enough; if not, none is undone."""
-        return self._call("back", count) == DONE
+        return self._call("back", c_uint32(count)) == DONE
 
     def forward(self, count: int) -> bool:
         """Performs undone actions again. Returns whether there were enough; if not, none is performed."""
-        return self._call("forward", count) == DONE
+        return self._call("forward", c_uint32(count)) == DONE
 
 
 class LibraryEngine:
@@ -198,22 +203,32 @@ class LibraryEngine:
         except Rejected as rejected:
             status, text = rejected.args
             raise Rejection(f"pp6600: {text}", status) from None
-        self.session = Session(**options, path=path)
-        self.text = ctypes.create_string_buffer(ANSWER_ROOM)
+        try:
+            self.session = Session(**options, path=path)
+        except Unloadable as failure:
+            raise Failure(f"{path} is not the library of the simulator: {failure.__cause__}") from failure
+        self.text: Any = ctypes.create_string_buffer(ANSWER_ROOM)
+        self.size, self.room = c_size_t(), c_size_t(ANSWER_ROOM)
         self.answered = c_size_t(), c_size_t(), c_uint32(), c_uint32()
+        self.taken, self.count = self.answered[:2]
         self.counted = tuple(map(byref, self.answered))
-        self.looked: Sequence[int] = ()  # the places of the latest looks
-        self.seen = (c_uint64 * 0)()
+        self.looked: Sequence[int] = ()  # the places of the latest looks, and how many numbers there is room for
+        self.most, self.width, self.seen_room = c_uint32(), c_size_t(), c_size_t()
 
     def answer(self, text: str) -> List[str]:
-        typed, found, (taken, count, _, _) = text.encode("latin-1"), [], self.answered
+        typed = text.encode("latin-1")
+        found: List[bytes] = []
         while typed:
             end = len(typed) if len(typed) <= MOST_AT_ONCE else typed.rfind(b"\n", 0, MOST_AT_ONCE) + 1 or len(typed)
-            status = self.session._call("answer", typed[:end], end, self.text, len(self.text), *self.counted)
-            found.append(ctypes.string_at(self.text, count.value))
-            typed = typed[taken.value:]
-            if status == ROOM and not taken.value:
-                self.text = ctypes.create_string_buffer(4 * len(self.text))
+            self.size.value = end
+            status = self.session._call("answer", typed, self.size, self.text, self.room, *self.counted)
+            if status == DONE and end == len(typed) and not found:
+                return str(self.text[:self.count.value], "ascii").splitlines()
+            found.append(self.text[:self.count.value])
+            typed = typed[self.taken.value:]
+            if status == ROOM and not self.taken.value:
+                self.room.value *= 4
+                self.text = ctypes.create_string_buffer(self.room.value)
         return b"".join(found).decode("ascii").splitlines()
 
     def numbers(self, first: int, count: int) -> Sequence[int]:
@@ -226,17 +241,18 @@ class LibraryEngine:
         return self.session.records(most)[1]
 
     def looks(self, places: Sequence[int], most: int) -> Tuple[Sequence[int], int]:
-        width, turns = len(places), self.answered[0]
         if self.looked != places:
-            self.looked, self.looked_at = list(places), (c_uint32 * width)(*places)
-        if len(self.seen) < most * width:
-            self.seen = (c_uint64 * (most * width))()
+            self.looked, self.looked_at, self.width.value = list(places), (c_uint32 * len(places))(*places), len(places)
+        numbers = most * len(places)
+        if self.seen_room.value < numbers:
+            self.seen, self.seen_room.value = (c_uint64 * numbers)(), numbers
             self.seen_bytes = memoryview(self.seen).cast("B")
-        if self.session._call("looks", most, self.looked_at, width, self.seen, most * width, self.counted[0]) == REFUSED:
+        self.most.value = most
+        if self.session._call("looks", self.most, self.looked_at, self.width, self.seen, self.seen_room, self.counted[0]) == REFUSED:
             raise Failure("the machine does not have these places")
-        found = array("Q")
-        found.frombytes(self.seen_bytes[:8 * width * turns.value])
-        return found, turns.value
+        found, turns = array("Q"), self.taken.value
+        found.frombytes(self.seen_bytes[:8 * len(places) * turns])
+        return found, turns
 
     def back(self, count: int) -> None:
         if not self.session.back(count):

@@ -15,7 +15,7 @@ from typing import Any, Dict, Mapping, NamedTuple, Optional
 from ...engine.choice import HOME
 from ...failure import Failure
 from ...language.display_code import SYMBOLS
-from ...language.listing import AllSymbols
+from ...language.names import AllSymbols
 from ...language.sources import Source, words_of
 from ...language.source.statements import TAB
 from ...run import sentences

@@ -9,8 +9,8 @@ from typing import Any, Dict, Iterator, List, Sequence, Tuple
 from ...devices.pictures import svg
 from ...failure import Failure
 from ...run.attached import COUNTED
-from ...run.device import Device, Value, drawn, looked, value_at_start
-from ...run.simulator import Console
+from ...run.device import Device, Value, channel_of, drawn, looked, value_at_start
+from ...run.console import Console
 
 MOST_MOMENTS = 0o1000000  # the page records all of them
 TURN, LOOK = "STEP 1", "DUMP H"
@@ -47,7 +47,7 @@ class Devices:
         values, turn = self.values[self.position]
         if rows:
             turn += 1
-            values = tuple(looked(device, value, rows[device.channel], turn)[0] for device, value in zip(self.devices, values))
+            values = tuple(looked(device, value, channel_of(rows[device.channel]), turn)[0] for device, value in zip(self.devices, values))
         self.position += 1
         self.values[self.position:] = [(values, turn)]
 

@@ -1,6 +1,6 @@
 """The tool that makes a film: a run as one web page, from which one goes on."""
 
-from ...language.sources import add_symbols, symbols_of
+from ...language.symbol_options import add_symbols, symbols_of
 from ...run.attached import names_of
 from ...run.tape import NOTE_OF_DEVICE
 from ...shell.command_line import Failure, add_script, arguments, bytes_of, octal, simulator

@@ -9,14 +9,13 @@ from functools import partial
 
 from ...failure import Failure
 from ...language.calls import calls, sentence
-from ...language.listing import AllSymbols
+from ...language.names import AllSymbols
 from ...run.device import DeviceFailure
 from ...run.forms import KINDS
 from ...run.line_search import turn_of_line_before, turn_of_next_line
 from ...run.moments import text_of
 from ...run.searches import Stopped, last_before, next_found
-from ...run.simulator import Replay
-from ...run.timeline import REPLAYED
+from ...run.session import REPLAYED, Session
 from ...shell.keyboard import FIRST_WORDS, card
 from ..keys import ARROWS, PAGES, PANEL
 from .keys import LINES, Facts, help_lines, to_turn
@@ -369,7 +368,7 @@ class Panel:
         if source is None:
             self.message = self.no_source()
             return
-        with closing(Replay(self.session.simulator.words, self.session.history.in_effect())) as run:
+        with closing(Session.of_tape(self.session.simulator.words, self.session.history.in_effect())) as run:
             lines = [Line(sentence(run, number, call, self.symbols)) for call in calls(run, number, source, run.tape.end)]
         self.page = Page(f"The subroutines that PP {number:02o} is in", lines or [Line("none that was called and has not returned")])
 

@@ -1,26 +1,19 @@
-"""The console of a session on an engine, and a session that goes to any position of its tape.
-
-`Console` performs lines and shows the machine. `Simulator` is a console with a history. It performs lines of the user (`act`), and goes to
-any position of its tape (`goto`): back and forward by the engine's undo history and redo list, else by the lines of the tape, from here
-or from the start in a fresh engine."""
+"""A session on an engine by the lines of the console, and what there is to see of the machine."""
 
 from __future__ import annotations
 
 import functools
 import re
-from typing import Any, Iterable, Iterator, List, Optional, Sequence, Tuple, TypeVar, Union
+from typing import Iterable, Iterator, List, Sequence, Tuple, TypeVar, Union
 
+from ..engine import interface as flat
 from ..engine.choose import default_engine, engine_of
 from ..engine.interface import Rejection
 from ..failure import Failure
-from .forms import (
-    CHANNELS_DUMP, CLOCK, FRAME_DUMP, MOST_TURNS, PROCESSORS, Answers, Dump, Place, Registers, cells_dump, central_dump, fields, is_refusal,
-    refused, registers_dump, registers_of, word_dumps, words_of)
-from .tape import STEP, Action, History, Tape, lines_of, room_of
+from .forms import CELLS, CLOCK, MOST_TURNS, PROCESSORS, Place, Registers, fields, is_refusal, registers_of, words_of
 from .turn import Processor
 
 SIZES_OF_CENTRAL = (0o400000, 0o200000, 0o100000)
-READER_DUMP = Dump("DUMP CR", "CR")
 LONGEST_LINE = 255
 Self = TypeVar("Self", bound="Console")
 NO_ANSWER = re.compile("[ \t]*([*][\t -~]*)?")  # a note, or a line without words
@@ -89,10 +82,6 @@ class Console:
             raise Failure(f"the simulator answers {answer[0]} to {line}")
         return answer
 
-    def dump(self, dump: Dump) -> List[str]:
-        """Returns the lines of the answer to a dump."""
-        return self.demand(dump.line)
-
     def end(self) -> int:
         """Ends the session, and returns the exit status (decimal): 0, or 1 if a line was rejected."""
         self.engine.close()
@@ -106,7 +95,7 @@ class Console:
 
     def registers(self, processor: int) -> Registers:
         """Returns P, A, Q, PHASE and SLOT of a processor, 0 to 0o11, by their names, each as its octal digits."""
-        return registers_of(self.dump(registers_dump(number_of("a processor", processor)))[0])
+        return registers_of(self.demand(f"DUMP PP {number_of('a processor', processor):o}")[0])
 
     def slot(self) -> int:
         return int(self.registers(0)["SLOT"], 8)
@@ -114,11 +103,12 @@ class Console:
     def cells(self, processor: int, first: int, last: int) -> List[str]:
         """Returns the words of the cells from first to last, at most 0o7777, each as its four octal digits."""
         number_of("a processor", processor)
-        return words_of(self.dump(cells_dump(processor, number_of("a cell", first), number_of("a cell", last))))
+        return words_of(self.demand(f"DUMP M {processor:o} {number_of('a cell', first):o} {number_of('a cell', last):o}"))
 
     def words_at(self, processor: int, address: int) -> List[str]:
         """Returns the words of two cells; after cell 7777 comes cell 0000."""
-        return words_of(row for dump in word_dumps(processor, address) for row in self.dump(dump))
+        memory = flat.CELLS + CELLS * processor
+        return [f"{self.engine.numbers(memory + (address + at) % CELLS, 1)[0]:04o}" for at in (0, 1)]
 
     def processor(self, number: int) -> Processor:
         """Returns a processor as it is now."""
@@ -127,7 +117,7 @@ class Console:
 
     def channels(self) -> List[str]:
         """Returns a line of DUMP H for each channel and the clock, as H 03 E 0017."""
-        return self.dump(CHANNELS_DUMP)
+        return self.demand("DUMP H")
 
     def channel(self, number: int) -> str:
         """Returns the state and the register of a channel, 0 to 0o13, or of the clock, 0o14, as E 0017."""
@@ -137,7 +127,7 @@ class Console:
 
     def central(self, first: int, last: int) -> List[str]:
         """Returns a line of DUMP C for each central word from first to last."""
-        return self.dump(central_dump(number_of("a central address", first), number_of("a central address", last)))
+        return self.demand(f"DUMP C {number_of('a central address', first):o} {number_of('a central address', last):o}")
 
     @functools.cached_property
     def central_size(self) -> int:
@@ -158,11 +148,11 @@ class Console:
 
     def frame(self) -> List[str]:
         """Returns a line of DUMP XP for each of the sixteen (decimal) words of the exchange package."""
-        return self.dump(FRAME_DUMP)
+        return self.demand("DUMP XP")
 
     def reader(self) -> str:
         """Returns the line of DUMP CR."""
-        return self.dump(READER_DUMP)[0]
+        return self.demand("DUMP CR")[0]
 
     def printer(self) -> List[str]:
         """Returns the printer's line and the lines of its paper."""
@@ -192,10 +182,6 @@ class Console:
 
     # ---- turns
 
-    def step(self, turns: int = 1) -> List[str]:
-        """Makes so many turns. Returns the lines of the answers, with a HIT for each change of a watched number."""
-        return [line for _, answer in self.steps(turns) for line in answer]
-
     def steps(self, turns: int) -> Iterator[Tuple[int, List[str]]]:
         """Makes so many turns, and yields after each STEP how many it made and its answer, with a HIT if there is one."""
         while turns:
@@ -211,132 +197,3 @@ def file_of(words: Sequence[str], text: str) -> str:
         if option in words[:-1] and option[2:].upper() in text.split():
             return f" ({words[words.index(option) + 1]})"
     return ""
-
-
-def without_history(words: Sequence[str]) -> List[str]:
-    """Returns the words of the simulator without --history: a replay needs no length of its own."""
-    at = words.index("--history") if "--history" in words else len(words)
-    return [*words[:at], *words[at + 2:]]
-
-
-class Simulator(Console):
-    """A simulator with its history: it performs lines, and goes to any position of its tape."""
-
-    def __init__(self, words: Sequence[str] = (), tape: Optional[Tape] = None) -> None:
-        """It begins at the beginning of the tape."""
-        super().__init__(words)
-        self.history = History(room_of(self.words), tape)
-        self.counts: Any = self.history  # as BACK and FORWARD count it
-        self.watched: List[str] = []  # places, beside those of the tape
-
-    @property
-    def tape(self) -> Tape:
-        return self.history.tape
-
-    @property
-    def position(self) -> int:
-        return self.history.position
-
-    @property
-    def turn(self) -> int:
-        """How many turns are in effect."""
-        return self.history.turns
-
-    @property
-    def next_slot(self) -> int:
-        """The processor whose turn comes next."""
-        return self.history.slot
-
-    # ---- lines of the user
-
-    def act(self, line: str) -> List[str]:
-        """Performs a line of any kind. Returns the lines of its answer."""
-        answer = self.ask(line)
-        self.history.take(line, answer)
-        return answer
-
-    # ---- any position
-
-    def goto(self, position: int) -> None:
-        """Goes to a position of the tape."""
-        if position < self.history.oldest:
-            self._go_anew(position)
-        else:
-            self.move(min(position - self.position, self.history.ahead))
-            self.play(position)
-
-    def move(self, count: int) -> None:
-        """Goes by so many actions that the engine keeps, back if it is negative."""
-        if count:
-            self.history.moved(count)
-            if count < 0:
-                self.engine.back(-count)
-            else:
-                self.engine.forward(count)
-
-    def play(self, position: int) -> None:
-        """Performs the actions of the tape up to a position by their lines."""
-        for action in self.tape.actions(self.position, position):
-            self._perform(action)
-
-    def _perform(self, action: Action) -> List[str]:
-        """Performs the next action of the tape. Returns the lines for it. A STEP may end where a watched number changes, and goes on."""
-        lines = list(lines_of(action))
-        answers = self.ask_all(lines)
-        if refusal := refused(answers):
-            raise Failure(f"the simulator answers {refusal} to what it has performed before")
-        left = action.turns - sum(int(answer.split()[1], 8) for answer in answers if answer.startswith("TURNS "))
-        while left:
-            lines.append(f"STEP {left:o}")
-            left -= int(self.ask(lines[-1])[0].split()[1], 8)
-        self.history.performed(action.times)
-        return lines
-
-    def _go_anew(self, position: int) -> None:
-        """Goes to a position from the beginning, in a fresh engine."""
-        watched, self.watched = self.watched, []
-        self.engine.close()
-        self.start()
-        self.history.restarted()
-        self.play(position)
-        self.watch(watched)
-
-    def watch(self, places: Iterable[str]) -> None:
-        """Watches places beside those of the tape from here on; it can't go back to before without a replay."""
-        for place in places:
-            self.demand(f"WATCH {place}")
-            self.watched.append(place)
-            self.history.kept = self.history.ahead = 0
-
-    def unwatch(self) -> None:
-        """Ends these watches."""
-        for place in self.watched:
-            self.demand(f"UNWATCH {place}")
-        self.watched = []
-        self.history.kept = self.history.ahead = 0
-
-    def comes_to(self, position: int) -> bool:
-        """Makes the turns up to a position, or to a HIT. Returns whether there was none."""
-        for made, answer in self.steps(position - self.position):
-            self.history.performed(made)
-            if len(answer) > 1:
-                return False
-        return True
-
-    # ---- many looks at once
-
-    def look_at(self, stops: Sequence[Tuple[int, Iterable[Dump]]]) -> List[Answers]:
-        """Goes to one position after the other, all within what it keeps or ahead, and asks dumps there. Returns the answers at each
-        stop."""
-        found: List[Answers] = []
-        for stop, dumps in stops:
-            Simulator.move(self, stop - self.position)  # no line of the session
-            found.append({dump: self.dump(dump) for dump in dumps})
-        return found
-
-
-class Replay(Simulator):
-    """A simulator that performs the actions of a tape anew. It stops nowhere, since the watches of the tape are left out."""
-
-    def __init__(self, words: Sequence[str], tape: Tape) -> None:
-        super().__init__(without_history(words), tape.without_watches())
