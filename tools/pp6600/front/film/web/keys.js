@@ -74,7 +74,11 @@ const ACTIONS = {
     (left) => ((memory.processor - film.numbers[layout.slot] + PROCESSORS) % PROCESSORS) + 1 + ROUND * (left - 1))),
   "turn-before": byHand((count) => backwards(count, () => turnBeside(-1))),
   beginning: byHand(() => moveTo(0)), newest: byHand(() => moveTo(lastMoment())), "back-to-change": byHand(backToChange), watch,
-  turn: byHand((count, digits) => (digits ? goToTurn(count) : byId("turn").select())),
+  turn: byHand(async (count, digits) => {
+    if (!digits) return byId("turn").select();
+    await goToTurn(count);
+    return accept("turn", wrongTurn(digits));
+  }),
   until: () => typeLine("until "), "back-until": () => typeLine("back until "),
   again: byHand(() => searchAgain(false)), "back-again": byHand(() => searchAgain(true)),
   "next-change": byHand(() => moveToChange(1)), "change-before": byHand(() => moveToChange(-1)),

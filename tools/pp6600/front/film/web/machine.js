@@ -287,7 +287,9 @@ function buildPrinter() {
 
 function showPrinter() {
   const paper = document.querySelector("#printer .paper"), text = paperText();
-  if (paper.textContent !== text) Object.assign(paper, { textContent: text, scrollTop: paper.scrollHeight });
+  if (paper.textContent === text) return;
+  paper.textContent = text;
+  paper.scrollTop = paper.scrollHeight;
 }
 
 let watchesShown = null;
