@@ -216,14 +216,15 @@ class LibraryEngine:
         self.most, self.width, self.seen_room = c_uint32(), c_size_t(), c_size_t()
 
     def answer(self, text: str) -> List[str]:
-        typed, found = text.encode("latin-1"), []
+        typed = text.encode("latin-1")
+        found: List[bytes] = []
         while typed:
             end = len(typed) if len(typed) <= MOST_AT_ONCE else typed.rfind(b"\n", 0, MOST_AT_ONCE) + 1 or len(typed)
             self.size.value = end
             status = self.session._call("answer", typed, self.size, self.text, self.room, *self.counted)
+            if status == DONE and end == len(typed) and not found:
+                return str(self.text[:self.count.value], "ascii").splitlines()
             found.append(self.text[:self.count.value])
-            if status == DONE and end == len(typed):
-                break
             typed = typed[self.taken.value:]
             if status == ROOM and not self.taken.value:
                 self.room.value *= 4

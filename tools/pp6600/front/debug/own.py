@@ -12,12 +12,12 @@ from .breakpoints import Cell
 class OwnLine(NamedTuple):
     """A line of a source, and the addresses at which its words may be."""
 
-    file: "File"
+    file: "SourceFile"
     number: int
     addresses: frozenset
 
 
-class Lines:
+class SourceLines:
     """The lines of a source: the rows with words before which a stop at a line is, and the addresses at which its words may be."""
 
     def __init__(self, source):
@@ -27,7 +27,7 @@ class Lines:
             self.addresses.setdefault(row.line.number, set()).update(cells)
 
 
-class File:
+class SourceFile:
     """A file with the source of some processors, as it was at the launch."""
 
     def __init__(self, path):
@@ -38,7 +38,7 @@ class File:
         self.is_told = False  # that it has changed
 
     def add(self, number, source):
-        self.of[number] = Lines(source)
+        self.of[number] = SourceLines(source)
 
     def is_at(self, path):
         return isinstance(path, str) and (path == self.path or os.path.realpath(path) == os.path.realpath(self.path))
@@ -78,7 +78,7 @@ class OwnSources:
         for number, source in self.of.items():
             file = self.file(source.path)
             if not file:
-                file = File(source.path)
+                file = SourceFile(source.path)
                 self.files.append(file)
             file.add(number, source)
             self.file_of[number] = file

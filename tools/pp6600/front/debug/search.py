@@ -71,7 +71,7 @@ class Wanted(NamedTuple):
         return not self.aim and all(point.places and not point.terms.condition and not point.terms.hits for point in self.points)
 
 
-class Search:
+class StopSearch:
     """A search for what is wanted."""
 
     def __init__(self, machine, wanted, meanwhile=lambda position: None):
