@@ -1,5 +1,5 @@
 -- The cells of a program.
-use Rattle.std.specs.Prelude.{ℕ, ◌<◌, List, map, All, Option, MatchOption, ⊤}
+use Rattle.std.specs.Prelude.{ℕ, ◌<◌, List, map, All, Option, None, Some, Bool, true, nat_lt, IsTrue}
 use Rattle.std.specs.List.Sorted.{IsStrictlyIncreasing}
 use Rattle.pp_assembler.specs.declared.program.Cell.{Cell}
 
@@ -14,6 +14,11 @@ address_of cell = cell.address
 abbrev pub IsProgram : List Cell → Type 0
 IsProgram cells = All IsCell cells × IsStrictlyIncreasing (map address_of cells)
 
--- A processor begins at an address, if a program names one.
+-- whether a program that names an address names one of the memory
+abbrev pub is_start : Option ℕ → Bool
+is_start None = true
+is_start (Some address) = nat_lt address 0o10000
+
+-- A processor begins at an address of the memory, if a program names one.
 abbrev pub IsStart : Option ℕ → Type 0
-IsStart start = MatchOption start ⊤ (λ address. address < 0o10000)
+IsStart start = IsTrue (is_start start)

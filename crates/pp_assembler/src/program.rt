@@ -1,7 +1,6 @@
 //! What a source makes.
-ghost use Rattle.std.specs.Prelude.{◌≡◌, ◌<◌, All, map};
-ghost use Rattle.std.specs.List.Sorted.{IsStrictlyIncreasing};
-ghost use Rattle.pp_assembler.specs.Cells.{IsCell, address_of, IsProgram, IsStart};
+ghost use Rattle.std.specs.Prelude.{◌≡◌};
+ghost use Rattle.pp_assembler.specs.Cells.{IsProgram, IsStart};
 
 /// A word that a source puts into a cell of the memory.
 #[derive(Clone, Copy, Debug, PartialEq, Eq)]
@@ -21,7 +20,7 @@ pub struct Program {
     /// The operand of END, up to octal 7777.
     pub start: Option<u16>,
     ghost program: { IsProgram cells.items },
-    ghost in_range: { ∥ IsStart start ∥₁ },
+    ghost in_range: { IsStart start },
 }
 
 impl Program {
