@@ -1,10 +1,30 @@
 //! The language of PP programs, as docs/ASSEMBLER.md has it: a source to words.
 #![tactic(auto)]
 
+mod assemble;
+mod directives;
+mod encoding;
+mod fields;
 mod instructions;
+mod lines;
+mod makers;
+mod message;
+mod operations;
+mod pass;
+mod performing;
 mod program;
+mod symbols;
 #[cfg(test)]
 mod tests;
+mod texts;
+mod values;
 
+pub use assemble::assemble;
+pub use fields::Statement;
 pub use instructions::{Form, code_of, form_of, name_of, size_of};
-pub use program::{Cell, Program};
+pub use lines::{Content, Join, Line, Lines, Span};
+pub use message::{Fault, Field, Message, Stop};
+pub use operations::{Operation, Test};
+pub use pass::Row;
+pub use program::{Assembly, Cell, Program};
+pub use symbols::{Definition, Name, Symbol, Symbols};
