@@ -174,11 +174,13 @@ impl Pass {
         if slot.line == 0 {
             return Ok(None);
         }
+        let is_warning = self.over_from == Some(cell);
         let fault = Fault::Filled {
             cell: u16::try_from(index).unwrap_or(0),
             line: slot.line,
+            is_warning,
         };
-        if self.over_from != Some(cell) {
+        if !is_warning {
             return Ok(Some(fault));
         }
         self.warn(here, 0, fault)?;

@@ -1,7 +1,7 @@
 //! The language of PP programs, as docs/ASSEMBLER.md has it: a source to words.
 #![tactic(auto)]
 
-mod assemble;
+mod passes;
 mod directives;
 mod encoding;
 mod fields;
@@ -9,6 +9,8 @@ mod instructions;
 mod lines;
 mod makers;
 mod message;
+mod wording;
+mod nearest;
 mod operations;
 mod pass;
 mod performing;
@@ -19,11 +21,12 @@ mod tests;
 mod texts;
 mod values;
 
-pub use assemble::assemble;
+pub use passes::assemble;
 pub use fields::Statement;
 pub use instructions::{Form, code_of, form_of, name_of, size_of};
 pub use lines::{Content, Join, Line, Lines, Span};
 pub use message::{Fault, Field, Message, Stop};
+pub use wording::message_text;
 pub use operations::{Operation, Test};
 pub use pass::Row;
 pub use program::{Assembly, Cell, Program};

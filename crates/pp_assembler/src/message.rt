@@ -172,10 +172,7 @@ pub enum Fault {
     /// The program goes past cell 7777.
     PastEnd,
     /// A cell is filled by another line too; or as a warning.
-    Filled {
-        cell: u16,
-        line: u32,
-    },
+    Filled { cell: u16, line: u32, is_warning: bool },
     /// BSS goes back by so many cells; a warning.
     Backwards {
         count: i64,

@@ -17,7 +17,7 @@ pub struct Definition {
 }
 
 /// A name: its characters, the first one in the upper byte, with zeros after the last one.
-#[derive(Clone, Copy, Debug, PartialEq, Eq)]
+#[derive(Clone, Copy, Debug, Default, PartialEq, Eq)]
 pub struct Name(pub u64);
 
 /// A name of a source, and what it stands for in the pass before and in this one.
@@ -95,6 +95,11 @@ pub fn name_of(text: &[u8]) -> Option<Name> {
 }
 
 impl Name {
+    /// Returns how many characters there are.
+    pub fn length(self) -> usize {
+        LONGEST.saturating_sub((self.0.trailing_zeros() / 8) as usize)
+    }
+
     /// Returns the characters, with zeros after the last one.
     pub fn characters(self) -> [u8; LONGEST] {
         self.0.to_be_bytes()
