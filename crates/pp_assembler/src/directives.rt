@@ -87,7 +87,7 @@ impl Pass {
             Operation::Greatest | Operation::Least => self.chosen(
                 here,
                 statement,
-                operation == Operation::Greatest,
+                matches!(operation, Operation::Greatest),
             ),
             _ => self.value(here, statement.operand, true),
         };
@@ -101,7 +101,7 @@ impl Pass {
                 (None, false)
             }
         };
-        let is_set = operation != Operation::Equate;
+        let is_set = !matches!(operation, Operation::Equate);
         self.define(here, statement.location, value, is_address, is_set)?;
         let at = self.words.len();
         let (origin, location) = (self.origin, self.location);

@@ -9,7 +9,7 @@ const FIRST_OF_COMMENTS: usize = 29;
 pub const LAST_COLUMN: usize = 72;
 
 /// The fields of a statement. The column of one that is missing is that of the field before it.
-#[derive(Clone, Copy, Debug, PartialEq, Eq)]
+#[derive(Clone, Copy)]
 pub struct Statement {
     pub location: Field,
     pub operation: Field,
@@ -17,7 +17,7 @@ pub struct Statement {
 }
 
 /// How lines are cut.
-#[derive(Clone, Copy, Debug, PartialEq, Eq)]
+#[derive(Clone, Copy)]
 pub enum Origin {
     /// A line of the source.
     Source,
@@ -153,7 +153,7 @@ fn end_of_arguments(line: &[u8], start: usize) -> usize {
 /// Returns the operand: what comes next, if it begins before the column of comments, or one blank after the operation.
 fn operand_of(whole: &[u8], operation: Field, origin: Origin) -> Result<Field, Stop> {
     let name = operation.of(whole);
-    let line = if origin == Origin::Source {
+    let line = if matches!(origin, Origin::Source) {
         without_sequence(whole, is_of_text(name))
     } else {
         whole
@@ -161,7 +161,7 @@ fn operand_of(whole: &[u8], operation: Field, origin: Origin) -> Result<Field, S
     let start = after_blanks(line, operation.end);
     let is_apart = start > operation.end.saturating_add(1)
         && column_on_paper(line, start) >= FIRST_OF_COMMENTS;
-    if start >= line.len() || is_apart && origin != Origin::Made {
+    if start >= line.len() || is_apart && !matches!(origin, Origin::Made) {
         return Ok(Field {
             first: operation.first,
             end: operation.first,
@@ -211,7 +211,7 @@ pub fn statement_of(line: &[u8], origin: Origin) -> Result<Option<Statement>, St
 }
 
 /// The parts of an operand between commas that are in no text.
-#[derive(Clone, Copy, Debug)]
+#[derive(Clone, Copy)]
 pub struct Parts {
     operand: Field,
     /// The column, from 0 in the operand, at which the next part begins; none after the last one.
@@ -271,7 +271,7 @@ fn end_of_part(text: &[u8], start: usize, is_delimited: bool) -> Result<usize, S
 }
 
 /// The first parts of an operand, and how many it has.
-#[derive(Clone, Copy, Debug)]
+#[derive(Clone, Copy)]
 pub struct FirstParts {
     pub count: usize,
     pub parts: [Field; 3],
@@ -288,7 +288,8 @@ pub fn first_parts(line: &[u8], operand: Field, is_delimited: bool) -> Result<Fi
         let Some(part) = parts.next(line)? else {
             break;
         };
-        if let Some(place) = found.parts.get_mut(found.count) {
+        let count = found.count;
+        if let Some(place) = found.parts.get_mut(count) {
             *place = part;
         }
         found.count = found.count.saturating_add(1);

@@ -1,7 +1,6 @@
 //! The language of PP programs, as docs/ASSEMBLER.md has it: a source to words.
 #![tactic(auto)]
 
-mod passes;
 mod directives;
 mod encoding;
 mod fields;
@@ -9,10 +8,10 @@ mod instructions;
 mod lines;
 mod makers;
 mod message;
-mod wording;
 mod nearest;
 mod operations;
 mod pass;
+mod passes;
 mod performing;
 mod program;
 mod symbols;
@@ -20,14 +19,15 @@ mod symbols;
 mod tests;
 mod texts;
 mod values;
+mod wording;
 
-pub use passes::assemble;
 pub use fields::Statement;
 pub use instructions::{Form, code_of, form_of, name_of, size_of};
 pub use lines::{Content, Join, Line, Lines, Span};
 pub use message::{Fault, Field, Message, Stop};
-pub use wording::message_text;
 pub use operations::{Operation, Test};
 pub use pass::Row;
+pub use passes::assemble;
 pub use program::{Assembly, Cell, Program};
 pub use symbols::{Definition, Name, Symbol, Symbols};
+pub use wording::message_text;

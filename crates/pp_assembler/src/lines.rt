@@ -14,21 +14,21 @@ const MARK: &[u8; 3] = b"\xef\xbb\xbf";
 pub const MOST_MADE: usize = 900;
 
 /// The bytes of a line of the source.
-#[derive(Clone, Copy, Debug)]
+#[derive(Clone, Copy)]
 pub struct Span {
     pub first: usize,
     pub end: usize,
 }
 
 /// The column, from 0, at which a line begins that continues another one, and its number.
-#[derive(Clone, Copy, Debug)]
+#[derive(Clone, Copy)]
 pub struct Join {
     pub column: usize,
     pub number: u32,
 }
 
 /// What a line has.
-#[derive(Clone, Copy, Debug)]
+#[derive(Clone, Copy)]
 pub enum Content {
     /// A note, or nothing.
     Note,
@@ -39,7 +39,7 @@ pub enum Content {
 }
 
 /// A line with those that continue it, or a line that SUBR made.
-#[derive(Clone, Copy, Debug)]
+#[derive(Clone, Copy)]
 pub struct Line {
     /// The number of its first line, from 1.
     pub number: u32,
@@ -53,7 +53,7 @@ pub struct Line {
 }
 
 /// The lines of a source, with their text and the same in capitals.
-#[derive(Debug, Drop)]
+#[derive(Drop)]
 pub struct Lines {
     pub text: Vec<u8>,
     pub capitals: Vec<u8>,

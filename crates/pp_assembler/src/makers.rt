@@ -34,10 +34,16 @@ impl Pass {
         let operand = the_only(here, statement)?;
         let count = usize::try_from(self.count(here, operand, 0)?).unwrap_or(0);
         let first = self.words.len();
+        self.zero_words(count)?;
+        self.put(here, first, count)
+    }
+
+    /// Adds words of zero.
+    fn zero_words(&mut self, count: usize) -> Result<(), Stop> {
         for _ in 0..count {
             self.add_word(0)?;
         }
-        self.put(here, first, count)
+        Ok(())
     }
 
     /// DATA has numbers and texts.
@@ -123,7 +129,7 @@ impl Pass {
             None => self.text_words(filling, symbols)?,
             Some(symbol) => {
                 self.report(here, column, Fault::NotInDisplayCode { symbol })?;
-                self.text_words(filling, b"")?;
+                self.zero_words(filling.size / 2)?;
             }
         }
         self.put(here, first, self.made.saturating_sub(made))
@@ -247,7 +253,7 @@ impl Pass {
 }
 
 /// A word of fields of bits: how many bits are used, whether it is one that was not full, and how many words were added before.
-#[derive(Clone, Copy, Debug)]
+#[derive(Clone, Copy)]
 struct BitWord {
     word: u16,
     used: u32,

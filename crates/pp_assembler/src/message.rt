@@ -2,7 +2,7 @@
 use crate::instructions::Form;
 
 /// A part of a line: its first column, from 0, and the column after its last one.
-#[derive(Clone, Copy, Debug, PartialEq, Eq)]
+#[derive(Clone, Copy)]
 pub struct Field {
     pub first: usize,
     pub end: usize,
@@ -21,7 +21,7 @@ impl Field {
 }
 
 /// What is wrong. Each part that a message names is a part of the statement's line.
-#[derive(Clone, Copy, Debug, PartialEq, Eq)]
+#[derive(Clone, Copy)]
 pub enum Fault {
     /// A line continues a statement, and there is none.
     Continues,
@@ -172,7 +172,11 @@ pub enum Fault {
     /// The program goes past cell 7777.
     PastEnd,
     /// A cell is filled by another line too; or as a warning.
-    Filled { cell: u16, line: u32, is_warning: bool },
+    Filled {
+        cell: u16,
+        line: u32,
+        is_warning: bool,
+    },
     /// BSS goes back by so many cells; a warning.
     Backwards {
         count: i64,
@@ -211,7 +215,7 @@ pub enum Fault {
 }
 
 /// Why a statement, or a part of it, has no value.
-#[derive(Clone, Copy, Debug, PartialEq, Eq)]
+#[derive(Clone, Copy)]
 pub enum Stop {
     /// A fault at a column, from 0.
     At(usize, Fault),
@@ -224,7 +228,7 @@ pub enum Stop {
 }
 
 /// A fault, or a warning, of a source.
-#[derive(Clone, Copy, Debug, PartialEq, Eq)]
+#[derive(Clone, Copy)]
 pub struct Message {
     /// From 1.
     pub line: u32,

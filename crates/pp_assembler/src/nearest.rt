@@ -10,7 +10,7 @@ const MOST_LONGER: usize = 3;
 const MOST_PARTS: usize = 16;
 
 /// A name that is near another one: the characters that both have, and those of both together.
-#[derive(Clone, Copy, Debug, Default)]
+#[derive(Clone, Copy, Default)]
 struct Near {
     name: Name,
     equal: usize,
@@ -29,7 +29,7 @@ impl Near {
 }
 
 /// The names nearest to one.
-#[derive(Debug, Drop)]
+#[derive(Drop)]
 pub struct Nearest<'a> {
     name: &'a [u8],
     near: ArrayVec<Near, MOST_NEAR>,
@@ -134,7 +134,7 @@ fn are_alike(one: &[u8], name: &[u8]) -> bool {
 }
 
 /// Parts of two names, each from a first character to before a last one.
-#[derive(Clone, Copy, Debug, Default)]
+#[derive(Clone, Copy, Default)]
 struct Part {
     first: usize,
     last: usize,

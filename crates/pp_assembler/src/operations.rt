@@ -2,7 +2,7 @@
 use crate::instructions::code_of;
 
 /// What a name in the operation field is.
-#[derive(Clone, Copy, Debug, PartialEq, Eq)]
+#[derive(Clone, Copy)]
 pub enum Operation {
     /// No operation.
     None,
@@ -63,7 +63,7 @@ pub enum Operation {
 }
 
 /// Which values are errors of the source.
-#[derive(Clone, Copy, Debug, PartialEq, Eq)]
+#[derive(Clone, Copy)]
 pub enum Test {
     Always,
     NotZero,
@@ -73,7 +73,7 @@ pub enum Test {
 }
 
 /// A name and its operation.
-#[derive(Clone, Copy, Debug)]
+#[derive(Clone, Copy)]
 pub struct Named {
     pub name: &'static [u8],
     pub operation: Operation,

@@ -13,7 +13,7 @@ pub const CELLS: usize = 4096;
 const MOST_STATEMENTS: u32 = 100_000;
 
 /// The line that is performed.
-#[derive(Clone, Copy, Debug)]
+#[derive(Clone, Copy)]
 pub struct Here<'a> {
     pub index: usize,
     pub line: Line,
@@ -53,14 +53,14 @@ impl Here<'_> {
 }
 
 /// What the source puts into a cell; the line, from 1, is 0 if there is nothing.
-#[derive(Clone, Copy, Debug)]
+#[derive(Clone, Copy)]
 pub struct Slot {
     pub word: u16,
     pub line: u32,
 }
 
 /// What the listing has of a line.
-#[derive(Clone, Copy, Debug)]
+#[derive(Clone, Copy)]
 pub struct Row {
     /// The index of the statement.
     pub statement: usize,
@@ -77,14 +77,14 @@ pub struct Row {
 }
 
 /// A word of VFD that is not full: its cell, and how many bits are used.
-#[derive(Clone, Copy, Debug, PartialEq, Eq)]
+#[derive(Clone, Copy)]
 pub struct OpenWord {
     pub cell: i64,
     pub used: u32,
 }
 
 /// What a pass knows at a line, and what it has made.
-#[derive(Debug, Drop)]
+#[derive(Drop)]
 pub struct Pass {
     pub is_last: bool,
     pub symbols: Symbols,
@@ -336,7 +336,8 @@ impl Pass {
 
     /// Adds a line without words to the listing.
     pub fn plain_row(&mut self, here: &Here, has_address: bool) -> Result<(), Stop> {
-        self.row(here, self.words.len(), has_address)
+        let first = self.words.len();
+        self.row(here, first, has_address)
     }
 
     /// Adds a line to the listing, in the last pass.

@@ -108,9 +108,7 @@ fn placed(
     let mut placed: Vec<Message> = Vec::new(alloc);
     for message in &messages {
         if let Some(message) = within(*message, spans) {
-            if placed.last() != Some(&message) {
-                placed.push(message)?;
-            }
+            placed.push(message)?;
         }
     }
     Ok(placed)

@@ -176,7 +176,7 @@ impl Pass {
 }
 
 /// Why a pass does not go on.
-#[derive(Clone, Copy, Debug)]
+#[derive(Clone, Copy)]
 pub enum Ending {
     /// A fault after which nothing is assembled.
     At(crate::message::Message),

@@ -19,7 +19,7 @@ pub struct Cell {
 }
 
 /// What a source makes: its cells, in the order of their addresses and each address once, and where a processor begins.
-#[derive(Debug, Drop)]
+#[derive(Drop)]
 pub struct Program {
     pub cells: Vec<Cell>,
     /// The operand of END, up to octal 7777.
@@ -58,7 +58,7 @@ impl Program {
 
 /// All that is known of a source: the program that it makes, its statements and their rows in the listing, its names, and what is wrong
 /// with it. If there is a message, the program is not to be used.
-#[derive(Debug, Drop)]
+#[derive(Drop)]
 pub struct Assembly {
     pub program: Program,
     /// The lines, each with those that continue it.

@@ -6,7 +6,7 @@ use std::alloc::{AllocError, Global};
 pub const LONGEST: usize = 8;
 
 /// What a name stands for. It has no value if its definition is wrong.
-#[derive(Clone, Copy, Debug, PartialEq, Eq)]
+#[derive(Clone, Copy)]
 pub struct Definition {
     pub value: Option<i64>,
     /// From 1.
@@ -17,11 +17,11 @@ pub struct Definition {
 }
 
 /// A name: its characters, the first one in the upper byte, with zeros after the last one.
-#[derive(Clone, Copy, Debug, Default, PartialEq, Eq)]
+#[derive(Clone, Copy, Default)]
 pub struct Name(pub u64);
 
 /// A name of a source, and what it stands for in the pass before and in this one.
-#[derive(Clone, Copy, Debug)]
+#[derive(Clone, Copy)]
 pub struct Symbol {
     pub name: Name,
     pub before: Option<Definition>,
@@ -29,7 +29,7 @@ pub struct Symbol {
 }
 
 /// The names that a pass has met, and those that the pass before met.
-#[derive(Debug, Drop)]
+#[derive(Drop)]
 pub struct Symbols {
     pub all: Vec<Symbol>,
     /// The labels of lines that END leaves out.
@@ -241,7 +241,7 @@ impl Symbols {
 }
 
 /// Where a name is looked up, and whether only names of the lines above count.
-#[derive(Clone, Copy, Debug)]
+#[derive(Clone, Copy)]
 pub struct Place {
     pub name: Field,
     pub is_from_above: bool,

@@ -11,7 +11,7 @@ static SYMBOLS: &[u8; 64] = b":ABCDEFGHIJKLMNOPQRSTUVWXYZ0123456789+-*/()$= ,.#[
 const BLANK: u8 = 0o55;
 
 /// A text: its kind, the columns of its symbols, how many it has with blanks at its end, and the column after it.
-#[derive(Clone, Copy, Debug, PartialEq, Eq)]
+#[derive(Clone, Copy)]
 pub struct Text {
     pub kind: u8,
     pub first: usize,
@@ -184,7 +184,7 @@ pub fn without_code(symbols: &[u8]) -> Option<u8> {
 }
 
 /// A text as it is put into words: how many codes it has, with blanks that the line has lost and zeros at the end.
-#[derive(Clone, Copy, Debug)]
+#[derive(Clone, Copy)]
 pub struct Filling {
     pub kind: u8,
     pub count: usize,

@@ -10,7 +10,7 @@ const MOST_DIGITS: usize = 20;
 const MOST_SHIFT: u32 = 100;
 
 /// What numbers without a letter are.
-#[derive(Clone, Copy, Debug, PartialEq, Eq)]
+#[derive(Clone, Copy)]
 pub enum Base {
     Octal,
     Decimal,
@@ -18,14 +18,14 @@ pub enum Base {
 }
 
 /// A number, and how many addresses more are added than subtracted: 1 in an address.
-#[derive(Clone, Copy, Debug, PartialEq, Eq)]
+#[derive(Clone, Copy)]
 pub struct Value {
     pub number: i128,
     pub addresses: i64,
 }
 
 /// What an expression means things in.
-#[derive(Clone, Copy, Debug)]
+#[derive(Clone, Copy)]
 pub struct Scope<'a> {
     pub symbols: &'a Symbols,
     pub is_last: bool,
@@ -40,7 +40,7 @@ pub struct Scope<'a> {
 }
 
 /// Reads an expression from its beginning to its end.
-#[derive(Clone, Copy, Debug)]
+#[derive(Clone, Copy)]
 pub struct Expression<'a> {
     text: &'a [u8],
     /// The column of the first symbol.
@@ -52,7 +52,7 @@ pub struct Expression<'a> {
 }
 
 /// An operator between terms.
-#[derive(Clone, Copy, Debug, PartialEq, Eq)]
+#[derive(Clone, Copy)]
 enum Operator {
     Add,
     Subtract,
@@ -308,7 +308,7 @@ impl<'a> Expression<'a> {
 }
 
 /// Digits of a line: the column after them, their letter, how many bits the number is shifted, and the column after all that.
-#[derive(Clone, Copy, Debug)]
+#[derive(Clone, Copy)]
 struct Number {
     digits: usize,
     letter: Option<u8>,
