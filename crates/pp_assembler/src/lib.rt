@@ -13,6 +13,7 @@ mod operations;
 mod pass;
 mod passes;
 mod performing;
+mod places;
 mod program;
 mod symbols;
 #[cfg(test)]

@@ -1,4 +1,7 @@
 //! The statements of a source: its lines, each with those that continue it, and those that SUBR makes.
+ghost use Rattle.std.specs.Prelude.{◌≡◌, IfOk, map};
+ghost use Rattle.pp_assembler.specs.Places.{length_of, line_lengths};
+
 use crate::fields::{
     LAST_COLUMN, Origin, Statement, is_empty, length_without_blanks, statement_of,
 };
@@ -233,7 +236,9 @@ fn without_returns(line: &[u8]) -> &[u8] {
 }
 
 /// Returns where the lines of a source are, each without its line feed.
-pub fn cut_lines(alloc: Global, source: &[u8]) -> Result<Vec<Span>, AllocError> {
+pub fn cut_lines(alloc: Global, source: &[u8]) -> Result<Vec<Span>, AllocError>
+    ensures { IfOk result (λ spans. map length_of spans.items ≡ line_lengths source.now) }
+{
     let mut spans = Vec::new(alloc);
     let mut first: usize = 0;
     for at in 0..source.len() {

@@ -1,8 +1,12 @@
 //! A source in two passes: the first one finds what its names stand for, the second one makes its words and reports what is wrong.
+ghost use Rattle.std.specs.Prelude.{◌≡◌, ◌<◌, All, IfOk, map};
+ghost use Rattle.pp_assembler.specs.Cells.{IsProgram, IsStart};
+ghost use Rattle.pp_assembler.specs.Places.{IsOfLine, length_of, line_lengths};
+
 use crate::lines::{Lines, Span, cut_lines, read_lines};
-use crate::message::Message;
 use crate::pass::{CELLS, Pass, Slot};
 use crate::performing::Ending;
+use crate::places::{placed, sorted};
 use crate::program::{Assembly, Cell, Program};
 use crate::symbols::Symbols;
 use std::alloc::{AllocError, Global};
@@ -11,7 +15,12 @@ use std::alloc::{AllocError, Global};
 ///
 /// # Errors
 /// Memory ran out.
-pub fn assemble(alloc: Global, source: &[u8]) -> Result<Assembly, AllocError> {
+pub fn assemble(alloc: Global, source: &[u8]) -> Result<Assembly, AllocError>
+    ensures cells { IfOk result (λ made. IsProgram made.program.cells.items) }
+    ensures start { IfOk result (λ made. IsStart made.program.start) }
+    ensures messages { IfOk result (λ made. All (IsOfLine (line_lengths source.now)) made.messages.items) }
+    ensures warnings { IfOk result (λ made. All (IsOfLine (line_lengths source.now)) made.warnings.items) }
+{
     let spans = cut_lines(alloc, source)?;
     let lines = read_lines(alloc, source, &spans)?;
     let mut first = Pass::new(alloc, Symbols::new(alloc), false)?;
@@ -34,7 +43,10 @@ fn ended(
     pass: Pass,
     spans: &[Span],
     ending: Ending,
-) -> Result<Assembly, AllocError> {
+) -> Result<Assembly, AllocError>
+    ensures messages { IfOk result (λ made. All (IsOfLine (map length_of spans.now)) made.messages.items) }
+    ensures warnings { IfOk result (λ made. All (IsOfLine (map length_of spans.now)) made.warnings.items) }
+{
     let Ending::At(message) = ending else {
         return Err(AllocError);
     };
@@ -50,7 +62,10 @@ fn assembly_of(
     lines: Lines,
     pass: Pass,
     spans: &[Span],
-) -> Result<Assembly, AllocError> {
+) -> Result<Assembly, AllocError>
+    ensures messages { IfOk result (λ made. All (IsOfLine (map length_of spans.now)) made.messages.items) }
+    ensures warnings { IfOk result (λ made. All (IsOfLine (map length_of spans.now)) made.warnings.items) }
+{
     let Pass {
         symbols,
         cells,
@@ -61,9 +76,9 @@ fn assembly_of(
         start,
         ..
     } = pass;
-    let program = Program::new(cells_of(alloc, &cells)?, start);
-    let messages = placed(alloc, sorted(messages)?, spans)?;
-    let warnings = placed(alloc, sorted(warnings)?, spans)?;
+    let program = Program::new(cells_of(alloc, &cells)?, address_of(start));
+    let messages = placed(alloc, sorted(messages)?.as_slice(), spans)?;
+    let warnings = placed(alloc, sorted(warnings)?.as_slice(), spans)?;
     Ok(Assembly {
         program,
         lines,
@@ -75,54 +90,40 @@ fn assembly_of(
     })
 }
 
+/// Returns an address of twelve bits.
+fn address_of(start: Option<u16>) -> Option<u16>
+    ensures { IsStart result }
+{
+    match start {
+        Some(address) => Some(address & 0o7777),
+        None => None,
+    }
+}
+
 /// Returns the cells that have words, in the order of their addresses.
-fn cells_of(alloc: Global, slots: &[Slot]) -> Result<Vec<Cell>, AllocError> {
+fn cells_of(alloc: Global, slots: &[Slot]) -> Result<Vec<Cell>, AllocError>
+    ensures { IfOk result (λ cells. IsProgram cells.items) }
+{
     let mut cells = Vec::new(alloc);
     for address in 0..CELLS {
         if let Some(slot) = slots.get(address) {
             if slot.line != 0 {
-                cells.push(Cell {
-                    address: address as u16,
-                    word: slot.word & 0o7777,
-                    line: slot.line,
-                })?;
+                cells.push(cell_of(address, *slot))?;
             }
         }
     }
     Ok(cells)
 }
 
-/// Returns messages in the order of their places.
-fn sorted(messages: Vec<Message>) -> Result<Vec<Message>, AllocError> {
-    let mut messages = messages;
-    messages.sort_by_key(|message| (u64::from(message.line) << 32) | u64::from(message.column))?;
-    Ok(messages)
-}
-
-/// Returns messages with places that are in the source, each once.
-fn placed(
-    alloc: Global,
-    messages: Vec<Message>,
-    spans: &[Span],
-) -> Result<Vec<Message>, AllocError> {
-    let mut placed: Vec<Message> = Vec::new(alloc);
-    for message in &messages {
-        if let Some(message) = within(*message, spans) {
-            placed.push(message)?;
-        }
+/// Returns the cell at an address.
+fn cell_of(address: usize, slot: Slot) -> Cell
+    requires { address < 0o10000 }
+    ensures address { result.address ≡ address }
+    ensures word { result.word < 0o10000 }
+{
+    Cell {
+        address: address as u16,
+        word: slot.word & 0o7777,
+        line: slot.line,
     }
-    Ok(placed)
-}
-
-/// Returns a message at a place that is in the source, if the source has a line.
-fn within(message: Message, spans: &[Span]) -> Option<Message> {
-    let index = (message.line.max(1) as usize - 1).min(spans.len().checked_sub(1)?);
-    let span = spans.get(index)?;
-    let most = span.end.saturating_sub(span.first).saturating_add(1);
-    let column = (message.column.max(1) as usize).min(most) as u32;
-    Some(Message {
-        line: index as u32 + 1,
-        column,
-        ..message
-    })
 }
