@@ -1,11 +1,13 @@
 //! The language of PP programs, as docs/ASSEMBLER.md has it: a source to words.
 #![tactic(auto)]
 
+mod digits;
 mod directives;
 mod encoding;
 mod fields;
 mod instructions;
 mod lines;
+mod listing;
 mod makers;
 mod message;
 mod nearest;
@@ -25,6 +27,7 @@ mod wording;
 pub use fields::Statement;
 pub use instructions::{Form, code_of, form_of, name_of, size_of};
 pub use lines::{Content, Join, Line, Lines, Span};
+pub use listing::listing_lines;
 pub use message::{Fault, Field, Message, Stop};
 pub use operations::{Operation, Test};
 pub use pass::Row;

@@ -1,4 +1,5 @@
 //! The text of a message: what is wrong, and what to write instead.
+use crate::digits::put_octal;
 use crate::instructions::{Form, INSTRUCTIONS, name_of};
 use crate::message::{Fault, Field, Message};
 use crate::nearest::Nearest;
@@ -14,6 +15,7 @@ const MOST_SHOWN: usize = 72;
 /// A text that is written, about a line in capitals.
 #[derive(Drop)]
 struct Writer<'a> {
+    alloc: Global,
     assembly: &'a Assembly,
     line: &'a [u8],
     out: Vec<u8>,
@@ -34,6 +36,7 @@ pub fn message_text(
         None => b"",
     };
     let mut writer = Writer {
+        alloc,
         assembly,
         line: capitals,
         out: Vec::new(alloc),
@@ -63,40 +66,19 @@ impl Writer<'_> {
         self.text(after)
     }
 
-    /// Writes a number between two texts.
-    fn number(
-        &mut self,
-        before: &[u8],
-        number: u64,
-        base: u64,
-        after: &[u8],
-    ) -> Result<(), AllocError> {
-        self.text(before)?;
-        let mut place = number;
-        let mut digits: [u8; 24] = [0; 24];
-        let mut first = digits.len();
-        for at in (0..24usize).rev() {
-            digits[at] = b'0' + (place % base.max(2)).min(9) as u8;
-            place /= base.max(2);
-            first = at;
-            if place == 0 {
-                break;
-            }
-        }
-        self.text(digits.get(first..).unwrap_or(b""))?;
-        self.text(after)
-    }
-
-    /// Writes an octal number with its sign between two texts.
+    /// Writes an octal number between two texts.
     fn octal(&mut self, before: &[u8], number: i64, after: &[u8]) -> Result<(), AllocError> {
         self.text(before)?;
-        let sign: &[u8] = if number < 0 { b"-" } else { b"" };
-        self.number(sign, number.unsigned_abs(), 8, after)
+        put_octal(self.alloc, &mut self.out, number, 1)?;
+        self.text(after)
     }
 
     /// Writes a decimal number between two texts.
     fn decimal(&mut self, before: &[u8], number: u32, after: &[u8]) -> Result<(), AllocError> {
-        self.number(before, u64::from(number), 10, after)
+        self.text(before)?;
+        let digits = format!(in self.alloc; "{number}")?;
+        self.text(digits.as_bytes())?;
+        self.text(after)
     }
 
     /// Writes a symbol between two texts.
@@ -260,7 +242,7 @@ impl Writer<'_> {
                 code,
             } => {
                 self.around(b"", target, b" is ")?;
-                self.number(b"", cells.unsigned_abs(), 8, b" (octal) cells ")?;
+                self.octal(b"", cells.wrapping_abs(), b" (octal) cells ")?;
                 self.text(if cells > 0 {
                     b"on, and "
                 } else {
@@ -403,9 +385,7 @@ impl Writer<'_> {
                 } else {
                     b"cell "
                 })?;
-                for place in [0o1000, 0o100, 0o10, 1] {
-                    self.number(b"", u64::from(cell) / place % 8, 8, b"")?;
-                }
+                put_octal(self.alloc, &mut self.out, i64::from(cell), 4)?;
                 self.decimal(b" is filled by line ", line, b" (decimal) too")
             }
             Fault::Backwards { count } => self.octal(
