@@ -23,7 +23,7 @@ from pp6600.language.source.statements import Line, Statement, joined, statement
 PLACES = ("examples/*/*.pp", "exercises/**/*.pp", "tests/programs/**/*.pp", "tests/debug/*.pp")
 FOLDER = os.path.join(TOP, "crates", "test_assembler")
 END = "----\n"
-RANDOM = 400
+RANDOM = 150
 # The operations that the crate refuses by name.
 NOT_YET = set("""USE QUAL MICRO DECMIC OCTMIC MICCNT LIT XTEXT HERE OPSYN PURGMAC MACRO MACROE DUP ECHO RMT IF IFC IFEQ IFNE IFGT IFGE IFLT IFLE
     IFPL IFMI IFPP IFCP SKIP""".split())
