@@ -67,11 +67,12 @@ HasRead-feed_at source spans more first at begun read within feed pushed begins 
     (HasRead-feed (take at source) (map length_of spans) first at read)
 
 pub HasRead-byte_at : (source : List ℕ) (spans more : List Span) (first at begun : ℕ) →
-    HasRead (take at source) (map length_of spans) first at → at < length source → eqb (get_or source at 0) 10 ≡ false →
+    HasRead (take at source) (map length_of spans) first at → at < length source → (get_or source at 0 ≡ 10 → ⊥) →
     more ≡ spans → begun ≡ first → HasRead (take (at + 1) source) (map length_of more) begun (at + 1)
 HasRead-byte_at source spans more first at begun read within other same begins =
+    let no_feed : eqb (get_or source at 0) 10 ≡ false = grind (arith, nat_tests) in
     let next : take (at + 1) source ≡ take at source ++ get_or source at 0 ∷ [] = grind (arith, common_steps) in
-    rw (same, begins, next) (HasRead-byte (take at source) (map length_of spans) first at (get_or source at 0) other read)
+    rw (same, begins, next) (HasRead-byte (take at source) (map length_of spans) first at (get_or source at 0) no_feed read)
 
 take-whole : (source : List ℕ) (at : ℕ) → length source ≤ at → take at source ≡ source
 take-whole source at end = grind (arith, common_steps)

@@ -5,4 +5,4 @@ use Rattle.pp_assembler.proofs.places.placed.Goals as goal
 
 pub loop-message-preserved : goal.loop-message-preserved
 loop-message-preserved c = rw c.in_ok-push.ensures.items
-    at (All-push (IsOfLine (map length_of c.args.spans.now)) c.loop-message.placed.items c.within.result c.loop-message.invariant c.within.ensures)
+    (All-push (IsOfLine (map length_of c.args.spans.now)) c.loop-message.placed.items c.within.result c.loop-message.invariant c.within.ensures)
