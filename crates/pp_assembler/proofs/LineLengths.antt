@@ -1,6 +1,6 @@
 -- The lengths of the lines of a source, of which a part has been read.
 use Rattle.std.proofs.Common.{◌≡◌, ◌∙◌, ℕ, ◌+◌, ◌-◌, ◌<◌, ◌≤◌, List, [], ◌∷◌, ◌++◌, length, map, refl, ap, sym, cond, eqb, Bool, true, false, arith, take, get_or}
-use Rattle.std.proofs.lemmas.{Bool.Decides.nat_tests, Grind.common_steps}
+use Rattle.std.proofs.lemmas.{Bool.ne_eqb, Grind.common_steps}
 use Rattle.std.proofs.Common.{length-append}
 use Rattle.std.proofs.lemmas.List.{map-append}
 use Rattle.pp_lines.specs.Lines.{lines, finished, unfinished, last_line}
@@ -70,7 +70,7 @@ pub HasRead-byte_at : (source : List ℕ) (spans more : List Span) (first at beg
     HasRead (take at source) (map length_of spans) first at → at < length source → (get_or source at 0 ≡ 10 → ⊥) →
     more ≡ spans → begun ≡ first → HasRead (take (at + 1) source) (map length_of more) begun (at + 1)
 HasRead-byte_at source spans more first at begun read within other same begins =
-    let no_feed : eqb (get_or source at 0) 10 ≡ false = grind (arith, nat_tests) in
+    let no_feed : eqb (get_or source at 0) 10 ≡ false = ne_eqb (get_or source at 0) 10 other in
     let next : take (at + 1) source ≡ take at source ++ get_or source at 0 ∷ [] = grind (arith, common_steps) in
     rw (same, begins, next) (HasRead-byte (take at source) (map length_of spans) first at (get_or source at 0) no_feed read)
 
