@@ -24,14 +24,10 @@ mod texts;
 mod values;
 mod wording;
 
-pub use fields::Statement;
 pub use instructions::{Form, code_of, form_of, name_of, size_of};
-pub use lines::{Content, Join, Line, Lines, Span};
 pub use listing::listing_lines;
-pub use message::{Fault, Field, Message, Stop};
-pub use operations::{Operation, Test};
+pub use message::{Fault, Field, Message};
 pub use pass::Row;
 pub use passes::assemble;
 pub use program::{Assembly, Cell, Program};
-pub use symbols::{Definition, Name, Symbol, Symbols};
 pub use wording::message_text;
