@@ -1,9 +1,9 @@
 -- The lengths of the lines of a source, of which a part has been read.
-use Rattle.std.proofs.Common.{◌≡◌, ◌∙◌, ℕ, ◌+◌, ◌-◌, ◌<◌, ◌≤◌, List, [], ◌∷◌, ◌++◌, length, map, refl, ap, sym, cond, eqb, Bool, true, false, arith, take, get_or}
+use Rattle.std.proofs.Common.{◌≡◌, ◌∙◌, ℕ, ◌+◌, ◌-◌, ◌<◌, ◌≤◌, List, [], ◌∷◌, ◌++◌, length, map, refl, ap, sym, eqb, false, arith, take, get_or}
 use Rattle.std.proofs.lemmas.{Bool.ne_eqb, Grind.common_steps}
 use Rattle.std.proofs.Common.{length-append}
 use Rattle.std.proofs.lemmas.List.{map-append}
-use Rattle.pp_lines.specs.Lines.{lines, finished, unfinished, last_line}
+use Rattle.pp_lines.specs.Lines.{finished, unfinished, last_line}
 use Rattle.pp_lines.proofs.LineCuts.{finished-feed, unfinished-feed, finished-byte, unfinished-byte, lines_split}
 use Rattle.pp_assembler.specs.{Places.length_of, Places.line_lengths, declared.lines.Span.Span}
 

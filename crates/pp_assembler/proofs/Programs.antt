@@ -1,5 +1,5 @@
 -- Programs of which a part has been collected.
-use Rattle.std.proofs.Common.{◌≡◌, ℕ, ◌+◌, ◌<◌, ◌≤◌, List, [], ◌∷◌, ◌++◌, length, map, get_or, All, arith, refl}
+use Rattle.std.proofs.Common.{◌≡◌, ℕ, ◌+◌, ◌<◌, List, [], ◌∷◌, ◌++◌, map, All, arith}
 use Rattle.std.proofs.lemmas.{Grind.common_steps, List.Elements.All-map, List.Elements.All-push, List.map-append}
 use Rattle.std.specs.List.Sorted.{IsStrictlyIncreasing}
 use Rattle.pp_assembler.specs.Cells.{IsCell, IsProgram, address_of}
