@@ -1,6 +1,6 @@
 """Tests docs/evaluate: the definitions, run, say what the program and pp6600-python do.
 
-The worked rows of crates/pp_worked are computed as statements about data. The cases of tests/cases and of examples/, and random
+The worked rows of crates/pp_worked are computed as statements about data. The cases of tests/cases.txt and of examples/, and random
 sessions, are performed by the definitions, by the program and by pp6600-python, and all that is written is compared. Which faults in
 the definitions this would find is what python3 -m tests.slips says, which takes longer.
 """
@@ -11,9 +11,9 @@ import shutil
 import sys
 
 from tests import slips
+from tests.cases import named
 from tests.generator import Maker
-from tests.support import EXAMPLES, PYTHON, TOP, Case, add_tests, names_of_codes, program, read, run
-from tests.ways import PLAIN, cases, part, words_of
+from tests.support import PYTHON, TOP, Case, add_tests, names_of_codes, program, read, run, write
 
 sys.path.insert(0, os.path.join(TOP, "docs"))
 from evaluating.asking import Definitions  # noqa: E402
@@ -52,13 +52,11 @@ class Sessions(Case):
 
     def check(self, case):
         """Checks a case, whose expected output the program is tested to have."""
-        for name in os.listdir(case):
-            if name not in PLAIN:
-                shutil.copy(os.path.join(case, name), ".")
-        words, script = words_of(case), part(case, "stdin")
-        wanted = part(case, "stdout"), part(case, "stderr"), int(part(case, "status", b"0"))
-        self.assertEqual(wanted, slips.performed(slips.definitions(), words, script))
-        self.assertEqual(wanted, slips.by_python(words, script))
+        for name, data in case.files.items():
+            write(os.path.abspath(name), data)
+        wanted = case.out, case.err, case.status
+        self.assertEqual(wanted, slips.performed(slips.definitions(), case.words, case.script))
+        self.assertEqual(wanted, slips.by_python(case.words, case.script))
 
     def test_random(self):
         numbers = iter(range(10 ** 6))
@@ -79,15 +77,7 @@ class Sessions(Case):
             done += 1
 
 
-def plain_cases():
-    """Yields the cases that are run in the plain way, and whose reads don't fail."""
-    for root in (os.path.join(TOP, "tests", "cases"), EXAMPLES):
-        for name, case in cases(root):
-            if name not in CUT_SHORT and not os.path.exists(os.path.join(case, "how")):
-                yield name, case
-
-
-add_tests(Sessions, Sessions.check, plain_cases())
+add_tests(Sessions, Sessions.check, [(name, case) for name, case in named() if name not in CUT_SHORT and not case.how])
 
 
 class Command(Case):

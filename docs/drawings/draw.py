@@ -3,7 +3,7 @@
 
 Without a word it writes them. With `--check` it writes nothing, and fails if a picture is not what it draws.
 The layers are those of crates.txt. The numbers of session.svg and turn.svg are those of the program in
-tests/cases/drawing-of-a-session and tests/cases/drawing-of-a-turn, those of barrel.svg in channels-after-dead-start.
+drawing-of-a-session and drawing-of-a-turn of tests/cases.txt, those of barrel.svg in channels-after-dead-start.
 Those of speed.svg are from the table of docs/SPEED.md.
 """
 

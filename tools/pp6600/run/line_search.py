@@ -12,7 +12,7 @@ from ..engine import interface as flat
 from ..failure import Failure
 from .forms import CELLS, PROCESSORS
 from .search import Looks, Progress, spans
-from .simulator import Replay
+from .session import Session
 from .tape import STEP, Tape
 from .turn import states_of
 
@@ -22,7 +22,7 @@ WATCHED_AT_ONCE = 0o4000000  # turns, while a processor is where it was
 class Lines:
     """The lines that a processor is in along a run."""
 
-    def __init__(self, run: Replay, number: int, source: Any, progress: Progress) -> None:
+    def __init__(self, run: Session, number: int, source: Any, progress: Progress) -> None:
         """The function `progress` is called with the turns that are reached; it may raise an exception to end the search."""
         self.run, self.number, self.source, self.progress = run, number, source, progress
         self.places = [first + number for first in (flat.P, flat.PHASE, flat.A, flat.Q)]
@@ -106,7 +106,7 @@ def turn_of_next_line(session: Any, number: int, source: Any, count: int, progre
     """Returns after how many turns a processor begins the line that comes so many lines later, by a turn that was made or a new one."""
     tape, here = Tape(session.history.tape.runs), session.history.in_effect().without_watches().end
     tape.append(STEP, session.most_new)
-    with closing(Replay(session.simulator.words, tape)) as run:
+    with closing(Session.of_tape(session.simulator.words, tape)) as run:
         lines = Lines(run, number, source, progress)
         lines.begin_at(here)
         found = next(islice(lines.begun(here, run.tape.end), count - 1, None), None)
@@ -118,7 +118,7 @@ def turn_of_next_line(session: Any, number: int, source: Any, count: int, progre
 def turn_of_line_before(session: Any, number: int, source: Any, count: int, progress: Progress) -> int:
     """Returns what `turn_of_next_line` does, of the last lines that were begun before the present position."""
     found: List[int] = []
-    with closing(Replay(session.simulator.words, session.history.in_effect())) as run:
+    with closing(Session.of_tape(session.simulator.words, session.history.in_effect())) as run:
         for start, end in spans(run.tape.turns):
             found[:0] = begun_in(Lines(run, number, source, progress), start, end)
             if len(found) >= count:

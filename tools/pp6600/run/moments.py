@@ -2,7 +2,7 @@
 
 from typing import Any
 
-from ..language.listing import AllSymbols
+from ..language.names import AllSymbols
 from .search import Moment
 
 

@@ -8,12 +8,12 @@ from typing import Any, Callable, Dict, List, Optional, Sequence, Set, Tuple
 from ..engine.interface import CARD, PAPER_LENGTH, place_number
 from ..failure import Failure
 from .forms import CELLS, CLOCK, Place, fields
-from .recording import Recording
-from .simulator import Simulator
+from .recording import AT_ONCE, Recording, last_part_with
+from .session import Session
 from .tape import STEP
 from .turn import Processor, Source, Turn, Write, device_put_a_word, places_of_setting
 
-FIRST_SIZE, WIDER, MOST_SIZE = 0o1000, 8, 0o2000000  # turns that are recorded at once
+FIRST_SIZE, WIDER, MOST_SIZE = 0o1000, 8, 0o2000000  # turns: those that are looked at, and at most those that are recorded at once
 CLOCK_PLACE = Place("H", (CLOCK,))
 CARD_COLUMN = CARD + 1
 
@@ -69,7 +69,7 @@ class Step:
 class Search:
     """Goes backwards from a place to the roots of its number."""
 
-    def __init__(self, run: Simulator, most_steps: Optional[int] = None, with_addresses: bool = False,
+    def __init__(self, run: Session, most_steps: Optional[int] = None, with_addresses: bool = False,
                  progress: Optional[Callable[[int], object]] = None,
                  is_loaded: Callable[[int, int, str], bool] = lambda number, address, word: True) -> None:
         """After so many steps by processors the sources of a step are searched no more; None: there is no limit. The function
@@ -149,8 +149,12 @@ class Search:
                 self._look_at_line(self.tape.runs[part].line, position + 1)
                 continue
             first = max(self.tape.starts[part], position - size)
+            if position - first > MOST_SIZE:
+                written = last_part_with(self.run, first, position, [place_number(*place) for place in self.asked], self.progress)
+                position, size = written, WIDER * size if written == first else AT_ONCE
+                continue
             self._look_at_turns(Recording(self.run, first, position))
-            position, size = first, min(WIDER * size, MOST_SIZE)
+            position, size = first, WIDER * size
         for place in list(self.asked):
             self._found(Step(place, START))
 

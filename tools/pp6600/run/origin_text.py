@@ -6,11 +6,11 @@ from __future__ import annotations
 import re
 from typing import Any, Callable, Dict, Iterator, List, Optional, Sequence, Set, Tuple
 
-from ..language.listing import AllSymbols
+from ..language.names import AllSymbols
 from ..shell.text_files import bytes_of
 from .forms import Place
 from .origin import DEADSTART, LINE_END, PAPER, PRINTER, READER, SET, START, TICK, TURN, Link, Search, Step
-from .simulator import Simulator
+from .session import Session
 from .tape import ReplyLine, SourceLine, Tape
 from .turn import AT_END_OF_BLOCK, AT_END_OF_INPUT, IN_BLOCK, NO_WORD, RETURN, TWO_WORDS, ZERO, Processor
 
@@ -38,7 +38,7 @@ class File:
         raise IndexError(index)
 
 
-def origin_rows(run: Simulator, place: Place, position: int, *how: Any, symbols: Any = AllSymbols()) -> List[Shown]:
+def origin_rows(run: Session, place: Place, position: int, *how: Any, symbols: Any = AllSymbols()) -> List[Shown]:
     """Returns the lines of the origin of the number that is at a place at a position, each with its step. How it is searched is as
     `Search` has it."""
     search, now = Search(run, *how), None

@@ -13,7 +13,7 @@ from typing import Callable, Dict, Iterator, List, NamedTuple, Optional, Sequenc
 from ..engine import interface as flat
 from ..engine.interface import Records, place_number
 from .forms import CELLS, CLOCK, PROCESSORS, REGISTERS, STATES, Place, Registers
-from .simulator import Simulator
+from .session import Session
 from .turn import Processor
 
 FIRST_SPAN = 0o10000  # of turns at the end that are searched first
@@ -43,7 +43,7 @@ class Column(NamedTuple):
         """The processor in whose turns alone they may change; None if there is no such."""
         return self.place.numbers[0] if self.place.kind in OF_A_PROCESSOR else None
 
-    def shown(self, run: Simulator) -> Numbers:
+    def shown(self, run: Session) -> Numbers:
         """Returns what is shown of them as they are: names and digits, and of a channel the state too."""
         kind, numbers = self.place
         digits = self.place.digits
@@ -58,7 +58,7 @@ class Column(NamedTuple):
 class Looks:
     """The numbers at some places at the end of each of some turns that a session has made."""
 
-    def __init__(self, run: Simulator, places: Sequence[int], most: int) -> None:
+    def __init__(self, run: Session, places: Sequence[int], most: int) -> None:
         """Makes turns, at most so many."""
         self.run, self.first = run, run.position
         self.slot = run.next_slot
@@ -127,7 +127,7 @@ class Test:
         """The places that it looks at."""
         return [*self.column.places] if self.column else []
 
-    def begin(self, run: Simulator) -> bool:
+    def begin(self, run: Session) -> bool:
         """Looks before some turns. Returns whether it holds."""
         return False
 
@@ -146,7 +146,7 @@ class Condition:
         self.columns = list(dict.fromkeys(test.column for test in tests if test.column))  # those that are shown
         self.places = list(dict.fromkeys(place for test in tests for place in test.places))
 
-    def begin(self, run: Simulator) -> bool:
+    def begin(self, run: Session) -> bool:
         return all([test.begin(run) for test in self.tests])
 
     def verdicts(self, looks: Looks) -> bytes:
@@ -181,7 +181,7 @@ class Moment(NamedTuple):
 class Search:
     """A search over the tape of a session of its own."""
 
-    def __init__(self, run: Simulator, condition: Condition, progress: Optional[Progress] = None) -> None:
+    def __init__(self, run: Session, condition: Condition, progress: Optional[Progress] = None) -> None:
         self.run, self.condition, self.progress = run, condition, progress or (lambda turn: None)
         for column in condition.columns:
             run.number_at(column.place)  # which is refused if the machine has no such place
@@ -234,7 +234,7 @@ def comes(verdicts: bytes, held: bool, is_change: bool) -> Iterator[int]:
         at = verdicts.find(HELD, after) if after >= 0 else -1
 
 
-def around(run: Simulator, position: int, columns: Sequence[Column] = ()) -> Tuple[Numbers, Made, Numbers]:
+def around(run: Session, position: int, columns: Sequence[Column] = ()) -> Tuple[Numbers, Made, Numbers]:
     """Goes over the turn after a position. Returns it, with the numbers that are shown of columns before and after it."""
     run.goto(position)
     slot = run.next_slot
@@ -253,7 +253,7 @@ def spans(end: int, first: int = 0, span: int = FIRST_SPAN) -> Iterator[Tuple[in
         end, span = start, WIDER * span
 
 
-def last_moments(run: Simulator, condition: Condition, most: int, first: int = 0, last: Optional[int] = None,
+def last_moments(run: Session, condition: Condition, most: int, first: int = 0, last: Optional[int] = None,
                  progress: Optional[Progress] = None) -> List[Moment]:
     """Returns the last turns of a run at which a condition comes to hold, as many as there are up to `most`, in their order."""
     found: List[Found] = []

@@ -6,7 +6,7 @@ from typing import Any, Optional
 from ..failure import Failure
 from .conditions import parsed
 from .search import Moment, Progress, Search, last_moments
-from .simulator import Replay
+from .session import Session
 from .tape import STEP, Tape
 
 MOST_NEW = 0o10000000  # turns that are searched after those that were made
@@ -24,11 +24,11 @@ def next_found(session: Any, text: str, symbols: Any, progress: Progress) -> Opt
     that was made, or a new one. Returns None if there is none."""
     tape = Tape(session.history.tape.runs)
     tape.append(STEP, session.most_new)
-    with closing(Replay(session.simulator.words, tape)) as run:
+    with closing(Session.of_tape(session.simulator.words, tape)) as run:
         return next(Search(run, parsed(text, symbols), progress).moments(session.history.turns), None)
 
 
 def last_before(session: Any, text: str, symbols: Any, progress: Progress) -> Optional[Moment]:
     """Returns what `next_found` does, of the last turn before the present one."""
-    with closing(Replay(session.simulator.words, session.history.tape)) as run:
+    with closing(Session.of_tape(session.simulator.words, session.history.tape)) as run:
         return next(iter(last_moments(run, parsed(text, symbols), 1, 0, session.history.turns - 1, progress)), None)

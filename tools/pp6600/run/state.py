@@ -10,7 +10,7 @@ from typing import Dict, Iterable, Iterator, List, NamedTuple, Optional, Sequenc
 
 from ..failure import Failure
 from .forms import CELLS, CLOCK, FORMS, FRAME_WORDS, PROCESSORS, REGISTERS, ROW, ROWS, Place, fields, kind_of, registers_of
-from .simulator import READER_DUMP, Console
+from .console import Console, READER_DUMP
 from .turn import Processor
 
 COUNTS = {"PP": PROCESSORS, "M": PROCESSORS * ROWS, "H": CLOCK + 1, "XP": FRAME_WORDS, "LP": 1, "CR": 1}  # lines of each form

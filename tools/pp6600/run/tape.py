@@ -115,12 +115,12 @@ class Action(NamedTuple):
 
 
 class Tape:
-    """The actions of a run."""
+    """The actions of a run. A unit is an action as a user counts them: with the replies of devices after it."""
 
     def __init__(self, actions: Iterable[Action] = ()) -> None:
         self.runs: List[Action] = []
-        # The actions, the turns and the slot before each run of actions, and at the end.
-        self.starts, self.turns_before, self.slots = [0], [0], [0]
+        self.starts, self.turns_before, self.units_before = [0], [0], [0]  # of each run of actions, and of the end
+        self.dead_starts: List[int] = []  # the positions after them
         self.watches = 0  # how many of them are WATCH or UNWATCH
         for line, times in actions:
             self.append(line, times)
@@ -129,27 +129,34 @@ class Tape:
         """Adds an action at the end, so many times."""
         if not times:
             return
-        turns = times if line == STEP else 0
-        if turns and self.runs and self.runs[-1].line == STEP:
-            self.runs[-1] = Action(line, self.runs[-1].times + times)
-        else:
-            self.runs.append(Action(line, times))
-            for sums in (self.starts, self.turns_before, self.slots):
-                sums.append(sums[-1])
-        self.starts[-1] += times
-        self.turns_before[-1] += turns
-        word = STEP if turns else self.runs[-1].word
-        self.slots[-1] = 0 if word == "DEADSTART" else (self.slots[-1] + turns) % PROCESSORS
-        self.watches += word in WATCH_WORDS
+        is_turn = line == STEP
+        if is_turn and self.runs and self.runs[-1].line == STEP:
+            times += self.runs.pop().times
+            for sums in (self.starts, self.turns_before, self.units_before):
+                sums.pop()
+        self.runs.append(Action(line, times))
+        self.starts.append(self.starts[-1] + times)
+        self.turns_before.append(self.turns_before[-1] + times * is_turn)
+        self.units_before.append(self.units_before[-1] + times * (type(line) is not ReplyLine))
+        if not is_turn and type(line) is not ReplyLine:
+            self._note_kind(self.runs[-1].word)
+
+    def _note_kind(self, word: str) -> None:
+        if word in WATCH_WORDS:
+            self.watches += 1
+        elif word == "DEADSTART":
+            self.dead_starts.append(self.end)
 
     def cut(self, position: int) -> None:
         """Removes what is after a position."""
-        while self.end > position:
-            for sums in (self.starts, self.turns_before, self.slots):
+        while self.starts[-1] > position:
+            for sums in (self.starts, self.turns_before, self.units_before):
                 sums.pop()
             action = self.runs.pop()
             self.watches -= action.is_watch
             self.append(action.line, max(position - self.end, 0))
+        while self.dead_starts and self.dead_starts[-1] > position:
+            self.dead_starts.pop()
 
     # ---- how far
 
@@ -177,11 +184,24 @@ class Tape:
 
     def slot(self, position: int) -> int:
         """Returns the slot at a position: that of the turn that begins there."""
-        run = self.run_after(position)
-        passed = position - self.starts[run]
-        if passed and self.runs[run].line != STEP:
-            return self.slots[run + 1]
-        return (self.slots[run] + passed) % PROCESSORS
+        last = bisect.bisect_right(self.dead_starts, position)
+        begun = self.turn(self.dead_starts[last - 1]) if last else 0
+        return (self.turn(position) - begun) % PROCESSORS
+
+    def units(self, position: int) -> int:
+        """Returns how many units are whole at a position, or begun: those whose own action is before it."""
+        run = max(self.run_before(position), 0)
+        return min(self.units_before[run] + position - self.starts[run], self.units_before[min(run + 1, len(self.runs))])
+
+    def whole_units(self, position: int) -> int:
+        """Returns how many units are whole at a position."""
+        units = self.units(position)
+        return units if self.after_units(units) == position else units - 1
+
+    def after_units(self, units: int) -> int:
+        """Returns the position after so many units, with their replies."""
+        run = bisect.bisect_right(self.units_before, units) - 1
+        return self.starts[run] + units - self.units_before[run]
 
     def after_turn(self, turn: int) -> int:
         """Returns the position after so many turns, and after the other actions before the next turn."""
@@ -201,7 +221,7 @@ class Tape:
             run = self.run_before(position)
             first = self.starts[run]
             if self.runs[run].line == STEP:
-                passed = (self.slots[run] + position - first) % PROCESSORS  # turns since the last turn of the last processor
+                passed = (self.slot(first) + position - first) % PROCESSORS  # turns since the last turn of the last processor
                 if position - passed > first:
                     return position - passed
             position = first
@@ -228,7 +248,7 @@ class Tape:
         for run, action in enumerate(self.runs):
             begin, end = self.starts[run] + max(first - self.turns_before[run], 0), self.starts[run + 1]
             if action.turns:
-                slot = self.slots[run] - self.starts[run]
+                slot = self.slot(self.starts[run]) - self.starts[run]
                 yield from ((position, STEP) for position in range(begin, end) if (position + slot) % PROCESSORS in processors)
             elif begin == self.starts[run]:
                 yield end, action.line
@@ -268,18 +288,8 @@ class History:
         return self.tape.turn(self.position)
 
     @property
-    def last_turn(self) -> int:
-        """How many turns are in effect or ahead."""
-        return self.tape.turns
-
-    @property
     def slot(self) -> int:
         return self.tape.slot(self.position)
-
-    @property
-    def to_redo(self) -> int:
-        """How many actions are ahead, with those that the simulator no longer has."""
-        return self.tape.end - self.position
 
     @property
     def oldest(self) -> int:
@@ -289,20 +299,6 @@ class History:
     def in_effect(self) -> Tape:
         """Returns the actions that were not taken back, or were performed again."""
         return self.tape.part(0, self.position)
-
-    def back_over(self, turns: int) -> int:
-        """Returns how many actions in effect have the last so many turns; more than there are if these have fewer turns."""
-        if turns > self.turns:
-            return self.position + turns - self.turns
-        return self.position - self.tape.after_turn(self.turns - turns) if turns else 0
-
-    def forward_over(self, turns: int) -> int:
-        """Returns how many actions ahead have the first so many turns."""
-        return self.tape.at_turn(self.turns + turns) - self.position if turns else 0
-
-    def over(self, actions: int) -> int:
-        """Returns how many actions, as BACK counts them, have so many of the tape."""
-        return actions
 
     # ---- what the simulator did
 
@@ -314,6 +310,12 @@ class History:
         """Notes that the simulator has performed the next so many actions of the tape by their lines."""
         self.position += count
         self.kept = min(self.kept + count, self.room)
+        self.ahead = 0
+
+    def taken_back(self, made: int, count: int) -> None:
+        """Notes that the simulator has performed so many new actions, and taken back so many of them."""
+        self.position += made - count
+        self.kept = min(self.kept + made, self.room) - count
         self.ahead = 0
 
     def moved(self, count: int) -> None:
@@ -342,3 +344,67 @@ class History:
         else:
             return False
         return True
+
+
+class Counts:
+    """A history as BACK and FORWARD of its user count it: in units."""
+
+    def __init__(self, history: History, redo: Optional[History] = None) -> None:
+        """The redo list that counts may be that of another history of the tape."""
+        self.history, self.redo, self.tape = history, redo or history, history.tape
+
+    @property
+    def position(self) -> int:
+        """How many units are in effect."""
+        return self.tape.units(self.history.position)
+
+    @property
+    def oldest(self) -> int:
+        """How many units come before what the simulator itself can undo."""
+        return self.tape.units(self.history.oldest)
+
+    @property
+    def kept(self) -> int:
+        """How many units the simulator itself can undo."""
+        return self.position - self.oldest
+
+    @property
+    def to_redo(self) -> int:
+        """How many units are ahead, with those that the simulator no longer has."""
+        return self.tape.units(self.tape.end) - self.position
+
+    @property
+    def ahead(self) -> int:
+        """How many units of the redo list are ahead."""
+        return self.tape.units(self.history.position + self.redo.ahead) - self.position
+
+    @property
+    def turns(self) -> int:
+        """How many turns are in effect."""
+        return self.history.turns
+
+    @property
+    def last_turn(self) -> int:
+        """How many turns are in effect or ahead."""
+        return self.tape.turns
+
+    @property
+    def slot(self) -> int:
+        return self.history.slot
+
+    def in_effect(self) -> Tape:
+        return self.history.in_effect()
+
+    def over(self, actions: int) -> int:
+        """Returns how many units the last so many actions of the tape are."""
+        return self.position - self.tape.whole_units(self.history.position - actions)
+
+    def back_over(self, turns: int) -> int:
+        """Returns how many units in effect have the last so many turns; more than there are if these have fewer turns."""
+        if turns > self.turns:
+            return self.position + turns - self.turns
+        return self.position - self.tape.units(self.tape.after_turn(self.turns - turns)) if turns else 0
+
+    def forward_over(self, turns: int) -> int:
+        """Returns how many units ahead have the first so many turns."""
+        return self.tape.units(self.tape.at_turn(self.turns + turns)) - self.position if turns else 0

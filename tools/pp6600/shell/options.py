@@ -5,6 +5,7 @@ import os
 import re
 import sys
 from functools import partial
+from typing import Any, List, NoReturn, Optional
 
 from ..engine.choice import HOME
 from ..engine.choose import default_engine
@@ -24,7 +25,7 @@ class BadWord(Failure, argparse.ArgumentTypeError):
 class Once(argparse.Action):
     """Takes an option's value, and refuses the same option a second time."""
 
-    def __call__(self, parser, namespace, values, option_string=None):
+    def __call__(self, parser: argparse.ArgumentParser, namespace: argparse.Namespace, values: Any, option_string: Optional[str] = None) -> None:
         given = vars(namespace).setdefault("given_options", set())
         if option_string and self.dest in given:
             raise Failure(f"{option_string} is given twice")
@@ -36,7 +37,7 @@ class Once(argparse.Action):
 class Version(argparse.Action):
     """Writes the version and ends."""
 
-    def __call__(self, parser, namespace, values, option_string=None):
+    def __call__(self, parser: argparse.ArgumentParser, namespace: argparse.Namespace, values: Any, option_string: Optional[str] = None) -> None:
         try:
             with open(os.path.join(HOME, "VERSION"), encoding="ascii") as file:
                 version = file.readline().strip()
@@ -49,20 +50,20 @@ class Version(argparse.Action):
 class Parser(argparse.ArgumentParser):
     """The words of a tool. An option may come after other words and at most once; after -- no word is an option."""
 
-    def __init__(self, description, usage=None):
+    def __init__(self, description: str, usage: Optional[str] = None) -> None:
         usage = usage and f"%(prog)s {usage}"
         super().__init__(description=description, usage=usage, allow_abbrev=False)
         self.register("action", None, Once)
         self.register("action", "store", Once)
         self.add_argument("--version", action=Version, nargs=0, help="show the version and exit")
 
-    def error(self, message):
+    def error(self, message: str) -> NoReturn:
         raise Failure(f"{message}; {self.prog} --help shows what may be given".replace(PLAIN, ""))
 
-    def _print_message(self, message, file=None):  # argparse takes no notice of an output that is full
+    def _print_message(self, message: str, file: Any = None) -> None:  # argparse takes no notice of an output that is full
         write(message.rstrip("\n"))
 
-    def parse(self):
+    def parse(self) -> argparse.Namespace:
         """Returns what is asked by the words of the command line."""
         words = sys.argv[1:]
         if "--" in words:
@@ -74,7 +75,7 @@ class Parser(argparse.ArgumentParser):
         return asked
 
 
-def unmarked(value):
+def unmarked(value: Any) -> Any:
     """Returns a value without the marks of plain words."""
     if isinstance(value, list):
         return [unmarked(one) for one in value]
@@ -88,7 +89,7 @@ def octal(text: str) -> int:
     return int(text, 8)
 
 
-def up_to(text, most, what):
+def up_to(text: str, most: int, what: str) -> int:
     """Returns a number of the command line that is at most so great."""
     number = octal(text)
     if number > most:
@@ -101,34 +102,34 @@ cell = partial(up_to, most=CELLS - 1, what="cell")
 channel = partial(up_to, most=CLOCK, what="channel")
 
 
-def count(text):
+def count(text: str) -> int:
     number = octal(text)
     if number == 0:
         raise BadWord("a count is 1 or more")
     return number
 
 
-def add_turn(parser):
+def add_turn(parser: Parser) -> None:
     parser.add_argument("--turn", metavar="N", type=octal, help="as it is after turn N, octal, with the settings before the next one")
 
 
-def words_after(words, most, what):
+def words_after(words: List[str], most: int, what: str) -> List[Any]:
     """Checks that at most so many words are left, and returns them, with None for each that is missing."""
     if len(words) > most:
         raise Failure(f"{what} and no other word, so not also {' '.join(words[most:])}")
     return words + [None] * (most - len(words))
 
 
-def simulator(asked):
+def simulator(asked: argparse.Namespace) -> List[str]:
     """Returns the words of the simulator: the program and its options."""
-    words = [asked.program]
+    words: List[str] = [asked.program]
     for name in OPTIONS:
         value = getattr(asked, name)
         words += [] if value is None else [f"--{name}", value]
     return words
 
 
-def arguments(description, usage=None):
+def arguments(description: str, usage: Optional[str] = None) -> Parser:
     """Returns a parser with the options that every tool with a simulator takes."""
     parser = Parser(description, usage)
     parser.add_argument("--program", metavar="FILE", help="the simulator (else $PP6600, else the one beside the tools)",
@@ -138,5 +139,5 @@ def arguments(description, usage=None):
     return parser
 
 
-def add_script(parser):
+def add_script(parser: Parser) -> None:
     parser.add_argument("script", nargs="?", metavar="SCRIPT", help="without it, standard input is the script")

@@ -5,17 +5,16 @@ import itertools
 
 from ...engine.choose import default_engine
 from ...failure import Failure
-from ...language.sources import symbols_from
+from ...language.symbol_options import symbols_from
 from ...run.device import DeviceFailure
 from ...run.forms import PROCESSORS
 from ...run.tape import counted
 from ...shell.device_options import device_of
 from ...shell.options import OPTIONS, processor
 from ...shell.text_files import script_lines, shown
-from .attached import MachineWithDevices
 from .breakpoints import DATA, Breakpoints
 from .listings import Listings
-from .machine import Machine, latest_turn
+from .machine import Machine, MachineWithDevices, latest_turn
 from .own import OwnSources
 from .protocol import Refused
 from .requests import Requests

@@ -6,14 +6,15 @@ only a search needs are made by scouts alone. They stay between searches, so eac
 
 import contextlib
 
+from ...run.attached import Attached
 from ...run.forms import PROCESSORS, hit_of
-from ...run.simulator import Simulator, without_history
+from ...run.session import REPLAYED, Session, without_history
 from ...run.state import state_of
 from ...run.tape import MOST_KEPT, STEP
 from .terms import Tally
 
-TOO_FEW = ("ERR 07 TOO FEW KEPT", "ERR 16 TOO FEW AHEAD")
 NEAR = 200  # positions that are all looked at, at once
+MADE_AT_ONCE = 0o2000  # turns that a session with devices makes
 
 
 def latest_turn(tape, number, position):
@@ -27,50 +28,26 @@ def next_turn(tape, number, position):
     return next((at for at in range(position, tape.end) if tape.slot(at) == number and next(tape.actions(at)).turns), after)
 
 
-class Scout(Simulator):
-    """A simulator that searches on the tape of a session. Watches on the tape count as actions, but it does not perform them."""
-
-    def move(self, count):
-        first, last = sorted((self.position, self.position + count))
-        passed = sum(action.times for action in self.tape.actions(first, last) if action.is_watch) if self.tape.watches else 0
-        passed = -passed if count < 0 else passed
-        super().move(count - passed)
-        self.history.moved(passed)
-
-    def _perform(self, action):
-        if not action.is_watch:
-            return super()._perform(action)
-        self.history.performed(action.times)
-        return []
-
-    def answers_at(self, wanted):
-        """Returns the answers to dumps at positions that are near one another, read at once. It stays where it is."""
-        here, order = self.position, sorted(wanted)
-        for position in (*order[:1], *order[-1:]):
-            self.goto(position)
-        answers = dict(zip(order, self.look_at([(position, wanted[position]) for position in order])))
-        self.goto(here)
-        return answers
-
-    def watch_from(self, position, places):
-        """Goes to a position, and watches places from there on."""
-        if self.watched and (self.watched != places or self.position < position):
-            self.unwatch()  # it would stop at each change on the way
-        self.goto(position)
-        if not self.watched:
-            self.watch(places)
+def watch_from(scout, position, places):
+    """Has a scout go to a position, and watch places from there on."""
+    if scout.watched and (scout.watched != places or scout.position < position):
+        scout.unwatch()  # it would stop at each change on the way
+    scout.goto(position)
+    if not scout.watched:
+        scout.watch(places)
 
 
-class Machine(Simulator):
-    """A session of the simulator, and its state, as it was when it was last looked at."""
+class Debugged:
+    """What a session that is debugged has beside its run: its scouts, the hits of its breakpoints, and its state as it was when it was last
+    looked at."""
 
-    def __init__(self, words):
+    def __init__(self, *words):
         self.scouts, self.tallies = {}, {}
-        super().__init__(words)
+        super().__init__(*words)
 
     def scout(self, name):
         if name not in self.scouts:
-            self.scouts[name] = Scout(without_history(self.words), self.tape)
+            self.scouts[name] = Session(without_history(self.words), self.tape, is_search=True)
         return self.scouts[name]
 
     def close(self):
@@ -85,31 +62,53 @@ class Machine(Simulator):
     def typed(self, line):
         """Performs a line that was typed. BACK and FORWARD go over all actions, and not only those that the simulator keeps."""
         self.withdraw(self.position)
-        answer = self.act(line)
-        if answer and answer[0] in TOO_FEW:
-            word, *words = line.upper().split()
-            count = int(words[0], 8) if words else 1
-            position = self.position + (count if word == "FORWARD" else -count)
-            if 0 <= position <= self.tape.end:
-                self.goto(position)
-                return [f"{word} {count:o} SLOT {self.next_slot:02o}"]
-        return answer
+        answer = self.act_by_move(line)
+        return answer[:1] if answer[1:] == [REPLAYED] else answer
 
     def settled(self, position):
-        """Returns the first position from a position on that the user can be at: with devices, that after the replies to an action."""
-        return position
+        """Returns the first position from a position on that the user can be at: after the replies to an action."""
+        return self.tape.after_units(self.tape.units(position))
 
     def before(self, position):
         """Returns the last position up to a position that the user can be at."""
-        return position
-
-    def next_turn(self, number):
-        """Returns the position before the next turn of a processor."""
-        return next_turn(self.tape, number, self.position)
+        return self.tape.after_units(self.tape.whole_units(position))
 
     def tally(self, point):
         """Returns the hits of a breakpoint that are known."""
         return self.tallies.setdefault(point.key, Tally())
+
+    def withdraw(self, position):
+        """Sees that no scout is beyond a position, nor goes there by FORWARD, for the tape may be cut there."""
+        for tally in self.tallies.values():
+            tally.cut(position)
+        for name, scout in list(self.scouts.items()):
+            if scout.history.oldest > position:
+                self.scouts.pop(name).close()
+            else:
+                scout.move(min(position - scout.position, 0))
+                scout.history.ahead = min(scout.history.ahead, position - scout.position)
+
+    def part(self, position, most):
+        """Returns the end of the next actions of one kind, at most so many. After the tape come turns, which are added to it."""
+        if position == self.tape.end:
+            self.add_turns(most)
+        runs, run = self.tape.runs, self.tape.run_after(position)
+        kind, most = (runs[run].turns > 0, runs[run].is_watch), most if runs[run].turns else min(most, NEAR)
+        while run < len(runs) and self.tape.starts[run] < position + most and (runs[run].turns > 0, runs[run].is_watch) == kind:
+            run += 1
+        return min(self.tape.starts[run], position + most)
+
+
+class Machine(Debugged, Session):
+    """A session without devices."""
+
+    def add_turns(self, most):
+        """Adds turns to the tape, so many; they are made by who goes there."""
+        self.tape.append(STEP, most)
+
+    def next_turn(self, number):
+        """Returns the position before the next turn of a processor."""
+        return next_turn(self.tape, number, self.position)
 
     @property
     def may_watch_itself(self):
@@ -143,7 +142,7 @@ class Machine(Simulator):
         for place in places if back < turns + watches else ():
             self.demand(f"UNWATCH {place.short}")
         history.ahead = 0
-        self.play(here)
+        self._play(here)
 
     def new_turns(self, most):
         """Makes so many new turns, or up to a change of what is watched. Returns the line HIT, or None."""
@@ -151,23 +150,23 @@ class Machine(Simulator):
         self.history.added(STEP, made)
         return hit_of(answer)
 
-    def withdraw(self, position):
-        """Sees that no scout is beyond a position, nor goes there by FORWARD, for the tape may be cut there."""
-        for tally in self.tallies.values():
-            tally.cut(position)
-        for name, scout in list(self.scouts.items()):
-            if scout.history.oldest > position:
-                self.scouts.pop(name).close()
-            else:
-                scout.move(min(position - scout.position, 0))
-                scout.history.ahead = min(scout.history.ahead, position - scout.position)
 
-    def part(self, position, most):
-        """Returns the end of the next actions of one kind, at most so many. After the tape come turns, which are added to it."""
-        if position == self.tape.end:
-            self.tape.append(STEP, most)
-        runs, run = self.tape.runs, self.tape.run_after(position)
-        kind, most = (runs[run].turns > 0, runs[run].is_watch), most if runs[run].turns else min(most, NEAR)
-        while run < len(runs) and self.tape.starts[run] < position + most and (runs[run].turns > 0, runs[run].is_watch) == kind:
-            run += 1
-        return min(self.tape.starts[run], position + most)
+class MachineWithDevices(Debugged, Attached):
+    """A session with devices, which makes each new turn itself. The scouts perform what is on the tape, and know no device."""
+
+    may_watch_itself = False
+
+    def __init__(self, words, devices):
+        super().__init__(without_history(words), devices)
+
+    def add_turns(self, most):
+        """Makes new turns at the end of the tape, at most so many."""
+        here = self.position
+        self.goto(self.tape.end)
+        self.act(f"STEP {min(most, MADE_AT_ONCE):o}")
+        self.goto(here)
+
+    def next_turn(self, number):
+        while self.tape.turns - self.turn < PROCESSORS:
+            self.add_turns(PROCESSORS)
+        return next_turn(self.tape, number, self.position)

@@ -49,8 +49,9 @@ class Runner:
             is_quick = machine.may_watch_itself and search.wanted.is_plain and len(search.places) <= MOST_WATCHES
             stop = self.watch(search, wanted, last) if is_quick else self.part(search, last)
         machine.goto(machine.settled(machine.position))
-        machine.withdraw(max(machine.position, end))
-        tape.cut(max(machine.position, end))
+        end = max(machine.position, end)
+        machine.withdraw(end)
+        machine.cut(end)
         return stop
 
     def part(self, search, last):

@@ -15,7 +15,7 @@ from ...run.forms import CELLS, MOST_TURNS, MOST_WATCHES, PROCESSORS, Place
 from ...run.search import Looks
 from .breakpoints import Point
 from .judging import Judge, Met
-from .machine import NEAR, latest_turn
+from .machine import NEAR, latest_turn, watch_from
 
 POLLED = 0o5000  # turns at once
 
@@ -176,7 +176,7 @@ class Search:
     def changes(self, name, places, first, last):
         """Yields the changes of places after a position, up to a later one, with turns alone between, by a scout's watches."""
         scout = self.machine.scout(name)
-        scout.watch_from(first, [place.short for place in places])
+        watch_from(scout, first, [place.short for place in places])
         while scout.position < last:
             made, *hit = scout.demand(f"STEP {min(last - scout.position, MOST_TURNS):o}")
             self.meanwhile(first)

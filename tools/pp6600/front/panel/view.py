@@ -14,7 +14,6 @@ from .source_pane import Cells, window_of
 PANES = ("processors", "channels", "memory", "central")
 REGISTERS = ("P", "A", "Q")  # those that can be watched
 CHANNELS_IN_COLUMN = 7
-ARROWS = ("Up", "Down", "Left", "Right", "Page Up", "Page Down")
 
 
 @dataclass
