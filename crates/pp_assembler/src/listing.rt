@@ -7,10 +7,12 @@ use std::alloc::{AllocError, Global};
 
 /// How many words a line of the listing has.
 const WORDS_OF_LINE: usize = 2;
-/// The column, from 0, of the words.
-const FIRST_OF_WORDS: usize = 11;
-/// The column, from 0, of the source line.
-const FIRST_OF_TEXT: usize = 22;
+/// The columns of an address, of the address to which a word is loaded, and of the words.
+const ADDRESS: usize = 4;
+
+const LOAD: usize = 5;
+
+const WORDS: usize = 11;
 
 const TAB: usize = 8;
 
@@ -23,90 +25,78 @@ pub fn listing_lines(alloc: Global, assembly: &Assembly, row: &Row) -> Result<Ve
     let mut out = Vec::new(alloc);
     let words = assembly.words.get(row.first..row.end).unwrap_or(&[]);
     put_address(alloc, &mut out, row, 0)?;
-    match row.value {
-        Some(value) if out.is_empty() => {
-            fill(&mut out, 0, FIRST_OF_WORDS)?;
-            put_octal(alloc, &mut out, value, 1)?;
-        }
-        _ => put_words(
-            alloc,
-            &mut out,
-            0,
-            words.get(..WORDS_OF_LINE).unwrap_or(words),
-        )?,
-    }
-    fill(&mut out, 0, FIRST_OF_TEXT)?;
+    put_value_or_words(alloc, &mut out, row, words)?;
     if let Some(line) = assembly.lines.all.get(row.statement) {
         put_text(&mut out, assembly.lines.text_of(*line))?;
     }
     end_line(&mut out, 0)?;
     for part in 1..words.len().div_ceil(WORDS_OF_LINE) {
         let first = part.saturating_mul(WORDS_OF_LINE);
-        put_more(
-            alloc,
-            &mut out,
-            row,
-            first,
-            words.get(first..).unwrap_or(&[]),
-        )?;
+        let start = out.len();
+        put_address(alloc, &mut out, row, first)?;
+        put_words(alloc, &mut out, words.get(first..).unwrap_or(&[]))?;
+        end_line(&mut out, start)?;
     }
     Ok(out)
 }
 
-/// Writes a further line of words of a row, of those from the first one of the line on.
-fn put_more(
-    alloc: Global,
-    out: &mut Vec<u8>,
-    row: &Row,
-    first: usize,
-    words: &[u16],
-) -> Result<(), AllocError> {
-    let start = out.len();
-    put_address(alloc, out, row, first)?;
-    put_words(
-        alloc,
-        out,
-        start,
-        words.get(..WORDS_OF_LINE).unwrap_or(words),
-    )?;
-    end_line(out, start)
+/// Returns the address that a row names.
+fn named(row: &Row) -> Option<i64> {
+    match row.value {
+        Some(value) if !row.is_set && value >= 0 && value < CELLS as i64 => Some(value),
+        _ => None,
+    }
 }
 
 /// Writes the address of a word of a row, or the address that the row names.
 fn put_address(alloc: Global, out: &mut Vec<u8>, row: &Row, word: usize) -> Result<(), AllocError> {
-    let start = out.len();
     let index = i64::try_from(word).unwrap_or(0);
-    if row.has_address {
-        put_octal(alloc, out, row.location.wrapping_add(index), 4)?;
-        if row.origin != row.location {
-            fill(out, start, 5)?;
-            out.push(b'>')?;
-            put_octal(alloc, out, row.origin.wrapping_add(index), 4)?;
-        }
-        return Ok(());
+    let address = if row.has_address {
+        Some(row.location.wrapping_add(index))
+    } else {
+        named(row)
+    };
+    let start = out.len();
+    if let Some(address) = address {
+        put_octal(alloc, out, address, ADDRESS)?;
     }
+    fill(out, start, ADDRESS)?;
+    out.push(b' ')?;
+    let start = out.len();
+    if row.has_address && row.origin != row.location {
+        out.push(b'>')?;
+        put_octal(alloc, out, row.origin.wrapping_add(index), ADDRESS)?;
+    }
+    fill(out, start, LOAD)?;
+    out.push(b' ')?;
+    Ok(())
+}
+
+/// Writes the number that a row names, if it is no address, or else the first words.
+fn put_value_or_words(
+    alloc: Global,
+    out: &mut Vec<u8>,
+    row: &Row,
+    words: &[u16],
+) -> Result<(), AllocError> {
     match row.value {
-        Some(value) if !row.is_set && value >= 0 && value < CELLS as i64 => put_octal(
-            alloc, out, value, 4,
-        ),
-        _ => Ok(()),
+        Some(value) if !row.has_address && named(row).is_none() => {
+            let start = out.len();
+            put_octal(alloc, out, value, 1)?;
+            fill(out, start, WORDS)
+        }
+        _ => put_words(alloc, out, words),
     }
 }
 
-/// Writes words at their columns.
-fn put_words(
-    alloc: Global,
-    out: &mut Vec<u8>,
-    start: usize,
-    words: &[u16],
-) -> Result<(), AllocError> {
-    let mut column = FIRST_OF_WORDS;
-    for word in words {
-        fill(out, start, column)?;
+/// Writes the first words of some, as many as a line has.
+fn put_words(alloc: Global, out: &mut Vec<u8>, words: &[u16]) -> Result<(), AllocError> {
+    let start = out.len();
+    for word in words.get(..WORDS_OF_LINE).unwrap_or(words) {
         put_octal(alloc, out, i64::from(*word), 4)?;
-        column = column.saturating_add(5);
+        out.push(b' ')?;
     }
-    Ok(())
+    fill(out, start, WORDS)
 }
 
 /// Writes the text of a line, with tabs as blanks.
