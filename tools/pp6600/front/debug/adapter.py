@@ -13,7 +13,7 @@ from ...shell.options import OPTIONS, processor
 from ...shell.text_files import script_lines, shown
 from .breakpoints import DATA, Breakpoints
 from .listings import Listings
-from .machine import MachineWithDevices, MachineWithoutDevices, latest_turn
+from .debugged import MachineWithDevices, MachineWithoutDevices, latest_turn
 from .own import OwnSources
 from .protocol import Refused
 from .requests import Requests
