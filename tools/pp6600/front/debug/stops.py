@@ -15,7 +15,7 @@ from ...run.forms import CELLS, MOST_TURNS, MOST_WATCHES, PROCESSORS, Place
 from ...run.search import Looks
 from .breakpoints import Point
 from .judging import Judge, Met
-from .machine import NEAR, latest_turn, watch_from
+from .debugged import NEAR, latest_turn, watch_from
 
 POLLED = 0o5000  # turns at once
 
