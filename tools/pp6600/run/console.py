@@ -182,10 +182,6 @@ class Console:
 
     # ---- turns
 
-    def step(self, turns: int = 1) -> List[str]:
-        """Makes so many turns. Returns the lines of the answers, with a HIT for each change of a watched number."""
-        return [line for _, answer in self.steps(turns) for line in answer]
-
     def steps(self, turns: int) -> Iterator[Tuple[int, List[str]]]:
         """Makes so many turns, and yields after each STEP how many it made and its answer, with a HIT if there is one."""
         while turns:

@@ -8,7 +8,7 @@ from typing import NamedTuple
 from ...run.conditions import Changes, Waits
 from ...run.search import Column, Looks
 from .breakpoints import Cell, Point
-from .machine import latest_turn
+from .debugged import latest_turn
 
 OF_A_TURN = (Changes, Waits)  # tests that are about the latest turn
 

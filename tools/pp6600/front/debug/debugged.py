@@ -99,7 +99,7 @@ class Debugged:
         return min(self.tape.starts[run], position + most)
 
 
-class Machine(Debugged, Session):
+class MachineWithoutDevices(Debugged, Session):
     """A session without devices."""
 
     def add_turns(self, most):
