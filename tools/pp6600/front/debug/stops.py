@@ -15,7 +15,7 @@ from ...run.forms import CELLS, MOST_TURNS, MOST_WATCHES, PROCESSORS, Place
 from ...run.search import Looks
 from .breakpoints import Point
 from .judging import Judge, Met
-from .machine import NEAR, latest_turn, watch_from
+from .debugged import NEAR, latest_turn, watch_from
 
 POLLED = 0o5000  # turns at once
 
@@ -71,7 +71,7 @@ class Wanted(NamedTuple):
         return not self.aim and all(point.places and not point.terms.condition and not point.terms.hits for point in self.points)
 
 
-class Search:
+class StopSearch:
     """A search for what is wanted."""
 
     def __init__(self, machine, wanted, meanwhile=lambda position: None):

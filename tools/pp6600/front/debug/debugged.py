@@ -99,7 +99,7 @@ class Debugged:
         return min(self.tape.starts[run], position + most)
 
 
-class Machine(Debugged, Session):
+class MachineWithoutDevices(Debugged, Session):
     """A session without devices."""
 
     def add_turns(self, most):
@@ -161,10 +161,8 @@ class MachineWithDevices(Debugged, Attached):
 
     def add_turns(self, most):
         """Makes new turns at the end of the tape, at most so many."""
-        here = self.position
-        self.goto(self.tape.end)
-        self.act(f"STEP {min(most, MADE_AT_ONCE):o}")
-        self.goto(here)
+        with self.at(self.tape.end):
+            self.act(f"STEP {min(most, MADE_AT_ONCE):o}")
 
     def next_turn(self, number):
         while self.tape.turns - self.turn < PROCESSORS:
