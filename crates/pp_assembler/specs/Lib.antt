@@ -1,1 +1,4 @@
 pub mod Cells
+pub mod Forms
+pub mod Rows
+pub mod Statements
