@@ -1,6 +1,6 @@
 -- What statements assemble to after one more.
-use Rattle.std.proofs.Common.{◌≡◌, ◌∙◌, ℕ, ◌+◌, ◌-◌, ◌==◌, ◌<◌, ◌≤◌, true, List, [], ◌∷◌, ◌++◌, Option, Some, None, All, get_or, zero, length, take, drop}
-use Rattle.std.proofs.Common.{suc, refl, sym, subst, take_all, length-drop, ap, arith, append-nil, map}
+use Rattle.std.proofs.Common.{◌≡◌, ◌∙◌, ℕ, ◌+◌, ◌-◌, ◌<◌, ◌≤◌, true, List, [], ◌∷◌, ◌++◌, Option, Some, None, All, get_or, zero, length, take, drop}
+use Rattle.std.proofs.Common.{suc, refl, sym, subst, take_all, length-drop, ap, arith, append-nil}
 use Rattle.std.proofs.{lemmas.List.Sums.fold-append, lemmas.Bool.Decides.nat_tests, Math.Seq.take-add, lemmas.List.length-take-le}
 use Rattle.pp_assembler.specs.{Cells.IsCell, declared.program.Cell.Cell}
 use Rattle.pp_assembler.proofs.RowCells.{IsRow-one}

@@ -1,5 +1,5 @@
 -- The distance of a relative jump to the target that it has.
-use Rattle.std.proofs.Common.{◌≡◌, ℕ, ◌<◌, ◌≤◌, Some, arith}
+use Rattle.std.proofs.Common.{◌≡◌, ℕ, ◌<◌, Some, arith}
 use Rattle.std.proofs.lemmas.Bool.Decides.{nat_tests}
 use Rattle.pp_arith.specs.Arith.{relative}
 use Rattle.pp_assembler.specs.Statements.{distance}

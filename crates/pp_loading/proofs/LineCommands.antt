@@ -1,7 +1,7 @@
 -- What the lines that load a program ask for.
-use Rattle.std.proofs.Common.{◌≡◌, ◌∙◌, ℕ, suc, ◌+◌, ◌*◌, ◌<◌, ◌≤◌, ◌^◌, nat_lt, nat_le, true, false, List, [], ◌∷◌, ◌++◌, Some, Ok}
+use Rattle.std.proofs.Common.{◌≡◌, ◌∙◌, ℕ, suc, ◌+◌, ◌<◌, ◌≤◌, ◌^◌, nat_lt, nat_le, true, false, List, [], ◌∷◌, ◌++◌, Some, Ok}
 use Rattle.std.proofs.Common.{codes, length, refl, sym, ap, arith, append_assoc, append-nil, Result}
-use Rattle.std.specs.List.{list_all, flat_map}
+use Rattle.std.specs.List.{list_all}
 use Rattle.std.proofs.lemmas.Bool.Decides.{nat_tests}
 use Rattle.pp_arith.specs.Octal.{octal_text, is_octal}
 use Rattle.pp_assembler.specs.declared.program.Cell.{Cell}
@@ -14,7 +14,7 @@ use Rattle.pp_lines.specs.Results.{◌>>=◌}
 use Rattle.pp_command.specs.declared.request.Request.TheVariants.{Act}
 use Rattle.pp_assembler.specs.Rows.{IsRow}
 use Rattle.pp_loading.specs.Inner.Rows.{cells_line, start_line, words_text, word_text}
-use Rattle.pp_loading.proofs.LineWords.{AreWords, IsNumber, IsWord, is_of_line, length-spaced, line-of_line, list_all-implied}
+use Rattle.pp_loading.proofs.LineWords.{AreWords, IsWord, is_of_line, length-spaced, line-of_line, list_all-implied}
 use Rattle.pp_loading.proofs.LineWords.{finished-of_line, number-word, number_text, spaced, without_return-of_line, words-line}
 
 -- the words of cells, in octal
@@ -157,7 +157,9 @@ cells_line-words n cell row =
 are_cells_words : (n : ℕ) (cell : Cell) (row : List Cell) → n < 10 → IsRow cell.address (cell ∷ row) → AreWords (cells_words n cell row)
 unfolding cells_words
 are_cells_words n cell row h are = (
-  word_of n (omega arith), (word_of cell.address (omega (arith, are.1)), row-words cell.address (cell ∷ row) are))
+  word_of n (omega arith),
+  (word_of cell.address (omega (arith, are.1)), row-words cell.address (cell ∷ row) are),
+)
 
 length-cells_words : (n : ℕ) (cell : Cell) (row : List Cell) → length row ≤ 7 → length (cells_words n cell row) ≤ 10
 unfolding cells_words

@@ -1,16 +1,15 @@
 -- What the lines that load a program do to the machine of a session.
-use Rattle.std.proofs.Common.{◌≡◌, ◌≢◌, ◌∙◌, ℕ, zero, suc, ◌+◌, ◌%◌, ◌<◌, ◌≤◌, ◌==◌, nat_lt, nat_le, true, false, List, [], ◌∷◌, ◌++◌}
+use Rattle.std.proofs.Common.{◌≡◌, ◌≢◌, ◌∙◌, ℕ, zero, suc, ◌+◌, ◌%◌, ◌<◌, ◌≤◌, nat_lt, nat_le, true, false, List, [], ◌∷◌, ◌++◌}
 use Rattle.std.proofs.Common.{Some, None, Ok, codes, length, refl, sym, ap, arith, append_assoc, append-nil, get_or, set, take, drop, ◌-◌, subst, take_all, length-drop, Option}
-use Rattle.std.specs.List.{list_all}
 use Rattle.std.proofs.lemmas.{Bool.Decides.nat_tests, List.set_comm}
 use Rattle.std.proofs.{lemmas.List.length-take-le, Math.Seq.take-add}
 use Rattle.pp_assembler.specs.Cells.{IsStart}
 use Rattle.pp_assembler.specs.declared.program.Cell.{Cell as ProgramCell}
 use Rattle.pp_history.specs.SessionValue.{after_act}
-use Rattle.pp_lines.specs.Lines.{lines, finished, unfinished, last_line}
+use Rattle.pp_lines.specs.Lines.{lines, finished, unfinished}
 use Rattle.pp_lines.proofs.{LineCuts.finished-feed, LineCuts.unfinished-feed, LineCuts.lines_split}
 use Rattle.pp_lines.proofs.{OpenTexts.finished-text, OpenTexts.unfinished-text}
-use Rattle.pp_machine.specs.Prelude.{Machine, ProcessorNumbers, Writes, no_processor, over, over-append, put, with_processor}
+use Rattle.pp_machine.specs.Prelude.{Machine, ProcessorNumbers, Writes, no_processor, over, over-append, put}
 use Rattle.pp_machine.specs.declared.place.Place.{Place, TheVariants.Cell}
 use Rattle.pp_actions.specs.{Admitting.first_fault, WriteLists.cell_writes}
 use Rattle.pp_actions.specs.declared.action.Action.{Action, TheVariants.SetCells, TheVariants.SetP}
@@ -20,7 +19,7 @@ use Rattle.pp_console.specs.Script.{Outcome, answer_line, follow, outcome, scrip
 use Rattle.pp_console.proofs.Following.{outcome-line}
 use Rattle.pp_assembler.specs.Rows.{IsRow}
 use Rattle.pp_loading.specs.Inner.Rows.{LoadsWhole, cells_line, start_line}
-use Rattle.pp_loading.specs.LoadLines.{Loads, cell_list, start_list}
+use Rattle.pp_loading.specs.LoadLines.{cell_list, start_list}
 use Rattle.pp_loading.proofs.LineCommands.{cells_line-unbroken, command-cells, command-start, row-in_range, start_line-unbroken, values}
 
 -- ---- one more line of a text
@@ -34,7 +33,11 @@ lines-more text line whole unbroken =
     let begun : unfinished (text ++ line) ≡ line = unfinished-text text line unbroken ∙ rw whole refl in
     rw joined (lines_split ((text ++ line) ++ 10 ∷ [])
     ∙ rw (
-      unfinished-feed (text ++ line), finished-feed (text ++ line), finished-text text line unbroken, begun, before,
+      unfinished-feed (text ++ line),
+      finished-feed (text ++ line),
+      finished-text text line unbroken,
+      begun,
+      before,
       append-nil (finished text ++ line ∷ []),
     ) refl)
 
@@ -136,7 +139,7 @@ sets-cells : (n : ℕ) (cell : ProgramCell) (row : List ProgramCell) → n < 10 
 sets-cells n cell row h are few =
     let action = SetCells n cell.address (values (cell ∷ row)) in
     let e = λ (v : Value). answer_line-act v (cells_line n (cell ∷ row)) action (command-cells n cell row h are few)
-        (admits-cells (present v) n cell row h are) in
+    (admits-cells (present v) n cell row h are) in
     record {
       accepted = λ v. ap (λ (a : Answer). a.refused) (e v);
       machine = λ v. ap (λ (a : Answer). present a.value) (e v) ∙ row-written (present v) n cell.address (cell ∷ row) are;
@@ -152,7 +155,7 @@ admits-start s n address h k =
 sets-start : (n address : ℕ) → n < 10 → address < 0o10000 → Sets (start_line n address) (start_list n (Some address))
 sets-start n address h k =
     let e = λ (v : Value). answer_line-act v (start_line n address) (SetP n address) (command-start n address h k)
-        (admits-start (present v) n address h k) in
+    (admits-start (present v) n address h k) in
     record {
       accepted = λ v. ap (λ (a : Answer). a.refused) (e v);
       machine = λ v. ap (λ (a : Answer). present a.value) (e v);
@@ -203,7 +206,7 @@ loads-row old new n cells done count first before h begun are some within few wr
     let text : new ≡ old ++ (cells_line n (take count (drop done cells)) ++ 10 ∷ []) =
     written ∙ ap (λ k. old ++ (cells_line n (take k (drop done cells)) ++ 10 ∷ [])) same in
     let loaded : LoadsWhole (old ++ (cells_line n (take count (drop done cells)) ++ 10 ∷ []))
-        (cell_list n (take done cells ++ take count (drop done cells))) =
+    (cell_list n (take done cells ++ take count (drop done cells))) =
     loads-cells old n (take done cells) (take count (drop done cells)) first before h own (omega (arith, size)) (omega (arith, size)) in
     subst (λ t. LoadsWhole t (cell_list n (take (done + count) cells))) (sym text)
     (subst (λ cs. LoadsWhole (old ++ (cells_line n (take count (drop done cells)) ++ 10 ∷ [])) (cell_list n cs))

@@ -1,5 +1,5 @@
 -- The words of a line that is made of words, and its bytes.
-use Rattle.std.proofs.Common.{◌≡◌, ◌∙◌, ℕ, suc, ◌+◌, ◌*◌, ◌-◌, ◌<◌, ◌≤◌, ◌==◌, ◌&&◌, Bool, true, false, not, nat_le, List, [], ◌∷◌, ◌++◌}
+use Rattle.std.proofs.Common.{◌≡◌, ◌∙◌, ℕ, suc, ◌*◌, ◌-◌, ◌<◌, ◌≤◌, ◌==◌, ◌&&◌, Bool, true, false, not, nat_le, List, [], ◌∷◌, ◌++◌}
 use Rattle.std.proofs.Common.{zero, ◌^◌, length, length-append, refl, ap, arith, max, nat_lt, slice_index, if◌then◌else◌, Ok, Err}
 use Rattle.std.specs.List.{list_all}
 use Rattle.std.proofs.lemmas.{Bool.Decides.nat_tests, Bool.and_parts, List.Folds.list_all-append}

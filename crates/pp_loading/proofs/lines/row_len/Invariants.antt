@@ -1,4 +1,4 @@
-use Rattle.std.proofs.Common.{◌≡◌, ◌<◌, ◌≤◌, ◌-◌, length, take}
+use Rattle.std.proofs.Common.{◌<◌, ◌≤◌, ◌-◌, length, take}
 use Rattle.pp_assembler.specs.Rows.{IsRow, first_address}
 use Rattle.pp_loading.proofs.lines.row_len.Given as goal
 
