@@ -5,7 +5,7 @@
 A NAME is that of a module without test_, as panel; without names all run. When a module has ended, what failed is shown, and why tests
 were skipped. Many tests wait for programs, so more modules run than there are cores for this process. An interrupt ends all, with the
 count so far.
-One module, class or test alone: python3 -m unittest tests.test_panel -k resize
+One module, class or test alone: python3 -m unittest tests.test_panel -k sizes
 """
 
 import collections

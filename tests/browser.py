@@ -12,6 +12,7 @@ import time
 
 NAMES = ("chromium", "chromium-browser", "google-chrome", "google-chrome-stable")
 PATIENCE = 600  # seconds for one answer
+CODES = {"Backspace": 8, "Tab": 9, "Enter": 13, "Escape": 27, "End": 35, "Home": 36, "ArrowLeft": 37, "ArrowUp": 38, "ArrowRight": 39, "ArrowDown": 40}
 
 
 def found():
@@ -100,13 +101,13 @@ class Browser:
         self.ask("Page.navigate", url=f"file://{os.path.abspath(path)}{address}")
         self.wait_for("document.body && document.body.dataset.open === 'yes'")
 
-    def key(self, key, shift=False):
+    def key(self, key):
         """Presses a key."""
         text = {"text": key} if len(key) == 1 else {"text": "\r"} if key == "Enter" else {}
-        code = {"Enter": 13, "Home": 36, "End": 35, "ArrowLeft": 37, "ArrowRight": 39, "Escape": 27, "Tab": 9}.get(key, ord(key[0]))
+        code = CODES.get(key, ord(key[0]))
         for kind in ("keyDown", "keyUp"):
             more = text if kind == "keyDown" else {}
-            self.ask("Input.dispatchKeyEvent", type=kind, key=key, windowsVirtualKeyCode=code, modifiers=8 if shift else 0, **more)
+            self.ask("Input.dispatchKeyEvent", type=kind, key=key, windowsVirtualKeyCode=code, **more)
 
     def fill(self, key, text):
         """Presses the key of a field, types a text in it, and Enter."""

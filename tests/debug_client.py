@@ -1,5 +1,6 @@
 """A client of the debug adapter for tests: requests over pipes, and what comes back; and a test case whose messages are checked."""
 
+import functools
 import glob
 import json
 import os
@@ -10,7 +11,7 @@ import tempfile
 import threading
 
 from tests.fixtures import DECK
-from tests.support import PATIENCE, PYTHON, TOP, Case, program, read, write
+from tests.support import PATIENCE, PYTHON, TOP, Case, lasting_room, program, read, write
 
 ADAPTER = os.path.join(TOP, "tools", "debug-adapter")
 
@@ -190,11 +191,16 @@ class DebugCase(Case):
         return next(int(one["value"], 8) for one in found if one["name"] == "turns")
 
 
+@functools.lru_cache(maxsize=None)
+def checker():
+    """Returns a program with which go-dap decodes each message, unknown fields refused."""
+    room = lasting_room()
+    path, made = write(os.path.join(room, "check.go"), CHECKER), os.path.join(room, "check")
+    env = {**os.environ, "GO111MODULE": "off", "GOPATH": "/usr/share/gocode", "GOCACHE": os.path.join(room, "cache"), "GOFLAGS": "-p=1"}
+    subprocess.run(["go", "build", "-o", made, path], env=env, check=True)
+    return made
+
+
 def check_by_go(text, count):
-    """Has go-dap decode each message, unknown fields refused."""
-    with tempfile.TemporaryDirectory() as room:
-        path = write(os.path.join(room, "check.go"), CHECKER)
-        env = {**os.environ, "GO111MODULE": "off", "GOPATH": "/usr/share/gocode", "GOCACHE": os.path.join(room, "cache"), "GOFLAGS": "-p=1"}
-        done = subprocess.run(["go", "run", path], input=text.encode(), env=env, stdout=subprocess.PIPE, stderr=subprocess.STDOUT,
-                              check=False)
+    done = subprocess.run([checker()], input=text.encode(), stdout=subprocess.PIPE, stderr=subprocess.STDOUT, check=False)
     assert done.stdout.decode() == f"{count}\n", done.stdout.decode()

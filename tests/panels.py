@@ -1,14 +1,36 @@
-"""Panels without a terminal, for tests."""
+"""Panels without a terminal, for tests, and the blocks of tests/panel.txt.
 
+A block begins with == and what it shows. Its other lines:
+  NAME| TEXT    a line of a file; those before the first block are for all
+  $ panel ..    a panel begins, with options of the tool, --size COLUMNSxROWS and <FILE, whose lines it performs
+  > LINE        one more line that it performs
+  : KEYS        keys that are pressed: characters, and names in angles; then may come turn=N, at=PLACE of the cursor, and what they
+                send, as -> STEP, STEP
+  again: KEYS   the same, of a new panel that begins as the last one
+After the beginning and after keys:
+  |TEXT         a row of the screen has this text; the next such line is of the row below
+  .. or =       ends these; after = is the last row, whole
+  ~TEXT         no row has it
+  ends          the panel has ended
+"""
+
+import argparse
+import itertools
+import operator
+import os
 import re
 
-from tests.support import Case, program
+from tests.cases import part, text_of
+from tests.support import EXAMPLES, TOP, Case, program, write
 
 from pp6600.front.panel.app import Panel
 from pp6600.front.panel.session import Session
-from pp6600.language.sources import symbols_from
+from pp6600.language.symbol_options import symbols_from
+from pp6600.shell.device_options import device_of
 
 PROGRAM = program()
+LINE = re.compile(r"([a-z.]+\| ?|== |\$ panel ?|> |: |again: |= |\||~|ends|\.\.)(.*)")
+KEYS = re.compile(r"(.*?)(?: turn=([0-7]+))?(?: at=([A-Z0-7 ]+))?(?: ->(.*))?")
 
 
 def press(panel, *keys):
@@ -39,3 +61,88 @@ class PanelCase(Case):
     def wide_panel(self, script, *options, **how):
         """Returns a panel with room for a whole message."""
         return self.panel(script, *options, size=(160, 24), **how)
+
+
+def blocks():
+    """Returns the files of tests/panel.txt, by their names, and its blocks: a title, and pairs of a mark and a text."""
+    files, found = {}, []
+    for line in part(os.path.join(TOP, "tests"), "panel.txt").decode().splitlines():
+        if line and line[0] != "#":
+            mark, text = LINE.fullmatch(line).groups()
+            if mark == "== ":
+                found.append((text, []))
+            elif found:
+                found[-1][1].append((mark.strip(), text))
+            else:
+                files[mark.strip()] = files.get(mark.strip(), "") + text_of(text)
+    return files, found
+
+
+FILES, BLOCKS = blocks()
+
+
+def options():
+    """Returns a parser of the options that are not the simulator's."""
+    parser = argparse.ArgumentParser()
+    parser.add_argument("--size", type=lambda text: tuple(map(int, text.split("x"))), default=(80, 24))
+    parser.add_argument("--turn", type=lambda text: int(text, 8))
+    for name in "--source", "--symbols":
+        parser.add_argument(name, nargs=2, action="append", default=[])
+    parser.add_argument("--device", action="append", default=[], type=device_of)
+    return parser
+
+
+class BlockCase(PanelCase):
+    """Tests of blocks, each in a folder of its own."""
+
+    def check(self, lines):
+        self.addCleanup(os.chdir, os.getcwd())
+        os.chdir(self.folder)
+        os.symlink(EXAMPLES, "examples")
+        os.symlink(os.path.join(TOP, "tests"), "tests")
+        files = dict(FILES)
+        for mark, text in lines:
+            if mark.endswith("|") and mark != "|":
+                files[mark] = files.get(mark, "") + text_of(text)
+        for mark, text in files.items():
+            write(self.path(mark[:-1]), text)
+        self.perform([line for line in lines if line[0] == "|" or line[0][-1:] != "|"])
+
+    def perform(self, lines):
+        """Performs the lines of a block: each panel and each of its keys with what is expected after them."""
+        steps = [at for at, (mark, _) in enumerate(lines) if mark in ("$ panel", ":", "again:")]
+        for first, last in zip(steps, [*steps[1:], len(lines)]):
+            (mark, text), expected = lines[first], lines[first + 1:last]
+            if mark == "$ panel":
+                words, script = text.split(), [line for own, line in expected if own == ">"]
+            if mark != ":":
+                panel = self.begun(words, script)
+            with self.subTest(f"{mark} {text}"):
+                keys, turn, place, sent = KEYS.fullmatch(text if mark != "$ panel" else "").groups()
+                before = len(panel.session.sent)
+                self.compare(press(panel, keys), panel.is_ended, expected)
+                self.assertIn(turn and int(turn, 8), (None, panel.session.history.turns), "the turn")
+                self.assertIn(place, (None, panel.view.place()))
+                self.assertIn(sent and sent.strip(), (None, ", ".join(panel.session.sent[before:])))
+
+    def begun(self, words, script):
+        """Returns the panel of a command."""
+        asked, rest = options().parse_known_args([word for word in words if word[0] != "<"])
+        lines = "".join(part(self.folder, word[1:]).decode() for word in words if word[0] == "<") + "".join(f"{line}\n" for line in script)
+        pairs = [[(int(number, 8), path) for number, path in some] for some in (asked.symbols, asked.source)]
+        return self.panel(lines, *rest, size=asked.size, turn=asked.turn, symbols=pairs[0], sources=pairs[1], devices=asked.device)
+
+    def compare(self, rows, is_ended, expected):
+        """Compares a screen with what is expected of it."""
+        shown = "\n".join(rows)
+        for mark, group in itertools.groupby(expected, lambda line: line[0]):
+            texts = [text for _, text in group]
+            if mark == "|":
+                there = any(all(map(operator.contains, rows[at:], texts)) for at in range(len(rows) - len(texts) + 1))
+                self.assertTrue(there, f"{texts} is not there:\n{shown}")
+            elif mark == "=":
+                self.assertEqual(texts[0], rows[-1].rstrip())
+            elif mark == "~":
+                self.assertEqual([], [text for text in texts if text in shown])
+            elif mark == "ends":
+                self.assertTrue(is_ended)

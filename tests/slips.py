@@ -3,11 +3,11 @@
     python3 -m tests.slips [NAME ..]
 
 tests/slips.txt has the slips. A slip is found if a worked row no longer holds, if an example of docs/examples.txt has another value,
-or if a session no longer has the outcome that the program has. The sessions are those of docs/chosen.txt, of tests/cases and random ones. It takes some minutes. That all are found
-says that docs/evaluate reads these definitions. It does not say how likely any slip is found: some sessions were chosen for these.
+or if a session no longer has the outcome that the program has. The sessions are those of docs/chosen.txt, of tests/cases.txt and random
+ones. It takes some minutes. That all are found says that docs/evaluate reads these definitions. It does not say how likely any slip is
+found: some sessions were chosen for these.
 """
 
-import functools
 import gc
 import os
 import re
@@ -17,9 +17,9 @@ import tempfile
 import threading
 from typing import NamedTuple
 
+from tests.cases import stored
 from tests.generator import Maker
 from tests.support import PATIENCE, TOP, program
-from tests.ways import cases, part, words_of
 
 sys.path.insert(0, os.path.join(TOP, "docs"))
 from book.names import Unresolved  # noqa: E402
@@ -85,10 +85,9 @@ def deep(task):
     return value
 
 
-@functools.lru_cache(maxsize=None)
 def definitions():
     """Returns the definitions as they are."""
-    return asking.Definitions(TOP)
+    return asking.definitions_of(TOP)
 
 
 def performed(found, words, script):
@@ -133,10 +132,9 @@ def sessions():
         sources = [source for source in chosen(file.read()) if not source.text]
     for number, source in enumerate(sources, 1):
         yield f"session {number} of docs/chosen.txt", source.words, source.files, source.script
-    for name, case in cases(os.path.join(TOP, "tests", "cases")):
-        files = {own: part(case, own) for own in os.listdir(case) if os.path.isfile(os.path.join(case, own))}
-        if "how" not in files and not name.startswith("folder-as-") and name != "ten-thousand-kept":
-            yield f"case {name}", words_of(case), files, part(case, "stdin")
+    for case in stored():
+        if not case.how and not case.name.startswith("folder-as-") and case.name != "ten-thousand-kept":
+            yield f"case {case.name}", case.words, case.files, case.script
     for number in range(RANDOM):
         session = Maker(number).session()
         if not session.output_fails and session.standard_input == "script" and turns(session.lines) <= MOST_TURNS:

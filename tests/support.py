@@ -1,22 +1,28 @@
 """What the tests share: the program under test, the pages, and ways to run things."""
 
+import atexit
 import functools
+import io
 import os
 import re
+import shutil
+import signal
 import subprocess
 import sys
 import tempfile
 import unittest
 from typing import NamedTuple
 
-TOP = os.path.dirname(os.path.dirname(os.path.abspath(__file__)))
-EXAMPLES = os.path.join(TOP, "examples")
+from tests.cases import EXAMPLES, TOP
+
 TOOLS = sorted(entry.name for entry in os.scandir(os.path.join(TOP, "tools")) if entry.is_file() and "." not in entry.name)
 PATIENCE = 600  # seconds for a command
 PYTHON = (sys.executable, "-S")  # without what is installed beside the standard library: it starts sooner
 
 sys.dont_write_bytecode = True
 os.environ.pop("PYTHONDONTWRITEBYTECODE", None)  # a tool that has been compiled starts sooner
+# A tool runs on the Python of the tests; one that a version manager has put on the path before it starts later.
+os.environ["PATH"] = f"{os.path.dirname(sys.executable)}{os.pathsep}{os.environ['PATH']}"
 # The library of the proved program, or nothing: then the tools run on the simulator in Python.
 LIBRARY = os.environ.get("PP6600_ENGINE") or os.path.join(TOP, "dist", "libpp6600.so")
 PROVED = LIBRARY if os.path.exists(LIBRARY) else ""
@@ -54,8 +60,36 @@ def run(*words, script="", env=None, encoding="utf-8", **how):
 
 
 def tool(name, *words, script="", **how):
-    """Runs a tool on a script."""
-    return run(*PYTHON, os.path.join(TOP, "tools", name), *words, script=script, **how)
+    """Runs a tool on a script: in this process, or in one of its own if it is said how."""
+    return run(*PYTHON, os.path.join(TOP, "tools", name), *words, script=script, **how) if how else tool_here(name, *words, script=script)
+
+
+def tool_here(name, *words, script=""):
+    """Runs a tool in this process."""
+    from pp6600 import __main__ as tools
+    from pp6600.shell import ending
+    return called(lambda: ending.run(lambda: tools.main_of(name)()), name, *words, script=script)
+
+
+def called(task, *words, script=""):
+    """Calls what a program does with these words, in this process, with streams of its own, at the top of the repository."""
+    streams, before, folder = (sys.stdin, sys.stdout, sys.stderr), sys.argv, os.getcwd()
+    handler, named, status = signal.getsignal(signal.SIGINT), os.environ.get("PP6600"), None
+    made = [io.TextIOWrapper(io.BytesIO(data), encoding="utf-8", write_through=True) for data in (script.encode("latin-1"), b"", b"")]
+    sys.argv, os.environ["PP6600"] = list(words), program()
+    os.chdir(TOP)
+    try:
+        sys.stdin, sys.stdout, sys.stderr = made
+        task()
+    except SystemExit as end:
+        status = end.code
+    finally:
+        sys.stdin, sys.stdout, sys.stderr = streams
+        sys.argv = before
+        os.chdir(folder)
+        signal.signal(signal.SIGINT, handler)
+        os.environ.pop("PP6600") if named is None else os.environ.update(PP6600=named)
+    return Done(*(stream.buffer.getvalue().decode("utf-8", "replace") for stream in made[1:]), status or 0)
 
 
 def read(*names):
@@ -71,6 +105,13 @@ def write(path, data="", mode=0o644):
         file.write(data if isinstance(data, bytes) else data.encode("utf-8"))
     os.chmod(path, mode)
     return path
+
+
+def lasting_room():
+    """Returns a new folder, which is removed when all tests have ended."""
+    folder = tempfile.mkdtemp(prefix="pp6600-test-")
+    atexit.register(shutil.rmtree, folder)
+    return folder
 
 
 class Block(NamedTuple):

@@ -19,11 +19,12 @@ import sys
 import tempfile
 from typing import Dict, List, NamedTuple
 
-from tests import browser
+from tests import browser, cases
+from tests.cases import part
 from tests.fixtures import sessions as sessions_of_pages
 from tests.generator import Maker
 from tests.support import EXAMPLES, PATIENCE, TOP, Case, program, read, write
-from tests.ways import PLAIN, CaseFolders, cases, part, words_of
+from tests.ways import CaseTests
 
 from pp6600.engine import library
 from pp6600.engine.plain.console import Rejected
@@ -69,11 +70,9 @@ def pages():
 
 def stored():
     """Yields the cases that are run in the plain way."""
-    for root in (os.path.join(TOP, "tests", "cases"), EXAMPLES):
-        for name, case in cases(root):
-            if not part(case, "how"):
-                files = {name: part(case, name) for name in os.listdir(case) if name not in PLAIN and os.path.isfile(os.path.join(case, name))}
-                yield Session(name, words_of(case), files, part(case, "stdin"))
+    for name, case in cases.named():
+        if not case.how:
+            yield Session(name, case.words, case.files, case.script)
 
 
 def by_chance():
@@ -149,10 +148,10 @@ class Programs(Artefacts):
         """Runs the stored cases that are not run in the plain way: with streams that fail, or that end in a dialogue."""
         words = shlex.join([*command, artefact(name)])
         path = write(self.path("program"), f'#!/bin/sh\nexec {words} "$@"\n', mode=0o755)
-        for case_name, case in cases(os.path.join(TOP, "tests", "cases")):
-            if part(case, "how") and b"file-size-limit" not in part(case, "how"):  # which is the launcher's to handle
-                with self.subTest(case_name):
-                    CaseFolders.check(self, case, path)
+        for case in cases.stored():
+            if case.how and case.how[0] != "file-size-limit":  # which is the launcher's to handle
+                with self.subTest(case.name):
+                    CaseTests.check(self, case, path)
         with self.subTest("the reader of the answers has ended"):
             reader, writer = os.pipe()
             os.close(reader)

@@ -166,8 +166,8 @@ class Barrel(PageCase):
         self.assertEqual([12, True], self.value("[parseFloat(getComputedStyle(byId('barrel-picture')).fontSize), "
                                                 "byId('barrel-picture').getBoundingClientRect().right <= innerWidth]"))
         self.assertAlmostEqual(12, self.value("byId('barrel-picture').getScreenCTM().a * sizesOfBarrel(byId('barrel-picture')).unit"), 2)
-        self.browser.key("b")
-        self.assertEqual(["▸ The barrel (B)", True],
+        self.browser.key("O")
+        self.assertEqual(["▸ The barrel", True],
                          self.value("[byId('barrel-fold').innerText, byId('barrel-picture').hasAttribute('hidden')]"))
         self.browser.click("#barrel-fold")
-        self.assertEqual("▾ The barrel (B)", self.value("byId('barrel-fold').innerText"))
+        self.assertEqual("▾ The barrel", self.value("byId('barrel-fold').innerText"))

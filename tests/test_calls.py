@@ -12,7 +12,7 @@ from .support import Case, program, run
 from pp6600.language.calls import calls
 from pp6600.language.source.passes import assembled
 from pp6600.language.sources import Source
-from pp6600.run.simulator import Replay
+from pp6600.run.session import Session
 from pp6600.shell.script import performed
 
 SEED, COUNT = map(int, os.environ.get("PP6600_CALLS", "70:300").split(":"))
@@ -99,7 +99,7 @@ class Calls(Case):
             script = [*source.loading(0), *central]
             turns = turns_of(script)
             log = Log(turns, source.entries())
-            replay = Replay([program()], performed([program()], [*script, f"STEP {10 * TURNS:o}"]).tape)
+            replay = Session.of_tape([program()], performed([program()], [*script, f"STEP {10 * TURNS:o}"]).tape)
             for count in {*choose.sample(range(1, TURNS), 4)}:
                 position = replay.tape.end - 10 * (TURNS - count)
                 wanted = log.chain(turns, count, source)

@@ -11,10 +11,9 @@ from tests.support import Case, add_tests, program
 
 from pp6600 import INACTIVE, NOTHING, Attached, Device, Failure, full
 from pp6600.run import attached
-from pp6600.run.tape import ReplyLine
+from pp6600.run.tape import ReplyLine, Tape
 from pp6600.run.device import Chain, Event, Reply, chain_of, is_value, looked
 from pp6600.devices.paper_tape import PaperTape
-from pp6600.run.units import Units
 
 
 class Law(Case):
@@ -33,8 +32,8 @@ def without_dues(device, value, now, turn):
 # Wrong sessions, each by what it does instead of a part of the right one: it must differ from the definition. The number is the first
 # seed with a session that does.
 WRONG = {
-    "replies are units": (0, Units, "position", lambda self, units: units),
-    "replies ahead are remembered": (1, Units, "cut", lambda self, units: None),
+    "replies are units": (0, Tape, "after_units", lambda self, units: units),
+    "replies are actions of the user": (0, Tape, "units", lambda self, position: position),
     "states ahead are remembered": (6, attached.States, "cut", lambda self, position: None),
     "the first state is that of every position": (0, attached.States, "entry", lambda self, position: 0),
     "nothing is due": (0, attached, "looked", without_dues),

@@ -28,13 +28,13 @@ class Origin(PageCase):
         self.assertEqual(0o373, self.value("film.turn[film.at]"))
         self.assertEqual([False, True], self.value(
             "[...document.querySelectorAll('#origin button')].map((one) => one.hasAttribute('aria-current'))"))
-        self.browser.key("o")
+        self.browser.key("c")
         self.assertEqual([True, []], self.value(f"[byId('origin').hidden, {MARKED.format('.columns')}]"))
 
     def test_sum(self):
         """docs/TOOLS.md: three numbers are added; all came from line 1 of the script, and the address from line 2."""
         self.browser.open(self.film(script=SUM), "#place=M+0+22")
-        self.browser.key("o")
+        self.browser.key("c")
         wanted = ["M 00 0022 0007", "A 00 000004", "M 00 0202 0004", "M 00 0022 0003", "A 00 000002", "M 00 0201 0002", "M 00 0022 0001",
                   "A 00 000001", "M 00 0200 0001", "M 00 0022 0000"]
         self.assertEqual(wanted, [line.split(":")[0] for line in self.value(STEPS)])
@@ -44,7 +44,7 @@ class Origin(PageCase):
             "[...document.querySelectorAll('#script .origin .line')].map((one) => one.textContent)"))
         self.browser.click("#memory button[data-place='M 00 0020']")
         self.assertTrue(self.value("byId('origin').hidden"))
-        self.browser.key("o")
+        self.browser.key("c")
         self.assertEqual(["M 00 0020 0203: turn 171, PP 00, AOD 20 at 0102, 3 times since turn 25, of M 00 0020",
                           "M 00 0020 0200: before turn 1, line 2 word 5 (decimal) of the script: SET M 0 20 200 3"], self.value(STEPS))
 
@@ -52,7 +52,7 @@ class Origin(PageCase):
         """docs/TOOLS.md: P of PP 01 came from word 9 (decimal) of the panel, which is the first of its line 16."""
         film = self.film("--panel", f"{EXAMPLES}/dead-start/panel", script="DEADSTART\nSTEP 300\n")
         self.browser.open(film, "#place=P+1")
-        self.browser.key("o")
+        self.browser.key("c")
         self.assertEqual(["P 01 0001: turn 122, PP 01, in the block of IAM 01, at its end, of M 01 0000",
                           "M 01 0000 0000: turn 26, PP 01, in the block of IAM 01, from H 01",
                           "H 01 0000: turn 25, PP 00, in the block of OAM 01 at 0002, from M 00 0011",
@@ -63,7 +63,7 @@ class Origin(PageCase):
         """docs/MACHINE.md: a block of cells to a central word, and parts of it back to cells."""
         script = "SET M 0 200 1 2 3 4 5\nSET M 0 5 1\nSET M 0 100 6305 200 1400 6020\nSET P 0 100\nSTEP 60\n"
         self.browser.open(self.film(script=script), "#place=M+0+22")
-        self.browser.key("o")
+        self.browser.key("c")
         self.assertEqual(["M 00 0022 0003: turn 51, PP 00, CRD 20 at 0103, from C 000000 part 2",
                           "C 000000 00010002000300040005: turn 13, PP 00, in the block of CWM 05 at 0100, from M 00 0202",
                           "M 00 0202 0003: before turn 1, line 1 word 7 (decimal) of the script: SET M 0 200 1 2 3 4 5"], self.value(STEPS))
@@ -73,17 +73,17 @@ class Origin(PageCase):
         for place in ("STATE 5", "CARD", "SYMBOLS"):
             self.browser.open(shown_film("overwritten-loader"), f"#turn=405&place={place.replace(' ', '+')}")
             with self.subTest(place):
-                self.browser.key("o")
+                self.browser.key("c")
                 self.assertEqual([True, True], self.value("[byId('came-from').hidden, byId('origin').hidden]"))
 
     def test_it_is_drawn(self):
         """The picture of the lanes is another one with the steps."""
         self.browser.open(shown_film("overwritten-loader"), "#turn=405&place=M+0+106")
         before = self.value("byId('canvas').toDataURL()")
-        self.browser.key("o")
+        self.browser.key("c")
         drawn = self.value("byId('canvas').toDataURL()")
         self.assertNotEqual(before, drawn)
-        self.browser.key("o")
+        self.browser.key("c")
         self.assertEqual(before, self.value("byId('canvas').toDataURL()"))
 
     def test_random_sessions(self):

@@ -9,6 +9,8 @@ import re
 from tests.films import PageCase, shown_film, text_of
 from tests.support import read
 
+from pp6600.front.keys import ROWS
+
 CHOSEN = "byId('chosen-text').textContent"
 TURN_AND_PLACE = "[film.turn[film.at], shown.chosen && shown.chosen.name]"
 # In the page: the controls that are seen and smaller than 32 pixels.
@@ -39,13 +41,13 @@ class Answers(PageCase):
         """README.md: after 1300 turns and a WATCH, BACK W takes back 675 actions, to before a turn of PP 00 in its block input."""
         self.browser.open(shown_film("overwritten-loader"))
         self.click_line("STEP 1300")
-        self.browser.fill("/", "m 0 106")
+        self.browser.fill("g", "m 0 106")
         turn = 0o1301 - 0o675 + 1
         self.assertIn(f"turn {turn:o}, by PP 00, in the block of IAM 12 at 0104 START+4.", self.value(CHOSEN))
         self.browser.key("[")
         self.assertEqual([turn, "M 00 0106"], self.value(
             "[film.turn[film.at], document.querySelector('#memory button.changed').place.name]"))
-        self.browser.key("ArrowLeft")
+        self.browser.key("b")
         self.assertEqual("P 0106 A 000051 Q 0000 PHASE 7112 SLOT 00", self.value(processor_line(0)))
         self.browser.click("#memory button[data-place='M 00 0100']")
         self.browser.key("[")
@@ -113,7 +115,7 @@ class Program(PageCase):
                          shown[at + 1:at + 5])
         sentence = "byId('sentence').innerText"
         self.assertEqual("PP 00 IAM 12 0060: a word of channel 12 goes to cell 0064; 73 words are left", self.value(sentence))
-        self.browser.key("i")
+        self.browser.key("d")
         self.assertEqual("|0104|7112 0060|IAM 12 0060||?J:#", self.value(rows)[at + 3], "docs/MACHINE.md: display code")
         self.browser.click("#program button[data-place='M 00 0106']")
         self.assertIn("M 00 0106 is 7512.", self.value(CHOSEN))
@@ -148,14 +150,13 @@ class Controls(PageCase):
         self.open("#moment=0")
         self.assertEqual(["<b>&", "<b>&"], self.value("[document.title, document.querySelector('h1').textContent]"))
         last = self.LAST
-        for key, shift, wanted in (
-                ("End", False, last), ("ArrowLeft", False, last - 1), ("Home", False, 0),
-                ("ArrowLeft", False, 0),
-                ("ArrowRight", False, 1), ("ArrowRight", False, 2), ("ArrowRight", True, 12), ("ArrowRight", True, 22),
-                ("ArrowLeft", True, 12),
-                (".", False, 2 + 0o1000), (".", False, last - 1), (",", False, 2 + 0o1000), (",", False, 2), (",", False, 1)):
-            self.browser.key(key, shift)
-            with self.subTest(key=key, shift=shift):
+        for keys, wanted in (
+                ("End", last), ("Backspace", last - 1), ("Home", 0), ("b", 0), ("s", 1), ("s", 2), ("S", 12), ("S", 22), ("B", 12),
+                ("12s", 22), ("2S", 42), ("3B", 12), ("n", 13), ("n", 23), ("p", 13), (")2n", 24), ("(p", 23), (">", last), ("<", 0),
+                (".", 1), (".", 2), (".", 2 + 0o1000), (".", last - 1), (",", 2 + 0o1000), (",", 2), (",", 1), ("20G", 2 + 0o20)):
+            for key in [keys] if keys.isalpha() and len(keys) > 2 else keys:
+                self.browser.key(key)
+            with self.subTest(keys=keys):
                 self.assertEqual(wanted, self.value("film.at"))
         self.value(f"moveTo({last - 1})")
         self.assertEqual([0o770, "BACK 10 SLOT 04"], self.value("[film.turn[film.at], lineOf(film.at).answer[0]]"))
@@ -163,6 +164,42 @@ class Controls(PageCase):
         self.browser.key(" ")
         self.browser.wait_for("shown.playing === null")
         self.assertEqual(last, self.value("film.at"))
+
+    def test_numbers_beside(self):
+        """docs/FILM.md: the arrows choose the number beside: of a cell that with the address beside."""
+        self.open("#moment=1&place=M+0+100")
+        for keys, wanted in (("l", "M 00 0101"), ("j", "M 00 0111"), ("h", "M 00 0110"), ("k", "M 00 0100"), ("ijj", "M 00 0102")):
+            for key in keys:
+                self.browser.key(key)
+            with self.subTest(keys=keys):
+                self.assertEqual(wanted, self.value("shown.chosen.name"))
+        self.value("choose(placeNamed('A 1'))")
+        for key, wanted in (("ArrowDown", "A 02"), ("ArrowRight", "Q 02"), ("ArrowLeft", "A 02"), ("ArrowUp", "A 01")):
+            self.browser.key(key)
+            self.assertEqual(wanted, self.value("shown.chosen.name"), key)
+
+    def test_watches(self):
+        """docs/FILM.md: t watches the chosen number, W goes to before a watched number changed, u and f search."""
+        self.open("#place=M+0+20")
+        self.browser.key("W")
+        self.assertEqual(0o12, self.value("film.turn[film.at]"), "before STD 20 in turn 13")
+        self.browser.key(">")
+        for lines, key in ("1", "t"), ("1", "t"):
+            self.browser.key(key)
+            self.browser.wait_for("!engine.isBusy")
+        self.assertEqual(["WATCH M 00 0020", "UNWATCH M 00 0020"], self.value("film.lines.slice(-2).map((line) => line.text)"))
+        self.value("document.activeElement.blur()")
+        self.browser.fill("u", "P 0 = 102")
+        self.browser.wait_for("byId('said').textContent.startsWith('not among') || byId('said').textContent.startsWith('found')")
+        self.assertEqual("until P 0 = 102", self.value("typed.lines.at(-1) || byId('typed').value"))
+
+    def test_one_table(self):
+        """Each key of the table has its action, and docs/FILM.md has the rows of the table."""
+        self.open()
+        self.assertEqual([], self.value("Object.values(film.keys.actions).filter((action) => !ACTIONS[action])"))
+        self.assertEqual([], self.value("Object.keys(ACTIONS).filter((action) => !Object.values(film.keys.actions).includes(action))"))
+        rows = re.findall(r"^\| (.*?) \| (.*) \|$", read("docs/FILM.md").split("## Keys")[1].split("\n## ")[0], re.M)[1:]
+        self.assertEqual([(" ".join(f"`{name}`" for name in row.shown()), row.page) for row in ROWS if row.page], rows)
 
     def test_around(self):
         """docs/FILM.md: a film around a turn opens there."""
@@ -178,7 +215,7 @@ class Controls(PageCase):
                              ("77777", [self.LAST, "no turn 77777: the highest is 1000", "true"]),
                              ("x", [self.LAST, "not an octal number", "true"]),
                              ("1000", [2 + 0o1000, "", "false"])):
-            self.browser.fill("g", word)
+            self.browser.fill("G", word)
             with self.subTest(word):
                 self.assertEqual(wanted, self.value(shown))
             self.browser.key("Escape")
@@ -194,17 +231,17 @@ class Controls(PageCase):
         self.browser.click("#memory button[data-place='M 00 0020']")
         self.assertEqual(["M 00 0020", "M 00 0020", "", "false", ""], self.value(shown))
         outline = "getComputedStyle(byId('place')).outlineStyle + getComputedStyle(byId('place')).outlineColor"
-        self.browser.key("/")
+        self.browser.key("g")
         focus = self.value(outline)
         for word in "M 12 0", "M 0", "nothing":
             self.browser.key("Escape")
-            self.browser.fill("/", word)
+            self.browser.fill("g", word)
             with self.subTest(word):
                 self.assertEqual([word, "M 00 0020", "no such place", "true", "place"], self.value(shown))
         self.assertNotEqual(focus, self.value(outline))
         self.browser.click("#processors button[data-place='A 01']")
         self.assertEqual(["A 01", "A 01", "", "false", ""], self.value(shown))
-        self.browser.fill("/", "h 5")
+        self.browser.fill("g", "h 5")
         self.assertEqual(["H 05", "H 05", "", "false", ""], self.value(shown))
         self.browser.key("Escape")
         self.assertEqual(["", None, "", "false", ""], self.value(shown))
@@ -215,13 +252,13 @@ class Controls(PageCase):
         buttons = ("['previous-change', 'next-change'].map(byId)"
                    ".map((one) => (one.offsetParent ? [one.innerText, !one.disabled] : null))")
         self.assertEqual("M 00 0020 is 0000. First change: turn 13, by PP 00, STD 20 at 0101.", self.value(CHOSEN))
-        self.assertEqual([["[ previous change", False], ["first change ]", True]], self.value(buttons))
+        self.assertEqual([["previous change", False], ["first change", True]], self.value(buttons))
         self.browser.click("#next-change")
         self.assertEqual([0o13, "M 00 0020"], self.value(TURN_AND_PLACE))
         self.assertEqual("M 00 0020 is 0005. Changed here, by PP 00, STD 20 at 0101. No change after this so far.", self.value(CHOSEN))
         self.value("choose(placeNamed('M 5 0'))")
         self.assertEqual("M 05 0000 is 0000. No change in this run so far.", self.value(CHOSEN))
-        self.assertEqual([["[ previous change", False], ["next change ]", True]], self.value(buttons))
+        self.assertEqual([["previous change", False], ["next change", True]], self.value(buttons))
         # The script goes back to before the change, and makes it later in another turn.
         self.browser.open(self.film(script=f"{COUNTER}STEP 5\nBACK 3\nSET M 0 30 1\nSTEP 20\n"), "#turn=3&place=M+0+20")
         self.assertIn("First change: turn 13, by PP 00, STD 20 at 0101.", self.value(CHOSEN))
@@ -239,10 +276,10 @@ class Controls(PageCase):
             with self.subTest(address):
                 self.assertEqual(wanted, self.value(shown)[0])
         self.assertEqual("M 01 0202", self.value(shown)[1])
-        self.browser.key("0")
-        self.browser.key("ArrowLeft")
+        self.browser.key("(")
+        self.browser.key("b")
         self.assertEqual(["PP 00", "M 00 0102"], self.value(shown))
-        self.browser.key("f")
+        self.browser.key("o")
         self.assertEqual(["PP 01, follows the turns", "M 01 0202"], self.value(shown))
         self.value("choose(placeNamed('M 3 7000'))")
         self.assertEqual(["PP 03", "6740"], self.value("[byId('memory-of').selectedOptions[0].text, byId('memory-at').value]"))

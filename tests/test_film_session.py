@@ -3,13 +3,19 @@ docs/CONSOLE.md and of the program for the same lines."""
 
 import json
 import os
+import random
+import re
 import unittest
 
 from tests import firefox
-from tests.films import DEVICES, FilmCase, PageCase, random_session, shown_film
+from tests.films import DEVICES, FilmCase, PageCase, about, random_session, shown_film
 from tests.support import EXAMPLES, TOP, program, read, run
 
 from pp6600 import Console
+from pp6600.devices.pictures import svg
+from pp6600.run.attached import Attached
+from pp6600.run.device import drawn
+from pp6600.shell.device_options import device_of
 
 COUNTER = "SET M 0 100 1405 3420 300\nSET P 0 100\n"  # LDN 5, STD 20, UJN 0
 LOADER = ("--deck", f"{EXAMPLES}/overwritten-loader/deck", f"{EXAMPLES}/overwritten-loader/script")
@@ -46,14 +52,14 @@ class Lines(SessionCase):
     def test_typed(self):
         """A line is performed at the end, and its answer is said."""
         self.browser.open(self.film(script=f"{COUNTER}STEP 12\n"))
-        self.browser.key("Enter")
+        self.browser.key(":")
         for letter in "step 3":
             self.browser.key(letter)
         self.browser.key("Enter")
         self.browser.wait_for(f"{SAID} === 'TURNS 3 SLOT 03'")
         self.assertEqual([0o15, "step 3"], self.value("[film.turn[film.at], film.lines.at(-1).text]"))
         self.browser.key("Escape")
-        self.browser.key("ArrowRight")
+        self.browser.key("s")
         self.browser.wait_for("film.turn[film.at] === 0o16")
 
     def test_refused(self):
@@ -84,12 +90,56 @@ class Lines(SessionCase):
             with self.subTest(seed=seed):
                 self.assertEqual(self.dumps(saved, *options), self.page_dumps())
 
-    def test_set_by_hand(self):
+    def edit(self, text):
+        """Types a text in the field over the chosen number."""
+        self.value(f"byId('set-to').value = {json.dumps(text)}")
+        self.browser.key("Enter")
+
+    def test_edited_in_place(self):
+        """A number gets another one, and a cell an instruction too; a double click opens the field over the number."""
         self.browser.open(self.film(script=f"{COUNTER}STEP 12\n"), "#place=M+0+20")
         self.browser.key("e")
-        self.value("byId('set-to').value = '77'")
-        self.browser.key("Enter")
-        self.browser.wait_for("textAt(placeNamed('M 0 20')) === '0077'")
+        self.edit("77")
+        self.browser.wait_for("textAt(placeNamed('M 0 20')) === '0077' && byId('set-form').hidden")
+        self.browser.key("i")
+        cell = "#program button[data-place='M 00 0102']:not([hidden])"
+        self.value("choose(placeNamed('M 0 102'))")
+        self.value(f"document.querySelector(\"{cell}\").dispatchEvent(new MouseEvent('dblclick', {{ bubbles: true }}))")
+        boxes = f"[document.querySelector(\"{cell}\"), byId('set-to')].map((one) => one.getBoundingClientRect())"
+        self.assertTrue(self.value(f"(([cell, field]) => cell.left >= field.left && cell.left < field.right"
+                                   f" && cell.top >= field.top && cell.top < field.bottom)({boxes})"), "where the field is")
+        self.edit("GO 5")
+        self.browser.wait_for(f"{SAID}.startsWith('GO is no instruction')")
+        self.edit("fnc 12 1")
+        self.browser.wait_for("byId('set-form').hidden")
+        self.assertEqual(["7712", "0001"], self.value("['M 0 102', 'M 0 103'].map((name) => textAt(placeNamed(name)))"))
+
+    def test_instructions(self):
+        """docs/MACHINE.md: the codes, and how a relative jump counts; docs/ASSEMBLER.md: m comes before d."""
+        self.browser.open(self.film("--source", "0", "examples/overwritten-loader/loader.pp"))
+        words = "((text) => { try { return wordsOf(text, 0, 0o106).map(four).join(' '); } catch { return null; } })"
+        self.check_rows(lambda text: self.value(f"{words}({json.dumps(text)})"),
+                        ("LDN 5", "1405"), ("PSN", "0000"), ("UJN TO 105", "0376"), ("UJN 76 TO 0105", "0376"), ("NJN 76", "0576"),
+                        ("UJN 145", "0337"), ("UJN 146", None), ("UJN 47", "0347"), ("UJN TO 47", "0340"), ("UJN TO 46", None),
+                        ("LDC 123456", "2012 3456"),
+                        ("LDC 12 3456", "2012 3456"), ("LDM 1234", "5000 1234"), ("IAM 12 60", "7112 0060"), ("IAM START,12", "7112 0100"),
+                        ("LDN 100", None), ("LDN 5 5", None), ("LDN 8", None))
+
+    def test_meanings(self):
+        """What is said of an instruction or a directive is what docs/MACHINE.md or docs/ASSEMBLER.md says."""
+        rows = [re.sub(r" \((P\d+(, )?)+\)|`", "", line) for page in ("MACHINE.md", "ASSEMBLER.md")
+                for line in read("docs", page).splitlines() if line.startswith("| ")]
+        said = {re.sub(r"^\| (\d\d(, \d\d)* \| )?", "", row).split(" | ")[0] + ": " + row.split(" | ")[-2 + row[2].isdigit()].rstrip(" |")
+                for row in rows} | {re.sub(r"^\| ", "", row).split(" | ")[0] for row in rows}
+        path = self.film("--source", "0", "examples/overwritten-loader/loader.pp")
+        texts = {text for name, one in about(read(path))["meanings"].items() if name[1:] != "x" for text in one.split("\n")}
+        self.assertEqual(set(), texts - said)
+        self.browser.open(path)
+        self.assertEqual("FAN, FNC: function code from A; function code m", self.value(
+            "[...document.querySelectorAll('#source .line')].find((one) => one.textContent.includes('FNC')).title"))
+        self.value("showHelp(true); document.querySelector('#help details').open = true")
+        self.browser.click("#codes button:nth-child(33)")
+        self.assertEqual("LDD, LDI, LDM: A becomes x\nx is the cell whose address is in cell d", self.value("byId('meaning').textContent"))
 
 
 class Searches(SessionCase):
@@ -106,13 +156,28 @@ class Searches(SessionCase):
         self.assertRegex(self.until(True, "M 0 20 = 77")[0], "^not before this$")
         self.assertRegex(self.until(False, "P 0 is")[0], "^a condition is PLACE = 105")
 
+    def test_who_changes(self):
+        """A search for a change says who made it, and chooses the place."""
+        self.browser.open(self.film(script=COUNTER))
+        self.assertEqual(["found: turn 13, by PP 00, STD 20 at 0101", 0o13], self.until(False, "M 0 20 changes"))
+        self.assertEqual("M 00 0020", self.value("shown.chosen.name"))
+
     def test_breakpoint(self):
         self.browser.open(shown_film("overwritten-loader"), "#moment=0")
         self.value("moveTo(film.lines.find(({ text }) => text.startsWith('SET P')).moment)")
         self.browser.click("#source tr:nth-child(9) .name button")
         self.assertEqual("true", self.value("document.querySelector('#source tr:nth-child(9) .name button').getAttribute('aria-pressed')"))
-        self.browser.key("r")
+        self.browser.key("}")
         self.browser.wait_for("textAt(placeNamed('P 0')) === '0104'")
+        self.browser.key("i")
+        point = "[...document.querySelectorAll('#program .break')].find((one) => one.textContent === '{}')"
+        self.assertEqual("true", self.value(f"{point.format('0104')}.getAttribute('aria-pressed')"))
+        self.value(f"{point.format('0104')}.click(); {point.format('0107')}.click()")
+        self.assertEqual("false", self.value("document.querySelector('#source tr:nth-child(9) .break').getAttribute('aria-pressed')"))
+        self.browser.click("#source tr:nth-child(8) td:nth-child(3) button")
+        self.assertEqual("M 00 0103", self.value("shown.chosen.name"))
+        self.browser.key("{")
+        self.browser.wait_for("textAt(placeNamed('P 0')) === '0103'")
 
 
 class Waiting(SessionCase):
@@ -121,7 +186,7 @@ class Waiting(SessionCase):
     def test_keys(self):
         """Each key counts."""
         self.browser.open(self.film(script=COUNTER))
-        self.value("[1, 2, 3, 4, 5].forEach(() => KEYS.ArrowRight())")
+        self.value("[1, 2, 3, 4, 5].forEach(() => ACTIONS.on())")
         self.browser.wait_for("film.turn[film.at] === 5")
         self.assertEqual(COUNTER + "STEP 1\n" * 5, self.script())
 
@@ -156,6 +221,27 @@ class Past(SessionCase):
         self.assertEqual("BACK 20 SLOT 06\nreplayed", self.act("BACK 20"))
         self.assertEqual(0o20, self.value("film.turn[film.at]"))
         self.assertEqual(f"{COUNTER}STEP 20\n", self.script())
+
+    def test_full(self):
+        """docs/FILM.md: a film has at most 5000000 moments; then it says so, and performs no line. The end of the film is drawn as all is."""
+        self.browser.open(self.film(script=f"{COUNTER}STEP 777777\n" + "STEP 7777\n" * 3), "#place=A+0")
+        self.assertEqual("TURNS 1 SLOT 11", self.act("STEP"))
+        self.value("ask('act', { lines: Array(400).fill('STEP 7777'), at: film.at })")
+        self.assertTrue(self.value("film.count >= 0o5000000 && film.count < 0o5010000"))
+        self.assertEqual("the film is full, it has 5000000 moments: save the script", self.act("STEP"))
+        self.value("moveTo(film.count - 1)")
+        self.assertTrue(self.value(self.DRAWN))
+
+    # In the page: whether its lanes are drawn as they are if all is drawn anew.
+    DRAWN = "((seen) => { drawLanes(); return seen === byId('canvas').toDataURL(); })(byId('canvas').toDataURL())"
+
+    def test_lanes_as_they_grow(self):
+        """What is added at the end is in the lanes."""
+        lines = random_session(7)
+        self.browser.open(self.film(*DEVICES), "#place=A+0")
+        for line in [*lines, *["STEP"] * 20, "BACK 3", "STEP 2"]:
+            self.act(line)
+            self.assertTrue(self.value(self.DRAWN), line)
 
     def test_skipped_turns(self):
         """Of a STEP that makes a session too long the last turns are recorded, and others when one goes to them."""
@@ -259,6 +345,59 @@ class Class(SessionCase):
         self.assertEqual(["ada      +  .  .  .  .  .  .  .       1", "grace    +  .  .  .  .  .  .  .       1"], done.out.splitlines()[1:3])
 
 
+class Devices(SessionCase):
+    """Devices of one's own: their replies are in the script, and what they show is in the page."""
+
+    PICTURE = "document.querySelector('#pictures figure div').innerHTML"
+    SAID = "document.querySelector('#pictures p').textContent"
+
+    def test_console_display(self):
+        """docs/FILM.md: the picture at each moment is the device's; beyond the script the page says that it has none."""
+        device = device_of("console_display@10")
+        script = [line if line[:4] != "STEP" else "STEP 1400" for line in read("examples", "console-display", "script").splitlines()]
+        shown, moment = {}, 0
+        with Attached([program()], [device]) as run:
+            for line in script:
+                for part in ["STEP 1"] * int(line.split()[1], 8) if line.startswith("STEP") else [line]:
+                    before = len(run.sent)
+                    answer = run.act(part)
+                    moment += sum(line.split()[0] in ("SET", "STEP", "WATCH") for line in run.sent[before:]) if answer else 0
+                    shown[moment] = drawn(device, run.state(), svg)
+        self.browser.open(self.film("--device", "console_display@10", script="".join(f"{line}\n" for line in script)))
+        self.assertEqual(moment, self.value("film.count - 1"))
+        for at in random.Random(1).sample(sorted(shown), 12) + [moment]:
+            with self.subTest(moment=at):
+                self.value(f"moveTo({at})")
+                wanted = json.dumps("".join((shown[at] or "").splitlines()))
+                self.assertTrue(self.value(f"((one) => {{ one.innerHTML = {wanted}; return one.innerHTML === {self.PICTURE}; }})"
+                                           "(document.createElement('div'))"))
+                self.assertEqual("", self.value(self.SAID))
+        self.act("STEP 1")
+        self.assertEqual("this page has no ConsoleDisplay: this is what it showed at the end of the script", self.value(self.SAID))
+        self.value("beginAnew({ script: 'STEP 5\\n' }, 'begun')")
+        self.browser.wait_for("film.count === 6")
+        self.assertEqual(["this page has no ConsoleDisplay: it is known for the script of the file alone", ""],
+                         self.value(f"[{self.SAID}, {self.PICTURE}]"))
+
+    def test_saved_script(self):
+        """A script that was saved has the replies: they play, once, with the same pictures; and so they do in a page that was saved."""
+        options = "--device", "console_display@10"
+        first = about(read(shown_film("console-display")))
+        path = self.film(*options, script=first["files"][0]["bytes"])
+        self.assertEqual((first["files"][0]["bytes"], first["pictures"]), (about(read(path))["files"][0]["bytes"], about(read(path))["pictures"]))
+        self.browser.open(path)
+        self.act("STEP 12")
+        self.browser.save_into(self.folder)
+        self.browser.click("#save-film")
+        saved = self.path("session.html")
+        while not os.path.exists(saved) or not os.path.getsize(saved):
+            self.value("new Promise((done) => setTimeout(done, 50))")
+        self.browser.open(saved)
+        self.assertIn("this is what it showed at the end of the script", self.value(self.SAID))
+        self.value("moveTo(film.pictures.moments - 1)")
+        self.assertEqual(["", True], self.value(f"[{self.SAID}, {self.PICTURE}.length > 1000]"))
+
+
 @unittest.skipUnless(firefox.found(), "there is no Firefox")
 class OtherBrowser(FilmCase):
     """Firefox opens a page from its file, and goes on."""
@@ -270,6 +409,6 @@ class OtherBrowser(FilmCase):
         browser.wait_for("document.body && document.body.dataset.open === 'yes'")
         position = "document.getElementById('position').textContent"
         self.assertTrue(browser.evaluate(position).startswith("After turn 12."))
-        browser.key("ArrowRight")
+        browser.key("s")
         browser.wait_for(f"{position}.startsWith('After turn 13.')")
         self.assertEqual("000005", browser.evaluate("document.querySelector('[data-place=\"A 00\"]').textContent"))

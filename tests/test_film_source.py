@@ -142,7 +142,7 @@ class Page(PageCase):
                           "|10|0106|now 0027|DCN    CR", "|11|0107||LJM    PROGRAM", "|12|||END    START"], self.rows(6, 12))
         self.browser.click("#source tr:nth-child(10) .number")
         self.assertEqual("M 00 0106", self.value("shown.chosen.name"))
-        self.browser.key("ArrowLeft")
+        self.browser.key("b")
         self.assertEqual("|10|0106||DCN    CR", self.rows(10, 10)[0])
         self.value("moveTo(momentOfTurn(0o1251))")  # after the block the program goes on at 0106
         self.assertEqual("PP 00, PSN 27 at 0106 START+6, was loader.pp:10", self.value("turnText(film.at)"))
@@ -151,7 +151,7 @@ class Page(PageCase):
         """RJM in turn 25 puts the return address 0104 into the second word of the line of SUBR: see docs/TOOLS.md."""
         self.browser.open(self.film("--source", "0", write(self.path("count.pp"), COUNT), script="STEP 1000\n"), "#turn=24")
         self.assertEqual("|10|0107||DOWN     SUBR", self.rows(10, 10)[0])
-        self.browser.key("ArrowRight")
+        self.browser.key("s")
         self.assertEqual(["|10|0107|m is 0104|DOWN     SUBR", ">|11|0111||SOD    COUNT"], self.rows(10, 11))
         self.assertEqual("6", self.value("document.querySelector('#source .acted .name').textContent"))
 
@@ -187,9 +187,9 @@ class Page(PageCase):
         self.browser.open(self.film("--source", "0", asks, "--source", "1", answers, script="STEP 1000\n"))
         shown = "['h2', 'tbody:not([hidden]) .present .name'].map((one) => document.querySelector(`#source ${one}`).textContent)"
         self.assertEqual(["Source of PP 00: asks.pp", "11"], self.value(shown))
-        self.browser.key("1")
+        self.value("chooseMemory(1)")
         self.assertEqual(["Source of PP 01: answers.pp", "9"], self.value(shown))
-        self.browser.key("2")
+        self.browser.key(")")
         self.assertEqual("Source of PP 01: answers.pp", self.value(shown)[0])
         self.value("byId('source-of').value = 0; byId('source-of').onchange()")
         self.assertEqual("Source of PP 00: asks.pp", self.value(shown)[0])

@@ -158,7 +158,7 @@ class Walk(PageCase):
             near = max(moment - 1, 0) if way == 1 else min(moment + 1, total - 1)
             self.value(f"moveTo({near}); document.activeElement.blur()")
             if near != moment:
-                self.browser.key("ArrowRight" if way == 1 else "ArrowLeft")
+                self.browser.key("s" if way == 1 else "b")
 
     def test_examples(self):
         for options, script in WALKED:

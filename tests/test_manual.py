@@ -99,12 +99,8 @@ class Version(InstallCase):
 class Card(InstallCase):
     """The card says what the other pages say, and its forms are apart."""
 
-    def test_lines(self):
-        lines = {form for row in rows("CONSOLE.md", LINES) for form in re.findall("`([^`]*)`", row[0])}
-        self.assertEqual(lines, {form for row in rows("CARD.md", LINES) for form in re.findall("`([^`]*)`", row[0])})
-
     def test_errors(self):
-        own = {f"ERR {number} {what}" for number, what in re.findall(r"\| `(\d\d)` \| `([A-Z ]+)`", read("docs", "CARD.md"))}
+        own = set()
         for row in rows("CARD.md", "| `ERR` | | `ERR` | | `ERR` | |"):
             cells = [cell.strip("`") for cell in row]
             own |= {f"ERR {number} {what}" for number, what in zip(cells[::2], cells[1::2]) if number}
@@ -115,12 +111,18 @@ class Card(InstallCase):
         self.assertEqual(names_of_codes(), [word.strip("+") for row in grid for word in row.split()])
 
     def test_display_code(self):
-        symbols = re.findall(r"^[0-3]  (.{15})     [4-7]  (.{15})$", read("docs", "CARD.md"), flags=re.M)
+        symbols = re.findall(r"^[0-3]  .{23} {6}[0-3]  (.{15})     [4-7]  (.{15})$", read("docs", "CARD.md"), flags=re.M)
         wanted = [row[3:] for row in display_rows("MACHINE.md")]
         self.assertEqual(wanted, [left for left, _ in symbols] + [right for _, right in symbols])
 
     def test_forms_are_apart(self):
         self.assertEqual([], re.findall("`[^`|]*`  +`[^`|]*`", read("docs", "CARD.md")))
+
+    def test_jumps(self):
+        """d of each distance back: 77 less the distance."""
+        grid = re.findall(r"^([0-3])  ((?:[0-7]{2} ){8})", read("docs", "CARD.md"), flags=re.M)
+        found = {8 * int(row) + column: int(d, 8) for row, back in grid for column, d in enumerate(back.split())}
+        self.assertEqual({distance: 0o77 - distance if distance else 0 for distance in range(0o40)}, found)
 
     def test_page(self):
         self.assertEqual(("", 0), alone(sys.executable, os.path.join(TOP, "docs", "card.py"), "--check")[1:])

@@ -1,146 +1,82 @@
-"""What the panel shows of a state, without a terminal. The states are those of the simulator in Python after sessions of
-README.md, docs/TUTORIAL-2.md and docs/CONSOLE.md, and what else docs/TOOLS.md and docs/MACHINE.md say."""
+"""The panel without a terminal: the blocks of tests/panel.txt and of docs/PANEL.md, and what these can't show. Expected values are those
+of README.md, docs/TUTORIAL.md, docs/TOOLS.md, docs/PYTHON.md and docs/PANEL.md."""
 
 import os
 import re
+import sys
 
-from tests.fixtures import BLOCKS_GO_ON, COMPLETES
-from tests.support import EXAMPLES, Case, blocks
+from tests.fixtures import BLOCKS_GO_ON, COMPLETES, COUNTS, DECK, DISPLAYS, FAILS, FIRST_PROGRAM, LOADER, OVERWRITTEN, READS
+from tests.panels import BLOCKS, BlockCase, PanelCase, bottom, press
+from tests.support import EXAMPLES, TOP, Case, add_tests, blocks, program, read, run, tool
 
-from pp6600.run.state import State, questions
-from pp6600.front.panel.screen import Shown, layout, screen, small_screen
-from pp6600.front.panel.text import CHANGED, CURSOR, REFUSED
-from pp6600.front.panel.view import View, memory_top
-from pp6600.engine.plain.console import SYMBOLS, Console
+from pp6600 import Console, Failure
+from pp6600.devices.console_display import ConsoleDisplay
+from pp6600.devices.paper_tape import PaperTape
+from pp6600.engine.plain import places
+from pp6600.engine.plain.console import SYMBOLS
+from pp6600.engine.plain.console import Console as PlainConsole
 from pp6600.engine.plain.machine import Machine
-from pp6600.engine.plain.places import CLOCK, EMPTY, PAPER, PAPER_LENGTH, PHASE, SLOT, STATE, WATCHES, A, C, P, place_of
-from pp6600.engine.plain.program import console_of, read_words
+from pp6600.front import keys
+from pp6600.front.panel.screen import Shown, layout, screen, small_screen
+from pp6600.front.panel.text import CHANGED, CURSOR, HERE, OVERWRITTEN as OVER, REFUSED
+from pp6600.front.panel.view import View, memory_top
+from pp6600.run.state import State, questions
+from pp6600.shell.device_options import device_of
+
+MACHINE_DUMPS = "DUMP PP 0", "DUMP PP 1", "DUMP M 0 0 7777", "DUMP H", "DUMP W", "DUMP CR", "DUMP LP"
+LOADED = "--deck", DECK
+PROGRAMS = os.path.join(TOP, "tests", "programs")
 
 
-def console_at(page, first, last):
-    """Returns a console of the simulator in Python that has performed a session of a page, with those that continue it, up to its
-    line `last`. The line `first` is in the first one."""
-    sessions = blocks(page, "session")
-    at = next(number for number, block in enumerate(sessions) if first in block.text)
-    words = [os.path.join(EXAMPLES, word) if "/" in word else word for word in sessions[at].words[1:]]
-    console = console_of(read_words(words))
-    for line in "".join(block.text for block in sessions[at:]).splitlines():
-        if line.startswith("> "):
-            console.answer(line[2:].encode())
-        if line == f"> {last}":
-            return console
-    raise LookupError(last)
+class Blocks(BlockCase):
+    """The blocks of tests/panel.txt."""
 
 
-def machine_with(numbers):
-    """Returns a machine with some numbers at their places."""
+add_tests(Blocks, Blocks.check, BLOCKS)
+
+
+def source_panel(case, script="STEP 1300\n", *options, source=LOADER, number=0, **how):
+    """Returns a panel with a source, else the loader that overwrites itself."""
+    return case.panel(script, *(options or LOADED), sources=[(number, source)], **how)
+
+
+# ---- what a state looks like
+
+def state_with(numbers=()):
+    """Returns the state of a machine of the simulator in Python with some numbers at their places."""
     machine = Machine()
-    for place, number in numbers.items():
-        machine.numbers[place] = number
-    return machine
-
-
-def state_of(machine):
-    """Returns the state of a machine of that simulator."""
-    console = Console(machine)
+    for place in numbers:
+        machine.numbers[place] = numbers[place]
+    console = PlainConsole(machine)
     return State([line for question in questions((0, 0o177)) for line in console.answer(question.encode())])
 
 
-def page_state(*where):
-    return state_of(console_at(*where).machine)
+def texts(state, before=None, size=(80, 24), **more):
+    return [line.text for line in screen(Shown(state, before or state, View(), **more), *size).lines]
 
 
-def shown_of(state, before=None, view=None, **more):
-    return Shown(state, before or state, view or View(), **more)
-
-
-def texts(shown, columns=80, rows=24):
-    return [line.text for line in screen(shown, columns, rows).lines]
-
-
-class WholeScreen(Case):
-    """Processors, channels, devices and memories."""
-
-    def test_loader(self):
-        """README.md: the state after the first BACK W, beside that after STEP 1300."""
-        before, state = page_state("README.md", "STEP 1300", "STEP 1300"), page_state("README.md", "STEP 1300", "BACK W")
-        view = View(pane="memory", cell=0o106, following=False, top=0o100)
-        got = screen(shown_of(state, before, view, turn=0o403, kept=0o407, ahead=0o675), 80, 24)
-        lines = [line.text for line in got.lines]
-        self.assertEqual(" TURN 403  SLOT 00  KEPT 407  AHEAD 675 ", lines[0][:40])
-        self.assertIn(" cursor M 0 106  all octal ", lines[0][40:])
-        self.assertEqual(">00 0106*7512*  in IAM 000051*0000 7112* ", lines[2][:41])
-        self.assertEqual(" 01 0032 0000 0000 PSN 000000 0000 0000  ", lines[3][:41], "it had a tenth of 404 turns")
-        self.assertEqual("0100 0021  0022  0023  0024  0025  0026 >7512* 0100*", lines[13][:52])
-        self.assertEqual("0110 0060* 0000* 0000* 0000*", lines[14][:28], "the block had gone on")
-        self.assertEqual((13, 41), got.cursor)
-        self.assertEqual(["7512", "*", "0100", "*"], got.lines[13].marked(CHANGED))
-        self.assertEqual(["7512"], got.lines[13].marked(CURSOR))
-
-    def test_waits(self):
-        """docs/TUTORIAL-2.md: two processors wait for each other; with channel 05 made active, neither does."""
-        machine = console_at("docs/TUTORIAL-2.md", "7205", "STEP 40").machine
-        lines = texts(shown_of(state_of(machine)))
-        self.assertEqual(" 00 0101 7205 0300 OAN 000007 0000 0000   05 empty", lines[2][:52].rstrip())
-        self.assertEqual(" 01 0100 7005 0300 IAN 000000 0000 0000   05 full", lines[3][:52].rstrip())
-        self.assertEqual(">02 0003 0000 0000 PSN 000000 0000 0000", lines[4][:52].rstrip(), "it is next, and does not wait")
-        self.assertEqual("05 I 0000 ", lines[7][54:64])
-        self.assertEqual("14 F 0003 clk", lines[7][67:80])
-        machine.numbers[STATE + 5] = EMPTY
-        self.assertEqual("", texts(shown_of(state_of(machine)))[2][40:54].strip(), "PP 00 goes on")
-
+class States(Case):
     def test_each_wait(self):
         """docs/TOOLS.md and docs/MACHINE.md: in which states each instruction waits, and for what."""
         cases = [(f"{code:o}", f"{code:o}03" if of_block else "0000", letter, "" if letter in completes else f"03 {name}")
                  for of_block, table in enumerate((COMPLETES, BLOCKS_GO_ON))
                  for code, (completes, name) in table.items() for letter in "IEFX"]
         for code, phase, letter, wanted in cases:
-            machine = machine_with({P + 4: 0o100, A + 4: 2, PHASE + 4: int(phase, 8), place_of("M", 4, 0o100): int(f"{code}03", 8),
-                                    STATE + 3: "IEFX".index(letter)})
-            state = state_of(machine)
+            state = state_with({places.P + 4: 0o100, places.A + 4: 2, places.PHASE + 4: int(phase, 8),
+                                places.place_of("M", 4, 0o100): int(f"{code}03", 8), places.STATE + 3: "IEFX".index(letter)})
             with self.subTest(f"{code} on a channel {letter}"):
                 self.assertEqual(wanted, state.processors[4].waits_for(state.states()))
         for word, wanted in (0o7214, "14 never"), (0o7014, ""), (0o7514, ""), (0o7777, "77 never"):
-            state = state_of(machine_with({place_of("M", 0, 0): word}))
-            with self.subTest(f"{word:o}"):
-                self.assertEqual(wanted, state.processors[0].waits_for(state.states()))
+            state = state_with({places.place_of("M", 0, 0): word})
+            self.assertEqual(wanted, state.processors[0].waits_for(state.states()), f"{word:o}")
 
-    def test_reader(self):
-        """docs/TUTORIAL-2.md: the card reader after three columns."""
-        lines = texts(shown_of(page_state("docs/TUTORIAL-2.md", "7112 300 7512 300", "STEP 134")))
-        self.assertEqual("CR 12 READING  COLUMN 004 ", lines[9][54:80])
-        self.assertEqual("      CARD 0000 OF 0003", lines[10][54:80].rstrip())
-
-    def test_printer(self):
-        """docs/TUTORIAL-2.md: a page printed; the paper has as many lines as there is room for, the last ones."""
-        state = page_state("docs/TUTORIAL-2.md", "1005 1414 1757", "STEP 150")
-        before = page_state("docs/TUTORIAL-2.md", "1005 1414 1757", "BACK 16")
-        lines = texts(shown_of(state, before))
-        self.assertEqual("LP 13 PRINTING COLUMN 000*", lines[11][54:80])
-        self.assertEqual("PAPER 000007* |HELLO.", lines[19].rstrip())
-        lines = texts(shown_of(before, state))
-        self.assertEqual("PAPER 000006* /HELLO.", lines[19].rstrip(), "a line without its end")
+    def test_paper(self):
+        """The paper has as many lines as there is room for, the last ones."""
         text = "".join(f"LINE {number}\n" for number in range(9))
-        symbols = {PAPER + at: f"{SYMBOLS}\n".index(symbol) for at, symbol in enumerate(text)}
-        machine = machine_with({**symbols, PAPER_LENGTH: len(text)})
-        lines = texts(shown_of(state_of(machine)), 80, 40)
+        symbols = {places.PAPER + at: f"{SYMBOLS}\n".index(symbol) for at, symbol in enumerate(text)}
+        lines = texts(state_with({**symbols, places.PAPER_LENGTH: len(text)}), size=(80, 40))
         paper = [line[14:].rstrip() for line in lines if re.match(r"(PAPER.{9}|.{14})\|LINE", line)]
         self.assertEqual([f"|LINE {number}" for number in range(9 - layout(80, 40).paper, 9)], paper)
-
-    def test_central(self):
-        """docs/CONSOLE.md: a central word; a star is before one that changed."""
-        after = machine_with({C + 0o101: 0o1234})
-        view = View(pane="central", word=0o101, central_top=0o100)
-        got = screen(shown_of(state_of(after), state_of(Machine()), view), 80, 24)
-        self.assertEqual("000101*00000000000000001234", got.lines[14].text[53:])
-        self.assertEqual("000100 00000000000000000000", got.lines[13].text[53:])
-        self.assertEqual((14, 60), got.cursor)
-
-    def test_heads(self):
-        """The heads of two columns have two blanks between them, and the numbers are below their heads."""
-        lines = texts(shown_of(state_of(Machine())))
-        self.assertIn(" Q    PHASE  WAITS FOR   CHANNELS", lines[1])
-        self.assertEqual(lines[1].index("PHASE"), lines[3].rindex("0000", 0, 41))
 
     def test_idle(self):
         """No star is beside the P of a processor that only passes through words 0000. The slot and the clock say how many
@@ -153,78 +89,24 @@ class WholeScreen(Case):
                 ("past another word", 50, {3: ("0076", "0103")}, "3")):
             states = []
             for at in range(2):
-                numbers = {SLOT: turns % 10 * at, CLOCK: turns // 10 * at}
+                numbers = {places.SLOT: turns % 10 * at, places.CLOCK: turns // 10 * at}
                 for number, ends in moves.items():
                     p, *a = ends[at].split(" A ")
-                    numbers.update({place_of("M", number, 0o100): 0o2400, P + number: int(p, 8), A + number: int(*a, 8) if a else 0})
-                states.append(state_of(machine_with(numbers)))
+                    numbers.update({places.place_of("M", number, 0o100): 0o2400, places.P + number: int(p, 8),
+                                    places.A + number: int(*a, 8) if a else 0})
+                states.append(state_with(numbers))
             for state, before in states, states[::-1]:
                 with self.subTest(what, slot=state.slot):
-                    lines = texts(shown_of(state, before))[2:12]
-                    self.assertEqual(wanted, "".join(str(number) for number, line in enumerate(lines) if line[8] == "*"))
+                    self.assertEqual(wanted, "".join(f"{at}" for at, line in enumerate(texts(state, before)[2:12]) if line[8] == "*"))
 
-
-class Parts(Case):
-    """Watches, the lines typed, and the sizes of a screen."""
-
-    def test_watches(self):
-        """docs/CONSOLE.md: five watches; eight of the longest fit a wide terminal, and a small one says how many more."""
-        state = page_state("docs/CONSOLE.md", "WATCH H 14", "STEP 100")
-        state.add_central([f"C 001000 {5:020}"])
-        rows = texts(shown_of(state))[18:20]
-        self.assertEqual("WATCHES M 00 0050 0000  A 00 000000  Q 00 0000  C 001000 00000000000000000005", rows[0].rstrip())
-        self.assertEqual("        H 14 0001", rows[1].rstrip())
-        machine = machine_with({WATCHES: tuple(("C", at) for at in range(8))})
-        state = state_of(machine)
-        rows = texts(shown_of(state))[18:20]
-        self.assertIn("C 000003 0", rows[1], "as many as there is room for")
-        self.assertTrue(rows[1].rstrip().endswith("4 more"), rows)
-        wide = texts(shown_of(state), 120, 24)
-        self.assertEqual(8, sum(f"C {at:06o} {0:020}" in line[82:] for line in wide for at in range(8)))
-        machine.numbers[WATCHES] = ("M", 0, 0o102),
-        got = screen(shown_of(state_of(machine), view=View(top=0o100, cell=0o100, following=False)), 80, 24).lines[13]
-        self.assertEqual("0100 0000  0000 w0000  0000", got.text[:27])
-
-    def test_log(self):
-        """docs/CONSOLE.md: lines with their answers, one refused."""
-        log = [("STEP 1000", ["TURNS 12 SLOT 00", "HIT H 14 0000 0001"]), ("BACK", ["ERR 07 TOO FEW KEPT"])]
-        got = screen(shown_of(state_of(Machine()), log=log), 80, 24)
-        self.assertEqual("> STEP 1000             TURNS 12 SLOT 00; HIT H 14 0000 0001", got.lines[21].text.rstrip())
-        self.assertEqual("> BACK                  ERR 07 TOO FEW KEPT", got.lines[22].text.rstrip())
-        self.assertEqual(["ERR 07 TOO FEW KEPT"], got.lines[22].marked(REFUSED))
-        got = [line[82:].rstrip() for line in texts(shown_of(state_of(Machine()), log=log), 120, 30)]
-        at = got.index("> STEP 1000")
-        self.assertEqual(["> STEP 1000", "TURNS 12 SLOT 00", "HIT H 14 0000 0001", "> BACK", "ERR 07 TOO FEW KEPT"], got[at:at + 5])
-
-    def test_cut_texts(self):
-        """A text that is cut ends with a mark; one that just fits has none."""
-        log = [("SET M 0 100 7712 1 7412 1477 7112 60 7512 100", ["OK"]), ("X" * 36, ["ERR 01 NOT A COMMAND"])]
-        lines = [line[82:] for line in texts(shown_of(state_of(Machine()), log=log), 120, 30)]
-        self.assertEqual(["> SET M 0 100 7712 1 7412 1477 7112 6\u2026", "> " + "X" * 36],
-                         [line for line in lines if line.startswith("> ")])
-        self.check_rows(lambda message: texts(shown_of(state_of(Machine()), message=message))[-1],
-                        ("X" * 81, "X" * 79 + "\u2026"), ("X" * 80, "X" * 80), ("X" * 80 + "   ", "X" * 80))
-        whole = "".join(texts(shown_of(page_state("README.md", "STEP 1300", "BACK W"))))
-        self.assertEqual(0, whole.count("\u2026"), "nothing of a small screen is cut")
-
-    def test_resized_to_each_size(self):
-        """Every size has lines of its width, each part, and the cursor on the screen."""
-        state = page_state("README.md", "STEP 1300", "BACK W")
-        parts = ("WAITS FOR", "CENTRAL", "WATCHES", "PAPER", "> STEP", "q quit")
-        for columns in (*range(80, 131), 200, 400):
-            for rows in (*range(24, 61), 200):
-                got = screen(shown_of(state, log=[("STEP", ["TURNS 1 SLOT 01"])] * 99), columns, rows)
-                whole = "\n".join(line.text for line in got.lines)
-                with self.subTest(columns=columns, rows=rows):
-                    self.assertEqual([columns] * rows, [len(line.text) for line in got.lines])
-                    self.assertTrue(0 <= got.cursor[0] < rows and 0 <= got.cursor[1] < columns, got.cursor)
-                    self.assertEqual([], [part for part in parts if part not in whole])
+    def test_messages(self):
+        """One that is cut ends with a mark; one that just fits has none."""
+        self.check_rows(lambda message: texts(state_with(), message=message)[-1],
+                        ("X" * 81, "X" * 79 + "…"), ("X" * 80, "X" * 80), ("X" * 80 + "   ", "X" * 80))
 
     def test_too_small(self):
-        state = state_of(Machine())
         for columns, rows in ((c, r) for c in (1, 2, 10, 79, 80, 200) for r in (1, 2, 23, 24) if c < 80 or r < 24):
-            with self.subTest(columns=columns, rows=rows):
-                self.assertEqual([columns] * rows, [len(line.text) for line in screen(shown_of(state), columns, rows).lines])
+            self.assertEqual([columns] * rows, list(map(len, texts(state_with(), size=(columns, rows)))), (columns, rows))
         self.assertIn("80 columns and 24 lines", small_screen(79, 24).lines[0].text)
 
     def test_windows(self):
@@ -233,3 +115,337 @@ class Parts(Case):
                         (0o100, 0o147, 0o100), (0o100, 0o150, 0o110), (0o100, 0o77, 0o70), (0o7770, 0o3, 0o7770))
         top = memory_top(0o100, 0o4000, 5)
         self.assertTrue(top % 8 == 0 and top <= 0o4000 < top + 5 * 8, top)
+
+
+class Looks(PanelCase):
+    """Marks, the cursor, and screens of all sizes."""
+
+    def test_marks(self):
+        panel = self.panel(OVERWRITTEN + "BACK 1000000\n", *LOADED)
+        self.assertEqual(["ERR 07 TOO FEW KEPT"], panel.screen().lines[22].marked(REFUSED))
+        self.assertEqual(0, "".join(press(panel, "g106<Enter>tW")).count("…"), "nothing of a small screen is cut")
+        got = panel.screen()
+        self.assertEqual((["7512", "*", "0100", "*"], ["7512"], (13, 41)),
+                         (got.lines[13].marked(CHANGED), got.lines[13].marked(CURSOR), got.cursor))
+        press(panel, "gC 1<Enter>")
+        self.assertEqual((14, 60), panel.screen().cursor)
+        press(panel, "gM 0 106<Enter>>c<Down>")
+        self.assertEqual((2, 0), panel.screen().cursor)
+
+    def test_marks_of_a_source(self):
+        panel = source_panel(self, turn=0)
+        self.assertEqual([">", "> 6 ", " START    FNC    1,CR        BEGIN A CARD"], panel.screen().lines[14].marked(HERE))
+        panel = source_panel(self, turn=0o113)
+        press(panel, "404G405G")
+        self.assertEqual(["was loader.pp:10"], panel.screen().lines[16].marked(OVER))
+        panel = self.panel("STEP 36\n", sources=[(0, self.file(counter(), "count.pp"))], size=(80, 40))
+        press(panel, "g102<Enter>")
+        self.assertEqual(["  m is 0104"], [part for line in panel.screen().lines for part in line.marked(OVER)])
+
+    def test_page(self):
+        """The parts of screens in docs/PANEL.md, each after its keys; the first one is without a source."""
+        for block, panel in zip(blocks("docs/PANEL.md", "panel"), (self.panel(OVERWRITTEN, *LOADED), source_panel(self))):
+            wanted, lines = block.text.splitlines(), press(panel, *block.words[1:])[12:19]
+            with self.subTest(block.place):
+                width = 80 if wanted[0] == lines[0].rstrip() else 52  # beside central memory
+                self.assertEqual(wanted, [line.rstrip() for line in (*(line[:width] for line in lines[:-1]), lines[-1])])
+
+    def test_culprit(self):
+        """At each size the line of the culprit is above the cursor, and the last line of the screen ends with it."""
+        for size in (80, 24), (80, 40), (100, 30), (120, 30), (160, 50):
+            got = [line[:52].rstrip() for line in press(source_panel(self, size=size), "g106<Enter>W")]
+            at = next(number for number, line in enumerate(got) if line.startswith(">0106 7512"))
+            with self.subTest(size):
+                self.assertEqual(" 0105 0026       PSN 26          was loader.pp:9", got[at - 1])
+                panel = source_panel(self, size=size)
+                self.assertEqual("the next turn, PP 00 in IAM 12 at 0104, changes M 0 106 from 7512; loader.pp:9",
+                                 bottom(panel, "g106<Enter>W"))
+
+    def check_sizes(self, panel, columns, rows, *parts):
+        """Checks that a screen has lines of its width, the cursor in it, and each of some texts once at least."""
+        panel.resize(columns, rows)
+        got = panel.screen()
+        lines, (row, column) = [line.text for line in got.lines], got.cursor
+        with self.subTest(columns=columns, rows=rows):
+            self.assertEqual([columns] * rows, list(map(len, lines)))
+            self.assertTrue(0 <= row < rows and 0 <= column < columns, (row, column))
+            self.assertEqual([], [part for part in parts if part not in "\n".join(lines)])
+
+    def test_each_size(self):
+        """Each width at some heights, and each height at some widths."""
+        panel = self.panel(OVERWRITTEN + "STEP\n" * 20, *LOADED)
+        widths, heights = (*range(80, 131), 200, 400), (*range(24, 61), 200)
+        for columns, rows in ((c, r) for c in widths for r in heights if c in (80, 81, 119, 120, 121, 131, 400) or r in (24, 25, 37, 60)):
+            self.check_sizes(panel, columns, rows, "WAITS FOR", "CENTRAL", "WATCHES", "PAPER", "> STEP", "q quit")
+
+    def test_sizes_of_instructions_and_sources(self):
+        """Tabs are expanded, and neither a long line nor a text that is not ASCII breaks a column."""
+        panel = self.panel(OVERWRITTEN, *LOADED)
+        press(panel, "113Gi")
+        for columns in (80, 100, 119, 120, 131, 200):
+            for rows in (24, 25, 31, 60):
+                self.check_sizes(panel, columns, rows, "73 words are left")
+        lines = [" START\tLDN\t1\t\tTABS", "\tUJN\tSTART\t\t\u00c4\u6f22e\u0301\U0001f600 END", "* \x1b[31m\x07",
+                 f"\tLDN\t2{' ' * 20}{'LONG ' * 40}"]
+        panel = self.panel(sources=[(0, self.file("\n".join(["  ORG 100B", *lines, "  END START", ""]), "t.pp"))])
+        self.assertEqual([">0100 1401       >2  START  LDN     1               TABS",
+                          " 0101 0376        3         UJN     START           ??e?? END",
+                          "                  4 * ?[31m?",
+                          " 0102 1402        5         LDN     2                    LONG LONG LONG LONG LO…"],
+                         [line.rstrip() for line in press(panel)[14:18]])
+        for columns in (80, 81, 119, 120, 131, 139, 160, 300):
+            for rows, pressed in ((24, "C"), (25, "C"), (50, "")):
+                press(panel, pressed)
+                self.check_sizes(panel, columns, rows, "PP 00 LDN 01: A becomes 01")
+
+    def test_a_processor_without_a_source(self):
+        """It has cells, as in a panel without a source."""
+        panel = self.panel("STEP 3\n", sources=[(3, os.path.join(EXAMPLES, "loop", "loop.pp"))])
+        plain = self.panel("".join(f"{line}\n" for line in panel.session.sent))
+        self.assertEqual(press(plain, "4)"), press(panel, ")"))
+
+    def test_picture(self):
+        """The picture of docs/PANEL.md is what the panel shows; docs/drawings/panel.py draws it anew."""
+        self.assertEqual(("", "", 0), run(sys.executable, os.path.join(TOP, "docs", "drawings", "panel.py"), "--check"))
+
+
+class Keys(PanelCase):
+    """One table for the panel and for the page of a film."""
+
+    def test_help(self):
+        """The help and docs/PANEL.md have each key, in the same order."""
+        page = read("docs", "PANEL.md").partition("\n## The keys\n")[2].partition("\n## ")[0]
+        rows = re.findall(r"^\| (`.*?`) \| (.*) \|$", page, flags=re.M)
+        wanted = [f"{'  '.join(re.findall('`(.*?)`', names)):17}{text}" for names, text in rows]
+        got = [line.rstrip() for line in press(self.panel(size=(80, 60)), "?")]
+        first, last = got.index("makes ten turns.") + 1, next(at for at, line in enumerate(got) if line.startswith("A star is"))
+        self.assertEqual(wanted, [line for line in got[first:last] if line])
+
+    def test_one_action(self):
+        """A key has one action, in the panel and in the page."""
+        actions = {}
+        for row in keys.ROWS:
+            self.assertTrue(row.panel or row.page, row)
+            for key, action in row.actions.items():
+                self.assertEqual(action, actions.setdefault(key, action), key)
+
+
+def counter():
+    """Returns the source count.pp of docs/TOOLS.md."""
+    return next(block.text for block in blocks("docs/TOOLS.md", "compass") if block.words[1] == "count.pp")
+
+
+class Sessions(PanelCase):
+    def of(self, panel):
+        """Returns what a search must leave as it is."""
+        return list(panel.session.sent), panel.session.history.kept, panel.session.state
+
+    def assert_same(self, wanted, panel, dumps=MACHINE_DUMPS):
+        """Fails if two sessions have other machines."""
+        for dump in dumps:
+            self.assertEqual(wanted.session.simulator.ask(dump), panel.session.simulator.ask(dump), dump)
+
+    def test_saved(self):
+        """What is saved has a note with the options, and performed again it is the same session."""
+        panel, path = self.panel(OVERWRITTEN, *LOADED), self.path("saved")
+        press(panel, f"g106<Enter>tWg100<Enter>tyW:set a 0 0<Enter>y25sw{path}<Enter>")
+        self.assertTrue(panel.session.is_saved())
+        first, *lines = read(path).splitlines()
+        self.assertTrue(first.startswith("* ") and DECK in first, first)
+        self.assertEqual([*OVERWRITTEN.splitlines(), "WATCH M 0 106", "BACK W", "WATCH M 0 100", "BACK W", "set a 0 0", "STEP 25"], lines)
+        again = self.panel(read(path), *LOADED)
+        self.assertEqual(panel.session.log, [entry for entry in again.session.log if not entry[0].startswith("*")])
+        self.assertEqual(("0060", "000000"), tuple(panel.session.state.processors[0].registers[name] for name in "PA"))
+
+    def test_lines_of_a_source_are_saved(self):
+        """They are sent before the script."""
+        panel, path = self.panel("STEP 3\n", sources=[(0, self.file(counter(), "count.pp"))]), self.path("saved")
+        press(panel, f"w{path}<Enter>")
+        self.assertEqual(panel.session.state.found, self.panel(read(path)).session.state.found)
+
+    def test_the_question_who_makes_a_change_changes_nothing(self):
+        """The machine, what is kept and what is ahead are as they would be without it."""
+        panel, plain = self.panel(OVERWRITTEN, *LOADED), self.panel(OVERWRITTEN + "WATCH M 0 106\nBACK W\n", *LOADED)
+        press(panel, "g106<Enter>tW")
+        self.assert_same(plain, panel)
+        self.assertEqual([["FORWARD 675 SLOT 04"], ["ERR 16 TOO FEW AHEAD"]],
+                         [panel.session.simulator.ask(line) for line in ("FORWARD 675", "FORWARD")])
+        self.assertEqual(plain.session.sent, panel.session.sent)
+
+    def test_stops(self):
+        """Ctrl-C ends a long run, a script and each kind of search, and the session is where it was."""
+        panel = self.panel("STEP\n" * 9)
+        self.assertEqual((9, True), (panel.session.history.kept, panel.session.is_saved()))
+        panel.is_stopped = lambda: True
+        press(panel, "30000000s")
+        self.assertEqual(["STEP", "STEP 1000000"], panel.session.sent[-2:])
+        panel = self.panel()
+        panel.is_stopped = lambda: True
+        panel.perform_script(["STEP"] * 5)
+        self.assertEqual((0, True), (panel.session.history.kept, "stopped after 0 (decimal) lines" in bottom(panel)))
+        source = [(0, self.file(counter(), "count.pp"))]
+        for begun, pressed, text in ((self.panel(FIRST_PROGRAM), "uH 13 is X<Enter>", r"^searched to turn [0-7]+; Ctrl-C stops$"),
+                                     (self.panel("SET M 0 20 5\nSTEP 1000\n"), "gM 0 20<Enter>c", "^searched back to turn "),
+                                     (self.panel("STEP 1000\nBACK 10\n", sources=source), "N", r"^searched to turn [0-7]+; Ctrl-C stops$")):
+            shown, before = [], self.of(begun)
+            begun.is_stopped, begun.between_reports = lambda: True, 0
+            begun.show = lambda some=shown, one=begun: some.append(one.message)
+            with self.subTest(pressed):
+                self.assertEqual(("the search was stopped", None), (bottom(begun, pressed), begun.page))
+                self.assertRegex(shown[0], text)
+                self.assertEqual(before, self.of(begun))
+
+
+class Turns(PanelCase):
+    """The numbers of turns, and back without a limit. The expected states are those of a run up to the turn."""
+
+    SCRIPT = ("SET M 0 100 1405 3420 3620 300", "SET P 0 100", "STEP 35", "SET A 1 7", "STEP 3000")
+
+    def setUp(self):
+        self.long = self.wide_panel("\n".join([*self.SCRIPT, "WATCH A 1", "UNWATCH A 1", "STEP 100000"]), "--history", "16")
+
+    def assert_at(self, turn, panel):
+        """Fails if the machine is not that after so many turns."""
+        made = min(turn, 0o35)
+        lines = [*self.SCRIPT[:2], *([f"STEP {made:o}"] if made else []), *(self.SCRIPT[3:4] if turn >= 0o35 else []),
+                 *([f"STEP {turn - made:o}"] if turn > made else [])]
+        Sessions.assert_same(self, self.panel("\n".join(lines)), panel, MACHINE_DUMPS[:4])
+        self.assertIn(f" TURN {turn:o} ", press(panel)[0])
+
+    def test_go_to_turn(self):
+        panel = self.long
+        self.assertIn(" TURN 103035 ", press(panel)[0])
+        for pressed, turn in (("405G", 0o405), ("G406<Enter>", 0o406), ("G2000<Enter>", 0o2000), ("34G", 0o34), ("35G", 0o35), ("36G", 0o36),
+                              ("G0<Enter>", 0), ("G1<Enter>", 1), ("G100000<Enter>", 0o100000), ("103035G", 0o103035)):
+            with self.subTest(pressed):
+                press(panel, pressed)
+                self.assert_at(turn, panel)
+        with self.assertRaisesRegex(Failure, "there is no turn 1301 yet: the last one is 1300"):
+            self.panel(OVERWRITTEN, *LOADED, turn=0o1301)
+
+    def test_back(self):
+        """ERR 07 of the simulator is answered by a replay, and nothing of what is ahead is lost."""
+        self.assertEqual("replayed in a fresh simulator", bottom(self.long, "22b"))
+        self.assert_at(0o103013, self.long)
+        self.assertIn(" KEPT 20  AHEAD 22 ", press(self.long)[0])
+
+    def test_history_goes_on(self):
+        """After a replay, back and forward by each key, also over a setting; the number of a turn has one state."""
+        press(self.long, "2000G")
+        for pressed, turn in (("b", 0o1777), ("B", 0o1765), ("s", 0o1766), ("S", 0o2000), ("14B", 0o1610), ("1000G", 0o1000), ("3S", 0o1036),
+                              ("G0<Enter>", 0), ("34s", 0o34), ("S", 0o46), ("3B", 0o10), ("<End>", 0o103035), ("7s", 0o103044),
+                              ("b", 0o103043)):
+            with self.subTest(pressed):
+                press(self.long, pressed)
+                self.assert_at(turn, self.long)
+
+    def test_saved(self):
+        """The script that is saved gives the same machine; what it does not have is said."""
+        panel, path = self.long, self.path("saved")
+        press(panel, "2000G5s")
+        self.assertFalse(panel.session.is_saved())
+        self.assertRegex(bottom(panel, f"w{path}<Enter>"), r"lines are saved in \S+, without the last 101032 actions ahead$")
+        self.assert_at(0o2005, self.panel(read(path)))
+        press(panel, f"<End>w! {path}<Enter>")
+        self.assert_at(0o103035, self.panel(read(path)))
+
+
+class Lines(PanelCase):
+    """Steps by lines of a source."""
+
+    def traced(self, path, turns):
+        """Returns after how many turns PP 00 begins a line, by the lines that trace writes."""
+        found, line = [], None
+        for made in tool("trace", "--source", "0", path, "--processor", "0", script=f"STEP {turns:o}\n").out.splitlines():
+            turn, phase, shown = re.match(r"TURN ([0-7]+) .* PHASE ([0-7]{4})(?: WAITS)?(?:  \S+?:([0-9]+): .*)?", made).groups()
+            was, line = line, shown if phase == "0000" else line
+            found += [int(turn, 8) - 1] if line not in (None, was) else []
+        return found
+
+    def assert_walks(self, panel, pressed, turns):
+        """Fails if keys do not go to after these turns."""
+        self.assertEqual([f"{turn:o}" for turn in turns], [press(panel, key)[0].split()[1] for key in pressed])
+
+    def test_as_traced(self):
+        """Each line forward, over turns that were made and over new ones, and each line back: macros with loops, code that moves itself
+        and subroutines."""
+        for path, turns in ((f"{PROGRAMS}/mover.pp", 0o4500), (f"{PROGRAMS}/monitor.pp", 0o600), (f"{EXAMPLES}/loop/loop.pp", 0o200)):
+            with self.subTest(path):
+                starts = self.traced(path, turns)
+                panel = self.panel("STEP 300\n", sources=[(0, path)], turn=0)
+                self.assert_walks(panel, "N" * (len(starts) - 1), starts[1:])
+                self.assert_walks(panel, "P" * (len(starts) - 1), starts[-2::-1])
+                self.assert_walks(panel, ["11N", "3N", "10P"], [starts[0o11], starts[0o14], starts[4]])
+
+    def test_none(self):
+        """The loader never comes to its own line again; it is said since when the processor is in none."""
+        panel = source_panel(self, turn=0o36, size=(120, 24))
+        said = bottom(panel, "N")
+        self.assertRegex(said, "^NONE: no other line up to turn 10001300; PP 00 is in none after turn [0-7]+$")
+        press(panel, f"{said.split()[-1]}G")
+        self.assertEqual("0106", panel.session.state.processors[0].registers["P"])
+
+
+class Devices(PanelCase):
+    """Pictures and keys of devices, and runs with them."""
+
+    def at(self, panel):
+        """Returns the turn, the word at 0201, the next byte of the tape, and how many units are ahead."""
+        session = panel.session
+        return session.history.turns, session.state.memories[0].word(0o201), session.simulator.state().place, session.history.to_redo
+
+    def test_large_screens_and_small_ones(self):
+        """At 160 by 50 a screen has 64 cells, so a large symbol has strokes; a picture is seen whole at 160 by 24 too."""
+        def rows(pressed=""):
+            return [line.strip() for line in press(panel, pressed) if line.strip()]
+        panel = self.panel(DISPLAYS, devices=[ConsoleDisplay()], size=(160, 50))
+        shown = rows("200sv")
+        self.assertEqual((5, "\u2846", "\u28c7\u28c0\u2840"), (len(shown), shown[2][:1], shown[3][:3]), shown)
+        panel.resize(160, 24)
+        self.assertEqual("L I F T", rows()[2])
+        panel.resize(60, 10)
+        self.assertEqual(10, len(press(panel)))
+
+    def test_keys(self):
+        """What is typed for a device is there until the program takes it."""
+        panel = self.panel(DISPLAYS, devices=[ConsoleDisplay()])
+        for pressed, wanted in (("Ka\\r<Enter>", "A\r"), ("300s", "\r"), ("<Home>", ""), ("Kb<Enter>", ""), ("<End>Kb!<Enter>", "\r")):
+            press(panel, pressed)
+            self.assertEqual(wanted, panel.session.simulator.state().keys, pressed)
+
+    def test_to_and_fro(self):
+        panel = self.wide_panel(READS, devices=[PaperTape(b"AB")])
+        for pressed, *wanted in (("", 0o200, "0102", 2, 0), ("b", 0o177, "0102", 2, 1), ("B", 0o165, "0102", 2, 0o13),
+                                 ("<", 0, "0000", 0, 0o202), (">", 0o200, "0102", 2, 0), ("62G", 0o62, "0000", 2, 0o116),
+                                 ("s", 0o63, "0102", 2, 0o115), ("50G", 0o50, "0000", 1, 0o130), ("s", 0o51, "0000", 2, 0o127),
+                                 (">3s", 0o203, "0102", 2, 0)):
+            press(panel, pressed)
+            self.assertEqual(tuple(wanted), self.at(panel), pressed)
+
+    def test_saved(self):
+        panel, path = self.wide_panel(READS, devices=[PaperTape(b"AB")]), self.path("saved")
+        press(panel, "60GSSty", f"w{path}<Enter>")
+        lines = read(path).splitlines()
+        self.assertEqual(["* A session of panel.", *READS.splitlines()[:2], "STEP 1", "* DEVICE PaperTape", "SET H 11 I"], lines[:6])
+        with Console([program()]) as console:
+            list(console.ask_each(lines))
+            for line in "DUMP PP 0", "DUMP M 0 200 203", "DUMP H", "DUMP W":
+                self.assertEqual(panel.session.simulator.ask(line), console.ask(line))
+
+    def test_origin_and_changes(self):
+        panel = self.wide_panel(READS, devices=[PaperTape(b"AB")])
+        self.assertIn("H 11 0102 TURN 51 DEVICE PaperTape", "\n".join(press(panel, "g201<Enter>c")))
+        press(panel, "<Down><Enter>")  # to before the turn of the reply
+        self.assertEqual((0o50, "0000", 1), self.at(panel)[:3])
+        self.assertEqual("NONE: P 0 = 77, in turns 51 to 200", bottom(panel, "uP 0 = 77<Enter>"))
+        self.assertEqual("the next turn, PP 00 in IAM 11 at 0104, makes the change", bottom(panel, ">gH 11<Enter>W"))
+        self.assertEqual((0o50, "0000", 1), self.at(panel)[:3])
+
+    def test_a_device_fails(self):
+        panel = self.wide_panel(FAILS, devices=[device_of(COUNTS)])
+        session, channel = panel.session, panel.session.state.channels[0o11]
+        self.assertEqual("function of Counts must return a state and a Reply, and returned (2, 5)", bottom(panel, "12s"))
+        self.assertEqual((1, 1, channel, None),
+                         (session.history.turns, session.simulator.state(), session.state.channels[0o11], panel.fault))
+        press(panel, "b")
+        self.assertEqual((0, 0), (session.history.turns, session.simulator.state()))

@@ -1,21 +1,12 @@
-"""Runs the program on every case of tests/cases and of examples/, and tests where it meets the system.
-
-A case is a folder:
-  args      the program's words, one a line (none: no words)
-  stdin     its standard input (none: no input)
-  stdout    what it must write to standard output, byte for byte
-  stderr    what it must write to standard error (none: nothing)
-  status    its exit status (none: 0)
-  how       a way of running that is not the plain one: a function of Ways, and its words
-Other files lie where the program runs.
-"""
+"""Runs the program on every case of tests/cases.txt and of examples/, and tests where it meets the system."""
 
 import os
 import subprocess
 import time
 
-from tests.support import EXAMPLES, PATIENCE, TOP, Case, add_tests, program, read
-from tests.ways import CaseFolders, cases, part, words_of
+from tests.cases import examples, named
+from tests.support import PATIENCE, Case, add_tests, program, read
+from tests.ways import CaseTests
 
 # The loops over many turns, and the functions of a turn that stand in them, and so have no name of their own in the program.
 LOOPS = (b"pp_history::session::Session::repeat", b"pp_history::session::Session::take_back",
@@ -24,29 +15,27 @@ OF_A_TURN = (b"pp_rig::rig::RigReversible::perform", b"pp_rig::rig::Rig::perform
              b"pp_rig::rig::Rig::finish_turn", b"pp_rig::rig::Rig::undo_turn", b"pp_step::stepping::step_short", b"pp_step::effect::effect")
 
 
-class Cases(CaseFolders):
-    """The cases of tests/cases and of examples/."""
+class Cases(CaseTests):
+    """The cases of tests/cases.txt and of examples/."""
 
 
-add_tests(Cases, Cases.check, cases(os.path.join(TOP, "tests", "cases")))
-add_tests(Cases, Cases.check, [(f"example_{name}", case) for name, case in cases(EXAMPLES)])
+add_tests(Cases, Cases.check, named())
 
 
 class Listed(Case):
     """examples/README.md shows the command of each example."""
 
     def check(self, case):
-        name, files = os.path.basename(case), os.listdir(case)
-        words = ["./pp6600"] + [f"examples/{name}/{word}" if word in files else word for word in words_of(case)]
-        how = part(case, "how").decode().split()
-        if how[:1] == ["by"]:
-            words = [f"examples/{name}/{how[1]}", *words]
-        if "stdin" in files:
-            words.append(f"<examples/{name}/stdin")
+        folder = f"examples/{case.name}"
+        words = ["./pp6600"] + [f"{folder}/{word}" if word in case.files else word for word in case.words]
+        if case.how[:1] == ["by"]:
+            words = [f"{folder}/{case.how[1]}", *words]
+        if case.script:
+            words.append(f"<{folder}/stdin")
         self.assertIn(f"    {' '.join(words)}", read("examples", "README.md").splitlines())
 
 
-add_tests(Listed, Listed.check, cases(EXAMPLES))
+add_tests(Listed, Listed.check, [(case.name, case) for case in examples()])
 
 
 class System(Case):

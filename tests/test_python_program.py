@@ -1,4 +1,4 @@
-"""pp6600-python is the proved program's double: the cases of tests/cases and of examples/, the sessions of the pages, and random ones.
+"""pp6600-python is the proved program's double: the cases of tests/cases.txt and of examples/, the sessions of the pages, and random ones.
 
     PP6600_PYTHON=SEED:COUNT   compares COUNT random sessions from seed SEED on; the default is 0:40
 
@@ -16,25 +16,25 @@ import subprocess
 import sys
 
 from tests import slips
+from tests.cases import named
 from tests.fixtures import sessions
 from tests.generator import Maker, commands
 from tests.support import EXAMPLES, PATIENCE, TOP, Case, add_tests, program, read, run, write
 from tests.test_program import writer
-from tests.ways import CaseFolders, cases
+from tests.ways import CaseTests
 
 PYTHON_PROGRAM = os.path.join(TOP, "pp6600-python")
 BY_PATH = os.path.join(TOP, "tools", "pp6600", "engine", "plain", "__main__.py")
 
 
-class Cases(CaseFolders):
+class Cases(CaseTests):
     """What the pages demand of the program."""
 
     def check_python(self, case):
         self.check(case, PYTHON_PROGRAM)
 
 
-add_tests(Cases, Cases.check_python, cases(os.path.join(TOP, "tests", "cases")))
-add_tests(Cases, Cases.check_python, [(f"example_{name}", case) for name, case in cases(EXAMPLES)])
+add_tests(Cases, Cases.check_python, named())
 
 
 @contextlib.contextmanager

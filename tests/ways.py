@@ -1,33 +1,12 @@
-"""The cases of tests/cases and of examples/, which are folders, and the ways to run one; tests/test_program.py says what is in a folder."""
+"""The ways to run a stored case of the program."""
 
 import os
 import resource
-import shutil
 import subprocess
 import sys
 
+from tests.cases import part
 from tests.support import PATIENCE, TOP, Case, program, write
-
-PLAIN = ("args", "stdin", "stdout", "stderr", "status", "how")
-
-
-def cases(root):
-    """Returns the name and the folder of each case."""
-    paths = [os.path.join(root, name) for name in sorted(os.listdir(root))]
-    return [(os.path.basename(path), path) for path in paths if os.path.isdir(path)]
-
-
-def part(case, name, default=b""):
-    """Returns the bytes of a file of a case."""
-    path = os.path.join(case, name)
-    if not os.path.exists(path):
-        return default
-    with open(path, "rb") as file:
-        return file.read()
-
-
-def words_of(case):
-    return part(case, "args").decode().splitlines()
 
 
 class Ways:
@@ -35,7 +14,7 @@ class Ways:
 
     def __init__(self, case, folder, simulator=None):
         self.case, self.folder = case, folder
-        self.script, self.words = part(case, "stdin"), [simulator or program(), *words_of(case)]
+        self.script, self.words = case.script, [simulator or program(), *case.words]
 
     def plain(self, **how):
         how = {"stdout": subprocess.PIPE, "stderr": subprocess.PIPE, **how}
@@ -85,7 +64,7 @@ class Ways:
         """With a program at the other end that reads the answer to each line before it writes the next."""
         seen = b""
         with self.started() as process:
-            for line, answer in zip(self.script.splitlines(keepends=True), part(self.case, "stdout").splitlines(keepends=True)):
+            for line, answer in zip(self.script.splitlines(keepends=True), self.case.out.splitlines(keepends=True)):
                 process.stdin.write(line)
                 seen += (read_now := process.stdout.readline())
                 if read_now != answer:
@@ -98,15 +77,14 @@ class Ways:
         return subprocess.Popen(self.words, cwd=self.folder, stdin=pipe, stdout=pipe, stderr=pipe, bufsize=0)
 
 
-class CaseFolders(Case):
-    """Tests of cases, each of which is a folder."""
+class CaseTests(Case):
+    """Tests of stored cases."""
 
     def check(self, case, simulator=None):
         folder = self.room()
-        for name in os.listdir(case):
-            if name not in PLAIN:
-                shutil.copy(os.path.join(case, name), folder)
-        way, *words = part(case, "how", b"plain").decode().split()
+        for name, data in case.files.items():
+            write(os.path.join(folder, name), data)
+        way, *words = case.how or ["plain"]
         out, err, status = getattr(Ways(case, folder, simulator), way.replace("-", "_"))(*words)
-        self.assertEqual(part(case, "stdout"), out)
-        self.assertEqual((part(case, "stderr"), int(part(case, "status", b"0"))), (err, status))
+        self.assertEqual(case.out, out)
+        self.assertEqual((case.err, case.status), (err, status))

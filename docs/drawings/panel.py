@@ -18,7 +18,7 @@ from pp6600.shell.command_line import Failure, arguments, run, script_lines, sim
 from pp6600.front.panel.app import Panel
 from pp6600.front.panel.session import Session
 from pp6600.front.panel.text import CHANGED, CHOSEN, CURSOR, HEAD, HERE as AT_P, REFUSED, SLOT, TITLE
-from pp6600.language.sources import symbols_from
+from pp6600.language.symbol_options import symbols_from
 
 EXAMPLE = os.path.join(TOP, "examples", "overwritten-loader")
 LINES = 6  # of its script, up to the first question

@@ -1,24 +1,25 @@
-"""Checks the definitions as they are now: the examples of docs/examples.txt, the worked rows, and the cases of tests/cases.
+"""Checks the definitions as they are now: the examples of docs/examples.txt, the worked rows, and the cases of tests/cases.txt.
 
 The examples were recorded from these definitions. The worked rows, which the prover proves, and the cases, whose answers are those of
 the pages, say what the definitions should be.
 """
 
 import os
-from typing import Any, Iterator, Tuple
+import tempfile
+from typing import Any, Iterator
 
 from book.names import Unresolved
-from evaluating.asking import CUT, Definitions, performed
+from evaluating.asking import CUT, Definitions, definitions_of, performed
 from evaluating.examples import FILE, faults_of, worked
 from evaluating.lists import Stuck
+from tests.cases import Stored, stored
 
-CASES = "tests/cases"
 NOT_COMPUTED = ("a statement about each or some x", CUT)
 
 
 def faults_of_rows(top: str) -> Iterator[str]:
     """Yields what is wrong with the worked rows."""
-    definitions = Definitions(top)
+    definitions = definitions_of(top)
     for name, text, scope in worked(top, definitions):
         try:
             if definitions.value(text, scope) is not True:
@@ -28,44 +29,30 @@ def faults_of_rows(top: str) -> Iterator[str]:
                 yield f"worked row {name}: can't compute {what}"
 
 
-def read(folder: str, name: str, default: bytes = b"") -> bytes:
-    """Returns the bytes of a file, or others if it is not there."""
-    try:
-        with open(os.path.join(folder, name), "rb") as file:
-            return file.read()
-    except FileNotFoundError:
-        return default
-
-
-def plain_cases(top: str) -> Iterator[Tuple[str, str]]:
-    """Yields the names and folders of the cases that only run the program."""
-    for name in sorted(os.listdir(os.path.join(top, CASES))):
-        folder = os.path.join(top, CASES, name)
-        if os.path.isdir(folder) and not os.path.exists(os.path.join(folder, "how")):
-            yield name, folder
-
-
-def outcome(definitions: Definitions, folder: str) -> Any:
+def outcome(definitions: Definitions, case: Stored) -> Any:
     """Returns what a case writes to standard output and to standard error, and its status, by the definitions."""
     here = os.getcwd()
-    os.chdir(folder)
-    try:
-        return performed(definitions, read(folder, "args").decode().splitlines(), lambda: read(folder, "stdin"))
-    finally:
-        os.chdir(here)
+    with tempfile.TemporaryDirectory() as folder:
+        os.chdir(folder)
+        try:
+            for name, data in case.files.items():
+                with open(name, "wb") as file:
+                    file.write(data)
+            return performed(definitions, case.words, lambda: case.script)
+        finally:
+            os.chdir(here)
 
 
 def faults_of_cases(top: str) -> Iterator[str]:
-    """Yields the cases that have another outcome."""
-    definitions = Definitions(top)
-    for name, folder in plain_cases(top):
-        wanted = read(folder, "stdout"), read(folder, "stderr"), int(read(folder, "status", b"0"))
+    """Yields the cases that only run the program, and have another outcome."""
+    definitions = definitions_of(top)
+    for case in stored():
         try:
-            if outcome(definitions, folder) != wanted:
-                yield f"{CASES}/{name} has another outcome"
+            if not case.how and outcome(definitions, case) != (case.out, case.err, case.status):
+                yield f"the case {case.name} has another outcome"
         except (Stuck, Unresolved) as what:
             if str(what) not in NOT_COMPUTED:
-                yield f"{CASES}/{name}: can't compute {what}"
+                yield f"the case {case.name}: can't compute {what}"
 
 
 def check(top: str) -> int:

@@ -24,7 +24,7 @@ from typing import TYPE_CHECKING, Any
 
 from .failure import Failure
 from .run.forms import Place
-from .run.simulator import Console
+from .run.console import Console
 
 if TYPE_CHECKING:
     from .run.attached import Attached

@@ -2,6 +2,11 @@
 ghost use Rattle.std.specs.Prelude.{◌≡◌};
 ghost use Rattle.pp_assembler.specs.Cells.{IsProgram, IsStart};
 
+use crate::lines::Lines;
+use crate::message::Message;
+use crate::pass::Row;
+use crate::symbols::Symbols;
+
 /// A word that a source puts into a cell of the memory.
 #[derive(Clone, Copy, Debug, PartialEq, Eq)]
 pub struct Cell {
@@ -14,7 +19,7 @@ pub struct Cell {
 }
 
 /// What a source makes: its cells, in the order of their addresses and each address once, and where a processor begins.
-#[derive(Debug, Drop)]
+#[derive(Drop)]
 pub struct Program {
     pub cells: Vec<Cell>,
     /// The operand of END, up to octal 7777.
@@ -49,4 +54,21 @@ impl Program {
     {
         self.start
     }
+}
+
+/// All that is known of a source: the program that it makes, its statements and their rows in the listing, its names, and what is wrong
+/// with it. If there is a message, the program is not to be used.
+#[derive(Drop)]
+pub struct Assembly {
+    pub program: Program,
+    /// The lines, each with those that continue it.
+    pub lines: Lines,
+    pub symbols: Symbols,
+    /// The words of the rows.
+    pub words: Vec<u16>,
+    pub rows: Vec<Row>,
+    /// What is wrong, in the order of the lines.
+    pub messages: Vec<Message>,
+    /// What is to be known, in the order of the lines.
+    pub warnings: Vec<Message>,
 }

@@ -3,6 +3,7 @@ ghost use Rattle.std.specs.Prelude.{◌≤◌};
 
 use crate::instructions::name_of;
 use crate::statement::{Kind, Name, Operand, Operation, Statement};
+use crate::texts::SYMBOLS;
 use pp_arith::octal;
 use std::alloc::{AllocError, Global};
 
@@ -13,9 +14,6 @@ const OPERATION: usize = 6;
 
 /// The column, from 0, of the symbols of words, a comment.
 const COMMENT: usize = 39;
-
-/// The symbols of display code, in the order of their codes.
-static SYMBOLS: [u8; 64] = *b":ABCDEFGHIJKLMNOPQRSTUVWXYZ0123456789+-*/()$= ,.#[]%\"_!&'?<>@\\^;";
 
 /// Appends a number in octal, with at least as many digits as are asked for, 1 to 22.
 fn put_octal(text: &mut Vec<u8>, number: u32, digits: u8) -> Result<(), AllocError>

@@ -4,7 +4,8 @@ import sys
 
 from ..language.source.forms import lines_of
 from ..language.source.passes import assembled
-from ..language.sources import add_texts, complaints, source_lines, texts_in, unit_of
+from ..language.sources import complaints, source_lines, texts_in, unit_of
+from ..language.symbol_options import add_texts
 from ..shell.command_line import Parser, processor, write_lines
 
 DESCRIPTION = """Assembles a program of a peripheral processor, in COMPASS notation, and writes a line for each word: its address
@@ -17,7 +18,7 @@ FORMS = {"listing": "a listing: the address, the words and the line of the sourc
 WRONG = 1
 
 
-def main():
+def main() -> int:
     parser = Parser(DESCRIPTION, "[--set N | --listing | --panel | --deck | --words] [--text DIR] [--unit NAME] FILE")
     forms = parser.add_mutually_exclusive_group()
     forms.add_argument("--set", metavar="N", type=processor,

@@ -1,16 +1,17 @@
 """Words of 12 bits, and the SET lines that load them."""
 
 import re
+from typing import List, Sequence
 
 from ..failure import Failure
 from ..run.forms import CELLS, ROW
 
 
-def in_rows(words, size=ROW):
+def in_rows(words: Sequence[str], size: int = ROW) -> List[Sequence[str]]:
     return [words[at:at + size] for at in range(0, len(words), size)]
 
 
-def set_lines(processor, first, words):
+def set_lines(processor: int, first: int, words: Sequence[str]) -> List[str]:
     """Returns the lines that put words of four digits into the cells from the first on; after cell 7777 comes cell 0000."""
     if len(words) > CELLS:
         raise Failure(f"{len(words):o} (octal) words are more than the 10000 cells of a processor")
@@ -18,7 +19,7 @@ def set_lines(processor, first, words):
             for row, part in enumerate(in_rows(words))]
 
 
-def word_of(text):
+def word_of(text: str) -> str:
     """Returns the four digits of an octal number."""
     if not re.fullmatch("0*[0-7]{1,4}", text):
         raise Failure(f"{text} is no octal number to 7777")

@@ -1,5 +1,7 @@
 """Text as a deck of cards."""
 
+from typing import List, Sequence
+
 from ..language.display_code import words_of
 from ..run.forms import COLUMNS_OF_CARD
 from ..shell.command_line import Failure, Parser, read_lines, write_lines
@@ -10,14 +12,14 @@ DESCRIPTION = """Turns each line of a text into a card of display code, two symb
 A card has 80 columns, so a line has at most 160 symbols; a deck has at most 2000 cards (these numbers are decimal)."""
 
 
-def cards(lines):
+def cards(lines: Sequence[str]) -> List[str]:
     """Returns the line of a deck file for each line of a text."""
     if len(lines) > MOST_CARDS:
         raise Failure(f"a deck has at most {MOST_CARDS} (decimal) cards")
     return [card(number, line) for number, line in enumerate(lines, 1)]
 
 
-def card(number, line):
+def card(number: int, line: str) -> str:
     try:
         words = words_of(line)
     except Failure as failure:
@@ -27,7 +29,7 @@ def card(number, line):
     return " ".join(words) or "0"
 
 
-def main():
+def main() -> None:
     parser = Parser(DESCRIPTION)
     parser.add_argument("text", nargs="?", metavar="FILE", help="without it, standard input is the text")
     write_lines(cards(read_lines(parser.parse().text)))

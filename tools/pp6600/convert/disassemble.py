@@ -9,7 +9,7 @@ DESCRIPTION = """Writes cells as a source that assembles to the same words. FILE
 a listing, whose labels are kept. What a processor reaches from the entries on is code, and the rest is data."""
 
 
-def main():
+def main() -> None:
     parser = Parser(DESCRIPTION, "[--entry A ..] [FILE]")
     parser.add_argument("--entry", metavar="A", action="append", type=cell, default=[],
                         help="a cell at which a processor goes on, octal; once for each; without one it is the first cell")

@@ -1,5 +1,8 @@
 """Files of words, as SET lines."""
 
+from argparse import Namespace
+from typing import List, Optional, Sequence, Tuple
+
 from ..language.listing import Listing, complain_of, is_listing, without_mark
 from ..language.printed import Columns
 from ..shell.command_line import Failure, Parser, bytes_of, cell, processor, read_lines, words_after, write_lines
@@ -13,11 +16,11 @@ go where the addresses say, so A is left out. A B after a number is taken. What 
 has an error flag or is not understood is an error."""
 
 
-def octal_words(lines):
+def octal_words(lines: Sequence[str]) -> List[str]:
     """Returns the words of the lines of a text, separated by blanks and tabs. What follows a * is a note."""
     if is_listing(lines):
         raise Failure("the first numbers of the lines are addresses: with --listing, and without A, the words go there")
-    words = []
+    words: List[str] = []
     for number, line in enumerate(lines, 1):
         try:
             words += [word_of(text) for text in line.partition("*")[0].split()]
@@ -26,7 +29,7 @@ def octal_words(lines):
     return words
 
 
-def packed_words(data):
+def packed_words(data: bytes) -> List[str]:
     """Returns the words of bytes that hold two words in three, the upper bits first. After an odd number of words the last
     four bits are 0."""
     bits = data.hex()
@@ -36,7 +39,7 @@ def packed_words(data):
     return [f"{int(bits[at:at + 3], 16):04o}" for at in range(0, len(bits) - left, 3)]
 
 
-def two_byte_words(data):
+def two_byte_words(data: bytes) -> List[str]:
     """Returns the words of bytes that hold each word in two, the upper bits first."""
     if len(data) % 2:
         raise Failure(f"{len(data)} (decimal) bytes are not two for each word")
@@ -46,13 +49,13 @@ def two_byte_words(data):
     return [f"{upper << 8 | lower:04o}" for upper, lower in zip(data[::2], data[1::2])]
 
 
-def words_of(asked, path):
+def words_of(asked: Namespace, path: Optional[str]) -> List[str]:
     if asked.packed:
         return packed_words(bytes_of(path))
     return two_byte_words(bytes_of(path)) if asked.two_bytes else octal_words(without_mark(read_lines(path)))
 
 
-def lines_of(asked):
+def lines_of(asked: Namespace) -> Tuple[List[str], str]:
     """Returns the SET lines, and what is said of them."""
     if (asked.columns or asked.trust) and not asked.listing:
         raise Failure(f"--{'columns' if asked.columns else 'trust'} is for --listing")
@@ -69,7 +72,7 @@ def lines_of(asked):
     return set_lines(number, cell(asked.words[1]), words_of(asked, path)), ""
 
 
-def main():
+def main() -> None:
     parser = Parser(DESCRIPTION, "[--packed | --two-bytes | --listing [--columns A,W,T] [--trust]] N [A] [FILE]")
     kinds = parser.add_mutually_exclusive_group()
     kinds.add_argument("--packed", action="store_true",

@@ -1,6 +1,9 @@
 """The cells of a processor at the end of a script, in each form that load takes, and as a deck or a panel."""
 
-from ..language.sources import add_sources, symbols_of
+from argparse import Namespace
+from typing import Iterable, List, Sequence
+
+from ..language.symbol_options import add_sources, symbols_of
 from ..run.forms import COLUMNS_OF_CARD, ROW
 from ..shell.command_line import Failure, arguments, cell, processor, words_after, write_bytes, write_lines
 from ..shell.script import replayed
@@ -11,34 +14,34 @@ DESCRIPTION = """Writes cells A to B of processor N at the end of a script, for 
 or as a deck or a panel of the simulator."""
 
 
-def packed(words):
+def packed(words: Sequence[str]) -> bytes:
     """Returns bytes that hold two words in three, the upper bits first. After an odd number of words come four bits of 0."""
     return bytes.fromhex("".join(f"{int(word, 8):03x}" for word in words) + "0" * (len(words) % 2))
 
 
-def two_bytes(words):
+def two_bytes(words: Sequence[str]) -> bytes:
     """Returns bytes that hold each word in two, the upper bits first."""
     return b"".join(int(word, 8).to_bytes(2, "big") for word in words)
 
 
-def listing(first, words):
+def listing(first: int, words: Sequence[str]) -> List[str]:
     """Returns rows that begin with their addresses."""
     return [f"{first + ROW * at:04o} {' '.join(row)}" for at, row in enumerate(in_rows(words))]
 
 
-def deck(words):
+def deck(words: Sequence[str]) -> Iterable[str]:
     """Returns cards with as many words as they have columns."""
     return map(" ".join, in_rows(words, COLUMNS_OF_CARD))
 
 
-def panel(words):
+def panel(words: List[str]) -> List[str]:
     """Returns the words of a dead start panel, with zeros after them."""
     if len(words) > PANEL_WORDS:
         raise Failure(f"a panel has {PANEL_WORDS} (decimal) words, and these are {len(words)} (decimal)")
     return words + ["0000"] * (PANEL_WORDS - len(words))
 
 
-def written(asked, number, first, words):
+def written(asked: Namespace, number: int, first: int, words: List[str]) -> Iterable[str]:
     """Returns the lines of a form that is text."""
     if asked.set:
         return set_lines(number, first, words)
@@ -47,7 +50,7 @@ def written(asked, number, first, words):
     return deck(words) if asked.as_deck else panel(words) if asked.as_panel else map(" ".join, in_rows(words))
 
 
-def main():
+def main() -> int:
     parser = arguments(DESCRIPTION, "[OPTION ..] N A B [SCRIPT]")
     kinds = parser.add_mutually_exclusive_group()
     kinds.add_argument("--packed", action="store_true", help="binary: two words in three bytes, the upper bits first")

@@ -1,7 +1,8 @@
 """Lines with their answers, as a session is shown."""
 
-from ..language.sources import add_sources, symbols_of
-from ..run.simulator import Simulator
+from ..language.symbol_options import add_sources, symbols_of
+from ..run.session import Session
+from ..run.tape import Position
 from ..shell.command_line import add_script, add_turn, arguments, script_lines, simulator
 from ..shell.script import performed
 from ..shell.shown import show_lines
@@ -12,7 +13,7 @@ there, with the last STEP cut short. At a terminal a line that is refused has th
 own is written first and after each DUMP, and once something is watched, after each STEP."""
 
 
-def main():
+def main() -> int:
     parser = arguments(DESCRIPTION)
     parser.add_argument("--stop", action="store_true", help="stop at the first line that is refused")
     add_turn(parser)
@@ -23,7 +24,7 @@ def main():
     lines, status = symbols_of(asked).loading(script_lines(asked.script)), 0
     if asked.turn is not None:
         script = performed(words, lines)
-        lines, status = script.tape.lines(0, script.tape.after_turn(asked.turn)), script.status()
-    run = Simulator(words)
+        lines, status = list(script.tape.lines(Position(0), script.tape.after_turn(asked.turn))), script.status()
+    run = Session(words)
     status |= show_lines(run, lines, asked.stop)
     return max(run.end(), status)

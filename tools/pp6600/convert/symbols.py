@@ -11,7 +11,7 @@ source line, if it is alone, or before an operation (as LDN, CON or BSS) or a co
 have columns, it is what begins in the first ones. A line before BSS or EQU may have no word."""
 
 
-def main():
+def main() -> None:
     parser = Parser(DESCRIPTION, "[--columns A,W,T] [--trust] [FILE]")
     parser.add_argument("--columns", metavar="A,W,T", type=Columns.parse,
                         help="the columns of addresses, words and source lines, decimal, from 1; else they are guessed")

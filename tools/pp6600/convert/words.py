@@ -1,7 +1,10 @@
 """Text as words of display code, and dumped cells as SET lines."""
 
+from argparse import Namespace
+from typing import List, Optional, Sequence
+
 from ..language.display_code import text_of, words_of
-from ..run.forms import CELLS, FORMS, ROW
+from ..run.forms import CELLS, ROW, form
 from ..shell.command_line import Failure, Parser, cell, processor, read_lines, words_after, write_lines
 from .cells import in_rows, set_lines, word_of
 
@@ -11,11 +14,12 @@ With --back the words given are turned into text. With --dump N the answer to a 
 turned into SET M lines for processor N. All numbers are octal."""
 
 
-def set_lines_of_dump(processor, lines):
+def set_lines_of_dump(processor: int, lines: Sequence[str]) -> List[str]:
     """Returns the SET lines of the answer to a DUMP M. Rows that do not continue one another are words without addresses."""
-    result, following = [], None
+    result: List[str] = []
+    following: Optional[int] = None
     for number, line in enumerate(lines, 1):
-        if not FORMS["M"].fields(line):
+        if not form("M").fullmatch(line):
             raise Failure(f"line {number} (decimal) is no row of a DUMP M")
         address, *words = line.split()
         first = int(address, 8)
@@ -27,7 +31,7 @@ def set_lines_of_dump(processor, lines):
     return result
 
 
-def lines_of(asked):
+def lines_of(asked: Namespace) -> List[str]:
     if asked.dump is not None:
         (file,) = words_after(asked.text, 1, "--dump takes one file")
         return set_lines_of_dump(asked.dump, read_lines(file))
@@ -42,7 +46,7 @@ def lines_of(asked):
     return [" ".join(row) for row in in_rows(words)]
 
 
-def main():
+def main() -> None:
     parser = Parser(DESCRIPTION)
     kinds = parser.add_mutually_exclusive_group()
     kinds.add_argument("--at", nargs=2, metavar=("N", "A"), help="write SET M lines")

@@ -44,7 +44,7 @@ class PaperTape(Device):
             return state, NOTHING
         if state.place == len(self.tape):
             return state._replace(code=0), INACTIVE
-        return state._replace(place=state.place + 1), full(self.tape[state.place])
+        return Tape(READ, state.place + 1, state.punched), full(self.tape[state.place])
 
     activated = taken = next_byte
 
@@ -52,7 +52,7 @@ class PaperTape(Device):
         """Punches a word."""
         if state.code != PUNCH:
             return state, NOTHING
-        return state._replace(punched=state.punched.push(event.word & BYTE)), EMPTY
+        return Tape(PUNCH, state.place, state.punched.push(event.word & BYTE)), EMPTY
 
     @staticmethod
     def output(state: Tape) -> bytes:

@@ -5,7 +5,6 @@ from __future__ import annotations
 import functools
 import os
 import platform
-import subprocess
 import sys
 from typing import List, Sequence, Tuple
 
@@ -60,6 +59,7 @@ def verified(top: str, names: Sequence[str], *options: str) -> List[str]:
     if not names:
         return []
     words = ["sh", os.path.join(top, "share", "which-build"), *options, *names]
+    import subprocess  # the tools run no program
     done = subprocess.run(words, stdin=subprocess.DEVNULL, capture_output=True, check=False)
     if done.returncode:
         raise Failure(os.fsdecode(done.stderr).strip().rpartition("\n")[2].replace("pp6600: ", "", 1) or f"{words[1]} failed")
@@ -86,6 +86,7 @@ def first_that_starts(programs: List[str]) -> Tuple[str, ...]:
 
 def starts(program: str) -> bool:
     """Returns whether a program of this machine starts."""
+    import subprocess
     try:
         done = subprocess.run(["pp6600", "--help"], executable=program, stdin=subprocess.DEVNULL, capture_output=True, check=False)
     except OSError:

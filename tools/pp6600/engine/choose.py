@@ -11,8 +11,6 @@ from typing import Optional, Sequence
 from ..failure import Failure
 from .choice import HOME, THIS_IS
 from .interface import Engine
-from .library_engine import LibraryEngine, library_of
-from .plain_engine import PlainEngine
 
 PLAIN = "plain"  # names the simulator in plain Python
 # The library for each machine.
@@ -32,7 +30,9 @@ def engine_of(name: str, words: Sequence[str]) -> Engine:
         name = os.environ.get("PP6600_ENGINE") or name
     path = None if name == PLAIN else library_named(name)
     if path is None:
+        from .plain_engine import PlainEngine
         return PlainEngine(words)
+    from .library import LibraryEngine
     return LibraryEngine(path, words)
 
 
@@ -62,8 +62,9 @@ def library_named(name: str) -> Optional[str]:
 
 def loads(path: str) -> bool:
     """Returns whether a library can be used on this machine."""
+    from .library import loaded
     try:
-        library_of(path)
+        loaded(path)
     except Failure:
         return False
     return True

@@ -1,24 +1,36 @@
-"""The proved simulator as a library of C, libpp6600.so, called in this process. docs/LIBRARY.md says what each call does."""
+"""The proved simulator as a library of C, called in this process by ctypes: `Session` has its calls, and `LibraryEngine` is the engine of the
+tools over one. docs/LIBRARY.md and the header, pp6600.h, say what each call does."""
+
+from __future__ import annotations
 
 import ctypes
+import functools
 import os
+from array import array
 from ctypes import byref, c_size_t, c_uint8, c_uint32, c_uint64
-from typing import List, NamedTuple, Optional, Sequence, Tuple
+from typing import Any, Dict, List, NamedTuple, Optional, Sequence, Tuple
 
 from ..failure import Failure
+from . import interface
+from .choice import HOME
+from .interface import Records, Rejection
+from .plain.console import Rejected
+from .plain.program import FILE_BYTES, pieces, read_options, read_words
 
 DONE, ROOM, WATCHED, CLOSED, OPEN, NO_MEMORY, REFUSED, LIMIT = range(8)
 MOST_OLDS = 76  # the most places that an action overwrites
+PAIRS_OF_TURN = 6  # more than most turns overwrite
 LEAST_ROOM = 96  # bytes that the answer to a line that is no DUMP always fits in
-ABOVE = os.path.dirname(os.path.dirname(os.path.dirname(os.path.dirname(os.path.abspath(__file__)))))
+TEXT_ROOM, ANSWER_ROOM, MOST_AT_ONCE = 112, 1 << 16, 1 << 20  # bytes
+MOST_OF_BYTE, MOST_OF_WORD = 1 << 8, 1 << 32
 
 
-class Refused(Failure):
+class Refused(Rejection):
     """The program refuses the options or the files: its line, and its exit status."""
 
-    def __init__(self, line: str, status: int) -> None:
-        super().__init__(line)
-        self.status = status
+
+class Unloadable(Failure):
+    """A file can't be loaded, or is not this library."""
 
 
 class Answers(NamedTuple):
@@ -38,31 +50,40 @@ class Counts(NamedTuple):
 
 
 class Moment(NamedTuple):
-    """A turn: its processor, and each place that it overwrote with its old number."""
+    """A turn: its processor, and each place that it overwrote with its old number. The processor of another action is 10."""
     processor: int
     olds: List[Tuple[int, int]]
 
 
-class _Old(ctypes.Structure):
-    _fields_ = [("place", c_uint64), ("number", c_uint64)]
+def moments_of(made: Sequence[int], records: Records) -> List[Moment]:
+    """Returns the turns of a recording, one by one."""
+    rest = iter(zip(records.places, records.numbers))
+    return [Moment(processor, [next(rest) for _ in range(count)]) for processor, count in zip(made[::2], made[1::2])]
 
 
-class _Turn(ctypes.Structure):
-    _fields_ = [("processor", c_uint32), ("count", c_uint32)]
-
-
-class _Handle(ctypes.Structure):
+class Handle(ctypes.Structure):
     _fields_ = [("at", ctypes.c_void_p)]
 
 
-def load(path: Optional[str] = None) -> ctypes.CDLL:
+CALLS = ("open", "answer", "numbers", "counts", "turns", "again", "looks", "back", "forward", "close")
+
+
+def load(path: Optional[str] = None) -> Any:
     """Loads the library from this path, or from $PP6600_LIBRARY, or from where the tools are: a checkout, an installation, a package."""
-    beside = [os.path.join(ABOVE, folder, "libpp6600.so") for folder in ("dist", "lib", "")]
-    chosen = path or os.environ.get("PP6600_LIBRARY") or next((one for one in beside if os.path.isfile(one)), beside[0])
+    beside = [os.path.join(HOME, folder, "libpp6600.so") for folder in ("dist", "lib", "")]
+    return loaded(path or os.environ.get("PP6600_LIBRARY") or next((one for one in beside if os.path.isfile(one)), beside[0]))
+
+
+@functools.lru_cache(maxsize=None)
+def loaded(path: str) -> Any:
+    """Returns the library of a file."""
     try:
-        return ctypes.CDLL(chosen)
-    except OSError as error:
-        raise Failure(f"the library of the simulator can't be loaded: {error}") from error
+        library = ctypes.CDLL(path)
+        for name in CALLS:
+            getattr(library, f"pp6600_{name}").restype = c_uint32
+    except (OSError, AttributeError) as error:
+        raise Unloadable(f"the library of the simulator can't be loaded: {error}") from error
+    return library
 
 
 class Session:
@@ -70,23 +91,26 @@ class Session:
 
     def __init__(self, history: int = 10000, central: int = 131072, reader: int = 0o12, printer: int = 0o13, deck: bytes = b"",
                  panel: bytes = b"", path: Optional[str] = None) -> None:
-        self._library, self._handle = load(path), _Handle()
-        text, count, status = ctypes.create_string_buffer(112), c_size_t(), c_uint32()
-        if not all(0 <= number < 256 for number in (reader, printer)) or not all(0 <= number < 1 << 32 for number in (history, central)):
+        self._handle = Handle()
+        library, self._at = load(path), byref(self._handle)
+        self._calls = {name: getattr(library, f"pp6600_{name}") for name in CALLS}
+        text, count, status = ctypes.create_string_buffer(TEXT_ROOM), c_size_t(), c_uint32()
+        if not all(0 <= number < MOST_OF_BYTE for number in (reader, printer)) or \
+                not all(0 <= number < MOST_OF_WORD for number in (history, central)):
             raise Refused("pp6600: BAD ARGUMENTS", 2)
-        opened = self._library.pp6600_open(
+        opened = self._calls["open"](
             c_uint32(history), c_uint32(central), c_uint8(reader), c_uint8(printer), deck, c_size_t(len(deck)), panel, c_size_t(len(panel)),
-            byref(self._handle), text, c_size_t(len(text)), byref(count), byref(status))
+            self._at, text, c_size_t(len(text)), byref(count), byref(status))
         if opened != DONE:
             raise Refused(text.raw[:count.value].decode("ascii"), status.value)
 
     def _call(self, name: str, *arguments: object) -> int:
-        status = int(getattr(self._library, f"pp6600_{name}")(byref(self._handle), *arguments))
+        status: int = self._calls[name](self._at, *arguments)
         if status == CLOSED:
             raise Failure("the session is closed")
         return status
 
-    def __enter__(self) -> "Session":
+    def __enter__(self) -> Session:
         return self
 
     def __exit__(self, *_: object) -> None:
@@ -94,25 +118,29 @@ class Session:
 
     def close(self) -> None:
         """Closes the session. To close it again does nothing."""
-        self._library.pp6600_close(byref(self._handle))
+        if self._handle.at:
+            self._calls["close"](self._at)
+
+    __del__ = close
 
     def answer(self, typed: bytes, room: int = 4096) -> Answers:
         """Performs lines, and returns their answers. It asks with more room as long as an answer does not fit."""
-        text, lines, refused, taken, size, status = b"", 0, 0, 0, max(room, 1), ROOM
+        texts, lines, refused, taken, size, status = [], 0, 0, 0, max(room, 1), ROOM
         while status == ROOM:
             into, left, numbers = ctypes.create_string_buffer(size), typed[taken:], (c_size_t(), c_size_t(), c_uint32(), c_uint32())
             status = self._call("answer", left, c_size_t(len(left)), into, c_size_t(size), *map(byref, numbers))
             more, count, performed, rejected = (number.value for number in numbers)
-            text, lines, refused, taken = text + into.raw[:count], lines + performed, refused + rejected, taken + more
+            texts.append(into.raw[:count])
+            lines, refused, taken = lines + performed, refused + rejected, taken + more
             size = max(2 * size, LEAST_ROOM) if more == 0 else max(room, 1)
-        return Answers(text, lines, refused, taken)
+        return Answers(b"".join(texts), lines, refused, taken)
 
     def numbers(self, first: int, count: int) -> List[int]:
         """Returns the numbers at consecutive places."""
-        into = (c_uint64 * max(count, 1))()
-        if not 0 <= first < 1 << 32 or self._call("numbers", c_uint32(first), into, c_size_t(count)) != DONE:
+        into = (c_uint64 * max(count, 0))()
+        if not 0 <= first < MOST_OF_WORD or self._call("numbers", c_uint32(first), into, c_size_t(count)) != DONE:
             raise Failure(f"the machine does not have the places {first} to {first + count - 1}")
-        return list(into[:count])
+        return into[:]
 
     def counts(self) -> Counts:
         """Counts the actions that the session keeps."""
@@ -122,19 +150,35 @@ class Session:
 
     def turns(self, most: int) -> Tuple[List[Moment], bool]:
         """Performs turns, up to the first that changes a watched number. Returns them, and whether the last one did."""
-        made, olds, turns, used = (_Turn * max(most, 1))(), (_Old * (MOST_OLDS * max(most, 1)))(), c_size_t(), c_size_t()
-        status = self._call("turns", c_uint32(most), made, c_size_t(len(made)), olds, c_size_t(len(olds)), byref(turns), byref(used))
-        rest = iter([(old.place, old.number) for old in olds[:used.value]])
-        return [Moment(turn.processor, [next(rest) for _ in range(turn.count)]) for turn in made[:turns.value]], status == WATCHED
+        _, made, records = self._recorded("turns", most, MOST_OLDS)
+        return moments_of(made, records), records.is_watched
+
+    def again(self, count: int) -> Optional[List[Moment]]:
+        """Performs undone actions again, and returns them; None if there are too few, and then none is performed."""
+        status, made, records = self._recorded("again", count, MOST_OLDS)
+        return None if status == REFUSED else moments_of(made, records)
+
+    def records(self, most: int, pairs_of_turn: int = PAIRS_OF_TURN) -> Tuple[Sequence[int], Records]:
+        """As `turns`, in as few as the room of so many pairs for each turn makes it. Returns of each the processor and the number of places,
+        in turn, and what they overwrote."""
+        return self._recorded("turns", most, pairs_of_turn)[1:]
+
+    def _recorded(self, call: str, most: int, pairs_of_turn: int) -> Tuple[int, Sequence[int], Records]:
+        """Makes a call that records actions, with room for so many pairs for each. Returns its status, and what `records` returns."""
+        pairs = pairs_of_turn * most + MOST_OLDS
+        made, olds, turns, used = (c_uint32 * (2 * most))(), (c_uint64 * (2 * pairs))(), c_size_t(), c_size_t()
+        status = self._call(call, c_uint32(most), made, c_size_t(most), olds, c_size_t(pairs), byref(turns), byref(used))
+        of_turns = array("I", memoryview(made).cast("B")[:8 * turns.value].tobytes())
+        return status, of_turns, Records(of_turns[1::2], memoryview(olds).cast("B")[:16 * used.value].tobytes(), status == WATCHED)
 
     def looks(self, most: int, places: Sequence[int]) -> Tuple[List[List[int]], bool]:
         """Performs turns as `turns` does. Returns the numbers at the places after each, and whether the last changed a watched number."""
-        width, turns, into = len(places), c_size_t(), (c_uint64 * max(most * len(places), 1))()
-        chosen = (c_uint32 * max(width, 1))(*places)
+        width, turns, into = len(places), c_size_t(), (c_uint64 * (most * len(places)))()
+        chosen = (c_uint32 * width)(*places)
         status = self._call("looks", c_uint32(most), chosen, c_size_t(width), into, c_size_t(most * width), byref(turns))
         if status == REFUSED:
             raise Failure("looks are at 1 to 16 places that the machine has")
-        return [list(into[at * width:(at + 1) * width]) for at in range(turns.value)], status == WATCHED
+        return [into[at * width:(at + 1) * width] for at in range(turns.value)], status == WATCHED
 
     def back(self, count: int) -> bool:
         """Undoes actions. Returns whether there were enough; if not, none is undone."""
@@ -143,3 +187,91 @@ class Session:
     def forward(self, count: int) -> bool:
         """Performs undone actions again. Returns whether there were enough; if not, none is performed."""
         return self._call("forward", c_uint32(count)) == DONE
+
+
+class LibraryEngine:
+    """The proved engine of the tools: a session with the options of the program. It keeps its rooms from call to call."""
+
+    is_proved = True
+
+    def __init__(self, path: str, words: Sequence[str]) -> None:
+        """The words are the options of the program."""
+        try:
+            given = read_words(words)
+            options: Dict[str, Any] = {**read_options(given)}
+            options.update((name, bytes_of(given[f"--{name}"], name.upper())) for name in ("deck", "panel") if f"--{name}" in given)
+        except Rejected as rejected:
+            status, text = rejected.args
+            raise Rejection(f"pp6600: {text}", status) from None
+        try:
+            self.session = Session(**options, path=path)
+        except Unloadable as failure:
+            raise Failure(f"{path} is not the library of the simulator: {failure.__cause__}") from failure
+        self.text: Any = ctypes.create_string_buffer(ANSWER_ROOM)
+        self.size, self.room = c_size_t(), c_size_t(ANSWER_ROOM)
+        self.answered = c_size_t(), c_size_t(), c_uint32(), c_uint32()
+        self.taken, self.count = self.answered[:2]
+        self.counted = tuple(map(byref, self.answered))
+        self.looked: Sequence[int] = ()  # the places of the latest looks, and how many numbers there is room for
+        self.most, self.width, self.seen_room = c_uint32(), c_size_t(), c_size_t()
+
+    def answer(self, text: str) -> List[str]:
+        typed = text.encode("latin-1")
+        found: List[bytes] = []
+        while typed:
+            end = len(typed) if len(typed) <= MOST_AT_ONCE else typed.rfind(b"\n", 0, MOST_AT_ONCE) + 1 or len(typed)
+            self.size.value = end
+            status = self.session._call("answer", typed, self.size, self.text, self.room, *self.counted)
+            if status == DONE and end == len(typed) and not found:
+                return str(self.text[:self.count.value], "ascii").splitlines()
+            found.append(self.text[:self.count.value])
+            typed = typed[self.taken.value:]
+            if status == ROOM and not self.taken.value:
+                self.room.value *= 4
+                self.text = ctypes.create_string_buffer(self.room.value)
+        return b"".join(found).decode("ascii").splitlines()
+
+    def numbers(self, first: int, count: int) -> Sequence[int]:
+        return self.session.numbers(first, count)
+
+    def counts(self) -> interface.Counts:
+        return interface.Counts(*self.session.counts()[:3])
+
+    def turns(self, most: int) -> Records:
+        return self.session.records(most)[1]
+
+    def looks(self, places: Sequence[int], most: int) -> Tuple[Sequence[int], int]:
+        if self.looked != places:
+            self.looked, self.looked_at, self.width.value = list(places), (c_uint32 * len(places))(*places), len(places)
+        numbers = most * len(places)
+        if self.seen_room.value < numbers:
+            self.seen, self.seen_room.value = (c_uint64 * numbers)(), numbers
+            self.seen_bytes = memoryview(self.seen).cast("B")
+        self.most.value = most
+        if self.session._call("looks", self.most, self.looked_at, self.width, self.seen, self.seen_room, self.counted[0]) == REFUSED:
+            raise Failure("the machine does not have these places")
+        found, turns = array("Q"), self.taken.value
+        found.frombytes(self.seen_bytes[:8 * len(places) * turns])
+        return found, turns
+
+    def back(self, count: int) -> None:
+        if not self.session.back(count):
+            raise Failure("the machine keeps fewer actions")
+
+    def forward(self, count: int) -> None:
+        if not self.session.forward(count):
+            raise Failure("the machine has fewer actions ahead")
+
+    def close(self) -> None:
+        self.session.close()
+
+
+def bytes_of(path: str, name: str) -> bytes:
+    """Returns the bytes of a file, up to some beyond the most that the program reads. No bytes would mean no file, so an empty file is an
+    empty line."""
+    data = b""
+    for piece in pieces(path, name):
+        data += piece
+        if len(data) > FILE_BYTES:
+            break
+    return data or b"\n"

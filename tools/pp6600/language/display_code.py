@@ -1,12 +1,14 @@
 """Display code: 64 symbols, two in a word. docs/MACHINE.md has the table."""
 
+from typing import List, Sequence
+
 from ..failure import Failure
 
 SYMBOLS = ":ABCDEFGHIJKLMNOPQRSTUVWXYZ0123456789+-*/()$= ,.#[]%\"_!&'?<>@\\^;"
 BLANK = " "
 
 
-def code_of(symbol):
+def code_of(symbol: str) -> str:
     """Returns the two digits of a symbol; a small letter has those of its capital."""
     capital = symbol.upper() if symbol.isascii() else symbol
     if capital not in SYMBOLS:
@@ -14,12 +16,12 @@ def code_of(symbol):
     return f"{SYMBOLS.index(capital):02o}"
 
 
-def words_of(text):
+def words_of(text: str) -> List[str]:
     """Returns the words of a text, each with four octal digits. An odd text ends in a blank."""
     codes = [code_of(symbol) for symbol in text + BLANK * (len(text) % 2)]
     return [first + second for first, second in zip(codes[::2], codes[1::2])]
 
 
-def text_of(words):
+def text_of(words: Sequence[str]) -> str:
     """Returns the text of words, each of four octal digits."""
     return "".join(SYMBOLS[int(word[:2], 8)] + SYMBOLS[int(word[2:], 8)] for word in words)

@@ -13,7 +13,6 @@ from .source.passes import OF_LINES
 from .source.messages import REFUSED
 from .source.statements import FIRST_OF_COMMENTS
 
-NUMBER = re.compile("(-?[0-7]+)[bB]?")  # a B after a number says that it is octal
 WORD = re.compile("[0-7]{4}[bB]?")
 SHORT = re.compile("[0-7]{1,4}[bB]?")  # what is a word where zeros before it are left out
 ADDRESS = re.compile("(>?)([0-7]{1,4})[bB]?")  # a > marks where words are loaded that are assembled for another place
@@ -114,12 +113,6 @@ class Source(NamedTuple):
     operation: str
     operand: str
     statement: str
-
-
-def octal_number(text: str) -> Optional[int]:
-    """Returns the number of a word of a listing, as 105 or 105B; None if it is no octal number."""
-    digits = NUMBER.fullmatch(text)
-    return int(digits[1], 8) if digits else None
 
 
 def tokens_of(line: str) -> List[Token]:

@@ -6,9 +6,10 @@ from typing import Dict, Iterator, List, NamedTuple, Optional, Sequence, Tuple
 
 from ..run.forms import CELLS
 from .listed_words import Told, told_by
+from .names import octal_number
 from .printed import (
-    ADDRESS, NUMBER, SHORT, SUBR, TAB, WITH_WORDS, WORD, Columns, Parts, Source, Token, guessed, is_note, is_operation, octal_number,
-    operation_columns, parts_of, source_of)
+    ADDRESS, SHORT, SUBR, TAB, WITH_WORDS, WORD, Columns, Parts, Source, Token, guessed, is_note, is_operation, operation_columns, parts_of,
+    source_of)
 from .source.machine import CODES, MNEMONICS, size_of
 from .source.state import LITERAL, LITERALS, NOMINAL, WORD_BITS
 

@@ -11,9 +11,9 @@ from ..run.forms import Place
 from ..run.tape import SourceLine
 from ..run.turn import TWO_WORDS, places_of_setting
 from ..shell.ending import shown_text
-from ..shell.options import processor
 from ..shell.text_files import named, read_lines
-from .listing import FARTHEST, AddressNames, AllSymbols, Listing, Names, is_printed, without_mark
+from .listing import Listing, is_printed, without_mark
+from .names import FARTHEST, AddressNames, Names
 from .source.forms import set_lines
 from .source.machine import CELLS, CODES
 from .source.messages import Fault
@@ -47,7 +47,7 @@ def texts_in(folder: Optional[str]) -> Optional[Texts]:
 
     def lines(deck: str) -> Optional[List[str]]:
         found = [name for name in names if deck and deck.upper() in (name.upper(), name.upper().partition(".")[0])]
-        return source_lines(os.path.join(folder, found[0])) if found else None
+        return source_lines(os.path.join(str(folder), found[0])) if found else None
     return lines
 
 
@@ -211,7 +211,7 @@ def program_of(listing: Listing) -> Program:
     rows, origin, symbols = [], 0, Symbols()
     for entry in listing.entries:
         load, address = (entry.load, entry.address) if entry.words else (origin, origin)
-        words = tuple(int(word, 8) for word in entry.words)
+        words = tuple(int(word, 8) for word in entry.words if word is not None)
         rows.append(Row(Line(entry.number, entry.source), load, address, words, bool(words)))
         origin = load + len(words)
         symbols.seen.update({name: Symbol(number, entry.number, True) for name, number in entry.labels})
@@ -247,8 +247,9 @@ def names_of(program: Program) -> Names:
     """Returns the names of a source: labels, and names of numbers that are not minus; those that a macro has for itself are none."""
     names = Names()
     for name, symbol in program.symbols.named():
-        if symbol.value >= 0 and name not in program.symbols.made:
-            names.add(name, symbol.value, symbol.is_address and symbol.value < CELLS)
+        value = symbol.value
+        if value is not None and value >= 0 and name not in program.symbols.made:
+            names.add(name, value, symbol.is_address and value < CELLS)
     return names
 
 
@@ -266,40 +267,3 @@ def is_end(row: Row) -> bool:
     except Fault:  # of a printed listing
         return False
     return statement is not None and statement.operation.text == "END"
-
-
-# ---- the options
-
-def add_files(parser, option: str, text: str) -> None:
-    parser.add_argument(option, nargs=2, metavar=("N", "FILE"), action="append", default=[], help=text)
-
-
-def add_texts(parser) -> None:
-    parser.add_argument("--text", metavar="DIR", help="the folder of common decks, which XTEXT reads: a file for each")
-
-
-def add_sources(parser) -> None:
-    add_texts(parser)
-    add_files(parser, "--source", "assemble FILE, or read a printed listing, and load it into processor N before the script; "
-              "show its lines and names; for each one")
-
-
-def add_symbols(parser) -> None:
-    add_files(parser, "--symbols", "show addresses of processor N by the labels of a listing, or of lines NAME ADDRESS; for each one")
-    add_sources(parser)
-
-
-def symbols_of(asked) -> AllSymbols:
-    """Returns the symbols and the sources that a command line names."""
-    return symbols_from(getattr(asked, "symbols", ()), asked.source, asked.text)
-
-
-def symbols_from(listings: Iterable[Sequence[str]], sources: Iterable[Sequence[str]], decks: Optional[str] = None) -> AllSymbols:
-    """Returns the symbols of pairs of a processor and a listing, and of a processor and a source with common decks in a folder."""
-    symbols = AllSymbols([(processor(number), path) for number, path in listings])
-    for text, path in sources:
-        number = processor(text)
-        if number in symbols.of:
-            raise Failure(f"processor {number:o} is given a source, and symbols or a source again")
-        symbols.of[number] = Source.of_file(path, texts_in(decks))
-    return symbols

@@ -7,7 +7,7 @@ from typing import Iterator, List, Sequence, Tuple
 
 from ..run.forms import CELLS
 from ..run.state import Difference, State
-from .listing import AddressNames
+from .names import AddressNames
 
 ADDRESSES = ("P", "A", "Q")  # registers that may hold an address
 LONGEST_BUFFER = 0o777  # cells behind the last label that may be its own

@@ -1,8 +1,7 @@
 """A session with devices of one's own, in which all goes back.
 
 Its unit is an action of the user: a turn with the replies of the devices after it is one, and so is each other action. BACK and
-FORWARD count units and have no limit. The tape of the simulator has each reply as the SET H that it is; `Units` says which they
-are.
+FORWARD count units and have no limit. The tape has each reply as the SET H that it is.
 
 A device uses no watch. Turns are made many at once; those after the first that changed a channel of a device are taken back. What a
 device is told is an action too: its line sets Q of PP 00 to the number that it has."""
@@ -15,20 +14,20 @@ from typing import Any, Dict, List, Optional, Sequence, Tuple
 
 from ..engine import interface as flat
 from ..failure import Failure
-from .device import Device, DeviceFailure, Event, Value, called, is_value, looked, value_at_start
+from .device import Channel, Device, DeviceFailure, Event, Reply, Value, called, is_value, looked, value_at_start
 from .forms import CHANNELS, MOST_TURNS, STATES, Place, is_refusal
-from .simulator import LONGEST_LINE, Simulator
-from .tape import REPLY, STEP, ReplyLine
-from .timeline import REPLAYED
-from .units import PlainScript, UnitHistory, Units
+from .plain_script import PlainScript
+from .console import LONGEST_LINE
+from .session import REPLAYED, Session
+from .tape import STEP, Position, ReplyLine, UnitCounts, Units
 
 COUNTED = re.compile(r"[ \t]*(STEP|BACK|FORWARD)(?:[ \t]+0*([1-7][0-7]{0,6}))?[ \t\r]*", re.I)
 BACK_W = re.compile(r"[ \t]*BACK[ \t]+W[ \t\r]*", re.I)
 TOO_FEW_KEPT, TOO_FEW_AHEAD = "ERR 07 TOO FEW KEPT", "ERR 16 TOO FEW AHEAD"
 MOST_NAME = 60  # letters
 MOST_AT_ONCE = 4096  # turns after which is looked at once
-Replies = Tuple[str, ...]
-Rows = Tuple[str, ...]  # lines of DUMP H
+MOST_LOOKED = 16  # places
+Channels = Tuple[Channel, ...]
 Values = Tuple[Value, ...]
 
 
@@ -39,11 +38,11 @@ class States:
     def __init__(self, values: Values, exact: int, every: int) -> None:
         """At least so many of the newest values are kept, and one in so many of those before."""
         self.exact, self.every = exact, every
-        self.at: List[int] = [0]
+        self.at: List[Position] = [Position(0)]
         self.values: List[Optional[Values]] = [values]
         self.folded = 0  # so many of the first are not all kept
 
-    def add(self, position: int, values: Values) -> None:
+    def add(self, position: Position, values: Values) -> None:
         self.at.append(position)
         self.values.append(values)
         if len(self.at) - self.folded > 2 * self.exact:
@@ -53,7 +52,7 @@ class States:
                     self.values[number] = None
             self.folded = end
 
-    def entry(self, position: int) -> int:
+    def entry(self, position: Position) -> int:
         """Returns the number of the entry for a position."""
         return bisect.bisect_right(self.at, position) - 1
 
@@ -61,7 +60,7 @@ class States:
         """Returns the nearest entry up to this one whose values are kept."""
         return next(number for number in range(entry, -1, -1) if self.values[number] is not None)
 
-    def cut(self, position: int) -> None:
+    def cut(self, position: Position) -> None:
         """Forgets what is after a position."""
         end = self.entry(position) + 1
         del self.at[end:], self.values[end:]
@@ -73,10 +72,12 @@ def names_of(devices: Sequence[Device]) -> Dict[int, str]:
     return {device.channel: type(device).__name__.encode("ascii", "replace").decode()[:MOST_NAME] for device in devices}
 
 
-class Attached(Simulator):
-    """A simulator with devices. A front end can take it in the place of a Timeline."""
+class Attached(Session):
+    """A simulator with devices. A front end can take it in the place of a Session."""
 
     exact_states, every_state = 20000, 1000
+    values: Values  # of the devices, and the number of the entry that they are; -1 if they are those of none
+    entry: int
 
     def __init__(self, words: Sequence[str] = (), devices: Sequence[Device] = ()) -> None:
         """Begins a session with devices, no two of them on one channel."""
@@ -84,18 +85,19 @@ class Attached(Simulator):
         super().__init__(words)
         try:
             self._check_channels()
-            self.values: Values = tuple(value_at_start(device) for device in self.devices)
+            self._have(tuple(map(value_at_start, self.devices)), 0)
         except Failure:
             self.close()
             raise
-        self.units, self.states = Units(), States(self.values, self.exact_states, self.every_state)
+        self.states = States(self.values, self.exact_states, self.every_state)
         self.plain = PlainScript(self.history.room, self.tape)
-        self.counts = UnitHistory(self.history, self.units, self.plain)
+        self.counts = UnitCounts(self.history, self.plain.history)
         self.names = names_of(self.devices)
-        self.reply_lines: Dict[str, ReplyLine] = {}
+        self.lines: Dict[Tuple[int, Optional[str], Optional[int]], ReplyLine] = {}  # by the number of the device, the state and the word
         self.told: Dict[int, Tuple[int, Any]] = {}  # the number of a device and what it was told, by the position after it
-        self.channels_of = [device.channel for device in self.devices]
-        self.looked = [flat.STATES + channel for channel in self.channels_of]
+        states = [flat.STATES + device.channel for device in self.devices] or [flat.SLOT]
+        registers = [flat.REGISTERS + device.channel for device in self.devices]
+        self.looked = [*states, *registers] if 2 * len(states) <= MOST_LOOKED else states
         self.gap, self.quiet = 1, 0  # turns between the last two changes of a channel, and since the last one
 
     def _check_channels(self) -> None:
@@ -114,12 +116,13 @@ class Attached(Simulator):
 
     def state(self, number: int = 0) -> Any:
         """Returns the present state of a device."""
+        self._recall()
         return self.values[number].state
 
     @property
-    def unit(self) -> int:
+    def unit(self) -> Units:
         """How many units are in effect."""
-        return self.units.count(self.position)
+        return self.tape.units(self.position)
 
     @property
     def sent(self) -> List[str]:
@@ -134,12 +137,13 @@ class Attached(Simulator):
 
     def save(self) -> List[str]:
         """Returns a script for the simulator alone that makes the present machine. Its turns are those of the session."""
-        return list(self.plain.part(0, self.position))
+        return list(self.plain.part(Position(0), self.position))
 
     # ---- lines of the user
 
     def act(self, line: str) -> List[str]:
         """Performs a line of any kind. Returns the lines of its answer."""
+        self._recall()
         before = self.position
         try:
             answer = self._perform_line(line)
@@ -167,7 +171,7 @@ class Attached(Simulator):
         if BACK_W.fullmatch(line):
             return self._back_to_unit(answer)
         if answer == ["OK"]:
-            self.forget_ahead()
+            self.cut(self.position)
             self.history.added(line)
         return answer
 
@@ -175,73 +179,76 @@ class Attached(Simulator):
         """Tells a device something, which is an action. What it is told is a value that can't be changed in place."""
         if not is_value(what):
             raise Failure(f"a device can't be told {what!r:.60}: it can be changed in place")
+        self._recall()
         values, replies = self._told(number, what, self.values)
-        self.forget_ahead()
-        self._perform_new([f"SET Q 0 {self.registers(0)['Q']}"])
+        self.cut(self.position)
+        self._perform_new(f"SET Q 0 {self.registers(0)['Q']}")
         self.told[self.position] = number, what
         self._note(values, replies)
-        self._perform_new(replies)
         self.plain.go(self.position)
 
-    def _told(self, number: int, what: Any, values: Values) -> Tuple[Values, Replies]:
+    def _told(self, number: int, what: Any, values: Values) -> Tuple[Values, List[ReplyLine]]:
         """Returns the values of the devices after one was told something, and its reply. It does not look at its channel."""
         device, value = self.devices[number], values[number]
-        new, reply = called(device, value, Event("told", what, self.turn), self.channels()[device.channel])
+        new, reply = called(device, value, Event("told", what, self.turn), self._channels()[number])
         if reply is None:
             new = new._replace(seen=value.seen)
-        return (*values[:number], new, *values[number + 1:]), () if reply is None else (reply,)
+        return (*values[:number], new, *values[number + 1:]), [] if reply is None else [self._line_of(number, reply)]
 
-    def forget_ahead(self) -> None:
-        """Discards what is ahead, as each new action does."""
-        if self.position < self.tape.end:
-            self.tape.cut(self.position)
-            self.history.ahead = 0
-            self.units.cut(self.unit)
-            self.states.cut(self.position)
-            self.plain.cut(self.position)
-            self.told = {position: told for position, told in self.told.items() if position <= self.position}
+    def cut(self, position: Position) -> None:
+        if position < self.tape.end:
+            self.plain.go(self.position)
+            super().cut(position)
+            self.states.cut(position)
+            if self.entry >= len(self.states.at):
+                self.entry = -1
+            self.plain.cut(position)
+            self.told = {at: told for at, told in self.told.items() if at <= position}
 
-    def _perform_new(self, lines: Sequence[str]) -> None:
-        """Performs new actions, none of which is refused."""
-        if lines and self.ask_all(lines) != ["OK"] * len(lines):
-            raise Failure(f"the simulator refuses {lines[0]}")
-        for line in lines:
-            self._added(line)
+    def _perform_new(self, line: str) -> None:
+        """Performs a new action, which is not refused."""
+        if self.engine.answer(f"{line}\n") != ["OK"]:
+            raise Failure(f"the simulator refuses {line}")
+        self.tape.append(line)
+        self.history.performed(1)
 
-    def _added(self, line: str) -> None:
-        """Notes a new action. One that sets a channel is the reply of the device there."""
-        self.history.added(self.reply_lines.get(line) or self._named(line))
+    def _line_of(self, number: int, reply: Reply) -> ReplyLine:
+        """Returns the line of a reply of a device."""
+        key = number, reply.state, reply.word
+        line = self.lines.get(key)
+        if line is None:
+            channel, word = self.devices[number].channel, "" if reply.word is None else f" {reply.word:o}"
+            line = self.lines[key] = ReplyLine(f"SET H {channel:02o} {reply.state}{word}", self.names[channel])
+        return line
 
-    def _named(self, line: str) -> str:
-        """Returns a line, as the reply of a device if it is one."""
-        if not line.startswith(REPLY):
-            return line
-        self.reply_lines[line] = ReplyLine(line, self.names[int(line.split()[2], 8)])
-        return self.reply_lines[line]
-
-    def _note(self, values: Values, replies: Replies) -> None:
-        """Notes what the devices are after the present unit, and their replies, which come next."""
-        if replies:
-            self.units.of_replies += [self.unit] * len(replies)
+    def _note(self, values: Values, replies: Sequence[ReplyLine]) -> None:
+        """Notes what the devices are after the present unit, and performs their replies."""
         if values is not self.values:
-            self.states.add(self.position + len(replies), values)
-            self.values = values
+            self.states.add(Position(self.history.position + len(replies)), values)
+            self._have(values, len(self.states.at) - 1)
+        for line in replies:
+            self._perform_new(line)
+
+    def _have(self, values: Values, entry: int) -> None:
+        """Takes the values of an entry as those at hand."""
+        self.values, self.entry = values, entry
+        dues = [value.due for value in values if value.due is not None]
+        self.due = min(dues) if dues else None  # the turn for which the first one is due
 
     # ---- back and forward
 
-    def go_to(self, position: int) -> None:
-        """Goes to a position of the tape, which the replies of no action come after."""
-        if position != self.position:
-            self._arrive("BACK", 0, position)
-            self.plain.go(position)
-
-    def _arrive(self, word: str, count: int, position: int) -> List[str]:
+    def _arrive(self, word: str, count: int, position: Position) -> List[str]:
         """Goes to a position. Returns the answer."""
-        entry = self.states.entry(position)
-        values = self.states.values[entry]
-        self.values = self._values_anew(entry) if values is None else values
         self.goto(position)
         return [f"{word} {count:o} SLOT {self.next_slot:02o}"]
+
+    def _recall(self) -> None:
+        """Sees that the values at hand are those at the position."""
+        entry, here = self.states.entry(self.position), self.position
+        if entry != self.entry:
+            values = self.states.values[entry]
+            self._have(self._values_anew(entry) if values is None else values, entry)
+            self.goto(here)
 
     def _values_anew(self, entry: int) -> Values:
         """Returns the values of an entry that were not kept: the devices look at their channels again."""
@@ -249,23 +256,24 @@ class Attached(Simulator):
         values = self.states.values[begin]
         assert values is not None
         for number in range(begin + 1, entry + 1):
-            end = self.units.position(self.units.count(self.states.at[number]) - 1) + 1  # of the unit, without its replies
+            unit = self.tape.units(self.states.at[number])
+            end = Position(self.tape.after_units(Units(unit - 1)) + 1)  # of the unit, without its replies
             self.goto(end)
             if end in self.told:
                 values, _ = self._told(*self.told[end], values)
             else:
-                values, _ = self._react(values, self._rows(), self.turn)
+                values, _ = self._react(values, self._channels(), self.turn)
         return values
 
     def _back(self, count: int) -> List[str]:
         if count > self.unit:
             return [TOO_FEW_KEPT]
-        return self._arrive("BACK", count, self.units.position(self.unit - count))
+        return self._arrive("BACK", count, self.tape.after_units(Units(self.unit - count)))
 
     def _forward(self, count: int) -> List[str]:
-        if count > self.units.count(self.tape.end) - self.unit:
+        if count > self.tape.units(self.tape.end) - self.unit:
             return [TOO_FEW_AHEAD]
-        return self._arrive("FORWARD", count, self.units.position(self.unit + count))
+        return self._arrive("FORWARD", count, self.tape.after_units(Units(self.unit + count)))
 
     def _back_to_unit(self, answer: List[str]) -> List[str]:
         """Goes back to before a whole unit, after the simulator has answered BACK W."""
@@ -273,70 +281,73 @@ class Attached(Simulator):
             return answer
         here = self.unit
         self.history.moved(-int(answer[0].split()[1], 8))
-        units = self.units.whole(self.position)
-        return self._arrive("BACK", here - units, self.units.position(units))
+        units = self.tape.whole_units(self.position)
+        return self._arrive("BACK", here - units, self.tape.after_units(units))
 
     # ---- turns
 
     def _step(self, turns: int) -> List[str]:
         begin, ahead = self.position, Ahead(self)
-        self.forget_ahead()
+        self.cut(self.position)
         try:
             made, hit = self._turns(turns, [Place.parse(line[2:]) for line in self.demand("DUMP W") if line != "W NONE"])
         except DeviceFailure:
-            self._arrive("BACK", 0, begin)
-            self.forget_ahead()
+            self.goto(begin)
+            self.cut(self.position)
+            self._recall()
             ahead.put_back(self)
             raise
         return [f"TURNS {made:o} SLOT {self.next_slot:02o}", *([hit] if hit else [])]
 
     def _turns(self, turns: int, watched: Sequence[Place]) -> Tuple[int, Optional[str]]:
         """Makes so many turns, or up to a HIT. Returns how many, and the HIT."""
-        made, hit = 0, None
-        is_new = self._rows() != self._seen()  # after a SET or a DEADSTART there is something to see after the very next turn
+        made, turn, hit = 0, self.turn, None
+        is_new = self._channels() != self._seen()  # after a SET or a DEADSTART there is something to see after the very next turn
         while made < turns and hit is None:
-            dues = [value.due - self.turn for value in self.values if value.due is not None]
-            expected = self.gap - self.quiet if self.gap > self.quiet else min(self.quiet + 1, self.history.room, MOST_AT_ONCE)
-            most = 1 if is_new else min(turns - made, *(max(due, 1) for due in dues), expected)
-            count, is_changed = self._quiet_turns(most)
-            made += count
+            count, now = self._quiet_turns(1 if is_new else self._expected(turns - made, turn))
+            made, turn = made + count, turn + count
             hit = self._hit(watched) if watched else None
-            if is_new or is_changed or any(due <= count for due in dues):
-                hit = self._look(watched, hit)
+            if now is not None or is_new or self.due is not None and self.due <= turn:
+                hit = self._look(watched, hit, now or self._channels(), turn)
             elif hit:
                 self.plain.stops.append(self.position)
             is_new = False
         return made, hit
 
-    def _quiet_turns(self, most: int) -> Tuple[int, bool]:
-        """Makes turns up to the first after which a channel of a device has another state, or a HIT, at most so many. An instruction that
-        changes a channel changes its state. Returns how many, and whether a state is another one."""
-        states = [STATES.index(value.seen[5]) for value in self.values]
-        numbers, made = self.engine.looks(self.looked or [flat.SLOT], most)
-        width, first = len(states), made
-        for at, state in enumerate(states):
-            column = numbers[at::width]
-            if column.count(state) != made:
-                first = min(first, next(turn for turn, one in enumerate(column) if one != state))
-        count = min(first + 1, made)
-        kept = min(self.history.kept + made, self.history.room) - (made - count)
-        self.engine.back(made - count)
-        self.history.added(STEP, count)
-        self.history.kept = kept
-        self.quiet += count
-        if first < made:
-            self.gap, self.quiet = min(self.quiet, self.history.room), 0
-        return count, first < made
+    def _expected(self, most: int, turn: int) -> int:
+        """Returns after how many turns a channel may change, if it goes on as before, or a device is due; at most so many."""
+        expected = self.gap - self.quiet
+        if expected <= 0:
+            expected = min(self.quiet + 1, self.history.room, MOST_AT_ONCE)
+        if self.due is not None and self.due - turn < expected:
+            expected = max(self.due - turn, 1)
+        return expected if expected < most else most
 
-    def _look(self, watched: Sequence[Place], hit: Optional[str]) -> Optional[str]:
+    def _quiet_turns(self, most: int) -> Tuple[int, Optional[Channels]]:
+        """Makes turns up to the first after which a channel of a device has another state, or a HIT, at most so many. An instruction that
+        changes a channel changes its state. Returns how many, and the channels if a state is another one."""
+        numbers, made = self.engine.looks(self.looked, most)
+        width, first = len(self.looked), made
+        for at, value in enumerate(self.values):
+            first = first_other(numbers[at::width], value.seen[0], first)
+        count = first + 1 if first < made else made
+        self.history.taken_back(made, made - count)
+        if count < made:
+            self.engine.back(made - count)
+        self.tape.append(STEP, count)
+        self.quiet += count
+        if first == made:
+            return count, None
+        self.gap, self.quiet = min(self.quiet, self.history.room), 0
+        return count, self._channels_in(numbers[(count - 1) * width:count * width])
+
+    def _look(self, watched: Sequence[Place], hit: Optional[str], now: Channels, turn: int) -> Optional[str]:
         """Lets the devices look after a turn. Returns its HIT."""
-        rows = self._rows()
-        values, replies = self._react(self.values, rows, self.turn)
+        values, replies = self._react(self.values, now, turn)
         if hit:
             self.plain.stops.append(self.position)
         self._note(values, replies)
-        self._perform_new(replies)
-        return hit_with_replies(watched, hit, rows, self._seen()) if watched else None
+        return hit_with_replies(watched, hit, self._named(now), self._named(self._seen())) if watched else None
 
     def _hit(self, watched: Sequence[Place]) -> Optional[str]:
         """Returns the HIT of the latest turn, or None."""
@@ -346,34 +357,51 @@ class Attached(Simulator):
         self.engine.forward(1)
         return next((f"HIT {place.text} {old} {new}" for place, old, new in zip(watched, was, now) if old != new), None)
 
-    def _react(self, values: Values, rows: Rows, turn: int) -> Tuple[Values, Replies]:
-        """Returns the values after each device has looked at its row, and the replies."""
-        replies: Replies = ()
-        for number, (device, value, now) in enumerate(zip(self.devices, values, rows)):
-            new, reply = looked(device, value, now, turn)
-            if new is not value:
+    def _react(self, values: Values, now: Channels, turn: int) -> Tuple[Values, List[ReplyLine]]:
+        """Returns the values after each device has looked at its channel, and the replies."""
+        replies = []
+        for number, device in enumerate(self.devices):
+            new, reply = looked(device, values[number], now[number], turn)
+            if new is not values[number]:
                 values = (*values[:number], new, *values[number + 1:])
             if reply is not None:
-                replies += (reply,)
+                replies.append(self._line_of(number, reply))
         return values, replies
 
-    def _rows(self) -> Rows:
-        """Returns the lines of the devices' channels."""
-        numbers = self.engine.numbers(flat.STATES, 2 * CHANNELS)
-        return tuple(f"H {channel:02o} {STATES[numbers[channel]]} {numbers[CHANNELS + channel]:04o}" for channel in self.channels_of)
+    def _channels_in(self, row: Sequence[int]) -> Channels:
+        """Returns the devices' channels of a look at them."""
+        count = len(self.devices)
+        return tuple(zip(row[:count], row[count:])) if len(row) > count else self._channels()
 
-    def _seen(self) -> Rows:
-        """Returns the lines of the devices' channels as they left them."""
+    def _channels(self) -> Channels:
+        """Returns the devices' channels."""
+        numbers = self.engine.numbers(flat.STATES, 2 * CHANNELS)
+        return tuple((numbers[device.channel], numbers[CHANNELS + device.channel]) for device in self.devices)
+
+    def _seen(self) -> Channels:
+        """Returns the devices' channels as they left them."""
         return tuple(value.seen for value in self.values)
 
+    def _named(self, channels: Channels) -> Dict[str, str]:
+        """Returns the digits of the registers of the devices' channels, by their places."""
+        return {f"H {device.channel:02o}": f"{register:04o}" for device, (_, register) in zip(self.devices, channels)}
 
-def hit_with_replies(watched: Sequence[Place], hit: Optional[str], seen: Rows, after: Rows) -> Optional[str]:
+
+def first_other(states: Sequence[int], state: int, most: int) -> int:
+    """Returns the index of the first of some states that is another one; `most` if there is none before that."""
+    same = states.count(state)
+    if same == len(states):
+        return most
+    if same == len(states) - 1 and states[same] != state:
+        return same if same < most else most
+    return min(most, next(at for at, one in enumerate(states) if one != state))
+
+
+def hit_with_replies(watched: Sequence[Place], hit: Optional[str], seen: Dict[str, str], after: Dict[str, str]) -> Optional[str]:
     """Returns the HIT of a turn with its replies: that of the first watched place that one of them changed, with the numbers before and
     after the last one that did."""
     hits = {" ".join(hit.split()[1:-2]): hit} if hit else {}
-    for before, now in zip(seen, after):
-        if before[7:] != now[7:]:
-            hits[now[:4]] = f"HIT {now[:4]} {before[7:]} {now[7:]}"
+    hits.update((place, f"HIT {place} {seen[place]} {number}") for place, number in after.items() if number != seen[place])
     return next((hits[place.text] for place in watched if place.text in hits), None)
 
 
@@ -384,7 +412,6 @@ class Ahead:
         position, tape, states, plain = session.position, session.tape, session.states, session.plain
         first = states.entry(position) + 1
         self.actions = list(tape.actions(position, tape.end))
-        self.replies = session.units.of_replies[position - session.unit:]
         self.at, self.values = states.at[first:], states.values[first:]
         self.stops = plain.stops[bisect.bisect_right(plain.stops, position):]
         self.told = {at: told for at, told in session.told.items() if at > position} if self.actions else {}
@@ -394,7 +421,6 @@ class Ahead:
         """Puts it back where it was. The session is at the position where it was then."""
         for line, times in self.actions:
             session.tape.append(line, times)
-        session.units.of_replies += self.replies
         session.states.at += self.at
         session.states.values += self.values
         session.plain.stops += self.stops

@@ -9,11 +9,11 @@ from typing import Any, Callable, Dict, Iterator, List, Optional, Sequence, Tupl
 
 from ..engine import interface as flat
 from ..failure import Failure
-from ..language.listing import AllSymbols
+from ..language.names import AllSymbols
 from ..shell.options import octal
 from .forms import CELLS, CLOCK, PROCESSORS, REGISTERS, STATES, Place
 from .search import Column, Condition, Looks, Test
-from .simulator import Simulator
+from .session import Session
 from .turn import Processor
 
 FORM = ("a condition is PLACE = 105 (also != < > <= >=), PLACE outside 100 117, PLACE inside 100 117, PLACE changes, "
@@ -44,7 +44,7 @@ class Is(Test):
             self.known[number] = self.test(number)
         return self.known[number]
 
-    def begin(self, run: Simulator) -> bool:
+    def begin(self, run: Session) -> bool:
         self.held = self.verdict(run.engine.numbers(self.places[0], 1)[0])
         return self.held
 
@@ -78,7 +78,7 @@ class OfClock(Test):
     def places(self) -> Sequence[int]:
         return []
 
-    def begin(self, run: Simulator) -> bool:
+    def begin(self, run: Session) -> bool:
         return self.held
 
     def verdicts(self, looks: Looks) -> bytes:
@@ -100,7 +100,7 @@ class Changes(Test):
     def places(self) -> Sequence[int]:
         return self.looked if len(self.looked) <= MOST_LOOKED else []
 
-    def begin(self, run: Simulator) -> bool:
+    def begin(self, run: Session) -> bool:
         self.last = {place: run.engine.numbers(place, 1)[0] for place in self.places}
         return False
 
@@ -150,7 +150,7 @@ class Waits(Test):
     def places(self) -> Sequence[int]:
         return [first + self.number for first in (flat.P, flat.A, flat.Q, flat.PHASE)]
 
-    def begin(self, run: Simulator) -> bool:
+    def begin(self, run: Session) -> bool:
         self.last = tuple(run.engine.numbers(place, 1)[0] for place in self.places)
         return self.holds
 
@@ -193,7 +193,7 @@ class Returns(Test):
         self.column = Column(Place("P", (number,)))
         self.stored: Dict[int, int] = {}  # by the address of the jump back: the return address
 
-    def begin(self, run: Simulator) -> bool:
+    def begin(self, run: Session) -> bool:
         (self.last,) = run.engine.numbers(flat.P + self.number, 1)
         return False
 

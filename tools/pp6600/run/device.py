@@ -8,13 +8,16 @@ of these. So a session keeps each state by reference, and goes back to it."""
 from __future__ import annotations
 
 import enum
-import traceback
+import functools
 from typing import Any, Callable, Iterable, List, NamedTuple, Optional, Tuple
 
 from ..devices.pictures import Picture
 from ..failure import Failure
+from .forms import STATES, fields
 
 MOST_WORD = 0o7777
+KINDS = ("disconnected", "activated", "word", "function")  # of events, by the state that a channel has come to, in the order of STATES
+INACTIVE_STATE, EMPTY_STATE = map(STATES.index, "IE")
 
 
 class DeviceFailure(Failure):
@@ -49,6 +52,14 @@ Answer = Tuple[Any, Reply]  # a new state, and a reply
 
 def full(word: int) -> Reply:
     """Returns the reply that puts a word on the channel."""
+    try:
+        return filled(word)
+    except TypeError:  # it can't be kept; the session says what is wrong with it
+        return Reply("F", word)
+
+
+@functools.lru_cache(maxsize=MOST_WORD + 1, typed=True)
+def filled(word: int) -> Reply:
     return Reply("F", word)
 
 
@@ -142,9 +153,12 @@ PLAIN = frozenset((int, str, bytes, bool, float, type(None), Chain, Reply))
 
 def is_value(state: Any) -> bool:
     """Returns whether nothing can change a value in place. The items of a chain were seen when they were pushed."""
-    if type(state) in PLAIN or isinstance(state, enum.Enum):
+    kind = type(state)
+    if kind in PLAIN or isinstance(state, enum.Enum):
         return True
-    return isinstance(state, (tuple, frozenset)) and not hasattr(state, "__dict__") and all(map(is_value, state))
+    if not isinstance(state, (tuple, frozenset)) or kind.__dictoffset__:
+        return False
+    return PLAIN.issuperset(map(type, state)) or all(map(is_value, state))
 
 
 def drawn(device: Device, state: Any, draw: Callable[[Picture], Any]) -> Any:
@@ -156,12 +170,20 @@ def drawn(device: Device, state: Any, draw: Callable[[Picture], Any]) -> Any:
         raise DeviceFailure(f"picture of {type(device).__name__} fails: {type(error).__name__}: {error}{place_of(error)}") from error
 
 
+Channel = Tuple[int, int]  # its state, by its number in STATES, and its register
+
+
+def channel_of(line: str) -> Channel:
+    """Returns the channel of a line of DUMP H."""
+    found = fields("H", line)
+    return STATES.index(found["state"]), int(found["register"], 8)
+
+
 class Value(NamedTuple):
-    """All that is known of a device at a position: its state, the line of its channel as it left it, and the turn for which it is
-    due."""
+    """All that is known of a device at a position: its state, its channel as it left it, and the turn for which it is due."""
 
     state: Any
-    seen: str
+    seen: Channel
     due: Optional[int] = None
 
 
@@ -169,58 +191,54 @@ def value_at_start(device: Device) -> Value:
     """Returns the value of a device at the beginning, when all channels are inactive."""
     if not is_value(device.start):
         raise DeviceFailure(f"{device.start!r:.60} can't be the state of a device: it can be changed in place")
-    return Value(device.start, f"H {device.channel:02o} I 0000")
-
-
-def event_of(value: Value, now: str, turn: int) -> Optional[Event]:
-    """Returns what a device sees that has this value, when its channel has this line in DUMP H after so many turns."""
-    if now != value.seen:
-        before, letter = value.seen[5], now[5]
-        kind = {"X": "function", "F": "word", "I": "disconnected", "E": "activated" if before == "I" else "taken"}[letter]
-        return Event(kind, int(now[7:], 8), turn)
-    return Event("due", int(now[7:], 8), turn) if value.due is not None and value.due <= turn else None
+    return Value(device.start, (INACTIVE_STATE, 0))
 
 
 def place_of(error: Exception) -> str:
     """Returns the file and the line where a device failed, in brackets; nothing if it is not known."""
+    import traceback  # devices seldom fail
     frames = traceback.extract_tb(error.__traceback__)[1:]
     return f" ({frames[-1].filename}, line {frames[-1].lineno} (decimal))" if frames else ""
 
 
-def called(device: Device, value: Value, event: Event, now: str) -> Tuple[Value, Optional[str]]:
-    """Returns the value of a device after an event, and its reply as a line, or None. The line of its channel is `now`."""
-    name = f"{event.kind} of {type(device).__name__}"
+def called(device: Device, value: Value, event: Event, now: Channel) -> Tuple[Value, Optional[Reply]]:
+    """Returns the value of a device after an event, and its reply if it changes the channel, which is as `now`."""
     try:
         answer = getattr(device, event.kind)(value.state, event)
     except Exception as error:
-        raise DeviceFailure(f"{name} fails: {type(error).__name__}: {error}{place_of(error)}") from error
+        raise failure(device, event, f"fails: {type(error).__name__}: {error}{place_of(error)}") from error
     if not isinstance(answer, tuple) or len(answer) != 2 or not isinstance(answer[1], Reply):
-        raise DeviceFailure(f"{name} must return a state and a Reply, and returned {answer!r:.60}")
+        raise failure(device, event, f"must return a state and a Reply, and returned {answer!r:.60}")
     state, reply = answer
     if state is not value.state and not is_value(state):
-        raise DeviceFailure(f"{name} returned a state that can be changed in place: {state!r:.60}")
+        raise failure(device, event, f"returned a state that can be changed in place: {state!r:.60}")
+    letter, word, wake = reply
     due = None if event.kind == "due" else value.due
-    if reply.wake is not None:
-        if type(reply.wake) is not int or reply.wake < 1:
-            raise DeviceFailure(f"{name} can't wake after {reply.wake!r:.60} turns")
-        due = event.turn + reply.wake
-    if reply.state is None:
+    if wake is not None:
+        if type(wake) is not int or wake < 1:
+            raise failure(device, event, f"can't wake after {wake!r:.60} turns")
+        due = event.turn + wake
+    if letter is None:
         return Value(state, now, due), None
-    return replied(name, Value(state, now, due), reply)
-
-
-def replied(name: str, value: Value, reply: Reply) -> Tuple[Value, str]:
-    """Returns the value of a device after its reply, and this as a line. The name is that of the method."""
-    letter, word = reply.state, reply.word
     is_word = type(word) is int and 0 <= word <= MOST_WORD
     if letter not in ("I", "E", "F") or not (is_word if letter == "F" else word is None):
-        raise DeviceFailure(f"{name} can't reply {letter} {word!r:.60}: a reply is INACTIVE, EMPTY, or full(word up to 7777 octal)")
-    channel, digits = value.seen[:5], f"{word:04o}" if letter == "F" else value.seen[7:]
-    line = f"SET {channel}{letter}{f' {word:o}' if letter == 'F' else ''}"
-    return value._replace(seen=f"{channel}{letter} {digits}"), line
+        raise failure(device, event, f"can't reply {letter} {word!r:.60}: a reply is INACTIVE, EMPTY, or full(word up to 7777 octal)")
+    return Value(state, (STATES.index(letter), now[1] if word is None else word), due), reply
 
 
-def looked(device: Device, value: Value, now: str, turn: int) -> Tuple[Value, Optional[str]]:
-    """Returns the value of a device after it has looked at its channel, and its reply as a line, or None."""
-    event = event_of(value, now, turn)
-    return (value, None) if event is None else called(device, value, event, now)
+def failure(device: Device, event: Event, what: str) -> DeviceFailure:
+    """Returns why a device can't go on after an event."""
+    return DeviceFailure(f"{event.kind} of {type(device).__name__} {what}")
+
+
+def looked(device: Device, value: Value, now: Channel, turn: int) -> Tuple[Value, Optional[Reply]]:
+    """Returns the value of a device after it has looked at its channel, which is so after so many turns, and its reply if it changes the
+    channel."""
+    state, word = now
+    if now != value.seen:
+        kind = "taken" if state == EMPTY_STATE and value.seen[0] != INACTIVE_STATE else KINDS[state]
+    elif value.due is not None and value.due <= turn:
+        kind = "due"
+    else:
+        return value, None
+    return called(device, value, Event(kind, word, turn), now)

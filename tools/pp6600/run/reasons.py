@@ -1,12 +1,11 @@
 """Why a line was refused: the word that is meant, or the form of the command. docs/CONSOLE.md has the causes, and docs/CARD.md
 the forms."""
 
-import difflib
 import re
 from typing import List, Optional, Sequence, Tuple
 
 from .forms import CENTRAL_ADDRESSES, CLOCK, KINDS, MOST_TURNS
-from .simulator import LONGEST_LINE
+from .console import LONGEST_LINE
 
 FORMS = ("SET M n a v ..", "SET A n v", "SET P n v", "SET Q n v", "SET C a v", "SET H c s [v]", "STEP [count]",
          "BACK [count]", "BACK W", "FORWARD [count]", "WATCH place", "UNWATCH place", "DEADSTART", "DUMP M n a b", "DUMP PP n", "DUMP H",
@@ -35,6 +34,7 @@ def not_a_command(words: Sequence[str]) -> str:
     """Returns which word is none of those that may be there."""
     command = words[0].upper()
     if command not in COMMANDS:
+        import difflib  # few sessions need it
         near = difflib.get_close_matches(command, COMMANDS, 1)
         return f"{words[0]} is no command" + (f"; {near[0]} is" if near else f": they are {listed(COMMANDS, 'and')}")
     kinds = kinds_of(command)

@@ -6,12 +6,13 @@ import bisect
 import functools
 from array import array
 from itertools import accumulate
-from typing import Sequence
+from typing import Callable, Sequence
 
 from ..engine import interface as flat
 from ..engine.interface import Records
 from .forms import CELLS, PROCESSORS, STATES, Registers
-from .simulator import Simulator
+from .session import Session
+from .tape import Position
 from .turn import Processor, Turn
 
 AT_ONCE = 0o40000  # turns
@@ -21,7 +22,7 @@ WIDTH = 16  # bytes of a place and its number
 class Recording:
     """The turns between two positions of a run, with no other action between, by their numbers from 0."""
 
-    def __init__(self, run: Simulator, first: int, last: int) -> None:
+    def __init__(self, run: Session, first: Position, last: Position) -> None:
         self.run, self.first, self.last = run, first, last
         run.goto(first)
         parts = []
@@ -35,9 +36,9 @@ class Recording:
         """Where the numbers of each turn begin, and where the last end, in bytes."""
         return array("Q", accumulate((WIDTH * count for part in self.parts for count in part.counts), initial=0))
 
-    def position(self, at: int) -> int:
+    def position(self, at: int) -> Position:
         """Returns the position after a turn."""
-        return self.first + at + 1
+        return Position(self.first + at + 1)
 
     def processor(self, at: int) -> int:
         """Returns the number of the processor of a turn."""
@@ -47,10 +48,7 @@ class Recording:
 
     def number(self, place: int, at: int) -> int:
         """Returns the number at a place before a turn."""
-        wanted = place.to_bytes(WIDTH // 2, "little")
-        found = self.olds.find(wanted, self.starts[at])
-        while found >= 0 and found % WIDTH:
-            found = self.olds.find(wanted, found + 1)
+        found = first_of(place, self.olds, self.starts[at])
         if found >= 0:
             return int.from_bytes(self.olds[found + WIDTH // 2:found + WIDTH], "little")
         self.run.goto(self.last)
@@ -93,8 +91,31 @@ class Recording:
         return STATES[self.number(flat.STATES + channel, at)]
 
 
-def recorded(run: Simulator, most: int) -> Records:
+def recorded(run: Session, most: int) -> Records:
     """Makes turns of the tape, at most so many."""
     records = run.engine.turns(most)
     run.history.performed(len(records.counts))
     return records
+
+
+def first_of(place: int, olds: bytes, begin: int = 0) -> int:
+    """Returns where a place is first among what was overwritten, from a byte on; -1 if it is not there."""
+    wanted = place.to_bytes(WIDTH // 2, "little")
+    found = olds.find(wanted, begin)
+    while found >= 0 and found % WIDTH:
+        found = olds.find(wanted, found + 1)
+    return found
+
+
+def last_part_with(run: Session, first: Position, last: Position, places: Sequence[int],
+                   progress: Callable[[Position], object]) -> Position:
+    """Makes the turns between two positions, some at once. Returns the position after the last of these parts in which one of the places was
+    written; `first` if there is none."""
+    found = first
+    run.goto(first)
+    while run.position < last:
+        olds = recorded(run, min(last - run.position, AT_ONCE)).olds
+        if any(first_of(place, olds) >= 0 for place in places):
+            found = run.position
+        progress(run.position)
+    return found

@@ -5,8 +5,8 @@ from typing import Any, Optional
 
 from ..failure import Failure
 from .conditions import parsed
-from .search import Moment, Progress, Search, last_moments
-from .simulator import Replay
+from .search import FoundTurn, Progress, Search, last_moments
+from .session import Session
 from .tape import STEP, Tape
 
 MOST_NEW = 0o10000000  # turns that are searched after those that were made
@@ -19,16 +19,16 @@ class Stopped(Failure):
         super().__init__("the search was stopped")
 
 
-def next_found(session: Any, text: str, symbols: Any, progress: Progress) -> Optional[Moment]:
+def next_found(session: Any, text: str, symbols: Any, progress: Progress) -> Optional[FoundTurn]:
     """Returns the first turn after the present one at whose end the condition holds, and at whose beginning it did not: one
     that was made, or a new one. Returns None if there is none."""
     tape = Tape(session.history.tape.runs)
     tape.append(STEP, session.most_new)
-    with closing(Replay(session.simulator.words, tape)) as run:
+    with closing(Session.of_tape(session.simulator.words, tape)) as run:
         return next(Search(run, parsed(text, symbols), progress).moments(session.history.turns), None)
 
 
-def last_before(session: Any, text: str, symbols: Any, progress: Progress) -> Optional[Moment]:
+def last_before(session: Any, text: str, symbols: Any, progress: Progress) -> Optional[FoundTurn]:
     """Returns what `next_found` does, of the last turn before the present one."""
-    with closing(Replay(session.simulator.words, session.history.tape)) as run:
+    with closing(Session.of_tape(session.simulator.words, session.history.tape)) as run:
         return next(iter(last_moments(run, parsed(text, symbols), 1, 0, session.history.turns - 1, progress)), None)

@@ -13,12 +13,14 @@ from __future__ import annotations
 
 import bisect
 import re
-from typing import Container, Dict, Iterable, Iterator, List, NamedTuple, Optional, Sequence, Tuple
+from typing import Container, Dict, Iterable, Iterator, List, NamedTuple, NewType, Optional, Sequence, Tuple
 
 from ..failure import Failure
 from .forms import MOST_TURNS, PROCESSORS
 
 MOST_KEPT = 10000  # decimal, without --history
+Position = NewType("Position", int)  # how many actions of a tape come before
+Units = NewType("Units", int)  # a number of actions as a user counts them
 STEP = "STEP"
 NOTE_OF_DEVICE = re.compile(r"\* DEVICE (\S+)\r?")  # the line after it is a reply of this device
 REPLY = "SET H "
@@ -115,12 +117,13 @@ class Action(NamedTuple):
 
 
 class Tape:
-    """The actions of a run."""
+    """The actions of a run. A unit is an action as a user counts them: with the replies of devices after it."""
 
     def __init__(self, actions: Iterable[Action] = ()) -> None:
         self.runs: List[Action] = []
-        # The actions, the turns and the slot before each run of actions, and at the end.
-        self.starts, self.turns_before, self.slots = [0], [0], [0]
+        self.starts: List[Position] = [Position(0)]  # of each run of actions, and of the end; and the turns and units before them
+        self.turns_before, self.units_before = [0], [0]
+        self.dead_starts: List[Position] = []  # the positions after them
         self.watches = 0  # how many of them are WATCH or UNWATCH
         for line, times in actions:
             self.append(line, times)
@@ -129,111 +132,138 @@ class Tape:
         """Adds an action at the end, so many times."""
         if not times:
             return
-        turns = times if line == STEP else 0
-        if turns and self.runs and self.runs[-1].line == STEP:
-            self.runs[-1] = Action(line, self.runs[-1].times + times)
-        else:
-            self.runs.append(Action(line, times))
-            for sums in (self.starts, self.turns_before, self.slots):
-                sums.append(sums[-1])
-        self.starts[-1] += times
-        self.turns_before[-1] += turns
-        word = STEP if turns else self.runs[-1].word
-        self.slots[-1] = 0 if word == "DEADSTART" else (self.slots[-1] + turns) % PROCESSORS
-        self.watches += word in WATCH_WORDS
+        is_turn = line == STEP
+        if is_turn and self.runs and self.runs[-1].line == STEP:
+            times += self.runs.pop().times
+            self._pop_sums()
+        self.runs.append(Action(line, times))
+        self.starts.append(Position(self.starts[-1] + times))
+        self.turns_before.append(self.turns_before[-1] + times * is_turn)
+        self.units_before.append(self.units_before[-1] + times * (type(line) is not ReplyLine))
+        if not is_turn and type(line) is not ReplyLine:
+            self._note_kind(self.runs[-1].word)
 
-    def cut(self, position: int) -> None:
+    def _pop_sums(self) -> None:
+        self.starts.pop()
+        self.turns_before.pop()
+        self.units_before.pop()
+
+    def _note_kind(self, word: str) -> None:
+        if word in WATCH_WORDS:
+            self.watches += 1
+        elif word == "DEADSTART":
+            self.dead_starts.append(self.end)
+
+    def cut(self, position: Position) -> None:
         """Removes what is after a position."""
-        while self.end > position:
-            for sums in (self.starts, self.turns_before, self.slots):
-                sums.pop()
+        while self.starts[-1] > position:
+            self._pop_sums()
             action = self.runs.pop()
             self.watches -= action.is_watch
             self.append(action.line, max(position - self.end, 0))
+        while self.dead_starts and self.dead_starts[-1] > position:
+            self.dead_starts.pop()
 
     # ---- how far
 
     @property
-    def end(self) -> int:
+    def end(self) -> Position:
         return self.starts[-1]
 
     @property
     def turns(self) -> int:
         return self.turns_before[-1]
 
-    def run_before(self, position: int) -> int:
+    def run_before(self, position: Position) -> int:
         """Returns the number of the run of actions that has the action before a position."""
         return bisect.bisect_left(self.starts, position) - 1
 
-    def run_after(self, position: int) -> int:
+    def run_after(self, position: Position) -> int:
         """Returns the number of the run that has the action after a position."""
         return bisect.bisect_right(self.starts, position) - 1
 
-    def turn(self, position: int) -> int:
+    def turn(self, position: Position) -> int:
         """Returns the number of turns before a position."""
         run = max(self.run_before(position), 0)
         passed = position - self.starts[run]
         return self.turns_before[run] + (passed if passed and self.runs[run].line == STEP else 0)
 
-    def slot(self, position: int) -> int:
+    def slot(self, position: Position) -> int:
         """Returns the slot at a position: that of the turn that begins there."""
-        run = self.run_after(position)
-        passed = position - self.starts[run]
-        if passed and self.runs[run].line != STEP:
-            return self.slots[run + 1]
-        return (self.slots[run] + passed) % PROCESSORS
+        last = bisect.bisect_right(self.dead_starts, position)
+        begun = self.turn(self.dead_starts[last - 1]) if last else 0
+        return (self.turn(position) - begun) % PROCESSORS
 
-    def after_turn(self, turn: int) -> int:
+    def units(self, position: Position) -> Units:
+        """Returns how many units are whole at a position, or begun: those whose own action is before it."""
+        run = max(self.run_before(position), 0)
+        return Units(min(self.units_before[run] + position - self.starts[run], self.units_before[min(run + 1, len(self.runs))]))
+
+    def whole_units(self, position: Position) -> Units:
+        """Returns how many units are whole at a position."""
+        units = self.units(position)
+        return units if self.after_units(units) == position else Units(units - 1)
+
+    def after_units(self, units: Units) -> Position:
+        """Returns the position after so many units, with their replies."""
+        run = bisect.bisect_right(self.units_before, units) - 1
+        return Position(self.starts[run] + units - self.units_before[run])
+
+    def after_turn(self, turn: int) -> Position:
         """Returns the position after so many turns, and after the other actions before the next turn."""
         if turn > self.turns:
             raise Failure(f"there is no turn {turn:o}: the run has {self.turns:o} turns, octal")
         run = bisect.bisect_right(self.turns_before, turn) - 1
-        return self.end if run == len(self.runs) else self.starts[run] + turn - self.turns_before[run]
+        return self.end if run == len(self.runs) else Position(self.starts[run] + turn - self.turns_before[run])
 
-    def at_turn(self, turn: int) -> int:
+    def at_turn(self, turn: int) -> Position:
         """Returns the position right after so many turns, before any other action."""
         run = bisect.bisect_left(self.turns_before, turn)
-        return self.starts[run] - (self.turns_before[run] - turn)
+        return Position(self.starts[run] - (self.turns_before[run] - turn))
 
-    def last_tick(self, position: int) -> int:
+    def before_turn(self, turn: int) -> Position:
+        """Returns the position before the turn with a number, from 1."""
+        return Position(self.at_turn(turn) - 1)
+
+    def last_tick(self, position: Position) -> Position:
         """Returns the position after the last turn before this one in which the clock changed; 0 if there is none."""
         while position:
             run = self.run_before(position)
             first = self.starts[run]
             if self.runs[run].line == STEP:
-                passed = (self.slots[run] + position - first) % PROCESSORS  # turns since the last turn of the last processor
+                passed = (self.slot(first) + position - first) % PROCESSORS  # turns since the last turn of the last processor
                 if position - passed > first:
-                    return position - passed
+                    return Position(position - passed)
             position = first
-        return 0
+        return position
 
     # ---- what
 
-    def actions(self, first: int = 0, last: int | None = None) -> Iterator[Action]:
+    def actions(self, first: Position = Position(0), last: Position | None = None) -> Iterator[Action]:
         """Yields the actions from a position to a later one, or to the end."""
         last = self.end if last is None else last
         while first < last:
             run = self.run_after(first)
             count = min(last, self.starts[run + 1]) - first
             yield Action(self.runs[run].line, count)
-            first += count
+            first = Position(first + count)
 
-    def lines(self, first: int, last: int) -> Iterator[str]:
+    def lines(self, first: Position, last: Position) -> Iterator[str]:
         """Yields the lines that perform the actions from a position to a later one, with the STEPs as long as they may be."""
         return (line for action in self.actions(first, last) for line in lines_of(action))
 
-    def stops(self, first: int = 0, processors: Container[int] = range(PROCESSORS)) -> Iterator[Tuple[int, str]]:
+    def stops(self, first: int = 0, processors: Container[int] = range(PROCESSORS)) -> Iterator[Tuple[Position, str]]:
         """Yields the position before each turn of some processors, with STEP, from turn number `first` on (from 0); and the position
         after each other action from there on, with its line."""
         for run, action in enumerate(self.runs):
             begin, end = self.starts[run] + max(first - self.turns_before[run], 0), self.starts[run + 1]
             if action.turns:
-                slot = self.slots[run] - self.starts[run]
-                yield from ((position, STEP) for position in range(begin, end) if (position + slot) % PROCESSORS in processors)
+                slot = self.slot(self.starts[run]) - self.starts[run]
+                yield from ((Position(at), STEP) for at in range(begin, end) if (at + slot) % PROCESSORS in processors)
             elif begin == self.starts[run]:
                 yield end, action.line
 
-    def part(self, first: int, last: int) -> Tape:
+    def part(self, first: Position, last: Position) -> Tape:
         """Returns a tape of the actions from a position to a later one."""
         return Tape(self.actions(first, last))
 
@@ -258,7 +288,7 @@ class History:
     def __init__(self, room: int = MOST_KEPT, tape: Tape | None = None) -> None:
         """The simulator keeps so many actions; it is at the beginning of the tape."""
         self.room, self.tape = room, tape or Tape()
-        self.position = self.kept = self.ahead = 0
+        self.position, self.kept, self.ahead = Position(0), 0, 0
 
     # ---- how far
 
@@ -268,59 +298,41 @@ class History:
         return self.tape.turn(self.position)
 
     @property
-    def last_turn(self) -> int:
-        """How many turns are in effect or ahead."""
-        return self.tape.turns
-
-    @property
     def slot(self) -> int:
         return self.tape.slot(self.position)
 
     @property
-    def to_redo(self) -> int:
-        """How many actions are ahead, with those that the simulator no longer has."""
-        return self.tape.end - self.position
-
-    @property
-    def oldest(self) -> int:
+    def oldest(self) -> Position:
         """The first position to which the simulator can go back."""
-        return self.position - self.kept
+        return Position(self.position - self.kept)
 
     def in_effect(self) -> Tape:
         """Returns the actions that were not taken back, or were performed again."""
-        return self.tape.part(0, self.position)
-
-    def back_over(self, turns: int) -> int:
-        """Returns how many actions in effect have the last so many turns; more than there are if these have fewer turns."""
-        if turns > self.turns:
-            return self.position + turns - self.turns
-        return self.position - self.tape.after_turn(self.turns - turns) if turns else 0
-
-    def forward_over(self, turns: int) -> int:
-        """Returns how many actions ahead have the first so many turns."""
-        return self.tape.at_turn(self.turns + turns) - self.position if turns else 0
-
-    def over(self, actions: int) -> int:
-        """Returns how many actions, as BACK counts them, have so many of the tape."""
-        return actions
+        return self.tape.part(Position(0), self.position)
 
     # ---- what the simulator did
 
     def restarted(self) -> None:
         """Notes that a fresh simulator is at the beginning of the tape."""
-        self.position = self.kept = self.ahead = 0
+        self.position, self.kept, self.ahead = Position(0), 0, 0
 
     def performed(self, count: int) -> None:
         """Notes that the simulator has performed the next so many actions of the tape by their lines."""
-        self.position += count
+        self.position = Position(self.position + count)
         self.kept = min(self.kept + count, self.room)
+        self.ahead = 0
+
+    def taken_back(self, made: int, count: int) -> None:
+        """Notes that the simulator has performed so many new actions, and taken back so many of them."""
+        self.position = Position(self.position + made - count)
+        self.kept = min(self.kept + made, self.room) - count
         self.ahead = 0
 
     def moved(self, count: int) -> None:
         """Notes that the simulator has gone forward by so many actions, or back if it is negative."""
         if count > self.ahead or -count > self.kept:
             raise Failure(f"what is run is not the simulator: it went by {abs(count):o} actions, and there are fewer")
-        self.position += count
+        self.position = Position(self.position + count)
         self.kept += count
         self.ahead -= count
 
@@ -331,7 +343,7 @@ class History:
         self.performed(times)
 
     def take(self, line: str, answer: Sequence[str]) -> bool:
-        """Counts a line of the user by the lines of its answer. Returns whether it changed the machine, the history or the list."""
+        """UnitCounts a line of the user by the lines of its answer. Returns whether it changed the machine, the history or the list."""
         kind, *rest = answer[0].split() if answer else ["NOTE"]
         if kind == "OK":
             self.added(line)
@@ -342,3 +354,67 @@ class History:
         else:
             return False
         return True
+
+
+class UnitCounts:
+    """A history as BACK and FORWARD of its user count it: in units."""
+
+    def __init__(self, history: History, redo: Optional[History] = None) -> None:
+        """The redo list that counts may be that of another history of the tape."""
+        self.history, self.redo, self.tape = history, redo or history, history.tape
+
+    @property
+    def position(self) -> Units:
+        """How many units are in effect."""
+        return self.tape.units(self.history.position)
+
+    @property
+    def oldest(self) -> Units:
+        """How many units come before what the simulator itself can undo."""
+        return self.tape.units(self.history.oldest)
+
+    @property
+    def kept(self) -> int:
+        """How many units the simulator itself can undo."""
+        return self.position - self.oldest
+
+    @property
+    def to_redo(self) -> int:
+        """How many units are ahead, with those that the simulator no longer has."""
+        return self.tape.units(self.tape.end) - self.position
+
+    @property
+    def ahead(self) -> int:
+        """How many units of the redo list are ahead."""
+        return self.tape.units(Position(self.history.position + self.redo.ahead)) - self.position
+
+    @property
+    def turns(self) -> int:
+        """How many turns are in effect."""
+        return self.history.turns
+
+    @property
+    def last_turn(self) -> int:
+        """How many turns are in effect or ahead."""
+        return self.tape.turns
+
+    @property
+    def slot(self) -> int:
+        return self.history.slot
+
+    def in_effect(self) -> Tape:
+        return self.history.in_effect()
+
+    def over(self, actions: int) -> int:
+        """Returns how many units the last so many actions of the tape are."""
+        return self.position - self.tape.whole_units(Position(self.history.position - actions))
+
+    def back_over(self, turns: int) -> int:
+        """Returns how many units in effect have the last so many turns; more than there are if these have fewer turns."""
+        if turns > self.turns:
+            return self.position + turns - self.turns
+        return self.position - self.tape.units(self.tape.after_turn(self.turns - turns)) if turns else 0
+
+    def forward_over(self, turns: int) -> int:
+        """Returns how many units ahead have the first so many turns."""
+        return self.tape.units(self.tape.at_turn(self.turns + turns)) - self.position if turns else 0

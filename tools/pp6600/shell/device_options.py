@@ -4,14 +4,16 @@ import importlib
 import pkgutil
 import sys
 import types
+from argparse import Namespace
+from typing import Any, List, Sequence, Tuple, Type
 
 from .. import devices
 from ..failure import Failure
 from ..run.attached import Attached
 from ..run.device import Device, DeviceFailure
 from ..run.forms import CHANNELS
-from ..run.timeline import Timeline
-from .options import up_to
+from ..run.session import Session
+from .options import Parser, up_to
 from .script import Refusals
 from .text_files import bytes_of, lines_of
 
@@ -19,23 +21,23 @@ FORM = "NAME[:WORD,..]@CHANNEL"
 NAMES = sorted({module.name for module in pkgutil.iter_modules(devices.__path__)} - {"converter", "pictures", "tape_file"})
 
 
-def add_devices(parser):
+def add_devices(parser: Parser) -> None:
     parser.add_argument("--device", metavar=FORM, action="append", default=[],
                         help=f"put a device on a channel: {', '.join(NAMES)}, or FILE.py:CLASS; its constructor gets the words; "
                              "for each one")
 
 
-def devices_of(asked):
+def devices_of(asked: Namespace) -> List[Device]:
     """Returns the devices that a command line names."""
     return [device_of(text) for text in asked.device]
 
 
-def timeline(words, attached):
+def timeline(words: Sequence[str], attached: Sequence[Device]) -> Session:
     """Returns a session that goes back without a limit, with these devices if there are any."""
-    return Attached(words, attached) if attached else Timeline(words)
+    return Attached(words, attached) if attached else Session(words)
 
 
-def script_with(words, attached, script):
+def script_with(words: Sequence[str], attached: Sequence[Device], script: bytes) -> Tuple[bytes, Refusals]:
     """Performs a script, given as bytes, with devices. Returns the script for the simulator alone that gives the same session, as bytes
     too, and the lines that were refused."""
     run, refusals = Attached(words, attached), Refusals()
@@ -48,7 +50,7 @@ def script_with(words, attached, script):
     return "".join(f"{line}\n" for line in run.sent).encode("latin-1"), refusals
 
 
-def device_of(text):
+def device_of(text: str) -> Device:
     """Returns the device that an option names."""
     named, _, channel = text.rpartition("@")
     if not (named and channel):
@@ -60,7 +62,7 @@ def device_of(text):
         raise Failure(f"--device {text}: {failure}") from failure
 
 
-def made(named, channel):
+def made(named: str, channel: int) -> Device:
     """Returns the device of a name with its words, on a channel."""
     name, *more = named.split(":")
     if name.endswith(".py"):
@@ -80,30 +82,31 @@ def made(named, channel):
     return device
 
 
-def class_of_package(name):
+def class_of_package(name: str) -> Type[Device]:
     """Returns the class of a device of the package: the one that its module defines."""
     if name not in NAMES:
         raise Failure(f"there is no device {name}; there are {', '.join(NAMES)}, and FILE.py:CLASS")
     module = importlib.import_module(f"{devices.__name__}.{name}")
-    return next(one for one in vars(module).values() if is_device(one) and one.__module__ == module.__name__)
+    found: Type[Device] = next(one for one in vars(module).values() if is_device(one) and one.__module__ == module.__name__)
+    return found
 
 
-def class_of_file(path, name):
+def class_of_file(path: str, name: str) -> Type[Device]:
     """Returns the class of a device in a file."""
     module = module_of(path)
     if not hasattr(module, name):
         raise Failure(f"{path} has no {name}")
-    kind = getattr(module, name)
+    kind: Type[Device] = getattr(module, name)
     if not is_device(kind):
         raise Failure(f"{name} in {path} is not a subclass of Device")
     return kind
 
 
-def is_device(kind):
+def is_device(kind: Any) -> bool:
     return isinstance(kind, type) and issubclass(kind, Device) and kind is not Device
 
 
-def module_of(path):
+def module_of(path: str) -> types.ModuleType:
     """Returns the module of a file, which is performed for it."""
     module = types.ModuleType(f"device in {path}")
     module.__file__ = path

@@ -3,13 +3,14 @@
 import os
 import signal
 import sys
+from typing import Any, Callable, Iterable, NoReturn, Optional
 
 from ..failure import Failure, Faults
 
 FAILED = 2
 
 
-def complain(message):
+def complain(message: object) -> None:
     """Writes one line to standard error, after the tool's name; the lines about a source as they are."""
     line = " ".join(shown_text(str(message)).split())
     lines = message.lines if isinstance(message, Faults) else [f"{os.path.basename(sys.argv[0])}: {line}"]
@@ -19,26 +20,26 @@ def complain(message):
         discard(sys.stderr)
 
 
-def shown_text(text):
+def shown_text(text: str) -> str:
     """Returns a text without bytes that a terminal would obey, but for tabs and line ends."""
     return "".join(letter if letter.isprintable() or letter in "\t\n" else letter.encode("unicode_escape", "surrogatepass").decode()
                    for letter in text)
 
 
-def discard(stream):
+def discard(stream: Any) -> None:
     """Makes a stream that can't be written one that takes everything, so that Python does not try again at its end."""
     nowhere = os.open(os.devnull, os.O_WRONLY)
     os.dup2(nowhere, stream.fileno())
     os.close(nowhere)
 
 
-def unwritten(error):
+def unwritten(error: OSError) -> Exception:
     """Returns what a fault of standard output is to the tool; nothing more is written there."""
     discard(sys.stdout)
     return error if isinstance(error, BrokenPipeError) else Failure(f"can't write to standard output: {error.strerror}")
 
 
-def flush():
+def flush() -> None:
     """Writes what is still to be written to standard output."""
     try:
         sys.stdout.flush()
@@ -46,7 +47,7 @@ def flush():
         raise unwritten(error) from None
 
 
-def write(line, at_once=False):
+def write(line: str, at_once: bool = False) -> None:
     """Writes a line to standard output; at once, if a reader waits for it."""
     try:
         sys.stdout.write(f"{line}\n")
@@ -56,7 +57,7 @@ def write(line, at_once=False):
         flush()
 
 
-def write_bytes(data):
+def write_bytes(data: bytes) -> None:
     """Writes bytes to standard output."""
     try:
         sys.stdout.buffer.write(data)
@@ -65,7 +66,7 @@ def write_bytes(data):
         raise unwritten(error) from None
 
 
-def write_lines(lines, otherwise=None, at_once=False):
+def write_lines(lines: Iterable[str], otherwise: Optional[str] = None, at_once: bool = False) -> None:
     """Writes lines; if there is none, another one."""
     for line in lines:
         write(line, at_once)
@@ -74,7 +75,7 @@ def write_lines(lines, otherwise=None, at_once=False):
         write(otherwise)
 
 
-def open_streams():
+def open_streams() -> None:
     """Opens each closed standard stream to nowhere, so that no other file takes its number; and lets any text be written."""
     closed = [stream is None for stream in (sys.stdin, sys.stdout, sys.stderr)]
     for is_closed in closed:
@@ -84,10 +85,11 @@ def open_streams():
         sys.stderr = open(os.devnull, "w", encoding="utf-8")
     if sys.stdout is None:
         raise Failure("standard output is closed, so there is nowhere to write to")
-    sys.stdout.reconfigure(errors="backslashreplace")
+    stdout: Any = sys.stdout
+    stdout.reconfigure(errors="backslashreplace")
 
 
-def status_of(main):
+def status_of(main: Callable[[], Any]) -> Any:
     """Runs a tool and returns its status; a parser ends it early after --help."""
     try:
         open_streams()
@@ -98,7 +100,7 @@ def status_of(main):
     return status or 0
 
 
-def run(main):
+def run(main: Callable[[], Any]) -> NoReturn:
     """Runs a tool, and ends with the status that it returns (None: 0), or with a message and status 2."""
     if signal.getsignal(signal.SIGINT) is signal.default_int_handler:
         signal.signal(signal.SIGINT, signal.SIG_DFL)  # it ends the tool without a word
@@ -107,7 +109,7 @@ def run(main):
     except BrokenPipeError:  # the reader of the output has had enough
         sys.exit(0)
     except Failure as failure:
-        message = failure
+        message: object = failure
     except MemoryError:
         message = "out of memory"
     except Exception as error:  # a fault that is the tool's own
@@ -115,7 +117,7 @@ def run(main):
     end_with(message)
 
 
-def end_with(message):
+def end_with(message: object) -> NoReturn:
     """Writes what can still be written, then the message, and ends with status 2."""
     try:
         if sys.stdout is not None:

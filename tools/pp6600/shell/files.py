@@ -2,7 +2,7 @@
 
 import os
 import subprocess
-from typing import List
+from typing import Any, Callable, List
 
 from .command_line import Failure, run
 from .options import TOOLS
@@ -24,7 +24,7 @@ def checked_program(path: str, *words: str) -> List[str]:
     return [os.path.abspath(path), *words]
 
 
-def in_plain_words(main):
+def in_plain_words(main: Callable[[], Any]) -> Any:
     """Returns what main returns. A fault of the file system is a failure that names the file."""
     try:
         return main()
@@ -33,6 +33,6 @@ def in_plain_words(main):
         raise Failure(f"{named}{error.strerror or error}") from error
 
 
-def run_over_files(main):
+def run_over_files(main: Callable[[], Any]) -> None:
     """Runs a program as `run` does, of one that makes files."""
     run(lambda: in_plain_words(main))

@@ -5,10 +5,12 @@ import re
 import shutil
 import signal
 import sys
+from typing import Any, Iterator, List, Tuple
 
 from ..engine.choice import ABOVE, HOME, PACKAGE
 from ..failure import Failure
 from ..run.device import DeviceFailure
+from ..run.session import Session
 from .ending import complain, flush, write
 from .script import Refusals
 from .shown import answer, show_answer
@@ -20,11 +22,11 @@ UNDO = re.compile(r"\s*(undo|redo)(?:\s+([0-7]+))?\s*", re.I)  # as BACK and FOR
 FIRST_WORDS = ("help", "?", "quit", "exit")  # what a newcomer may type; the simulator has no such commands
 
 
-def is_terminal():
+def is_terminal() -> bool:
     return sys.stdin is not None and sys.stdin.isatty() and sys.stdout.isatty()
 
 
-def card():
+def card() -> str:
     """Returns where the lines of the console are described: in a checkout, a release or a class, in a package of pip, and elsewhere."""
     if os.path.exists(os.path.join(ABOVE, "docs", "CARD.md")):
         return "docs/CARD.md"
@@ -32,7 +34,7 @@ def card():
     return page if HOME == PACKAGE and os.path.exists(page) else "man pp6600"
 
 
-def completions():
+def completions() -> List[str]:
     """Returns the file of the console's words: beside the tools in an installation, in share in a checkout."""
     for path in (os.path.join(ABOVE, "commands"), os.path.join(ABOVE, "share", "commands")):
         if os.path.exists(path):
@@ -40,7 +42,7 @@ def completions():
     return []
 
 
-def edit_lines():
+def edit_lines() -> None:
     """Has rlwrap run the tool again at a terminal, which then has line editing and the history of ./pp6600. Without
     rlwrap Python's own line editing does that, if it is there. An interrupt does not end the tool."""
     if not is_terminal():
@@ -59,7 +61,7 @@ def edit_lines():
         pass
 
 
-def typed_lines(run):
+def typed_lines(run: Session) -> Iterator[str]:
     """Yields the lines of a terminal, each after a prompt with the number of turns in effect."""
     while True:
         flush()
@@ -74,12 +76,12 @@ def typed_lines(run):
         yield line.encode("utf-8", "surrogateescape").decode("latin-1")
 
 
-def converse(run, transcript):
+def converse(run: Session, transcript: Any) -> int:
     """Performs the lines that are typed, or those of standard input. Returns the exit status."""
     return converse_at_terminal(run, transcript) if is_terminal() else perform_input(run, transcript)
 
 
-def converse_at_terminal(run, transcript):
+def converse_at_terminal(run: Session, transcript: Any) -> int:
     status = 0
     for line in typed_lines(run):
         if line.strip().lower() in FIRST_WORDS:
@@ -90,7 +92,7 @@ def converse_at_terminal(run, transcript):
     return status
 
 
-def perform_typed(run, line, transcript):
+def perform_typed(run: Session, line: str, transcript: Any) -> bool:
     """Performs a line that was typed, and shows what came of it. Returns whether it was refused, or a device failed."""
     ahead, place = run.counts.to_redo, place_of(run)
     asked = UNDO.fullmatch(line)
@@ -109,12 +111,12 @@ def perform_typed(run, line, transcript):
     return kind == "ERR"
 
 
-def place_of(run):
+def place_of(run: Session) -> Tuple[int, int]:
     """Returns how often the script of a run has begun anew, and how many lines were sent since."""
     return run.replays, len(run.sent)
 
 
-def note_on(run, answer, ahead):
+def note_on(run: Session, answer: str, ahead: int) -> str:
     """Returns what may not be expected after an answer, of which these are the first letters."""
     history = run.counts
     if ahead and not history.to_redo and answer[:2] in ("OK", "TU"):
@@ -124,7 +126,7 @@ def note_on(run, answer, ahead):
     return f"redo goes over the {history.to_redo:o} actions ahead" if answer == "ERR 16" and history.to_redo else ""
 
 
-def perform_input(run, transcript):
+def perform_input(run: Session, transcript: Any) -> int:
     refusals = Refusals()
     for number, line in enumerate(input_lines(), 1):
         write(f"> {shown(line)}".rstrip())

@@ -5,6 +5,7 @@ import os
 import re
 import sys
 from functools import partial
+from typing import Any, List, NamedTuple, NoReturn, Optional, Sequence
 
 from ..engine.choice import HOME
 from ..engine.choose import default_engine
@@ -13,7 +14,23 @@ from ..run.forms import CELLS, CLOCK, PROCESSORS
 from .ending import write
 
 TOOLS = os.path.dirname(os.path.dirname(os.path.dirname(os.path.abspath(__file__))))
-OPTIONS = {"history": "N", "central": "K", "deck": "F", "reader": "C", "printer": "C", "panel": "F"}
+
+
+class Option(NamedTuple):
+    """An option of the simulator: what its value is called, what it is, and the values that there are; none if there are many."""
+
+    metavar: str
+    help: str
+    values: Sequence[str] = ()
+
+
+CHANNELS = tuple(f"{number:o}" for number in range(CLOCK))
+OPTIONS = {"history": Option("N", "the length of the undo history in actions, decimal (else 10000)"),
+           "central": Option("K", "the words of central memory in 1024, decimal (else 128)", ("32", "64", "128")),
+           "deck": Option("F", "the file of the card deck"),
+           "reader": Option("C", "the channel of the card reader, octal (else 12)", CHANNELS),
+           "printer": Option("C", "the channel of the printer, octal (else 13)", CHANNELS),
+           "panel": Option("F", "the file of the dead start panel")}
 PLAIN = "\0"  # before a word that is no option, though it begins like one; no word of a command line has this byte
 
 
@@ -24,7 +41,7 @@ class BadWord(Failure, argparse.ArgumentTypeError):
 class Once(argparse.Action):
     """Takes an option's value, and refuses the same option a second time."""
 
-    def __call__(self, parser, namespace, values, option_string=None):
+    def __call__(self, parser: argparse.ArgumentParser, namespace: argparse.Namespace, values: Any, option_string: Optional[str] = None) -> None:
         given = vars(namespace).setdefault("given_options", set())
         if option_string and self.dest in given:
             raise Failure(f"{option_string} is given twice")
@@ -36,7 +53,7 @@ class Once(argparse.Action):
 class Version(argparse.Action):
     """Writes the version and ends."""
 
-    def __call__(self, parser, namespace, values, option_string=None):
+    def __call__(self, parser: argparse.ArgumentParser, namespace: argparse.Namespace, values: Any, option_string: Optional[str] = None) -> None:
         try:
             with open(os.path.join(HOME, "VERSION"), encoding="ascii") as file:
                 version = file.readline().strip()
@@ -49,20 +66,20 @@ class Version(argparse.Action):
 class Parser(argparse.ArgumentParser):
     """The words of a tool. An option may come after other words and at most once; after -- no word is an option."""
 
-    def __init__(self, description, usage=None):
+    def __init__(self, description: str, usage: Optional[str] = None) -> None:
         usage = usage and f"%(prog)s {usage}"
         super().__init__(description=description, usage=usage, allow_abbrev=False)
         self.register("action", None, Once)
         self.register("action", "store", Once)
         self.add_argument("--version", action=Version, nargs=0, help="show the version and exit")
 
-    def error(self, message):
+    def error(self, message: str) -> NoReturn:
         raise Failure(f"{message}; {self.prog} --help shows what may be given".replace(PLAIN, ""))
 
-    def _print_message(self, message, file=None):  # argparse takes no notice of an output that is full
+    def _print_message(self, message: str, file: Any = None) -> None:  # argparse takes no notice of an output that is full
         write(message.rstrip("\n"))
 
-    def parse(self):
+    def parse(self) -> argparse.Namespace:
         """Returns what is asked by the words of the command line."""
         words = sys.argv[1:]
         if "--" in words:
@@ -74,7 +91,7 @@ class Parser(argparse.ArgumentParser):
         return asked
 
 
-def unmarked(value):
+def unmarked(value: Any) -> Any:
     """Returns a value without the marks of plain words."""
     if isinstance(value, list):
         return [unmarked(one) for one in value]
@@ -88,7 +105,7 @@ def octal(text: str) -> int:
     return int(text, 8)
 
 
-def up_to(text, most, what):
+def up_to(text: str, most: int, what: str) -> int:
     """Returns a number of the command line that is at most so great."""
     number = octal(text)
     if number > most:
@@ -101,42 +118,42 @@ cell = partial(up_to, most=CELLS - 1, what="cell")
 channel = partial(up_to, most=CLOCK, what="channel")
 
 
-def count(text):
+def count(text: str) -> int:
     number = octal(text)
     if number == 0:
         raise BadWord("a count is 1 or more")
     return number
 
 
-def add_turn(parser):
+def add_turn(parser: Parser) -> None:
     parser.add_argument("--turn", metavar="N", type=octal, help="as it is after turn N, octal, with the settings before the next one")
 
 
-def words_after(words, most, what):
+def words_after(words: List[str], most: int, what: str) -> List[Any]:
     """Checks that at most so many words are left, and returns them, with None for each that is missing."""
     if len(words) > most:
         raise Failure(f"{what} and no other word, so not also {' '.join(words[most:])}")
     return words + [None] * (most - len(words))
 
 
-def simulator(asked):
+def simulator(asked: argparse.Namespace) -> List[str]:
     """Returns the words of the simulator: the program and its options."""
-    words = [asked.program]
+    words: List[str] = [asked.program]
     for name in OPTIONS:
         value = getattr(asked, name)
         words += [] if value is None else [f"--{name}", value]
     return words
 
 
-def arguments(description, usage=None):
+def arguments(description: str, usage: Optional[str] = None) -> Parser:
     """Returns a parser with the options that every tool with a simulator takes."""
     parser = Parser(description, usage)
     parser.add_argument("--program", metavar="FILE", help="the simulator (else $PP6600, else the one beside the tools)",
                         default=default_engine())
-    for name, value in OPTIONS.items():
-        parser.add_argument(f"--{name}", metavar=value, help="as the simulator has it")
+    for name, option in OPTIONS.items():
+        parser.add_argument(f"--{name}", metavar=option.metavar, help=option.help)
     return parser
 
 
-def add_script(parser):
+def add_script(parser: Parser) -> None:
     parser.add_argument("script", nargs="?", metavar="SCRIPT", help="without it, standard input is the script")

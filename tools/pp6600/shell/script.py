@@ -1,22 +1,27 @@
 """A script that is performed: the tape of what is in effect at its end, and the lines that were refused."""
 
+from argparse import Namespace
+from typing import Any, Callable, Iterable, List, Optional, Sequence, Tuple
+
+from ..run.console import Console
 from ..run.forms import is_refusal
-from ..run.simulator import Console, Replay
-from ..run.tape import History, counted, room_of
+from ..run.session import Session
+from ..run.tape import History, Position, Tape, counted, room_of
 from .ending import complain, flush
 from .options import simulator
 from .text_files import script_lines, shown
 
 MOST_SHOWN = 60  # characters of a line that was refused
+Took = Callable[[str, List[str], Optional[Tuple[int, int]]], object]
 
 
 class Refusals:
     """The lines of a script that were refused."""
 
-    def __init__(self):
+    def __init__(self) -> None:
         self.count, self.first = 0, ""
 
-    def note(self, number, line, answer):
+    def note(self, number: int, line: str, answer: Sequence[str]) -> bool:
         """Counts a line if its answer says that it was refused. Returns whether it was."""
         refused = is_refusal(answer)
         if refused and not self.count:
@@ -24,7 +29,7 @@ class Refusals:
         self.count += refused
         return refused
 
-    def status(self):
+    def status(self) -> int:
         """Says on standard error how many lines were refused, and which was the first. Returns the exit status."""
         if self.count:
             flush()
@@ -36,7 +41,7 @@ class Refusals:
 class Script:
     """A script, performed line by line: what is in effect at its end, and which lines were refused."""
 
-    def __init__(self, console, lines, took=lambda line, answer, turns: None):
+    def __init__(self, console: Console, lines: Iterable[str], took: Took = lambda line, answer, turns: None) -> None:
         """The function `took` is called with each line and its answer, and how many turns are in effect before and after it; these are
         None if it did nothing."""
         self.history, self.refusals = History(room_of(console.words)), Refusals()
@@ -47,15 +52,15 @@ class Script:
             self.refusals.note(number, line, answer)
 
     @property
-    def tape(self):
+    def tape(self) -> Tape:
         """The actions in effect: neither refused nor taken back. Watches are left out."""
         return self.history.in_effect().without_watches()
 
-    def status(self):
+    def status(self) -> int:
         return self.refusals.status()
 
 
-def performed(words, lines):
+def performed(words: Sequence[str], lines: Iterable[str]) -> Script:
     """Performs a script in a simulator of its own."""
     console = Console(words)
     script = Script(console, lines)
@@ -63,10 +68,10 @@ def performed(words, lines):
     return script
 
 
-def replayed(asked, symbols, path, turn=None):
+def replayed(asked: Namespace, symbols: Any, path: Optional[str], turn: Optional[int] = None) -> Tuple[Session, Script]:
     """Performs the script of a command line, after the lines that load its sources. Returns a simulator before the actions that are
     in effect at its end, or after a turn with the settings before the next one; and the script."""
     words = simulator(asked)
     script = performed(words, symbols.loading(script_lines(path)))
     tape = script.tape
-    return Replay(words, tape if turn is None else tape.part(0, tape.after_turn(turn))), script
+    return Session.of_tape(words, tape if turn is None else tape.part(Position(0), tape.after_turn(turn))), script

@@ -1,23 +1,25 @@
 """Lines with their answers, as a session is shown."""
 
 import sys
+from typing import Iterable, List, Optional
 
 from ..failure import Failure
 from ..run.reasons import reason, size_of_central
+from ..run.session import Session
 from ..run.tape import counted
 from .ending import complain, flush, shown_text, write
 from .script import Refusals
 from .text_files import shown
 
 
-def answer(run, line, number=0, refusals=None):
+def answer(run: Session, line: str, number: int = 0, refusals: Optional[Refusals] = None) -> bool:
     """Performs a line, and shows its answer. Returns whether the line was refused."""
     lines = run.act(line)
     show_answer(run, line, lines)
     return (refusals or Refusals()).note(number, line, lines)
 
 
-def show_answer(run, line, lines):
+def show_answer(run: Session, line: str, lines: List[str]) -> None:
     """Shows the lines of an answer, at a terminal also why the line was refused."""
     for text in lines:
         write(text)
@@ -28,7 +30,7 @@ def show_answer(run, line, lines):
             write(f"  {shown_text(why)}")
 
 
-def show_lines(run, lines, stop=False):
+def show_lines(run: Session, lines: Iterable[str], stop: bool = False) -> int:
     """Shows lines with their answers, to the first one that is refused if it is to stop there. Returns the exit status."""
     refusals = Refusals()
     for number, line in counted(lines):

@@ -1,7 +1,7 @@
 """The files that a tool reads."""
 
 import sys
-from typing import Optional
+from typing import Iterator, List, Optional
 
 from ..failure import Failure
 from .ending import shown_text
@@ -18,26 +18,26 @@ def bytes_of(path: Optional[str]) -> bytes:
         raise Failure(f"can't read {named(path)}: {error.strerror}") from error
 
 
-def named(path):
+def named(path: Optional[str]) -> str:
     """Returns how a message names a file."""
     return "standard input" if path is None else path
 
 
-def lines_of(text):
+def lines_of(text: str) -> List[str]:
     return text.removesuffix("\n").split("\n") if text else []
 
 
-def shown(line):
+def shown(line: str) -> str:
     """Returns a line of a script as it is shown: as text, without bytes that a terminal would obey."""
     return shown_text(line.encode("latin-1").decode("utf-8", "backslashreplace").rstrip())
 
 
-def script_lines(path):
+def script_lines(path: Optional[str]) -> List[str]:
     """Returns the lines of a script. Each byte is a character, for the simulator judges them."""
     return lines_of(bytes_of(path).decode("latin-1"))
 
 
-def input_lines():
+def input_lines() -> Iterator[str]:
     """Yields each line of standard input as it comes."""
     if sys.stdin is None:
         raise Failure("standard input is closed or a folder, so no line can be typed")
@@ -48,7 +48,7 @@ def input_lines():
         raise Failure(f"can't read standard input: {error.strerror}") from error
 
 
-def read_lines(path: "Optional[str]") -> "List[str]":
+def read_lines(path: Optional[str]) -> List[str]:
     """Returns the lines of a text."""
     try:
         text = bytes_of(path).decode("utf-8")

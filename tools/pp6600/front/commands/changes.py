@@ -1,7 +1,7 @@
 """Every change of a place over a whole run, or what each of its last turns changed."""
 
-from ...language.listing import AllSymbols
-from ...language.sources import add_symbols, symbols_of
+from ...language.names import AllSymbols
+from ...language.symbol_options import add_symbols, symbols_of
 from ...run.conditions import Changes, column_of, first_place
 from ...run.forms import CENTRAL_ADDRESSES, FRAME_WORDS, dumps_from, kind_of
 from ...run.moments import text_of

@@ -1,12 +1,12 @@
 """Two runs: the first turn after which the machines differ."""
 
 from ...engine.interface import P
-from ...language.listing import AllSymbols
-from ...language.sources import add_files, add_symbols, symbols_from, symbols_of
+from ...language.names import AllSymbols
+from ...language.symbol_options import add_files, add_symbols, symbols_from, symbols_of
 from ...language.versions import Versions
 from ...run.forms import PROCESSORS
 from ...run.search import Looks, halve
-from ...run.simulator import Replay
+from ...run.session import Session
 from ...run.state import central_of, differences, state_of
 from ...run.tape import STEP
 from ...shell.command_line import Failure, arguments, processor, script_lines, simulator, words_after, write
@@ -30,7 +30,7 @@ class Side:
     def __init__(self, words, lines, symbols=AllSymbols()):
         self.symbols = symbols
         script = performed(words, symbols.loading(lines))
-        self.run, self.status = Replay(words, script.tape), script.status
+        self.run, self.status = Session.of_tape(words, script.tape), script.status
         self.turns = self.run.tape.turns
 
     def at(self, turn, has_settings=True):

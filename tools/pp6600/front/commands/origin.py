@@ -3,11 +3,11 @@
 import sys
 import time
 
-from ...language.listing import AllSymbols
-from ...language.sources import add_symbols, symbols_of
+from ...language.names import AllSymbols
+from ...language.symbol_options import add_symbols, symbols_of
 from ...run.conditions import first_place
 from ...run.origin_text import MOST_STEPS, origin_rows
-from ...run.simulator import Replay
+from ...run.session import Session
 from ...run.tape import numbered
 from ...shell.command_line import Failure, arguments, count, octal, script_lines, simulator, words_after, write_lines
 from ...shell.script import performed
@@ -50,7 +50,7 @@ def place_of(words, symbols):
 def origin_lines(words, tape, place, turn=None, most_steps=MOST_STEPS, with_addresses=False, symbols=AllSymbols()):
     """Returns the lines of the origin of the number at a place after so many turns of a tape, or at its end. The words are the program
     and its options."""
-    run = Replay(words, tape)
+    run = Session.of_tape(words, tape)
     if place.kind == "C" and place.numbers[0] >= run.central_size:
         raise Failure(f"there is no {place.short}: central memory has {run.central_size:o} words (octal)")
     position, progress = tape.end if turn is None else tape.after_turn(turn), Progress(tape)

@@ -1,9 +1,9 @@
 """The whole machine on a screen of 80 columns and 24 lines (decimal)."""
 
 from ...language.calls import calls, sentence
-from ...language.sources import add_symbols, symbols_of
+from ...language.symbol_options import add_symbols, symbols_of
 from ...run.forms import PROCESSORS, REGISTERS
-from ...run.simulator import Replay, Simulator
+from ...run.session import Session
 from ...run.tape import counted
 from ...run.turn import states_of
 from ...shell.command_line import add_script, add_turn, arguments, script_lines, simulator, write_lines
@@ -45,7 +45,7 @@ def source_line(console, number, symbols):
 
 def call_lines(run, symbols):
     """Returns a line for each subroutine of a source that its processor is in, the innermost first."""
-    again = Replay(run.words, run.history.in_effect())
+    again = Session.of_tape(run.words, run.history.in_effect())
     lines = [f" PP {number:02o}  {sentence(again, number, call, symbols)}"
              for number, source in symbols.sources() for call in calls(again, number, source, again.tape.end)]
     again.close()
@@ -65,7 +65,7 @@ def screen(run, symbols):
 def run_to_end(asked, symbols):
     """Returns a run that has performed a script, and its refused lines."""
     lines = symbols.loading(script_lines(asked.script))
-    run, refusals = Simulator(simulator(asked)), Refusals()
+    run, refusals = Session(simulator(asked)), Refusals()
     for number, line in counted(lines):
         refusals.note(number, line, run.act(line))
     return run, refusals

@@ -2,8 +2,8 @@
 
 from itertools import islice
 
-from ...language.listing import AllSymbols
-from ...language.sources import add_symbols, symbols_of
+from ...language.names import AllSymbols
+from ...language.symbol_options import add_symbols, symbols_of
 from ...run import conditions
 from ...run.moments import text_of
 from ...run.search import Search, last_moments

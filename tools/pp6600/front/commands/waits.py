@@ -2,12 +2,12 @@
 
 from typing import NamedTuple
 
-from ...language.listing import AllSymbols
-from ...language.sources import add_symbols, symbols_of
+from ...language.names import AllSymbols
+from ...language.symbol_options import add_symbols, symbols_of
 from ...run.conditions import Changes
 from ...run.forms import CELLS, CLOCK, MOST_WATCHES, PROCESSORS, REGISTERS, Place
 from ...run.search import Column, Condition, halve, last_moments, spans
-from ...run.simulator import Replay
+from ...run.session import Session
 from ...run.state import central_of, state_of
 from ...run.tape import STEP
 from ...run.turn import CHANNEL_JUMPS, Turn, is_made_by
@@ -91,7 +91,7 @@ def drop_moved(run, turns, numbers):
 def waiting_for_ever(words, tape, numbers):
     """Returns those of at most eight waiting processors that will never go on: the machine comes back to a state where it was,
     and meanwhile they have not moved. Then it does so again and again."""
-    run = Replay(words, tape)
+    run = Session.of_tape(words, tape)
     run.goto(tape.end)
     before, central, staying, passed = state_of(run), central_of(run), set(numbers), 0
     run.watch(f"P {number:o}" for number in numbers)

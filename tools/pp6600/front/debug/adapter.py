@@ -1,21 +1,19 @@
 """The requests of an editor that begin, run and end a session."""
 
-import inspect
 import itertools
 
 from ...engine.choose import default_engine
 from ...failure import Failure
-from ...language.sources import symbols_from
+from ...language.symbol_options import symbols_from
 from ...run.device import DeviceFailure
 from ...run.forms import PROCESSORS
 from ...run.tape import counted
 from ...shell.device_options import device_of
 from ...shell.options import OPTIONS, processor
 from ...shell.text_files import script_lines, shown
-from .attached import MachineWithDevices
 from .breakpoints import DATA, Breakpoints
 from .listings import Listings
-from .machine import Machine, latest_turn
+from .debugged import MachineWithDevices, MachineWithoutDevices, latest_turn
 from .own import OwnSources
 from .protocol import Refused
 from .requests import Requests
@@ -98,6 +96,7 @@ class Adapter(Requests, Setting):
 
     def fault_of(self, command, arguments):
         """Returns what is wrong with the arguments of a request: one that it needs is missing, or one is of a wrong kind."""
+        import inspect  # a request is seldom faulty
         kinds = inspect.signature(self.method(command)).parameters.values()
         needed = [one.name for one in kinds if one.default is one.empty and one.kind is one.POSITIONAL_OR_KEYWORD]
         missing = [name for name in needed if not isinstance(arguments, dict) or name not in arguments]
@@ -174,7 +173,7 @@ class Adapter(Requests, Setting):
         lines = script_lines(str(script)) if script else []
         symbols = symbols_from(*(pairs(arguments.get(name), name) for name in ("symbols", "sources")), arguments.get("text"))
         devices = devices_from(arguments.get("devices"))
-        own, machine = OwnSources(symbols), MachineWithDevices(words, devices) if devices else Machine(words)
+        own, machine = OwnSources(symbols), MachineWithDevices(words, devices) if devices else MachineWithoutDevices(words)
         self.end_simulator()
         self.machine, self.arguments, self.own = machine, arguments, own
         if self.listings is None:

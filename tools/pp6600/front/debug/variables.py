@@ -3,7 +3,7 @@
 import re
 
 from ...failure import Failure
-from ...language.listing import AllSymbols
+from ...language.names import AllSymbols
 from ...run.forms import CLOCK, KINDS, PROCESSORS, REGISTERS, Place
 from .breakpoints import Cell, checked
 from .protocol import Refused

@@ -15,7 +15,7 @@ from typing import Any, Dict, List, Mapping, NamedTuple, Optional, Sequence
 from ...engine.choice import HOME
 from ...failure import Failure
 from ...language.display_code import SYMBOLS
-from ...language.listing import AllSymbols
+from ...language.names import AllSymbols
 from ...language.sources import Source, words_of
 from ...language.source.statements import TAB
 from ...run import sentences
@@ -25,13 +25,14 @@ from ...run.turn import (
 from ...shell.installation import PAGE_MODULE
 from ...shell.options import OPTIONS
 from ...shell.text_files import bytes_of
+from ..keys import for_page
 
 WEB = os.path.join(os.path.dirname(os.path.abspath(__file__)), "web")
 # The scripts, in the order in which they are joined: those of the page and of its worker, those of the worker, those of the page.
 SHARED = ("layout", "turns")
 ENGINE = ("library", "simulator", "recorder", "conditions", "session", "worker")
 VIEW = ("rows", "places", "engine", "machine", "program", "lines", "source", "pictures", "origin",
-        "lanes", "barrel", "exercises", "breakpoints", "console", "controls")
+        "lanes", "barrel", "exercises", "editing", "console", "keys", "controls")
 MODES = {"reader": ("IDLE", "READING", "STATUS", "SENT"), "printer": ("IDLE", "PRINTING", "STATUS", "SENT")}
 
 
@@ -73,11 +74,20 @@ def tables() -> Dict[str, Any]:
     """Returns what it has to know of every machine: the one table of instructions, and the sentences about turns."""
     return {"names": NAMES, "two_words": TWO_WORDS, "relative_jumps": list(RELATIVE_JUMPS), "symbols": SYMBOLS, "modes": MODES,
             "states": [(letter, name) for name, letter in STATE_LETTERS.items()], "waits_for": WAITS_FOR,
-            "table": [instruction(one) for one in INSTRUCTIONS], "blocks": {code: instruction(one) for code, one in IN_BLOCK.items()},
+            "meanings": meanings(), "keys": for_page(), "table": [instruction(one) for one in INSTRUCTIONS], "blocks": {code: instruction(one) for code, one in IN_BLOCK.items()},
             "ends": {"block": effects(AT_END_OF_BLOCK), "input": effects(AT_END_OF_INPUT)},
             "sentences": {"of": {code.rjust(2, "0") if code[0] != "b" else f"b{code[1:]:>02}": rows
                                  for code, rows in sentences.ROWS.items()},
                           "waits": sentences.WAITS, "waits_ever": sentences.WAITS_EVER}}
+
+
+def meanings() -> Dict[str, str]:
+    """Returns what each instruction and directive does, by its name, in the words of the pages; and by 3x, 4x and 5x what x is in the
+    codes that begin with this digit."""
+    found: Dict[str, str] = {}
+    for names, text in (line.split(" | ", 1) for line in web("meanings.txt").splitlines()):
+        found.update({name: "\n".join(filter(None, (found.get(name), text))) for name in names.split()})
+    return found
 
 
 def instruction(one: Instruction) -> Dict[str, Any]:

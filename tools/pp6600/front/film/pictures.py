@@ -10,8 +10,8 @@ from typing import Any, Dict, Iterator, List, Sequence, Tuple
 from ...devices.pictures import svg
 from ...failure import Failure
 from ...run.attached import COUNTED
-from ...run.device import Device, Value, drawn, looked, value_at_start
-from ...run.simulator import Console
+from ...run.device import Device, Value, channel_of, drawn, looked, value_at_start
+from ...run.console import Console
 
 MOST_MOMENTS = 0o1000000  # the page records all of them
 TURN, LOOK = "STEP 1", "DUMP H"
@@ -51,7 +51,7 @@ class Pictures:
             return
         values, turn = self.values[self.position], self.turns[self.position] + bool(rows)
         if rows:
-            values = tuple(looked(device, value, rows[device.channel], turn)[0] for device, value in zip(self.devices, values))
+            values = tuple(looked(device, value, channel_of(rows[device.channel]), turn)[0] for device, value in zip(self.devices, values))
         self.position += 1
         self.values[self.position:], self.turns[self.position:] = [values], [turn]
 
@@ -66,11 +66,11 @@ class Pictures:
             if not shown or shown[-1][1] != lines:
                 shown.append((moment, lines))
 
-    def table(self, moments: int) -> Dict[str, Any]:
-        """Returns what the page has to know of the pictures of so many moments."""
+    def table(self, moments: int, length: int) -> Dict[str, Any]:
+        """Returns what the page has to know of the pictures of so many moments, which a script of so many characters makes."""
         devices = [{"name": type(device).__name__, "channel": device.channel, "shown": shown}
                    for device, shown in zip(self.devices, self.shown)]
-        return {"devices": devices, "lines": list(self.lines), "moments": moments}
+        return {"devices": devices, "lines": list(self.lines), "moments": moments, "script": length}
 
 
 def pictures_of(words: Sequence[str], devices: Sequence[Device], lines: Sequence[str]) -> Dict[str, Any]:
@@ -85,4 +85,4 @@ def pictures_of(words: Sequence[str], devices: Sequence[Device], lines: Sequence
                 raise Failure(f"with devices a film has at most {MOST_MOMENTS:o} (octal) moments, and this run has more")
             pictures.take(answer, rows)
             pictures.show(moment)
-    return {"pictures": pictures.table(moment + 1)}
+    return {"pictures": pictures.table(moment + 1, sum(len(line) + 1 for line in lines))}

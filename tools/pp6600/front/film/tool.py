@@ -1,7 +1,8 @@
 """The tool that makes a film: a run as one web page, from which one goes on."""
 
-from ...language.sources import add_symbols, symbols_of
+from ...language.symbol_options import add_symbols, symbols_of
 from ...run.attached import names_of
+from ...run.tape import NOTE_OF_DEVICE
 from ...shell.command_line import Failure, add_script, arguments, bytes_of, octal, simulator
 from ...shell.device_options import add_devices, devices_of, script_with
 from ...shell.script import performed
@@ -28,8 +29,10 @@ def main():
     symbols, devices, words = symbols_of(asked), devices_of(asked), simulator(asked)
     loading = "".join(f"{line}\n" for line in symbols.loading(()))
     script = loading.encode() + bytes_of(asked.script)
-    if devices:
-        script, refusals = script_with(words, devices, script)
+    own = device_names(lines_of(script.decode("latin-1")))
+    silent = [device for device in devices if names_of([device])[device.channel] not in own]  # no reply of theirs is in the script
+    if silent:
+        script, refusals = script_with(words, silent, script)
     lines = lines_of(script.decode("latin-1"))
     done = performed(words, lines)
     highest = done.history.tape.turns
@@ -40,4 +43,9 @@ def main():
     about = {**tables(), **options(asked, names_of(devices)), **run(asked, files), **of_symbols(symbols), "opens": asked.around,
              **pictures_of(words, devices, lines)}
     write_page(asked.output, page(heading(asked.title, asked.script), module_bytes(), about))
-    return (refusals if devices else done.refusals).status()
+    return (refusals if silent else done.refusals).status()
+
+
+def device_names(lines):
+    """Returns the names of the devices whose replies are in a script, as a saved one has them."""
+    return {note[1] for note in map(NOTE_OF_DEVICE.fullmatch, lines) if note}

@@ -9,15 +9,15 @@ from functools import partial
 
 from ...failure import Failure
 from ...language.calls import calls, sentence
-from ...language.listing import AllSymbols
+from ...language.names import AllSymbols
 from ...run.device import DeviceFailure
 from ...run.forms import KINDS
 from ...run.line_search import turn_of_line_before, turn_of_next_line
 from ...run.moments import text_of
 from ...run.searches import Stopped, last_before, next_found
-from ...run.simulator import Replay
-from ...run.timeline import REPLAYED
+from ...run.session import REPLAYED, Session
 from ...shell.keyboard import FIRST_WORDS, card
+from ..keys import ARROWS, PAGES, PANEL
 from .keys import LINES, Facts, help_lines, to_turn
 from .origins import Origin, OriginPage
 from .page import Page
@@ -26,16 +26,17 @@ from .prompt import Prompt
 from .remarks import in_width, remarks
 from .screen import LEAST_COLUMNS, LEAST_ROWS, Shown, is_too_small, layout, log_lines, screen
 from .text import Line
-from .view import ARROWS, View
+from .view import View
 
 MOST_COUNT_DIGITS = 10
 LONG_ANSWER = 2  # lines; a longer answer is shown on a page
-BETWEEN_REPORTS = 0.2  # seconds
 CANCEL = ("Escape", "Ctrl-C")
-LETTERS = {"h": "Left", "j": "Down", "k": "Up", "l": "Right"}
-PROMPTS = {":": "> ", "g": "go to ", "G": "turn ", "u": "until ", "U": "back until ", "/": "search ", "w": "w ", "K": "keys "}
+MOVES = {*ARROWS.values(), *PAGES}  # actions that move the cursor
+# What is asked by the actions that begin a line.
+PROMPTS = {"line": "> ", "place": "go to ", "turn": "turn ", "until": "until ", "back-until": "back until ", "search": "search ",
+           "save": "w ", "keys": "keys "}
 NEW_ACTIONS = (["SET"], ["STEP"], ["WATCH"], ["UNWATCH"], ["DEADSTART"])  # the first words of their lines
-AFTER_FAULT = ("w", "L", "?", "Tab", "Shift-Tab", *ARROWS)  # keys that need no simulator
+AFTER_FAULT = {"save", "log", "help", "next-part", "part-before", *MOVES}  # actions that need no simulator
 
 
 def words_to_find(text, kind):
@@ -55,13 +56,13 @@ class Panel:
         self.count = self.message = ""
         self.prompt = self.page = None
         self.typed = {kind: [] for kind in PROMPTS}
-        self.typed["U"] = self.typed["u"]
+        self.typed["back-until"] = self.typed["until"]
         self.asked = []  # lines that would discard what is ahead
         self.fault = None  # why the simulator is no longer there
         self.is_asked_to_quit = self.is_ended = False
         self.show = lambda: None  # draws the screen
         self.is_stopped = lambda: False  # by the operator
-        self.shown_at = 0.0
+        self.shown_at, self.between_reports = 0.0, 0.2  # seconds
         self.see()
 
     def perform_script(self, lines, turn=None):
@@ -80,7 +81,7 @@ class Panel:
 
     def report(self, text):
         """Shows a text, if the last one was shown a while ago. Returns whether it did."""
-        if time.monotonic() - self.shown_at <= BETWEEN_REPORTS:
+        if time.monotonic() - self.shown_at <= self.between_reports:
             return False
         self.message = text
         self.show()
@@ -141,23 +142,26 @@ class Panel:
         """Performs a key outside a line and a page."""
         count, self.count, self.message = self.count, "", ""
         asked, self.is_asked_to_quit = self.is_asked_to_quit, False
-        key, changes = LETTERS.get(key, key), f"{self.view.place()} changes"
-        typed = {"f": ("u", ""), "F": ("U", ""), "]": ("u", changes), "[": ("U", changes), "N": ("N", count or "1"),
-                 "P": ("P", count or "1"), **({"G": ("G", count)} if count else {})}
+        action, changes = PANEL.get(key, ""), f"{self.view.place()} changes"
+        typed = {"again": ("until", ""), "back-again": ("back-until", ""), "next-change": ("until", changes),
+                 "change-before": ("back-until", changes), "next-line": ("next-line", count or "1"),
+                 "line-before": ("line-before", count or "1"), **({"turn": ("turn", count)} if count else {})}
         if key.isdecimal() and key.isascii():
             self.add_to_count(count, key)
-        elif key in CANCEL:
+        elif action == "forget":
             self.message = "" if count else "q quits, ? shows all keys"
-        elif key == "q":
+        elif action == "quit":
             self.quit(asked)
-        elif self.fault and key not in AFTER_FAULT:
+        elif self.fault and action not in AFTER_FAULT:
             self.message = self.last_words()
-        elif key in LINES:
-            self.send_key(key, int(count or "1", 8))
-        elif key in typed:
-            self.take_line(*typed[key])
-        else:
-            self.press_to_look(key, int(count or "1", 8))
+        elif action in LINES:
+            self.send_action(action, int(count or "1", 8))
+        elif action in typed:
+            self.take_line(*typed[action])
+        elif action:
+            self.look(action, int(count or "1", 8))
+        elif key != "Enter":
+            self.message = f"no key {key}; ? shows all keys"
 
     def add_to_count(self, count, digit):
         """Adds a digit to the count before a key."""
@@ -169,34 +173,38 @@ class Panel:
         else:
             self.count, self.message = count, f"count {count}" if count else ""
 
-    def press_to_look(self, key, count):
-        """Performs a key that sends nothing."""
+    def look(self, action, count):
+        """Performs an action that sends nothing."""
         view = self.view
         simple = {
-            "Tab": lambda: view.next_pane(1), "Shift-Tab": lambda: view.next_pane(-1), "o": view.follow,
-            "(": lambda: view.choose_processor(view.processor - count), ")": lambda: view.choose_processor(view.processor + count),
-            "x": lambda: view.choose_processor(self.session.state.slot), "i": view.toggle_program, "d": view.toggle_display_code,
-            "c": self.show_origin, "r": self.show_calls, "v": self.show_pictures, "L": self.show_log, "?": self.show_keys}
-        if key in simple:
-            simple[key]()
-        elif key in ARROWS:
-            view.move(key, count, self.memory_rows(), self.session.size)
-        elif key in ("m", "C"):
-            self.press_about_source(key)
-        elif key in PROMPTS:
-            self.prompt = Prompt(key, PROMPTS[key], self.typed[key])
-        elif key not in ("Ctrl-L", "Enter"):
-            self.message = f"no key {key}; ? shows all keys"
+            "next-part": lambda: view.next_pane(1), "part-before": lambda: view.next_pane(-1), "follow": view.follow,
+            "processor-before": lambda: view.choose_processor(view.processor - count),
+            "next-processor": lambda: view.choose_processor(view.processor + count),
+            "processor-in-slot": lambda: view.choose_processor(self.session.state.slot), "instructions": view.toggle_program,
+            "display-code": view.toggle_display_code, "source": self.toggle_source, "central": self.toggle_central,
+            "origin": self.show_origin, "calls": self.show_calls, "pictures": self.show_pictures, "log": self.show_log,
+            "help": self.show_keys}
+        if action in simple:
+            simple[action]()
+        elif action in MOVES:
+            view.move(action, count, self.memory_rows(), self.session.size)
+        elif action in PROMPTS:
+            self.prompt = Prompt(action, PROMPTS[action], self.typed[action])
 
     def show_keys(self):
         self.page = Page("The keys of the panel", [Line(text) for text in help_lines()])
 
-    def press_about_source(self, key):
-        """Shows the source or the cells; or central memory beside the source, or no longer."""
+    def toggle_source(self):
+        """Shows the source, or the cells."""
         if self.source() is None:
             self.message = self.no_source()
-        elif key == "m":
+        else:
             self.view.as_source = not self.view.as_source
+
+    def toggle_central(self):
+        """Shows central memory beside the source, or no longer."""
+        if self.source() is None:
+            self.message = self.no_source()
         elif self.view.source is None:
             self.message = "central memory is beside the cells; m shows the source"
         else:
@@ -230,10 +238,10 @@ class Panel:
         """Returns what can still be done after the simulator failed, and why it did."""
         return f"w FILE saves what was sent, q quits: {self.fault}"
 
-    def send_key(self, key, count):
+    def send_action(self, action, count):
         session, view = self.session, self.view
         facts = Facts(session.state.slot, view.processor, view.place(), session.watched(), session.history)
-        self.send(LINES[key](facts, count))
+        self.send(LINES[action](facts, count))
 
     def send(self, lines):
         """Sends lines, but asks before the first of them discards what is ahead, unless it will be refused."""
@@ -276,9 +284,10 @@ class Panel:
     def take_line(self, kind, text):
         """Does what a typed line asks for."""
         try:
-            {":": self.take_console_line, "g": self.go_to, "G": self.go_to_turn, "/": self.search, "w": self.save,
-             "K": self.press_keys, "u": partial(self.go_to_found, next_found), "U": partial(self.go_to_found, last_before),
-             "N": partial(self.go_by_lines, turn_of_next_line), "P": partial(self.go_by_lines, turn_of_line_before)}[kind](text)
+            {"line": self.take_console_line, "place": self.go_to, "turn": self.go_to_turn, "search": self.search, "save": self.save,
+             "keys": self.press_keys, "until": partial(self.go_to_found, next_found),
+             "back-until": partial(self.go_to_found, last_before), "next-line": partial(self.go_by_lines, turn_of_next_line),
+             "line-before": partial(self.go_by_lines, turn_of_line_before)}[kind](text)
         except Failure as failure:
             self.message = str(failure)
 
@@ -316,7 +325,7 @@ class Panel:
 
     def go_to_found(self, find, text):
         """Goes to the next turn at which a condition comes to hold, or the last one before; without a text, that typed before."""
-        history, text = self.session.history, text or (self.typed["u"] or [""])[-1]
+        history, text = self.session.history, text or (self.typed["until"] or [""])[-1]
         if not text:
             raise Failure("give a condition, as P 0 = 105 or M 0 106 changes")
         self.shown_at = time.monotonic()
@@ -359,7 +368,7 @@ class Panel:
         if source is None:
             self.message = self.no_source()
             return
-        with closing(Replay(self.session.simulator.words, self.session.history.in_effect())) as run:
+        with closing(Session.of_tape(self.session.simulator.words, self.session.history.in_effect())) as run:
             lines = [Line(sentence(run, number, call, self.symbols)) for call in calls(run, number, source, run.tape.end)]
         self.page = Page(f"The subroutines that PP {number:02o} is in", lines or [Line("none that was called and has not returned")])
 
@@ -395,7 +404,7 @@ class Panel:
 
     def search(self, text):
         """Moves the cursor to the next words of this kind; without a text, of the kind that was searched before."""
-        text = text or (self.typed["/"] or [""])[-1]
+        text = text or (self.typed["search"] or [""])[-1]
         view, session = self.view, self.session
         if view.pane == "central":
             word, *more = words_to_find(text, "C")

@@ -1,8 +1,9 @@
-"""The keys of the panel: which lines of the console each one sends, and what the help says of it."""
+"""The lines of the console that keys of the panel send, and the page of all keys."""
 
-from typing import Callable, NamedTuple
+from typing import NamedTuple
 
 from ...run.forms import MOST_TURNS, PROCESSORS
+from ..keys import help_rows
 
 ROUND = PROCESSORS  # turns
 
@@ -63,65 +64,29 @@ def toggle_watch(facts, count):
     return [f"{'UNWATCH' if facts.place in facts.watched else 'WATCH'} {facts.place}"]
 
 
-class Key(NamedTuple):
-    """A key or two that do the same, what the help says, and the function that has its lines."""
-
-    names: tuple
-    help: str
-    lines: Callable
-
-
-LINE_KEYS = (
-    Key(("s", " "), "one turn on: FORWARD if something is ahead, else STEP", on),
-    Key(("b", "Backspace"), "BACK: undoes the newest action", lambda facts, count: [counted("BACK", count)]),
-    Key(("S",), "on by a round of turns, 12", lambda facts, count: on(facts, ROUND * count)),
-    Key(("B",), "back by a round of turns", lambda facts, count: back_over(facts, ROUND * count)),
-    Key(("n",), "on to the next turn of the chosen processor",
-        lambda facts, count: on(facts, turns_to(facts.slot, facts.processor, count))),
-    Key(("p",), "back to its turn before", lambda facts, count: back_over(facts, turns_to(facts.processor, facts.slot, count))),
-    Key(("<", "Home"), "back to the beginning", lambda facts, count: [counted("BACK", facts.history.position or 1)]),
-    Key((">", "End"), "forward to the newest state", lambda facts, count: [counted("FORWARD", facts.history.to_redo or 1)]),
-    Key(("W",), "BACK W: to before a watched (else the cursor's) number changed", back_to_change),
-    Key(("t",), "WATCH the number at the cursor, or UNWATCH it", toggle_watch),
-)
-OTHER_KEYS = (
-    (("G",), "go to a turn: its number, before the key or after it"),
-    (("u", "U"), "on until a condition comes to hold, as P 0 = 105; and back"),
-    (("f", "F"), "on, and back, until the same condition again"),
-    (("]", "["), "on, and back, to a change of the number at the cursor"),
-    (("N", "P"), "on to the next line of the processor's source; back by a line"),
-    (("Tab", "Shift-Tab"), "to the next part of the screen; to the one before"),
-    (("arrows", "h j k l"), "move the cursor; Page Up and Page Down too"),
-    (("(", ")"), "choose the processor before; the next one"),
-    (("x",), "choose the processor whose turn comes next"),
-    (("o",), "memory around P again, after the cursor was moved"),
-    (("i", "d"), "memory as instructions, or as numbers again; with display code"),
-    (("m", "C"), "memory as the source, or as cells; central memory beside it"),
-    (("g",), "go to an address, a label or a place: 106, M 3 106, C 1000, A 0"),
-    (("/",), "search words from the cursor on; / and Enter: the next ones"),
-    (("c",), "where the cursor's number came from; Enter: to before a step"),
-    (("r",), "the subroutines that the processor is in, of its source"),
-    ((":",), "a line of the console; Up and Down: lines typed before"),
-    (("w",), "w FILE saves what was sent as a script; w! FILE writes over it"),
-    (("v", "K"), "what devices show; keys of a device, \\r is the carriage return"),
-    (("L",), "all lines and answers"),
-    (("?",), "all keys"),
-    (("q",), "quit"),
-    (("Escape", "Ctrl-C"), "forget a count or a line begun; Ctrl-C also stops a long run"),
-    (("Ctrl-Z", "Ctrl-L"), "suspend the panel (fg continues it); draw the screen again"),
-)
-LINES = {name: key.lines for key in LINE_KEYS for name in key.names}
+# The lines of each action that sends some.
+LINES = {
+    "on": on,
+    "back": lambda facts, count: [counted("BACK", count)],
+    "round-on": lambda facts, count: on(facts, ROUND * count),
+    "round-back": lambda facts, count: back_over(facts, ROUND * count),
+    "next-turn": lambda facts, count: on(facts, turns_to(facts.slot, facts.processor, count)),
+    "turn-before": lambda facts, count: back_over(facts, turns_to(facts.processor, facts.slot, count)),
+    "beginning": lambda facts, count: [counted("BACK", facts.history.position or 1)],
+    "newest": lambda facts, count: [counted("FORWARD", facts.history.to_redo or 1)],
+    "back-to-change": back_to_change,
+    "watch": toggle_watch,
+}
 
 
 def help_lines():
     """Returns the page of all keys."""
-    rows = [(key.names, key.help) for key in LINE_KEYS] + list(OTHER_KEYS)
     lines = ["Each key of the first part sends lines of the console. They are shown with their",
              "answers, and w FILE saves them. A count before a key, in octal, repeats it: 12s",
              "makes ten turns.", ""]
-    for number, (names, text) in enumerate(rows):
-        lines += [""] if number == len(LINE_KEYS) else []
-        lines.append(f"{'  '.join('Space' if name == ' ' else name for name in names):17}{text}")
+    for number, (names, text) in enumerate(help_rows()):
+        lines += [""] if number == len(LINES) else []
+        lines.append(f"{'  '.join(names):17}{text}")
     return lines + [
         "",
         "A star is beside each number that the last action changed, but not beside P of a",

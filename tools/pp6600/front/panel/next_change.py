@@ -2,13 +2,9 @@
 back and forward again for it, so that it is as it was."""
 
 import os
-from itertools import islice
 
-from ...run.forms import CELLS, PROCESSORS, registers_dump, registers_of
-from ...run.simulator import Simulator
+from ...run.forms import CELLS, PROCESSORS
 from ...run.tape import STEP
-
-TURNS_AT_ONCE = 0o100  # of one processor
 
 
 def next_change(session, places, symbols):
@@ -36,9 +32,9 @@ def source_line(state, address, source):
 def changed_place(simulator, places):
     """Returns the first of the places that the next action of the redo list changes, and its number before; or None."""
     before = list(map(simulator.number_at, places))
-    Simulator.move(simulator, 1)  # no line of the session
+    simulator.move(1)  # no line of the session
     after = list(map(simulator.number_at, places))
-    Simulator.move(simulator, -1)
+    simulator.move(-1)
     return next(((place.short, was) for place, was, now in zip(places, before, after) if was != now), None)
 
 
@@ -58,22 +54,28 @@ def turn_text(state, address):
 def block_address(simulator, number, phase):
     """Returns the address of the instruction by which a processor came into this phase; None if no turn kept did it. It is
     the one whose turn comes next."""
-    here, turns, dump = simulator.position, earlier_turns(simulator.history), registers_dump(number)
-    while some := list(islice(turns, TURNS_AT_ONCE)):
-        stops = [(position + after, [dump]) for position in some for after in (1, 0)]
-        registers = [registers_of(answers[dump][0]) for answers in simulator.look_at([*stops, (here, [])])[:-1]]
-        for after, before in zip(registers[::2], registers[1::2]):
-            if {phase} != {before["PHASE"], after["PHASE"]}:
-                return before["P"] if after["PHASE"] == phase else None
-    return None
+    here, found = simulator.position, None
+    for position in earlier_turns(simulator.history):
+        after, before = (registers_at(simulator, number, at) for at in (position + 1, position))
+        if {phase} != {before["PHASE"], after["PHASE"]}:
+            found = before["P"] if after["PHASE"] == phase else None
+            break
+    simulator.move(here - simulator.position)
+    return found
+
+
+def registers_at(simulator, number, position):
+    """Returns the registers of a processor at a position that is kept."""
+    simulator.move(position - simulator.position)
+    return simulator.registers(number)
 
 
 def earlier_turns(history):
     """Yields the position before each turn kept of the processor whose turn comes next, the latest first. A DEADSTART begins the barrel
     anew."""
-    tape, slot = history.tape, history.slot
-    for run in range(tape.run_before(history.position), -1, -1):
-        first, last = max(tape.starts[run], history.oldest), min(tape.starts[run + 1], history.position)
+    tape, slot, here = history.tape, history.slot, history.position
+    for run in range(tape.run_before(here), -1, -1):
+        first, last = max(tape.starts[run], history.oldest), min(tape.starts[run + 1], here)
         if first >= last or tape.runs[run].word == "DEADSTART":
             return
         if tape.runs[run].turns:

@@ -4,7 +4,7 @@ from contextlib import closing
 
 from ...run.forms import Place
 from ...run.origin_text import MOST_STEPS, origin_rows
-from ...run.simulator import Replay
+from ...run.session import Session
 from .page import Page
 from .screen import Screen, is_too_small
 from .text import HEAD, Line
@@ -18,7 +18,7 @@ class Origin:
         number of turns; it may raise an exception to end the search."""
         history = session.history
         self.history, self.place = history, Place.parse(place)
-        with closing(Replay(session.simulator.words, history.in_effect())) as run:
+        with closing(Session.of_tape(session.simulator.words, history.in_effect())) as run:
             self.tape = tape = run.tape
             self.rows = origin_rows(run, self.place, tape.end, MOST_STEPS, False,
                                     lambda position: progress(tape.turn(position), tape.turns), symbols=symbols)

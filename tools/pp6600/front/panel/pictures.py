@@ -2,12 +2,13 @@
 
 from ...devices.pictures import braille
 from ...run.device import Device, DeviceFailure, drawn
+from ..keys import PANEL
 from .keys import LINES
 from .page import Page
 from .screen import Screen, is_too_small
 from .text import HEAD, Line
 
-RUNS = {*LINES, *"01234567"}
+RUNS = {*(key for key, action in PANEL.items() if action in LINES), *"01234567"}
 HINT = "s, b and other keys that step do so here; v, Escape or Enter closes this page"
 
 

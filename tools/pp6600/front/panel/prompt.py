@@ -6,7 +6,7 @@ WORD = re.compile(r"\S*\s*$")
 
 
 class Prompt:
-    """A line being typed, with the lines typed before. The kind is the key that began it."""
+    """A line being typed, with the lines typed before. The kind is the action that began it."""
 
     def __init__(self, kind, asked, history):
         self.kind, self.asked = kind, asked

@@ -2,7 +2,7 @@
 
 from ...run.forms import Place, hit_of
 from ...run.reasons import reason
-from ...run.timeline import REPLAYED
+from ...run.session import REPLAYED
 from .next_change import next_change
 from .session import kind_of
 

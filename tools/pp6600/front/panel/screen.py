@@ -3,7 +3,7 @@
 from dataclasses import dataclass, field
 from typing import Optional
 
-from ...language.listing import AllSymbols
+from ...language.names import AllSymbols
 from ...run.forms import CELLS, ROW, Place
 from ...run.state import State
 from .program import WIDTH, program_lines, sentence_line

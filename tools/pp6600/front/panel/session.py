@@ -7,10 +7,9 @@ from typing import NamedTuple
 from ...failure import Failure
 from ...run.forms import hit_of, is_refusal
 from ...run.searches import MOST_NEW
-from ...run.simulator import Console, has_no_answer
+from ...run.console import Console, has_no_answer
 from ...run.state import state_of
 from ...run.tape import ScriptLine, SourceLine
-from ...run.timeline import lines_to
 from ...shell.device_options import timeline
 
 NEW = ("OK", "TURNS")  # the first words of answers to lines that discard what is ahead
@@ -149,7 +148,7 @@ class Session:
     def go(self, turn):
         """Goes back or on to where so many turns are in effect: after the settings that follow the last of them. New turns do
         not end where a watched number changes."""
-        for line in lines_to(self.simulator, turn):
+        for line in self.simulator.lines_to(turn):
             self.send(line)
 
     def perform_script(self, lines, stops=never):

@@ -1,6 +1,5 @@
 """What is wrong in a source, and what to write instead."""
 
-import difflib
 from typing import Iterable, NamedTuple
 
 MOST_NEAR, MOST_LONGER = 9, 3  # names that are looked at for the nearest, and by how much these may be longer or shorter
@@ -44,6 +43,7 @@ def octal(number: int) -> str:
 def nearest(name: str, names: Iterable[str]) -> str:
     """Returns what a message says of the name that may be meant: of several that are near, the one that begins alike."""
     alike = [one for one in names if abs(len(one) - len(name)) <= MOST_LONGER and 2 * len({*one} & {*name}) > len({*name})]
+    import difflib  # few sources need it
     near = difflib.get_close_matches(name, alike, MOST_NEAR)
     begins = [sum(1 for end in range(1, len(one) + 1) if name[:end] == one[:end]) for one in near]
     return f"; {near[begins.index(max(begins))]} is" if near else ""

@@ -2,13 +2,9 @@
 
 // Lengths in heights of a letter: the radius of a processor's circle, a channel's box, how far apart two of them are, and how far at most
 // from the ring.
-const CIRCLE = 2.2, BOX_WIDTH = 7.6, BOX_HEIGHT = 1.75, BOX_APART = 2, BELOW_BOX = 1.2, FROM_RING = 10, LETTER = 0.6;
+const CIRCLE = 2.2, RING = 7.3, BOX_WIDTH = 7.6, BOX_HEIGHT = 1.75, BOX_APART = 2, BELOW_BOX = 1.2, FROM_RING = 10, LETTER = 0.6;
 const STATE_CLASSES = ["inactive", "empty", "full", "function"];
-const barrel = { folded: false, channels: [], used: new Set() };
-
-function buildBarrel() {
-  byId("barrel-fold").onclick = foldBarrel;
-}
+const barrel = { folded: false, all: [], channels: [], used: new Set() }; // channels: those of all used ones that have room
 
 function foldBarrel() {
   barrel.folded = !barrel.folded;
@@ -25,7 +21,16 @@ function findChannels(first) {
   };
   for (let at = film.starts[first]; at < film.places.length; at++) note(film.places[at]);
   for (const { name } of film.next) if (/^(AJM|IJM|FJM|EJM|IAN|IAM|OAN|OAM|ACN|DCN|FAN|FNC) /.test(name)) used.add(parseInt(name.slice(4), 8));
-  barrel.channels = [...used].filter((c) => c <= CLOCK).sort((one, other) => one - other);
+  barrel.all = [...used].filter((c) => c <= CLOCK).sort((one, other) => one - other);
+}
+
+// On a projector the boxes are no higher than the ring: first come the channels that this turn changed, then those for which one waits.
+function chooseChannels() {
+  const waited = Array.from({ length: PROCESSORS }, (_, n) => channelOf(nextOf(n).waits)), room = 2 * (RING + CIRCLE) - BOX_APART;
+  const rank = (c) => (hasChanged(c) ? 0 : waited.includes(c) ? 1 : 2);
+  let used = 0;
+  const first = [...barrel.all].sort((one, other) => rank(one) - rank(other)).filter((c) => (used += heightOfChannel(c)) <= room);
+  barrel.channels = isProjected() ? barrel.all.filter((c) => first.includes(c)) : barrel.all;
 }
 
 // The channel that a text of what is waited for begins with; no number if nothing is waited for.
@@ -53,7 +58,7 @@ function channelAt(place) {
 // If there is room the ring is flat: two rows of four, and one at each end.
 function sizesOfBarrel(svg) {
   const letter = parseFloat(getComputedStyle(svg).fontSize), isFlat = svg.clientWidth > 44 * letter && !isProjected();
-  const [rx, ry] = isFlat ? [13, 4.9] : [7.3, 7.3];
+  const [rx, ry] = isFlat ? [13, 4.9] : [RING, RING];
   const boxes = barrel.channels.reduce((sum, c) => sum + heightOfChannel(c), 0), height = Math.max(2 * (ry + CIRCLE) + 0.4, boxes + 0.2);
   const unit = isProjected() ? Math.min(letter, (innerHeight - svg.getBoundingClientRect().top - scrollY - 4) / height) : letter;
   return { unit, width: svg.clientWidth / unit, height, boxes, rx, ry, cx: rx + CIRCLE + 0.2, cy: height / 2, isFlat };
@@ -89,9 +94,10 @@ function drawn(parent, kind, words, text) {
 function showBarrel() {
   const svg = byId("barrel-picture");
   byId("barrel-fold").setAttribute("aria-expanded", !barrel.folded);
-  setText(byId("barrel-fold"), barrel.folded ? "▸ The barrel (B)" : "▾ The barrel (B)");
+  setText(byId("barrel-fold"), `${barrel.folded ? "▸" : "▾"} The barrel`);
   svg.toggleAttribute("hidden", barrel.folded && !isProjected());
   if (svg.hasAttribute("hidden")) return;
+  chooseChannels();
   const sizes = sizesOfBarrel(svg), { unit, width, height, rx, ry, cx, cy } = sizes;
   svg.textContent = "";
   svg.setAttribute("height", height * unit);
@@ -103,6 +109,8 @@ function showBarrel() {
   drawMiddle(picture, sizes);
   drawSlot(picture, film.numbers[layout.slot], sizes);
   for (const c of barrel.channels) drawChannel(picture, c, boxOf(c, sizes));
+  const left = barrel.all.length - barrel.channels.length, end = { x: width - BOX_WIDTH / 2, y: (height + sizes.boxes) / 2 + 1 };
+  if (left) drawn(picture, "text", end, `${octal(left)} more`);
   svg.setAttribute("aria-label", barrelText());
 }
 
@@ -122,7 +130,7 @@ function drawProcessor(picture, n, sizes) {
 function drawSlot(picture, n, sizes) {
   const { x, y } = processorAt(n, sizes), degrees = Math.atan2(sizes.cy - y, sizes.isFlat && n % 5 ? 0 : sizes.cx - x) * 180 / Math.PI;
   const transform = `translate(${x} ${y}) rotate(${degrees})`;
-  drawn(picture, "path", { class: "slot", d: `M ${CIRCLE + 0.15} 0 l 0.9 -0.6 v 1.2 Z`, transform, "data-processor": n });
+  drawn(picture, "path", { class: "slot", d: `M ${CIRCLE + 0.15} 0 l 0.7 -0.55 v 1.1 Z`, transform, "data-processor": n });
 }
 
 // The middle of the ring: the action, what it was, and the first cell or word that it changed.
@@ -147,11 +155,12 @@ function middleLines() {
 
 const inShort = (text, length) => (text.length > length ? `${text.slice(0, length - 3)} ..` : text);
 
+const hasChanged = (c) => c < CHANNELS && [layout.words + c, layout.states + c].some((place) => changedIn(film.at, place, place));
+
 // The box of a channel: its state, or the word that is on it; below it its device, underlined if it did something in this turn.
 function drawChannel(picture, c, { x, y }) {
   const state = c < CHANNELS ? film.numbers[layout.states + c] : 2, places = placeNamed(`H ${octal(c)}`).places;
-  const changed = c < CHANNELS && [...places, layout.states + c].some((place) => changedIn(film.at, place, place));
-  const name = `channel ${STATE_CLASSES[state]}${changed ? " changed" : ""}`;
+  const name = `channel ${STATE_CLASSES[state]}${hasChanged(c) ? " changed" : ""}`;
   const group = drawn(picture, "g", { class: name, transform: `translate(${x} ${y})`, "data-channel": c });
   group.onclick = () => choose(placeNamed(`H ${octal(c)}`));
   drawn(group, "rect", { width: BOX_WIDTH, height: BOX_HEIGHT, rx: BOX_HEIGHT / 2 });

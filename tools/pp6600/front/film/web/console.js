@@ -19,6 +19,7 @@ const typed = { lines: [], at: 0 };
 
 async function sendTyped() {
   const field = byId("typed"), text = field.value, until = /^\s*(back\s+)?until\s+(.*)$/i.exec(text);
+  if (until) shown.searched = [until[2]];
   const isDone = await (until ? engine.until([until[2]], Boolean(until[1])) : engine.act([text]));
   if (!isDone) return;
   typed.at = typed.lines.push(text);
@@ -57,7 +58,7 @@ async function saveScript() {
 async function saveFilm() {
   const { script } = await ask("script"), files = [{ kind: "script", name: nameOfSession(), bytes: script }];
   for (const kind of ["deck", "panel"]) if (engine.given[kind]) files.push({ kind, name: kind, bytes: engine.given[kind] });
-  const about = { ...engine.about, ...engine.given.options, files, again: "", opens: null, pictures: undefined };
+  const about = { ...engine.about, ...engine.given.options, files, again: "", opens: null, pictures: hasPictures(script) ? engine.about.pictures : undefined };
   const bytes = await through(new CompressionStream("deflate"), new TextEncoder().encode(JSON.stringify(about)));
   const page = engine.page.replace(/(<script type="text\/plain" id="film">)[^<]*/, (_, begin) => `${begin}\n${base64(bytes)}\n`);
   saveBytes(new TextEncoder().encode(page), `${nameOfSession()}.html`);

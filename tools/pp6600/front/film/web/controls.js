@@ -2,7 +2,7 @@
 
 function choose(place) {
   shown.chosen = place;
-  shown.marks = place && momentsThatChanged(place.places);
+  shown.changes = place && momentsThatChanged(place.places);
   if (shown.origin) showNoOrigin();
   byId("place").value = place ? place.name : "";
   accept("place", "");
@@ -20,15 +20,15 @@ function chooseNone() {
 
 // The latest change and the one to which "previous change" goes: that before it, at the moment of the change itself.
 function changesBack() {
-  const here = resolve(film.at), last = changeBefore(shown.marks, film.at);
-  return [last, last > 0 && last === film.at ? changeBefore(shown.marks, here - 1) : last];
+  const here = resolve(film.at), last = changeBefore(shown.changes, film.at);
+  return [last, last > 0 && last === film.at ? changeBefore(shown.changes, here - 1) : last];
 }
 
 // The change to which "next change" goes, whether it is the first at all, and the line that goes back before there is one.
 function changeAhead(last) {
-  const [next, cut] = changeAfter(shown.marks, film.at);
+  const [next, cut] = changeAfter(shown.changes, film.at);
   if (next || last) return { next, first: !last, cut };
-  return { next: Math.max(0, shown.marks.indexOf(1, film.at + 1)), first: true, cut }; // though the script goes back before it
+  return { next: shown.changes[countUpTo(shown.changes, film.at)] || 0, first: true, cut }; // though the script goes back before it
 }
 
 function showChosen() {
@@ -40,14 +40,14 @@ function showChosen() {
   const by = (moment) => `by ${makerText(moment, place.places[0])}.`;
   const parts = [`${place.name} is ${textAt(place)}.`];
   if (last > 0) parts.push(`${last === film.at ? "Changed here" : `Last change: ${whenText(last)}`}, ${by(last)}`);
-  else if (last === NOT_RECORDED) parts.push("Its last change may be in turns that were not recorded: [ looks there.");
+  else if (last === NOT_RECORDED) parts.push("Its last change may be in turns that were not recorded: previous change looks there.");
   if (next > 0) parts.push(`${first ? "First change" : "Next change"}: ${whenText(next)}, ${by(next)}`);
   else if (cut) parts.push(`No change before the line ${lineOf(cut).text.trim()}, which goes back.`);
-  else if (next === NOT_RECORDED) parts.push("Its next change may be in turns that were not recorded: ] looks there.");
+  else if (next === NOT_RECORDED) parts.push("Its next change may be in turns that were not recorded: next change looks there.");
   else parts.push(`No change ${last ? "after this" : "in this run"} so far.`);
   setText(byId("chosen-text"), parts.join(" "));
   byId("previous-change").disabled = !previous;
-  setText(byId("next-change"), `${first && next > 0 ? "first" : "next"} change ]`);
+  setText(byId("next-change"), `${first && next > 0 ? "first" : "next"} change`);
 }
 
 const whenText = (moment) => (isTurn(moment) ? `turn ${octal(film.turn[moment])}` : `before turn ${octal(film.turn[moment] + 1)}`);
@@ -162,7 +162,7 @@ function foundBy(line) {
 
 function watchesAt(moment) {
   goTo(moment);
-  return watchesIn(film.numbers).map(({ name }) => name);
+  return watched();
 }
 
 // The latest change of the places that is in effect at a moment, and the place that changed; without one the last moment.
@@ -215,69 +215,21 @@ function changeRate(step) {
   if (shown.playing) play(true);
 }
 
-// ---- keys and controls
-
-const byHand = (move) => () => { play(false); move(); };
-
-// The keys that lead on make new turns at the end.
-function onwards(moment, turns) {
-  if (film.at === film.count - 1) engine.act([`STEP ${octal(turns)}`]);
-  else moveTo(moment);
-}
-
-// From turns that were skipped one goes back into them.
-function backwards(find) {
-  if (isAtSkipped()) engine.unskip().then(() => moveTo(find()));
-  else moveTo(find());
-}
-
-const KEYS = {
-  ArrowLeft: byHand(() => backwards(() => film.at - 1)), ArrowRight: byHand(() => onwards(film.at + 1, 1)),
-  "Shift+ArrowLeft": byHand(() => backwards(() => aRound(-1))),
-  "Shift+ArrowRight": byHand(() => onwards(aRound(1), ROUND)),
-  Home: byHand(() => moveTo(0)), End: byHand(() => moveTo(film.count - 1)),
-  " ": () => play(!shown.playing), "+": () => changeRate(1), "=": () => changeRate(1), "-": () => changeRate(-1),
-  ",": byHand(() => moveLine(-1)), ".": byHand(() => moveLine(1)),
-  "[": byHand(() => moveToChange(-1)), "]": byHand(() => moveToChange(1)),
-  o: () => findOrigin(), "/": () => byId("place").select(), g: () => byId("turn").select(), "?": () => showHelp(byId("help").hidden),
-  n: byHand(() => moveByLine(1)), p: byHand(() => moveByLine(-1)),
-  r: byHand(() => runTo(false)), "Shift+r": byHand(() => runTo(true)), e: () => shown.chosen && byId("set-to").select(),
-  i: () => nextForm(), f: () => followTurns(), b: () => foldBarrel(), z: () => project(),
-  Enter: () => byId("typed").focus(), Escape: () => (byId("help").hidden ? chooseNone() : showHelp(false)),
-};
-
 // The look for a projector: large, and without what a whole class can't read.
 const isProjected = () => document.body.classList.contains("projector");
 
 function project() {
+  const box = tableOf("source").parentElement;
+  if (!isProjected()) shown.before = { as: memory.as, scrolled: scrollY, scrolledSource: box.scrollTop };
   document.body.classList.toggle("projector");
-  if (isProjected()) shown.formBefore = memory.as;
-  memory.as = isProjected() && memory.as === "numbers" ? "instructions" : shown.formBefore;
+  memory.as = isProjected() && memory.as === "numbers" ? "instructions" : shown.before.as;
+  if (isProjected()) source.scrolled = "";
   byId("barrel-picture").removeAttribute("viewBox"); // else its old size makes its column wider
   window.dispatchEvent(new Event("resize"));
   show();
-}
-
-function showHelp(on) {
-  byId("help").hidden = !on;
-}
-
-function pressed(event) {
-  if (event.ctrlKey || event.metaKey || event.altKey) return;
-  const target = event.target, inText = target.matches("input:not([type=range]), select, textarea");
-  if (inText) {
-    if (event.key === "Escape") target.blur();
-    return;
-  }
-  if ((event.key === " " || event.key === "Enter") && target.matches("button:not(.number)")) return;
-  const isLetter = event.key.length === 1 && event.key !== " ";
-  if (isLetter && !byId("letters").checked) return;
-  const name = isLetter ? event.key.toLowerCase() : event.key, key = (event.shiftKey && KEYS[`Shift+${name}`]) || KEYS[name];
-  if (!key && !/^[0-9]$/.test(event.key)) return;
-  event.preventDefault();
-  if (key) key();
-  else chooseMemory(Number(event.key));
-  setAddress();
+  if (isProjected()) return;
+  scrollTo(0, shown.before.scrolled);
+  box.scrollTop = shown.before.scrolledSource;
 }
 
 function buildControls() {
@@ -286,12 +238,9 @@ function buildControls() {
   RATES.forEach((rate, at) => byId("rate").add(new Option(rate === 1 ? "1 turn a second" : `${octal(rate)} turns a second`, at)));
   byId("rate").value = 1;
   byId("rate").onchange = () => changeRate(0);
-  const buttons = { first: "Home", "round-back": "Shift+ArrowLeft", back: "ArrowLeft", play: " ", forward: "ArrowRight",
-    "round-forward": "Shift+ArrowRight", last: "End", "previous-change": "[", "next-change": "]", "came-from": "o",
-    "run-to": "r", "run-back": "Shift+r", "line-before": "p", "next-line": "n", "help-button": "?" };
-  for (const [id, key] of Object.entries(buttons)) byId(id).onclick = KEYS[key];
-  byId("choose-none").onclick = chooseNone;
   byId("go-turn").onsubmit = (event) => { event.preventDefault(); goToTyped(); };
+  byId("set-to").onblur = endEditing;
+  document.addEventListener("dblclick", (event) => event.target.closest("button.number") && edit());
   byId("set-form").onsubmit = (event) => { event.preventDefault(); setChosen(); };
   byId("go-place").onsubmit = (event) => { event.preventDefault(); chooseTyped(); };
   document.addEventListener("click", (event) => {
@@ -299,7 +248,6 @@ function buildControls() {
     if (button) choose(button.place);
     setAddress();
   });
-  document.addEventListener("keydown", pressed);
 }
 
 // Says beside a field what is wrong with its text, and marks it; "" if it is right.
@@ -332,11 +280,26 @@ function chooseTyped() {
   setAddress();
 }
 
+// In one column, and with a source, sections come in another order than that of the two columns.
+const NARROW = "(max-width: 999px)";
+
+function placeSections() {
+  const [left, right] = document.querySelectorAll(".column"), isNarrow = matchMedia(NARROW).matches;
+  const first = film.sources || isNarrow ? ["lanes"] : [], second = ["source", "memory", "central", "frame"];
+  const sections = (names) => names.map(byId);
+  left.prepend(...sections(isNarrow ? [...first, "source"] : first));
+  if (!first.length) document.querySelector("main").before(byId("lanes"));
+  if (isNarrow) byId("watches").after(...sections(second.slice(1)));
+  else right.prepend(...sections(second));
+}
+
 function build() {
-  for (const part of [buildControls, buildProcessors, buildChannels, buildMemory, buildProgram, buildSource, buildPictures, buildCentral,
-    buildFrame, buildReader, buildPrinter, buildFiles, buildLanes, buildBarrel, buildSigns, buildExercises, buildConsole]) part();
+  for (const part of [buildControls, buildKeys, buildProcessors, buildChannels, buildMemory, buildProgram, buildSource, buildPictures, buildCentral,
+    buildFrame, buildReader, buildPrinter, buildFiles, buildLanes, buildSigns, buildExercises, buildMeanings, buildConsole]) part();
+  placeSections();
   const redraw = () => { drawLegend(); drawLanes(); showHead(); showSigns(); showBarrel(); };
   for (const query of ["(prefers-color-scheme: dark)", "print"]) matchMedia(query).addEventListener("change", redraw);
+  matchMedia(NARROW).addEventListener("change", placeSections);
   window.addEventListener("resize", redraw);
   window.addEventListener("beforeprint", redraw);
   window.addEventListener("afterprint", redraw);
@@ -351,11 +314,7 @@ function grew(first) {
   growLanes(first);
   findChannels(first);
   growSource(first);
-  if (!shown.chosen) return;
-  const marks = new Uint8Array(film.count);
-  marks.set(shown.marks.subarray(0, first));
-  shown.marks = marks;
-  markChanges(marks, shown.chosen.places, Math.max(first, 1));
+  if (shown.chosen) addChanges(shown.changes, shown.chosen.places, Math.max(first, 1));
 }
 
 // Shows a session that takes the place of another one.

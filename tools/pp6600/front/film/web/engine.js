@@ -133,7 +133,10 @@ async function until(texts, back) {
   const reply = await ask("until", { texts, back, at: film.at, labels: film.labels });
   if (reply.isGone) return (await branch()) && until(texts, back);
   moveTo(film.count - 1);
-  say(reply.said, reply.isWrong);
+  const [, name, kind] = /^(.*) changes( state)?$/i.exec(texts.join(" or ")) || [], moment = resolve(film.at);
+  const place = name && !reply.isWrong && moment > 0 ? placeNamed(kind ? name.replace(/^h/i, "STATE") : name) : null;
+  if (place) choose(place);
+  say(reply.said + (place ? `, by ${makerText(moment, place.places[0])}` : ""), reply.isWrong);
   keepTyped();
   return !reply.isWrong;
 }

@@ -1,7 +1,9 @@
 // ---- the lanes
 
 const GAP = 3, SIGN = 9; // between lanes, and the width of a sign
-let LANE = 13, LABEL = 46, LETTERS = 11; // the height of a lane, the width of the names, and the height of letters, in pixels
+const MOST_PROJECTED = 8; // lanes on a projector
+// The height of a lane, the width of the names, the height of letters, all in pixels; and in how many columns the names are, one after another.
+let LANE = 13, LABEL = 46, LETTERS = 11, NAMES = 1;
 const lanes = { all: [], processors: [], channels: [], firstTurn: -1, from: 0, to: 0, isDrawn: false, folded: true }; // folded: the quiet ones are one line
 
 // Begins with no moments. The lanes are those of the processors, and then those of the channels.
@@ -10,7 +12,7 @@ function forgetLanes() {
   lanes.all = [];
   lanes.processors = Array.from({ length: PROCESSORS }, (_, n) => lane(`PP ${two(n)}`));
   lanes.channels = Array.from({ length: CHANNELS }, (_, c) => lane(`H ${two(c)}`));
-  lanes.firstTurn = -1;
+  Object.assign(lanes, { firstTurn: -1, look: "", key: "" });
 }
 
 // Notes what the moments from a first one on are: a lane has the stretches of moments that are of one kind.
@@ -35,6 +37,9 @@ function growLanes(first) {
     }
   }
   chooseLanes();
+  noteFollowed(first);
+  setView();
+  if (lookOfEnd() !== lanes.look) lanes.isDrawn = false;
 }
 
 // A processor is quiet if it only passes, or only waits; a channel if no turn changes it. One that is always inactive has no lane.
@@ -47,9 +52,29 @@ function chooseLanes() {
     const last = lane.kinds.length - 1, isBefore = lanes.firstTurn < 0 || lane.begins[last] < lanes.firstTurn;
     lane.quiet = isBefore && `always ${film.states[lane.kinds[last]][1]}`;
   }
-  lanes.all = [...lanes.processors, ...lanes.channels.filter((lane) => lane.kinds.some((kind) => kind > 0))];
-  lanes.isDrawn = false;
+  lanes.all = [...lanes.processors, ...lanes.channels.filter((lane) => lane.seen.size > (lane.seen.has(0) ? 1 : 0))];
   offerParts();
+}
+
+// Notes after which moments the memory follows which processor: that of the turn, if it did not pass and its lane is not quiet; or one that
+// a line has set. If another lane has become quiet or loud, all are noted anew.
+function noteFollowed(first) {
+  const quiet = lanes.processors.map((lane) => (lane.quiet ? 1 : 0)), key = quiet.join("");
+  const { follows, kinds, processor, jumps } = film;
+  for (let moment = lanes.key === key ? Math.max(first, 1) : 1; moment < film.count; moment++) {
+    const n = processor[moment], isTold = isTurn(moment) ? kinds[moment] !== IDLE && !quiet[n] : kinds[moment] === LINE;
+    const found = !isTold ? -1 : isTurn(moment) ? n : processorSet(moment);
+    follows[moment] = found >= 0 ? found : follows[kinds[moment] === JUMP ? Math.max(0, jumps.get(moment)[0]) : moment - 1];
+  }
+  lanes.key = key;
+}
+
+// What the lanes show at their end: it tells whether they are to be drawn anew as the film grows.
+function lookOfEnd() {
+  const width = Math.floor(pictureWidth()), x = Math.floor(pixelOf(film.count - 1)), line = film.lines.findLast((one) => one.acts);
+  const ticks = [line ? line.first : 0, shown.changes ? shown.changes.at(-1) || 0 : 0].map((moment) => Math.floor(pixelOf(moment)));
+  return [lanes.from, lanes.to, width, x, ticks, line && film.kinds[line.first], film.skips.size, film.breaks.length,
+    ...lanesShown().map((lane) => `${lane.name} ${tallest(lane, width)[x]}`)].join();
 }
 
 // Offers to see parts of a longer run.
@@ -97,13 +122,21 @@ function moveToPixel(event) {
   moveTo(Math.min(film.count - 1, lanes.from + Math.floor((x / pictureWidth()) * (lanes.to - lanes.from))));
 }
 
-const lanesShown = () => lanes.all.filter((lane) => !lane.quiet || !(lanes.folded || isProjected()));
+// On a projector the lanes of the processor that is shown and of the one whose turn it was come first, if they are too many.
+function lanesShown() {
+  if (!isProjected()) return lanes.all.filter((lane) => !lane.quiet || !lanes.folded);
+  const loud = lanes.all.filter((lane) => !lane.quiet), first = [memory.processor, film.processor[film.at]].map((n) => lanes.processors[n]);
+  const chosen = new Set([...first.filter((lane) => !lane.quiet), ...loud].slice(0, MOST_PROJECTED));
+  return loud.filter((lane) => chosen.has(lane));
+}
 
-// The line that stands for the quiet lanes, and unfolds them.
-function showFold() {
-  const quiet = lanes.all.filter((lane) => lane.quiet), kinds = [...new Set(quiet.map((lane) => lane.quiet))], fold = byId("fold");
-  const texts = kinds.map((kind) => `${inRanges(quiet.filter((lane) => lane.quiet === kind))}: ${kind}`);
-  fold.hidden = !quiet.length;
+// The line that stands for the quiet lanes, and unfolds them; on a projector for those that have no room.
+function showFold(drawn) {
+  const left = lanes.all.filter((lane) => !drawn.includes(lane)), quiet = lanes.all.filter((lane) => lane.quiet), fold = byId("fold");
+  const kinds = [...new Set(quiet.map((lane) => lane.quiet))], loud = left.filter((lane) => !lane.quiet);
+  const texts = isProjected() ? [`${inRanges(loud)}: not here`]
+    : kinds.map((kind) => `${inRanges(quiet.filter((lane) => lane.quiet === kind))}: ${kind}`);
+  fold.hidden = isProjected() ? !loud.length : !quiet.length;
   fold.setAttribute("aria-expanded", !lanes.folded);
   setText(fold, `${lanes.folded ? "▸" : "▾"} ${texts.join("; ")}`);
 }
@@ -155,17 +188,21 @@ function coloursOf(element) {
 
 // On a projector the lanes have a ninth of the height for them all, and larger letters.
 function sizeLanes(rows) {
-  LANE = isProjected() ? Math.max(5, Math.floor(innerHeight / Math.max(45, 9 * rows)) - GAP) : 13;
-  LETTERS = isProjected() ? LANE + GAP : 11;
-  LABEL = isProjected() ? 4 * LETTERS : 46;
+  LANE = isProjected() ? Math.max(5, Math.floor(innerHeight / Math.max(27, 9 * rows)) - GAP) : 13;
+  LETTERS = isProjected() ? Math.ceil(parseFloat(getComputedStyle(document.body).fontSize)) : 11;
+  NAMES = Math.ceil(LETTERS / (LANE + GAP));
+  LABEL = isProjected() ? 4 * LETTERS * NAMES : 46;
 }
 
+// Writes the name of the lane in a row.
+const nameLane = (context, name, row) => context.fillText(name, (row % NAMES) * LABEL / NAMES, GAP + row * (LANE + GAP) + LANE / 2 + 1);
+
 function drawLanes() {
-  lanes.isDrawn = true;
+  Object.assign(lanes, { isDrawn: true, look: lookOfEnd() });
   const drawn = lanesShown(), rows = drawn.length + 1 + (shown.chosen ? 1 : 0);
   sizeLanes(rows);
   const canvas = byId("canvas"), ratio = window.devicePixelRatio || 1;
-  const width = Math.floor(pictureWidth()), height = rows * (LANE + GAP) + GAP;
+  const width = Math.floor(pictureWidth()), height = Math.max(rows * (LANE + GAP), isProjected() ? LETTERS : 0) + GAP;
   canvas.width = (width + LABEL) * ratio;
   canvas.height = height * ratio;
   canvas.style.height = `${height}px`;
@@ -173,18 +210,18 @@ function drawLanes() {
   context.scale(ratio, ratio);
   context.font = `${LETTERS}px ui-monospace, Consolas, monospace`;
   context.textBaseline = "middle";
+  context.fillStyle = colours.ink;
+  ["lines", ...drawn.map(({ name }) => name), ...(shown.chosen ? ["chosen"] : [])].forEach((name, row) => nameLane(context, name, row));
   drawn.forEach((lane, at) => drawLane(context, colours, lane, GAP + (at + 1) * (LANE + GAP), width));
   drawLines(context, colours, height);
   drawSkips(context, colours, height);
   if (shown.chosen) drawChanges(context, colours, GAP + (rows - 1) * (LANE + GAP));
   if (shown.origin) drawOrigin(context, colours, drawn);
-  showFold();
+  showFold(drawn);
   canvas.setAttribute("aria-label", `Lanes of the processors and channels from moment ${octal(lanes.from)} to ${octal(lanes.to - 1)}.`);
 }
 
 function drawLane(context, colours, lane, y, width) {
-  context.fillStyle = colours.ink;
-  context.fillText(lane.name, 0, y + LANE / 2 + 1);
   const columns = tallest(lane, width);
   for (let x = 0; x < width;) {
     let end = x + 1;
@@ -203,8 +240,6 @@ function drawEnds(context, x, end, y) {
 
 // A tick where each line of the script begins, taller and with < or > where the run goes back or forward again.
 function drawLines(context, colours, height) {
-  context.fillStyle = colours.ink;
-  context.fillText("lines", 0, GAP + LANE / 2);
   let free = 0; // from where on there is room for a sign
   film.lines.forEach((line) => {
     if (!line.acts || line.first < lanes.from || line.first >= lanes.to) return;
@@ -239,9 +274,10 @@ function drawSkips(context, colours, height) {
 // A tick for each change of the chosen number.
 function drawChanges(context, colours, y) {
   context.fillStyle = colours.ink;
-  context.fillText("chosen", 0, y + LANE / 2 + 1);
-  for (let moment = shown.marks.indexOf(1, lanes.from); moment >= 0 && moment < lanes.to; moment = shown.marks.indexOf(1, moment + 1)) {
-    context.fillRect(LABEL + Math.floor(pixelOf(moment)), y, 2, LANE);
+  for (let at = countUpTo(shown.changes, lanes.from - 1); shown.changes[at] < lanes.to;) {
+    const x = Math.floor(pixelOf(shown.changes[at]));
+    context.fillRect(LABEL + x, y, 2, LANE);
+    at += firstNot(shown.changes.length - at, (more) => pixelOf(shown.changes[at + more]) < x + 1);
   }
 }
 

@@ -33,6 +33,17 @@ const four = (number) => octal(number, 4);
 // The kinds of a moment: what a processor did in a turn; another action; a BACK or FORWARD; turns that were not recorded.
 const IDLE = 0, WAITING = 1, BUSY = 2, BLOCK = 3, LINE = 4, JUMP = 5, SKIP = 6;
 
+// Returns the first of so many numbers from 0 on for which something no longer holds; it holds for all before.
+function firstNot(count, holds) {
+  let low = 0, high = count;
+  while (low < high) {
+    const middle = (low + high) >> 1;
+    if (holds(middle)) low = middle + 1;
+    else high = middle;
+  }
+  return low;
+}
+
 // The watched places, by the codes of the watch entries: the kind, and the processor and address.
 function watchesIn(numbers) {
   const watches = [];

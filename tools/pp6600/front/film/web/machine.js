@@ -24,6 +24,13 @@ function setText(element, text) {
   if (element.textContent !== text) element.textContent = text;
 }
 
+// Shows an instruction; what it does is said to who points at it.
+function setInstruction(element, text) {
+  if (element.textContent === text) return;
+  element.textContent = text;
+  element.title = meaningOf(text.slice(0, 3));
+}
+
 function showNumbers() {
   const changed = new Set(film.places.subarray(film.starts[film.at], film.starts[film.at + 1]));
   const chosen = shown.chosen && shown.chosen.name;
@@ -82,7 +89,7 @@ function showProcessors() {
     words.forEach((button, at) => setPlace(button, `M ${two(n)} ${four((p + at) % CELLS)}`));
     words[1].hidden = !next.second;
     setText(mark, isNext ? ">" : "");
-    setText(name, next.block ? `${next.name} in its block` : next.name);
+    setInstruction(name, next.block ? `${next.name} in its block` : next.name);
     setText(wait, next.waits);
     row.classList.toggle("next", isNext);
     row.classList.toggle("acted", isTurn(film.at) && film.processor[film.at] === n);
@@ -159,15 +166,6 @@ function showCell(processor, address, always) {
   show();
 }
 
-// The processor of the latest turn, but for one that passed or whose lane is quiet; or one that a line has set since.
-function processorOfTurn() {
-  for (let at = resolve(film.at); at > 0; at = resolve(at - 1)) {
-    const processor = isTurn(at) ? film.processor[at] : processorSet(at);
-    if (isTurn(at) ? film.kinds[at] !== IDLE && !lanes.all[processor].quiet : processor >= 0) return processor;
-  }
-  return 0;
-}
-
 // The processor whose cell or register a line has set, or -1.
 function processorSet(moment) {
   const place = film.starts[moment] < film.starts[moment + 1] ? film.places[film.starts[moment]] : layout.states;
@@ -176,7 +174,7 @@ function processorSet(moment) {
 }
 
 function showMemory() {
-  if (memory.follows) memory.processor = processorOfTurn();
+  if (memory.follows) memory.processor = film.follows[film.at];
   const n = memory.processor, p = film.numbers[register(n, 0)];
   if (memory.from === "P") memory.first = (p - 0o40 + CELLS) & 0o7740;
   byId("memory-of").value = memory.follows ? "" : n;

@@ -1,6 +1,5 @@
 // ---- cells as instructions, and what the next turn of a processor does
 
-const SHOWN_AS = ["numbers", "instructions", "text"]; // text: instructions and display code
 const FROM_BEFORE = 8; // more cells before a window, so that its rows begin where the instructions do
 
 const cellOf = (n, address) => film.numbers[n * CELLS + (((address % CELLS) + CELLS) % CELLS)];
@@ -70,17 +69,11 @@ function buildProgram() {
   addHead(tableOf("program"), ["", "", "words", "instruction", "", "display code"]);
   for (let at = 0; at < MEMORY_ROWS; at++) {
     const row = addRow(body, Array(6).fill(""));
-    row.cells[1].className = "name";
     row.cells[4].className = row.cells[5].className = "text";
     const buttons = [0, 1].map(() => addNumber(row.cells[2], "M 00 0000"));
-    program.rows.push({ row, buttons });
+    program.rows.push({ row, buttons, point: addBreakpoint(row.cells[1]) });
   }
   byId("memory-as").onchange = () => { memory.as = byId("memory-as").value; show(); };
-}
-
-function nextForm() {
-  memory.as = SHOWN_AS[(SHOWN_AS.indexOf(memory.as) + 1) % SHOWN_AS.length];
-  show();
 }
 
 function showProgram() {
@@ -94,18 +87,19 @@ function showProgram() {
   const here = address === null ? p : address;
   const rows = programWindow(n, program.top, memory.from === "P" ? here : memory.at, MEMORY_ROWS, [p, address, back]);
   program.top = rows[0].address;
-  program.rows.forEach(({ row, buttons }, at) => showProgramRow(row, buttons, rows[at], n, p, back));
+  program.rows.forEach((one, at) => showProgramRow(one, rows[at], n, p, back));
 }
 
-function showProgramRow(row, buttons, { address, words }, n, p, back) {
+function showProgramRow({ row, buttons, point }, { address, words }, n, p, back) {
   setText(row.cells[0], address === p ? ">" : address === back ? "r" : "");
-  setText(row.cells[1], four(address));
+  setText(point, four(address));
+  showBreakpoint(point, n, address);
   buttons.forEach((button, at) => {
     button.hidden = memory.as === "numbers" || at >= words.length;
     setPlace(button, `M ${two(n)} ${four((address + at) % CELLS)}`);
     button.classList.toggle("at-p", (address + at) % CELLS === p);
   });
-  setText(row.cells[3], wordsText(address, words));
+  setInstruction(row.cells[3], wordsText(address, words));
   setText(row.cells[4], textOfListing(n, address, words[0]) || addressName(n, address));
   setText(row.cells[5], memory.as === "text" ? words.map(displayCode).join("") : "");
 }

@@ -25,12 +25,14 @@ const emptyRows = () => ({
   count: 0, at: -1, numbers: new Int32Array(0), kinds: new Uint8Array(0), processor: new Uint8Array(0), p: new Uint16Array(0),
   turned: new Int32Array(0), // the row in `next` of the instruction of a turn
   starts: new Uint32Array(1), places: new Int32Array(0), was: new Int32Array(0), now: new Int32Array(0),
+  follows: new Uint8Array(0), // the processor whose memory is shown, if it follows the turns
   turn: new Int32Array(0), // how many turns are in effect
   depth: new Int32Array(0), // how many moments are in effect; -1 if that is not known
   lineAt: new Int32Array(0), // the number of its line, -1 before the first
   writes: { starts: new Uint32Array(1), places: new Int32Array(0), whats: new Int32Array(0), firsts: new Uint32Array(1),
     sources: new Int32Array(0), parts: new Uint8Array(0) },
-  lines: [], next: [], constants: [], jumps: new Map(), skips: new Map(), highestTurn: 0, position: 0,
+  lines: [], next: [], constants: [], jumps: new Map(), skips: new Map(), breaks: [], // breaks: the moments of jumps and skips
+  highestTurn: 0, position: 0,
 });
 
 function openRows(about) {
@@ -68,7 +70,7 @@ function grow({ rows, next, constants, lines, jumps, skips, position }) {
   for (const [moment, turns] of skips) film.skips.set(moment, turns);
   film.count += rows.kinds.length;
   film.position = position;
-  for (const name of ["turn", "depth", "lineAt"]) film[name] = longer(film[name], film.count);
+  for (const name of ["turn", "depth", "lineAt", "follows"]) film[name] = longer(film[name], film.count);
   film.lineAt.fill(-1, first);
   lines.forEach((line, at) => line.acts && film.lineAt.fill(firstLine + at, line.first, line.moment + 1));
   for (let moment = first; moment < film.count; moment++) after(moment);
@@ -78,6 +80,7 @@ function grow({ rows, next, constants, lines, jumps, skips, position }) {
 // How many turns and moments are in effect after a moment.
 function after(moment) {
   const kind = film.kinds[moment];
+  if (kind === JUMP || kind === SKIP) film.breaks.push(moment);
   if (kind === JUMP) {
     const [target, turn] = film.jumps.get(moment);
     film.turn[moment] = turn;
@@ -112,41 +115,43 @@ function resolve(moment) {
   return moment;
 }
 
-// Marks the moments that changed one of the places.
-function momentsThatChanged(places) {
-  const marks = new Uint8Array(film.count);
-  markChanges(marks, places, 1);
-  return marks;
-}
+// Returns the moments that changed one of the places, in their order.
+const momentsThatChanged = (places) => addChanges([], places, 1);
 
-function markChanges(marks, wanted, first) {
+function addChanges(changes, wanted, first) {
   const { places, starts, kinds } = film;
   for (let moment = first, at = starts[first]; moment < film.count; moment++) {
-    for (const end = starts[moment + 1]; at < end; at++) if (wanted.includes(places[at]) && kinds[moment] !== JUMP) marks[moment] = 1;
+    let isChanged = false;
+    for (const end = starts[moment + 1]; at < end; at++) if (wanted.includes(places[at])) isChanged = true;
+    if (isChanged && kinds[moment] !== JUMP) changes.push(moment);
   }
+  return changes;
 }
 
 const NOT_RECORDED = -1; // in the place of a moment: it may lie in turns that were not recorded
+const countUpTo = (moments, moment) => firstNot(moments.length, (at) => moments[at] <= moment);
+const lastUpTo = (moments, moment) => moments[countUpTo(moments, moment) - 1] || 0;
 
-// The latest change in effect at a moment; 0 if there is none.
-function changeBefore(marks, moment) {
+// The latest change in effect at a moment, of those at these moments; 0 if there is none.
+function changeBefore(changes, moment) {
   let at = resolve(moment);
-  for (; at > 0; at = resolve(at - 1)) {
-    if (film.kinds[at] === SKIP) return NOT_RECORDED;
-    if (marks[at]) return at;
+  while (at > 0) {
+    const end = lastUpTo(film.breaks, at), change = lastUpTo(changes, at);
+    if (change > end) return change;
+    if (film.kinds[end] === SKIP) return NOT_RECORDED;
+    at = resolve(end);
   }
   return at;
 }
 
 // The next change after a moment, or 0; and the line that takes that moment back before any, if one does.
-function changeAfter(marks, moment) {
-  const depth = film.depth[moment];
-  for (let at = moment + 1; at < film.count; at++) {
-    if (film.kinds[at] === JUMP && film.depth[at] < depth) return [0, at];
-    if (film.kinds[at] === SKIP) return [NOT_RECORDED, 0];
-    if (marks[at]) return [at, 0];
+function changeAfter(changes, moment) {
+  const next = changes[countUpTo(changes, moment)] || 0, { breaks, kinds, depth } = film;
+  for (let at = countUpTo(breaks, moment); at < breaks.length && (!next || breaks[at] <= next); at++) {
+    if (kinds[breaks[at]] === SKIP) return [NOT_RECORDED, 0];
+    if (depth[breaks[at]] < depth[moment]) return [0, breaks[at]];
   }
-  return [0, 0];
+  return [next, 0];
 }
 
 // A round to or fro: ten turns, or up to those that were skipped.

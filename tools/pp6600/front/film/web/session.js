@@ -1,6 +1,6 @@
 // ---- a session: its lines, its tape, and a simulator at a position on it
 
-const MOST_MOMENTS = 1 << 20, AFTER_LONG = 0o10000, LONGEST_ANSWER = 40, MOST_TURNS = 0o1000000, SLICE = 1 << 18;
+const MOST_MOMENTS = 1 << 20, FULL = 5 << 18, AFTER_LONG = 0o10000, LONGEST_ANSWER = 40, MOST_TURNS = 0o1000000, SLICE = 1 << 18;
 
 // The actions of a session: those in effect, and behind them those that were taken back. Turns one after another are one run.
 class Tape {
@@ -9,15 +9,7 @@ class Tape {
   get length() { return this.end(this.runs.length - 1).actions; }
 
   // The number of the run that has an action after so many.
-  runAt(position) {
-    let low = 0, high = this.runs.length;
-    while (low < high) {
-      const middle = (low + high) >> 1;
-      if (this.runs[middle].actions <= position) low = middle + 1;
-      else high = middle;
-    }
-    return low;
-  }
+  runAt(position) { return firstNot(this.runs.length, (at) => this.runs[at].actions <= position); }
 
   // Forgets all after so many actions.
   cut(position) {
@@ -65,15 +57,7 @@ class Positions {
   }
 
   // How many moments perform actions up to a position.
-  upTo(position) {
-    let low = 0, high = this.ends.length;
-    while (low < high) {
-      const middle = (low + high) >> 1;
-      if (this.ends.numbers[middle] <= position) low = middle + 1;
-      else high = middle;
-    }
-    return low;
-  }
+  upTo(position) { return firstNot(this.ends.length, (at) => this.ends.numbers[at] <= position); }
 
   cut(position) { this.ends.length = this.moments.length = this.upTo(position); }
 
@@ -87,13 +71,8 @@ class Positions {
   // The position to which a moment leads, or -1 if another action has taken its place.
   positionOf(moment) {
     if (moment === 0) return 0;
-    let low = 0, high = this.ends.length; // the moments in effect are in order
-    while (low < high) {
-      const middle = (low + high) >> 1;
-      if (this.moments.numbers[middle] < moment) low = middle + 1;
-      else high = middle;
-    }
-    return low < this.ends.length && this.moments.numbers[low] === moment ? this.ends.numbers[low] : -1;
+    const at = firstNot(this.ends.length, (one) => this.moments.numbers[one] < moment); // the moments in effect are in order
+    return at < this.ends.length && this.moments.numbers[at] === moment ? this.ends.numbers[at] : -1;
   }
 }
 
@@ -103,7 +82,7 @@ class Session {
   constructor(calls, about, control, wanted = []) {
     Object.assign(this, { calls, about, control, wanted });
     const { history, central, reader, printer, deck, panel } = about;
-    this.options = { history: Math.max(history, 1), central, reader, printer, deck, panel }; // the last action is always kept
+    this.options = { history, central, reader, printer, deck, panel };
     turning.open(about);
     this.simulator = new Simulator(calls, this.options);
     this.recorder = new Recorder(this.simulator, about);
@@ -118,6 +97,8 @@ class Session {
   }
 
   close() { this.simulator.session.close(); }
+  get isFull() { return this.recorder.count >= FULL; }
+  checkRoom() { if (this.isFull) throw new Error(`the film is full, it has ${octal(FULL)} moments: save the script`); }
 
   // ---- one line
 

@@ -14,7 +14,6 @@ function lineOfSource(n, { number, note }) {
 function buildSource() {
   if (!film.sources) return;
   for (const one of Object.values(film.sources)) one.index = indexOfWords(one.words);
-  document.querySelector(".column").prepend(byId("lanes"));
   byId("source").hidden = false;
   for (const [text, { name, lines }] of Object.entries(film.sources)) {
     const n = Number(text), body = tableOf("source").createTBody();
@@ -71,7 +70,7 @@ function addTimes(one, first) {
 
 // A row of a line: of one with words the address of the first too.
 function addSourceRow(one, number, text, address) {
-  const element = addRow(one.body, ["", "", address === undefined ? "" : four(address), "", ""]), cells = [...element.cells];
+  const element = addRow(one.body, ["", "", "", "", ""]), cells = [...element.cells];
   const button = document.createElement("button"), written = document.createElement("span");
   const blanks = text.slice(0, text.length - text.trimStart().length);
   button.type = "button";
@@ -80,25 +79,24 @@ function addSourceRow(one, number, text, address) {
   button.append(text ? blanks : " ", written);
   button.onclick = (event) => { one.line = number; moveToTime(one, event.shiftKey ? -1 : 1); };
   cells[4].append(button);
+  button.title = meaningOf(operationIn(text));
   if (address === undefined) cells[1].textContent = number;
-  else cells[1].append(breakpointOf(one.processor, number, address));
+  else addAddress(cells[2], one.processor, address);
+  const point = address === undefined ? null : addBreakpoint(cells[1], number);
   cells[1].className = cells[2].className = "name";
   cells[3].className = "mark";
   cells[3].append("", " ");
   element.classList.toggle("note", text.trim().startsWith("*"));
   const words = (film.sources[one.processor].index.ofLine.get(number) || []).filter(({ isSecondWord }) => !isSecondWord);
-  return { element, button, at: cells[0], text: cells[3].firstChild, mark: cells[3], words, loadedAt: -1, number: null, shown: "" };
+  return { element, button, at: cells[0], text: cells[3].firstChild, mark: cells[3], words, point, address, loadedAt: -1, number: null, shown: "" };
 }
 
-// The number of a line, by which a breakpoint is set and taken away.
-function breakpointOf(n, number, address) {
+// The address of a line chooses its cell.
+function addAddress(cell, n, address) {
   const button = document.createElement("button");
-  Object.assign(button, { type: "button", className: "plain name", textContent: number, title: `a breakpoint at ${four(address)}` });
-  button.onclick = () => {
-    toggleBreakpoint(n, address);
-    button.setAttribute("aria-pressed", hasBreakpoint(n, address));
-  };
-  return button;
+  Object.assign(button, { type: "button", className: "plain name", textContent: four(address) });
+  button.onclick = () => choose(placeNamed(`M ${octal(n)} ${octal(address)}`));
+  cell.append(button);
 }
 
 // It is that of the chosen processor, if this has one.
@@ -113,11 +111,13 @@ function showSource() {
   const did = isTurn(film.at) && film.processor[film.at] === n ? lineOfMoment(film.at) : NO_LINE, performed = did.note ? 0 : did.number;
   one.rows.forEach((row, at) => showSourceRow(row, n, line.number === at + 1 ? line : null, performed === at + 1));
   showTimes(one);
-  if (source.scrolled !== `${n} ${film.at}`) keepInView(one.rows[(film.at === one.led ? one.line : line.number) - 1]);
+  byId("source").classList.toggle("marked", one.rows.some(({ text }) => text.data));
+  if (source.scrolled !== `${n} ${film.at}`) keepInView(one.rows[(film.at === one.led ? one.line : line.number) - 1], !source.scrolled);
   source.scrolled = `${n} ${film.at}`;
 }
 
 function showSourceRow(row, n, here, performed) {
+  if (row.point) showBreakpoint(row.point, n, row.address);
   const isLoaded = row.loadedAt >= 0 && resolve(film.at) >= row.loadedAt;
   const [text, address] = !row.words.length ? ["", null] : isLoaded ? markOf(n, row.words) : ["not yet", null];
   const shownNow = [text, address, here ? `> ${here.note}` : "", performed].join();
@@ -150,10 +150,11 @@ function moveToTime(one, direction) {
 }
 
 // Scrolls the lines, not the page, so that a row is seen, and some rows around it.
-function keepInView(row) {
+function keepInView(row, anew) {
   if (!row) return;
   const box = tableOf("source").parentElement, { offsetTop: top, offsetHeight: height } = row.element;
-  if (top - 2 * height < box.scrollTop || top + 3 * height > box.scrollTop + box.clientHeight) box.scrollTop = top - box.clientHeight / 3;
+  if (!anew && top - 2 * height >= box.scrollTop && top + 3 * height <= box.scrollTop + box.clientHeight) return;
+  box.scrollTop = [...row.element.parentElement.rows].findLast((one) => one.offsetTop <= Math.max(0, top - box.clientHeight / 3)).offsetTop;
 }
 
 // To where the processor of the source that is seen begins its next line, or back to where it began a line; at the end of the film turns are

@@ -39,9 +39,9 @@ const REQUESTS = {
     if (!given.isTrusted) worker.until = performance.now() + 1000 * MOST_SECONDS;
     const lines = linesOf(given.script);
     let at = 0;
-    for (; at < lines.length && !control.isStopped(); at++) await session.perform(lines[at]);
+    for (; at < lines.length && !control.isStopped() && !session.isFull; at++) await session.perform(lines[at]);
     const left = lines.length - at;
-    return left || control.isStopped() ? { said: `stopped: ${octal(left)} lines of the script are left`, left: lines.slice(at), isWrong: true } : {};
+    return left || control.isStopped() ? { said: `stopped: ${octal(left)} lines of the script are left`, isWrong: true } : {};
   },
 
   // Performs lines where a moment is. A refused line, a watch or a hand ends them.
@@ -49,6 +49,7 @@ const REQUESTS = {
     if (!(await worker.session.goToMoment(at))) return { isGone: true };
     let answer = [];
     for (const line of lines) {
+      worker.session.checkRoom();
       answer = await worker.session.perform(line);
       if (/^ERR /.test(answer[0]) || answer.some((one) => one.startsWith("HIT ")) || control.isStopped()) break;
     }
@@ -59,6 +60,7 @@ const REQUESTS = {
   async until({ texts, back, at, labels }) {
     const { session } = worker, conditionOf = (met) => new Alternatives(texts.map((text) => parseCondition(text, labels, met)));
     conditionOf(() => {});
+    session.checkRoom();
     if (!(await session.goToMoment(at))) return { isGone: true };
     worker.until = performance.now() + 1000 * MOST_SEARCHED;
     return back ? untilBefore(session, conditionOf) : untilAfter(session, conditionOf);

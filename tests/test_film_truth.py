@@ -1,0 +1,158 @@
+"""The scripts of a film's page, run by Node, beside the tools and the program on random sessions: the answers, and of each moment its kind,
+what it changed, what it wrote and from what. Other seeds: TRUTH_SEEDS="1000 200" compares 200 sessions from seed 1000 on (decimal)."""
+
+import json
+import os
+import shutil
+import subprocess
+import unittest
+
+from tests.generator import BUSY, LOOPS, WATCHED, Maker
+from tests.support import EXAMPLES, TOP, Case, program, read
+from tests.support import run as run_program
+
+from pp6600.engine.interface import CARD, CLOCK, PHASE, SLOT, A, P, Q, place_number
+from pp6600.front.film import page
+from pp6600.run.forms import CELLS, CHANNELS, PROCESSORS, STATES
+from pp6600.run.recording import Recording
+from pp6600.run.session import Session
+from pp6600.run.turn import (
+    AT_END_OF_BLOCK, AT_END_OF_INPUT, NO_WORD, RETURN, ZERO, TurnKind, device_put_a_word, is_made_by, places_of_setting)
+from pp6600.shell.command_line import arguments
+
+SEEDS = "100 60"  # of the random sessions: the first, and how many
+OPTIONS = ("--central", "32", "--panel", f"{EXAMPLES}/dead-start/panel", "--deck", f"{EXAMPLES}/read-a-deck/deck")
+# An exchange and what moves P of the central processor, at the end of central memory too; a block past its end; a return address of zero.
+EXCHANGE = ["SET C 1 12345670123456701234", "SET M 0 100 1400 2600 2700 2077 7776 2600 2700 300", "SET P 0 100", "STEP 200", "BACK 20",
+            "FORWARD 3", "SET M 1 7776 1404 3420 6120 0 7105", "SET P 1 7776", "SET A 1 77776", "STEP 200"]
+IDLE, WAITING, BUSY_TURN, BLOCK, LINE, JUMP = range(6)  # what a lane shows of a moment, as docs/FILM.md has it, and other moments
+BLOCKS = (0o61, 0o63, 0o71, 0o73)
+READER, PRINTER = 0o12, 0o13
+MOVED, BY_DEVICE, AT_END = 1, 2, 8
+COLUMNS = 80
+CONSTANTS = {RETURN: "the return address", ZERO: "zero", NO_WORD: "zero, past the last central word"}
+
+
+DUMPS = [*(f"DUMP M {n:o} 0 7777" for n in range(PROCESSORS)), *(f"DUMP PP {n:o}" for n in range(PROCESSORS)), "DUMP H"]
+
+
+def dumped(numbers):
+    """Returns the answers to DUMPS, by the numbers of a film."""
+    cells = [f"{first % CELLS:04o} " + " ".join(f"{word:04o}" for word in numbers[first:first + 8])
+             for first in range(0, PROCESSORS * CELLS, 8)]
+    registers = [f"PP {n:02o} P {numbers[P + n]:04o} A {numbers[A + n]:06o} Q {numbers[Q + n]:04o} PHASE {numbers[PHASE + n]:04o} "
+                 f"SLOT {numbers[SLOT]:02o}" for n in range(PROCESSORS)]
+    channels = [f"H {c:02o} {STATES[numbers[place_number('S', (c,))]]} {numbers[place_number('H', (c,))]:04o}" for c in range(CHANNELS)]
+    return [*cells, *registers, *channels, f"H 14 F {numbers[CLOCK]:04o}"]
+
+
+def lines_of(seed):
+    lines = Maker(seed, (BUSY, BUSY, LOOPS, WATCHED)[seed % 4]).script()
+    return [line for line in lines if "\r" not in line and "\n" not in line and line.isascii()]
+
+
+def kind_of(turn):
+    """Returns what a lane shows of a turn. The turn that begins a block transfer is a part of it, and a jump to itself passes."""
+    if turn.kind is TurnKind.WAITED:
+        return WAITING
+    if turn.processor.code in BLOCKS:
+        return BLOCK
+    is_unmoved = all(turn.processor.registers[name] == turn.after[name] for name in ("P", "A", "Q", "PHASE"))
+    return IDLE if is_unmoved or turn.kind is TurnKind.PASSED else BUSY_TURN
+
+
+def constant_of(turn, name):
+    words, d = turn.processor.words, f"{turn.processor.channel:02o}"
+    text = {"d": d, "m": words[1], "dm": d + words[1]}.get(name)
+    return f"the constant {text}" if text else CONSTANTS[name]
+
+
+def bits(parts):
+    return sum(1 << part for part in parts or ())
+
+
+def written(turn):
+    """Returns what a processor wrote in a turn: of each place its number, what kind of write it was, its constant and its sources."""
+    ends = any(turn.effects() is one for one in (AT_END_OF_BLOCK, AT_END_OF_INPUT))
+    return [[place_number(*write.place), MOVED * write.is_moved | AT_END * (ends and write.place.kind == "P"),
+             "".join(constant_of(turn, name) for name in write.constants[:1]),
+             [[place_number(*source.place), bits(source.parts)] for source in write.sources]]
+            for write in turn.writes() if write.place.kind not in ("S", "PHASE")]
+
+
+def written_by_devices(recording, at, turn, deck):
+    """Returns what the reader and the printer wrote after the processor of a turn."""
+    found = []
+    for channel in READER, PRINTER:
+        before, after = recording.state(channel, at), recording.state(channel, at + 1)
+        has_read = channel == READER and CARD + 1 in recording.wrote(at)
+        if device_put_a_word(channel, turn.writes(), before, after):
+            column = COLUMNS * recording.number(CARD, at) + recording.number(CARD + 1, at)
+            found.append([place_number("H", (channel,)), BY_DEVICE, "", [[deck + column, 0]] if has_read else []])
+        if before != after and not is_made_by(turn, channel, before, after):
+            found.append([place_number("S", (channel,)), BY_DEVICE, "", []])
+    return found
+
+
+def changed(recording, at):
+    numbers = ((place, recording.number(place, at), recording.number(place, at + 1)) for place in sorted(set(recording.wrote(at))))
+    return [[place, str(was), str(now)] for place, was, now in numbers if was != now]
+
+
+def turns_of(run, count, deck):
+    """Yields the moments of the last turns of a run."""
+    recording, turn_before = Recording(run, run.position - count, run.position), run.turn - count
+    for at in range(count):
+        turn = recording.turn(at)
+        yield [kind_of(turn), turn.number, turn.processor.p, turn_before + at + 1, changed(recording, at),
+               written(turn) + written_by_devices(recording, at, turn, deck)]
+
+
+def line_written(line):
+    """Returns the places that a SET or DEADSTART wrote, as the moments of the page have them."""
+    return sorted([place_number(*place), word or 0, "", []] for place, word in places_of_setting(line).items() if place.kind != "PHASE")
+
+
+@unittest.skipUnless(shutil.which("node"), "there is no node")
+class Truth(Case):
+    def page_sessions(self, sessions):
+        """Yields what the page's scripts make of sessions."""
+        about = {**page.tables(), **page.options(arguments("").parse_args(list(OPTIONS))), "labels": {}, "lines": []}
+        files = {"about": about, "sessions": [{"lines": lines, "deck": read(OPTIONS[-1]), "panel": read(OPTIONS[-3])} for lines in sessions]}
+        paths = [self.file(json.dumps(data)) for data in files.values()]
+        web, module = os.path.join(TOP, "tools", "pp6600", "front", "film", "web"), os.path.join(TOP, "dist", "pp6600.wasm")
+        done = subprocess.run(["node", os.path.join(TOP, "tests", "film_rows.cjs"), web, module, *paths], capture_output=True, text=True, check=False)
+        self.assertEqual("", done.stderr)
+        return map(json.loads, done.stdout.splitlines())
+
+    def test_random_sessions(self):
+        first, count = map(int, os.environ.get("TRUTH_SEEDS", SEEDS).split())
+        sessions, turns = [*(lines_of(seed) for seed in range(first, first + count)), EXCHANGE], 0
+        for seed, (lines, got) in enumerate(zip(sessions, self.page_sessions(sessions)), first):
+            with self.subTest(seed=seed), Session([program(), *OPTIONS]) as run:
+                answers, dumps = [line for answer in got["answers"] for line in answer], dumped(got["numbers"])
+                self.assertEqual([*answers, *dumps], self.answers([*lines, *DUMPS]))
+                turns += self.compare(run, lines, iter(got["moments"]), got["deck"])
+        self.assertGreater(turns, 100 * count)
+
+    @staticmethod
+    def answers(lines):
+        """Returns what the program answers to lines."""
+        return run_program(program(), *OPTIONS, script="".join(f"{line}\n" for line in lines)).out.splitlines()
+
+    def compare(self, run, lines, moments, deck):
+        """Compares the moments of a session. Returns how many turns it has."""
+        turns = 0
+        for line in lines:
+            kind, *rest = (run.act(line) or ["NOTE"])[0].split()
+            if kind == "TURNS":
+                count = int(rest[0], 8)
+                for wanted in turns_of(run, count, deck):
+                    self.assertEqual(wanted, next(moments), line)
+                turns += count
+            elif kind in ("OK", "BACK", "FORWARD"):
+                number, _, _, turn, _, writes = next(moments)
+                wanted = line_written(line) if kind == "OK" else []
+                self.assertEqual([LINE if kind == "OK" else JUMP, run.turn, wanted], [number, turn, sorted(writes)], line)
+        self.assertIsNone(next(moments, None))
+        return turns

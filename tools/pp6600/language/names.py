@@ -1,0 +1,182 @@
+"""What the addresses of processors are called, by listings, lists of symbols and sources."""
+
+from __future__ import annotations
+
+import bisect
+import re
+from typing import Any, Dict, Iterable, List, Optional, Sequence, Set, Tuple
+
+from ..failure import Failure
+from ..run.forms import CELLS
+
+FARTHEST = 0o77  # from a symbol to a cell that the listing does not fill
+EXIT = "X"  # at the end of the name of a subroutine's jump back
+OF_A_PROCESSOR = ("M", "A", "P", "Q")
+WITH_PLACES = ("SET", "DUMP", "WATCH", "UNWATCH")
+NUMBER = re.compile("(-?[0-7]+)[bB]?")  # a B after a number says that it is octal
+
+
+def octal_number(text: str) -> Optional[int]:
+    """Returns the number of a word of a listing, as 105 or 105B; None if it is no octal number."""
+    digits = NUMBER.fullmatch(text)
+    return int(digits[1], 8) if digits else None
+
+
+class Names:
+    """The names of addresses, of which each may have several, and of other numbers."""
+
+    def __init__(self) -> None:
+        self.labels: Dict[int, List[str]] = {}  # by address: the names, in their order
+        self.equates: Dict[int, List[str]] = {}  # by number
+
+    def add(self, name: str, number: int, is_label: bool = True) -> None:
+        names = (self.labels if is_label else self.equates).setdefault(number, [])
+        if name not in names:
+            names.append(name)
+
+    def firsts(self) -> Dict[int, str]:
+        """Returns the first name of each address with a label."""
+        return {address: names[0] for address, names in self.labels.items()}
+
+    def numbers_of(self, name: str) -> Set[int]:
+        """Returns the numbers that have a name, in letters of either case."""
+        return {number for names in (self.labels, self.equates) for number, own in names.items()
+                if name.upper() in (one.upper() for one in own)}
+
+    def __len__(self) -> int:
+        return sum(len(own) for names in (self.labels, self.equates) for own in names.values())
+
+
+class AddressNames:
+    """What the addresses of one processor are called."""
+
+    is_source = False  # which is loaded
+
+    def __init__(self, names: Names, filled: Iterable[int]) -> None:
+        """The cells that are filled belong to the label before them, however far it is."""
+        self.names, self.filled = names, filled
+        self.labels = names.firsts()
+        self.addresses = sorted(self.labels)
+
+    def name(self, address: int, farthest: int = FARTHEST) -> str:
+        """Returns an address by the nearest label before it, as START+3; if none is near, a name of this number, if any."""
+        at = bisect.bisect_right(self.addresses, address) - 1
+        distance = address - self.addresses[at] if at >= 0 else CELLS
+        if at < 0 or distance > farthest and address not in self.filled:
+            return self.names.equates.get(address, [""])[0]
+        return f"{self.labels[self.addresses[at]]}{f'+{distance:o}' if distance else ''}"
+
+    def address(self, name: str) -> Optional[int]:
+        """Returns the number that has a name; None if none has it."""
+        numbers = sorted(self.names.numbers_of(name))
+        if len(numbers) > 1:
+            raise Failure(f"{name} is the name of {' and of '.join(f'{number:04o}' for number in numbers)}")
+        return numbers[0] if numbers else None
+
+    def entries(self) -> Dict[int, int]:
+        """Returns the cells of return addresses of its subroutines, by the addresses of their jumps back: NAME is such a cell if
+        NAMEX is the one before it."""
+        return {address: address + 1 for address, names in self.names.labels.items()
+                if any(name + EXIT in names for name in self.names.labels.get(address + 1, ()))}
+
+    def beside(self, address: int, words: Sequence[str]) -> str:
+        """Returns the line of a source whose instruction is in a cell, or was; nothing without a source."""
+        return ""
+
+    def is_loaded(self, address: int, word: str) -> bool:
+        """Returns whether a cell may have the word with which it was loaded."""
+        return True
+
+    def loading(self, number: int) -> Sequence[str]:
+        """Returns the lines that load a source into a processor; none without a source."""
+        return []
+
+
+class AllSymbols:
+    """The symbols of some processors."""
+
+    def __init__(self) -> None:
+        self.of: Dict[int, Any] = {}  # by processor its symbols, or its source
+
+    def name(self, processor: int, digits: str) -> str:
+        """Returns an address of a processor, of which these are the digits, as START+3; nothing if no label is near."""
+        symbols = self.of.get(processor)
+        return str(symbols.name(int(digits, 8))) if symbols and digits.isdigit() else ""
+
+    def tables(self) -> Dict[int, Dict[str, Any]]:
+        """Returns for each processor with symbols the names of its addresses, and the texts of its lines with their words."""
+        return {number: {"names": {address: name for address in range(CELLS) if (name := symbols.name(address))},
+                         "texts": symbols.texts()}
+                for number, symbols in self.of.items()}
+
+    def address(self, processor: int, text: str) -> Optional[int]:
+        """Returns the address of a label of a processor, as START or START+3; None if there is no such label. A name of another
+        number serves too."""
+        label, _, more = text.partition("+")
+        symbols, distance = self.of.get(processor), octal_number(more or "0")
+        number: Optional[int] = symbols.address(label) if symbols else None
+        if distance is None or number is None:
+            return None
+        return (number + distance) % CELLS if number < CELLS else number + distance
+
+    def number(self, text: str) -> Optional[int]:
+        """Returns the number that a name has, of whichever processor it is; None if there is no such name."""
+        numbers = {number for processor in self.of if (number := self.address(processor, text)) is not None}
+        if len(numbers) > 1:
+            raise Failure(f"{text} is the name of {' and of '.join(f'{number:04o}' for number in sorted(numbers))}")
+        return next(iter(numbers), None)
+
+    def place_in_digits(self, words: Sequence[str]) -> List[str]:
+        """Returns the words of a place, M 0 START or H CH, with digits for the names that are known."""
+        kind, processor = [*words[:2], "", ""][:2]
+        if kind in OF_A_PROCESSOR and octal_number(processor) is not None:
+            return [*words[:2], *(self.digits(int(processor, 8), word) for word in words[2:])]
+        return [kind, *(self.digits(None, word) for word in words[1:])] if kind in ("C", "H") else list(words)
+
+    def digits(self, processor: Optional[int], word: str) -> str:
+        """Returns the digits of a number that has a name, of a processor or of any; else the same word."""
+        if octal_number(word) is not None:
+            return word
+        number = self.number(word) if processor is None else self.address(processor, word)
+        return word if number is None else f"{number:o}"
+
+    def in_digits(self, line: str) -> str:
+        """Returns a line of the console that was typed, with digits for the names of its places; any other line as it is."""
+        words = line.split()
+        if words[:1] and words[0].upper() in WITH_PLACES and len(words) > 2:
+            changed = [words[0], *self.place_in_digits([words[1].upper(), *words[2:]])]
+            if [word.upper() for word in changed] != [word.upper() for word in words]:
+                return " ".join(changed)
+        return line
+
+    def sources(self) -> List[Tuple[int, Any]]:
+        """Returns the processors with a source, each with it."""
+        return [(number, symbols) for number, symbols in self.of.items() if symbols.is_source]
+
+    def is_loaded(self, processor: int, address: int, word: str) -> bool:
+        """Returns whether a cell of a processor has the word that its source loaded there; without a source it may."""
+        symbols = self.of.get(processor)
+        return symbols is None or symbols.is_loaded(address, word)
+
+    def loading(self, lines: Iterable[str]) -> List[str]:
+        """Returns the lines of a script, after those that load the sources."""
+        return [*(line for number, symbols in self.of.items() for line in symbols.loading(number)), *lines]
+
+    def text(self, processor: int, digits: str, word: str) -> str:
+        """Returns the text of the line beside a cell, if the word is that of the line; or nothing."""
+        symbols = self.of.get(processor)
+        return str(symbols.text(int(digits, 8), word)) if symbols else ""
+
+    def line(self, processor: int, digits: str, words: Sequence[str]) -> str:
+        """Returns the line of a source whose instruction is in a cell, with these words, or was there; nothing without one."""
+        symbols = self.of.get(processor)
+        return str(symbols.beside(int(digits, 8), words)) if symbols and digits.isdigit() else ""
+
+    def line_at_p(self, number: int, processor: Any) -> str:
+        """Returns the line of a source at P of a processor, after two blanks; nothing in a block transfer."""
+        line = "" if processor.phase else self.line(number, processor.registers["P"], processor.words)
+        return f"  {line}" if line else ""
+
+    def beside(self, processor: int, digits: str) -> str:
+        """Returns the digits of an address, with its name after them if there is one."""
+        return f"{digits} {self.name(processor, digits)}".rstrip()

@@ -1,0 +1,268 @@
+"""The search for where a number came from: from the end of a run backwards, in windows of turns, to the write of each place that is
+still asked for."""
+
+from __future__ import annotations
+
+from typing import Any, Callable, Dict, List, Optional, Sequence, Set, Tuple
+
+from ..engine.interface import CARD, PAPER_LENGTH, place_number
+from ..failure import Failure
+from .forms import CELLS, CLOCK, Place, fields
+from .recording import AT_ONCE, Recording, last_part_with
+from .session import Session
+from .tape import STEP, Position
+from .turn import Processor, Source, Turn, Write, device_put_a_word, places_of_setting
+
+FIRST_SIZE, WIDER, MOST_SIZE = 0o1000, 8, 0o2000000  # turns: those that are looked at, and at most those that are recorded at once
+CLOCK_PLACE = Place("H", (CLOCK,))
+CARD_COLUMN = CARD + 1
+
+LINE_END = "LINE END"
+WORDS_OF_CONSTANT = {"d": (0,), "m": (1,), "dm": (0, 1)}  # of an instruction
+
+# What wrote a number.
+TURN, SET, DEADSTART, READER, PRINTER, PAPER, TICK, START = range(8)
+
+
+class Link:
+    """A source of a step: a place, of a word of sixty bits perhaps parts alone, and the step that wrote it, if it was searched."""
+
+    def __init__(self, owner: Optional[Step], place: Place, parts: Optional[Tuple[int, ...]] = None) -> None:
+        self.owner, self.place, self.parts = owner, place, parts
+        self.step: Optional[Step] = None
+
+
+class Step:
+    """A write of a place: what wrote it and when, and the sources."""
+
+    def __init__(self, place: Place, cause: int, position: Position = Position(0), detail: Any = None) -> None:
+        """The position is that after the action that wrote it. The detail: of a turn a pair of it and its write; of a SET or a
+        DEADSTART a pair of its line and the number of the word, from 1, or None; of the reader a pair of card and column, or None."""
+        self.place, self.cause, self.position, self.first_position, self.detail = place, cause, position, position, detail
+        self.times = 1
+        self.links: List[Link] = []
+        self.addresses: List[Link] = []
+        self.code: List[Link] = []  # links to the words of its instruction that have its constants, and were written in the run
+        self.block: Optional[Link] = None  # the link to the write of the phase, of a turn of a block transfer
+        self.number = ""
+
+    @property
+    def turn(self) -> Turn:
+        """The processor's turn that wrote it."""
+        turn: Turn = self.detail[0]
+        return turn
+
+    @property
+    def write(self) -> Write:
+        write: Write = self.detail[1]
+        return write
+
+    @property
+    def processor(self) -> Processor:
+        return self.turn.processor
+
+    @property
+    def constants(self) -> Tuple[str, ...]:
+        return self.write.constants if self.cause == TURN else ()
+
+
+class OriginSearch:
+    """Goes backwards from a place to the roots of its number."""
+
+    def __init__(self, run: Session, most_steps: Optional[int] = None, with_addresses: bool = False,
+                 progress: Optional[Callable[[Position], object]] = None,
+                 is_loaded: Callable[[int, int, str], bool] = lambda number, address, word: True) -> None:
+        """After so many steps by processors the sources of a step are searched no more; None: there is no limit. The function
+        `progress` is called with each position that is reached. The function `is_loaded` returns whether a word of an instruction may
+        be as it was loaded into a processor; if not, a constant in it is followed to who wrote the word."""
+        self.run, self.tape, self.is_loaded = run, run.tape, is_loaded
+        self.most_steps, self.with_addresses, self.progress = most_steps, with_addresses, progress or (lambda position: None)
+        self.asked: Dict[Place, List[Link]] = {}  # places, each with the links that ask for it
+        self.steps: List[Step] = []
+        self.count = 0  # of steps by processors
+
+    def origin(self, place: Place, position: Position) -> Step:
+        """Returns the step that wrote the number which is at a place at a position."""
+        root = Link(None, place)
+        if place.kind == "LP":
+            self._check_symbol(place.numbers[0], position)
+        self._ask(root, position)
+        self._go_back(position)
+        self._read_numbers()
+        assert root.step is not None
+        return root.step
+
+    # ---- what is asked for
+
+    def _ask(self, link: Link, position: Position) -> None:
+        """Asks for the last write of a link's place before a position."""
+        if link.place == CLOCK_PLACE:
+            tick = self.tape.last_tick(position)
+            link.step = Step(CLOCK_PLACE, TICK if tick else START, tick)
+            self.steps.append(link.step)
+        else:
+            self.asked.setdefault(link.place, []).append(link)
+
+    def _found(self, step: Step) -> Optional[Set[int]]:
+        """Takes a write of a place that is asked for. Returns the parts of it that are, or None for all of it."""
+        links = self.asked.pop(step.place)
+        self.steps.append(step)
+        self.count += step.cause == TURN and step.place.kind != "PHASE"
+        for link in links:
+            link.step = step
+        if any(link.parts is None for link in links):
+            return None
+        return {part for link in links for part in link.parts or ()}
+
+    def _follow(self, step: Step, parts: Optional[Set[int]], position: Position) -> None:
+        """Asks for the sources of a step; of a central word or a word of the frame so many parts are asked for."""
+        turn, write = step.turn, step.write
+        if turn.processor.phase:
+            step.block = Link(step, Place("PHASE", (turn.number,)))
+            self._ask(step.block, position)
+        if step.place.kind == "PHASE":
+            return
+        step.links = [Link(step, place, wanted) for place, wanted in wanted_sources(write, parts)]
+        if self.with_addresses:
+            step.addresses = [Link(step, place) for place in turn.addresses()]
+        step.code = [Link(step, place) for place in self._written_words(step)]
+        if self.most_steps is None or self.count < self.most_steps:
+            for link in (*step.links, *step.addresses, *step.code):
+                self._ask(link, position)
+
+    def _written_words(self, step: Step) -> List[Place]:
+        """Returns the cells that have the constants of a step and a word that was not loaded."""
+        number, processor = step.turn.number, step.processor
+        distances = sorted({at for name in step.constants for at in WORDS_OF_CONSTANT.get(name, ())})
+        cells = [((processor.p + at) % CELLS, processor.words[at]) for at in distances]
+        return [Place("M", (number, address)) for address, word in cells if not self.is_loaded(number, address, word)]
+
+    # ---- backwards
+
+    def _go_back(self, position: Position) -> None:
+        size = FIRST_SIZE
+        while self.asked and position:
+            self.progress(position)
+            part = self.tape.run_before(position)
+            if self.tape.runs[part].line != STEP:
+                self._look_at_line(self.tape.runs[part].line, position)
+                position = Position(position - 1)
+                continue
+            first = max(self.tape.starts[part], Position(position - size))
+            if position - first > MOST_SIZE:
+                written = last_part_with(self.run, first, position, [place_number(*place) for place in self.asked], self.progress)
+                position, size = written, WIDER * size if written == first else AT_ONCE
+                continue
+            self._look_at_turns(Recording(self.run, first, position))
+            position, size = first, WIDER * size
+        for place in list(self.asked):
+            self._found(Step(place, START))
+
+    def _look_at_line(self, line: str, position: Position) -> None:
+        """Looks at a SET or a DEADSTART."""
+        cause, places = DEADSTART if line.upper().split()[0] == "DEADSTART" else SET, places_of_setting(line)
+        for place in self.asked.keys() & places.keys():
+            self._found(Step(place, cause, position, (line, places[place])))
+
+    def _look_at_turns(self, recording: Recording) -> None:
+        """Looks at the turns that wrote what is asked for, the last one first."""
+        at = recording.last - recording.first
+        writes: Dict[Place, int] = {}
+        while self.asked:
+            writes = {place: writes[place] if writes.get(place, at) < at else recording.last_write(place_number(*place), at)
+                      for place in self.asked}
+            at = max(writes.values())
+            if at < 0:
+                return
+            position = recording.position(at)
+            for place in [place for place in self.asked if writes[place] == at and place.kind in ("H", "LP")]:
+                self._look_at_device(recording, at, place, position)
+            for place in self.asked.keys() - writes.keys():  # the printer's word may have come in the same turn
+                writes[place] = recording.last_write(place_number(*place), at + 1)
+            if any(writes.get(place) == at for place in self.asked):
+                self._look_at_turn(recording.turn(at), position)
+
+    def _look_at_device(self, recording: Recording, at: int, place: Place, position: Position) -> None:
+        """Looks whether a device wrote a place in a turn."""
+        if place.kind == "LP":
+            self._printed(recording, at, place, position)
+            return
+        cause = {self.run.reader_channel: READER, self.run.printer_channel: PRINTER}.get(place.numbers[0])
+        before, after = (recording.state(place.numbers[0], one) for one in (at, at + 1))
+        if cause is not None and device_put_a_word(place.numbers[0], recording.turn(at).writes(), before, after):
+            has_read = cause == READER and CARD_COLUMN in recording.wrote(at)
+            read = (recording.number(CARD, at), recording.number(CARD_COLUMN, at)) if has_read else None
+            self._found(Step(place, cause, position, read))
+
+    def _printed(self, recording: Recording, at: int, place: Place, position: Position) -> None:
+        """Takes the turn that printed a symbol, which came from the printer's channel."""
+        step = Step(place, PAPER, position, place.numbers[0] - recording.number(PAPER_LENGTH, at))
+        self._found(step)
+        link = Link(step, Place("H", (self.run.printer_channel,)))
+        step.links = [link]
+        self._ask(link, position)
+
+    def _look_at_turn(self, turn: Turn, position: Position) -> None:
+        """Looks at a turn: of all that it wrote and is asked for, the sources were read before."""
+        written = [(Step(write.place, TURN, position, (turn, write)), write) for write in turn.writes() if write.place in self.asked]
+        followed = []
+        for step, _ in written:
+            if not self._is_counted_again(step):
+                followed.append((step, self._found(step)))
+        for step, parts in followed:
+            self._follow(step, parts, Position(position - 1))
+
+    def _is_counted_again(self, step: Step) -> bool:
+        """Joins a step with the one that asks for it if the same instruction has counted the same place before, and asks for the
+        place once more."""
+        links = self.asked[step.place]
+        later = links[0].owner
+        if later is None or later.links != links or later.place != step.place or later.cause != TURN or later.write != step.write:
+            return False
+        if step.write.is_moved or self._instruction(step) != self._instruction(later) or step.turn.addresses() and self.with_addresses:
+            return False
+        if step.processor.phase and later.block and later.block.step:  # the later one's block has begun since
+            return False
+        later.times += 1
+        later.first_position = step.position
+        return True
+
+    @staticmethod
+    def _instruction(step: Step) -> Tuple[int, Any]:
+        """The processor and its instruction, with the address; in a block transfer P is none."""
+        processor = step.processor
+        return step.turn.number, processor.phase or (processor.registers["P"], processor.words)
+
+    # ---- the paper, and the numbers
+
+    def _check_symbol(self, index: int, position: Position) -> None:
+        """Sees that the paper has a symbol."""
+        self.run.goto(position)
+        count = int(fields("LP", self.run.printer()[0])["SYMBOLS"], 8)
+        if index >= count:
+            raise Failure(f"the paper has {count:o} symbols (octal), from LP 0 on" if count else "nothing is on the paper")
+
+    def _symbol(self, index: int) -> str:
+        """Returns a symbol of the paper."""
+        symbol = "".join(line[1:] + "\n" * (line[0] == "|") for line in self.run.printer()[1:])[index]
+        return LINE_END if symbol == "\n" else f'"{symbol}"'
+
+    def _read_numbers(self) -> None:
+        """Reads the number of each step after its write, from the earliest to the latest."""
+        for step in sorted(self.steps, key=lambda step: step.position):
+            if step.cause == START:
+                step.number = step.place.digits * "0"
+                continue
+            self.run.goto(step.position)
+            step.number = self._symbol(*step.place.numbers) if step.cause == PAPER else self.run.number_at(step.place)
+
+
+def wanted_sources(write: Write, parts: Optional[Set[int]]) -> Sequence[Source]:
+    """Returns the sources of a write, each with the parts of it that are wanted, if these parts of what was written are."""
+    if write.is_joined:
+        return [source for part, source in enumerate(write.sources) if parts is None or part in parts]
+    if parts is None or not write.is_moved or write.place.kind not in ("C", "XP"):
+        return write.sources
+    wanted = [Source(place, tuple(sorted(part for part in parts if of_source is None or part in of_source)))
+              for place, of_source in write.sources]
+    return [source for source in wanted if source.parts]

@@ -1,0 +1,211 @@
+"""One run of the machine: its tape, a position in it, and the way to any other.
+
+A session performs lines of its user (`act`), and goes to any position of its tape (`goto`): back and forward by the engine's undo history
+and redo list, else by the lines of the tape, from here or from the start in a fresh engine. BACK and FORWARD of its user may go over all
+actions (`act_by_move`). A session of a tape (`of_tape`) searches: it performs the actions of a tape anew, but for its watches, so it stops
+nowhere. One with devices is an `Attached`."""
+
+from __future__ import annotations
+
+import contextlib
+import itertools
+import re
+from typing import Iterable, Iterator, List, Optional, Sequence
+
+from ..failure import Failure
+from .console import Console
+from .forms import MOST_TURNS, hit_of, refused
+from .tape import STEP, Action, History, Position, Tape, UnitCounts, Units, lines_of, room_of
+
+MOVE = re.compile(r"[ \t]*(BACK|FORWARD)(?:[ \t]+([0-7]{1,10}))?[ \t\r]*", re.I)
+REPLAYED = "replayed"  # the second line of an answer to a BACK
+AT_ONCE = 4096  # lines of a tape that are performed at once
+
+
+def without_history(words: Sequence[str]) -> List[str]:
+    """Returns the words of the simulator without --history: a replay needs no length of its own."""
+    at = words.index("--history") if "--history" in words else len(words)
+    return [*words[:at], *words[at + 2:]]
+
+
+class Session(Console):
+    """A run, and a position in it."""
+
+    def __init__(self, words: Sequence[str] = (), tape: Optional[Tape] = None, is_search: bool = False) -> None:
+        """It begins at the beginning of the tape. A search counts the watches of the tape, and performs none."""
+        super().__init__(words)
+        self.history, self.is_search = History(room_of(self.words), tape), is_search
+        self.counts = UnitCounts(self.history)
+        self.watched: List[str] = []  # places, beside those of the tape
+        self.written: List[str] = []  # what the engine was sent since it began
+        self.times_anew = 0
+
+    @classmethod
+    def of_tape(cls, words: Sequence[str], tape: Tape) -> Session:
+        """Returns a session that performs the actions of a tape anew. The watches are left out."""
+        return cls(without_history(words), tape.without_watches(), True)
+
+    @property
+    def tape(self) -> Tape:
+        return self.history.tape
+
+    @property
+    def position(self) -> Position:
+        return self.history.position
+
+    @property
+    def turn(self) -> int:
+        """How many turns are in effect."""
+        return self.history.turns
+
+    @property
+    def next_slot(self) -> int:
+        """The processor whose turn comes next."""
+        return self.history.slot
+
+    # ---- lines of the user
+
+    @property
+    def sent(self) -> List[str]:
+        """A script that gives the same session again: the lines that were sent. After `replays` it begins anew."""
+        return self.written
+
+    @property
+    def replays(self) -> int:
+        """How often `sent` has begun anew."""
+        return self.times_anew
+
+    def act(self, line: str) -> List[str]:
+        """Performs a line of any kind. Returns the lines of its answer."""
+        answer = self.ask(line)
+        self.history.take(line, answer)
+        self.written.append(line)
+        return answer
+
+    def act_by_move(self, line: str) -> List[str]:
+        """As `act`, but BACK goes back over all actions in effect, and FORWARD on over all that are ahead."""
+        asked = MOVE.fullmatch(line)
+        count, counts = int(asked[2] or "1", 8) if asked else 0, self.counts
+        if asked and asked[1].upper() == "BACK" and counts.kept < count <= counts.position:
+            self._go_anew(self.tape.after_units(Units(counts.position - count)))
+            return [f"BACK {count:o} SLOT {self.next_slot:02o}", REPLAYED]
+        if asked and asked[1].upper() == "FORWARD" and counts.ahead < count <= counts.to_redo:
+            self.goto(self.tape.after_units(Units(counts.position + count)))
+            return [f"FORWARD {count:o} SLOT {self.next_slot:02o}"]
+        return self.act(line)
+
+    def lines_to(self, turn: int) -> Iterator[str]:
+        """Yields the lines that go back or on to where so many turns are in effect, after the settings that follow the last of them. Each
+        must be performed before the next one. New turns do not end where a watched number changes."""
+        counts = self.counts
+        if turn < counts.turns:
+            yield f"BACK {counts.back_over(counts.turns - turn):o}"
+        elif turn >= counts.last_turn and counts.to_redo:
+            yield f"FORWARD {counts.to_redo:o}"
+        elif counts.turns < turn < counts.last_turn:
+            yield f"FORWARD {counts.forward_over(turn - counts.turns + 1) - 1:o}"
+        while turn > counts.turns:
+            yield f"STEP {min(turn - counts.turns, MOST_TURNS):o}"
+
+    # ---- any position
+
+    def goto(self, position: Position) -> None:
+        """Goes to a position of the tape."""
+        if position < self.history.oldest:
+            self._go_anew(position)
+        else:
+            count = min(position - self.position, self.history.ahead)
+            if count and not self.is_search:
+                self.written.append(f"{'BACK' if count < 0 else 'FORWARD'} {abs(count):o}")
+            self.move(count)
+            self._play(position)
+
+    @contextlib.contextmanager
+    def at(self, position: Position) -> Iterator[Session]:
+        """Goes to a position, and at the end of the block back to where it was."""
+        here = self.position
+        self.goto(position)
+        yield self
+        self.goto(here)
+
+    def move(self, count: int) -> None:
+        """Goes by so many actions that the engine keeps, back if it is negative. That is no line of the session."""
+        passed = self._watches_over(count) if self.is_search and self.tape.watches else 0
+        self.history.moved(count)
+        if count < 0:
+            self.engine.back(-count - passed)
+        else:
+            self.engine.forward(count - passed)
+
+    def _watches_over(self, count: int) -> int:
+        """Returns how many of the next so many actions are watches."""
+        first, last = sorted((self.position, Position(self.position + count)))
+        return sum(action.times for action in self.tape.actions(first, last) if action.is_watch)
+
+    def _play(self, position: Position) -> None:
+        """Performs the actions of the tape up to a position by their lines."""
+        if self.watched or self.tape.watches and not self.is_search:
+            for action in self.tape.actions(self.position, position):
+                if not (self.is_search and action.is_watch):
+                    self._perform(action)
+                self.history.performed(action.times)
+            return
+        actions = self.tape.actions(self.position, position)
+        lines = (line for action in actions if not self.tape.watches or not action.is_watch for line in lines_of(action))
+        while some := list(itertools.islice(lines, AT_ONCE)):
+            self._perform_lines(some)
+        self.history.performed(position - self.position)
+
+    def _perform(self, action: Action) -> None:
+        """Performs an action of the tape. A STEP may end where a watched number changes, and goes on."""
+        answers = self._perform_lines(list(lines_of(action)))
+        left = action.turns - sum(int(answer.split()[1], 8) for answer in answers if answer.startswith("TURNS "))
+        while left:
+            answer, *_ = self._perform_lines([f"STEP {left:o}"])
+            left -= int(answer.split()[1], 8)
+
+    def _perform_lines(self, lines: List[str]) -> List[str]:
+        """Performs lines of the tape. Returns the lines of their answers."""
+        answers = self.ask_all(lines)
+        if refusal := refused(answers):
+            raise Failure(f"the simulator answers {refusal} to what it has performed before")
+        if not self.is_search:
+            self.written += lines
+        return answers
+
+    def _go_anew(self, position: Position) -> None:
+        """Goes to a position from the beginning, in a fresh engine."""
+        watched, self.watched, self.written = self.watched, [], []
+        self.times_anew += 1
+        self.engine.close()
+        self.start()
+        self.history.restarted()
+        self._play(position)
+        self.watch(watched)
+
+    def watch(self, places: Iterable[str]) -> None:
+        """Watches places beside those of the tape from here on; it can't go back to before without a replay."""
+        for place in places:
+            self.demand(f"WATCH {place}")
+            self.watched.append(place)
+            self.history.kept = self.history.ahead = 0
+
+    def unwatch(self) -> None:
+        """Ends these watches."""
+        for place in self.watched:
+            self.demand(f"UNWATCH {place}")
+        self.watched = []
+        self.history.kept = self.history.ahead = 0
+
+    def comes_to(self, position: Position) -> bool:
+        """Makes the turns up to a position, or to a HIT. Returns whether there was none."""
+        for made, answer in self.steps(position - self.position):
+            self.history.performed(made)
+            if hit_of(answer):
+                return False
+        return True
+
+    def cut(self, position: Position) -> None:
+        """Discards what comes after a position, which is not before the present one."""
+        self.tape.cut(position)
+        self.history.ahead = min(self.history.ahead, position - self.position)
