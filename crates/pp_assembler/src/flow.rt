@@ -62,7 +62,7 @@ pub struct Flow {
     marks: Vec<Mark>,
     /// The addresses of the instructions in the order in which they were reached.
     reached: Vec<u16>,
-    /// The addresses at which the flow is still to go on, the next one last.
+    /// The addresses from which the flow is still to be followed, the next one last.
     waiting: Vec<u16>,
     ghost all: { vec_len marks ≡ 0o10000 },
 }
@@ -77,7 +77,7 @@ fn is_channel_jump(code: u8) -> bool {
     code >= 0o64 && code <= 0o67
 }
 
-/// Returns whether the second word of the instruction with a code is where a processor goes on.
+/// Returns whether the second word of the instruction with a code is the address of an instruction.
 fn leads_to_code(code: u8) -> bool {
     code == LJM || code == RJM || is_channel_jump(code)
 }
@@ -97,7 +97,7 @@ pub fn parts(word: u16) -> (u8, u8)
     ((word >> 6 & 0o77) as u8, (word & 0o77) as u8)
 }
 
-/// Returns whether the second word of an instruction names a cell: not the instruction's own, nor 0 to which a cell is added.
+/// Returns whether the second word of an instruction names another cell, and is not a 0 to which a cell is added.
 pub fn names_cell(address: u16, word: u16, second: u16) -> bool {
     let (code, d) = parts(word);
     match form_of(code) {
@@ -123,17 +123,17 @@ impl Flow {
             flow.enter(*entry)?;
         }
         for _ in entries {
-            flow.go_on()?;
+            flow.follow_next()?;
         }
         // Each instruction leads to two others at most, beside the next one.
         for _ in 0..2 * CELLS {
-            flow.go_on()?;
+            flow.follow_next()?;
         }
         flow.name_operands();
         Ok(flow)
     }
 
-    /// Adds an entry to where the flow is to go on, if it is a cell, and names it.
+    /// Names an entry that is a cell, and lets the flow be followed from it.
     fn enter(&mut self, entry: u16) -> Result<(), AllocError> {
         if self.mark(entry).word.is_some() {
             self.name(entry, Kind::Code);
@@ -142,8 +142,8 @@ impl Flow {
         Ok(())
     }
 
-    /// Goes on where the flow is to go on next, if it is to go on anywhere.
-    fn go_on(&mut self) -> Result<(), AllocError> {
+    /// Follows the flow from the next address that waits, if one does.
+    fn follow_next(&mut self) -> Result<(), AllocError> {
         match self.waiting.pop() {
             Some(address) => self.follow(address),
             None => Ok(()),
@@ -201,7 +201,7 @@ impl Flow {
         }
     }
 
-    /// Gives a cell the name of a subroutine, whatever name it had.
+    /// Names a cell as a subroutine, in place of any other name.
     fn name_subroutine(&mut self, address: u16) {
         if let Some(mark) = self.marks.get_mut(usize::from(address)) {
             mark.label = Some(Kind::Subroutine);
@@ -283,7 +283,7 @@ impl Flow {
         Ok(())
     }
 
-    /// Adds where an instruction leads, beside the next one, to where the flow is to go on, and names these cells.
+    /// Names the cells to which an instruction leads, beside the next one, and lets the flow be followed from them.
     fn add_targets(&mut self, address: u16, words: Words) -> Result<(), AllocError>
         requires { address < 0o10000 }
     {
@@ -308,7 +308,7 @@ impl Flow {
         Ok(())
     }
 
-    /// Adds where a subroutine begins, and its exit, if that is a long jump whose second word is the entry.
+    /// Names a subroutine, and lets the flow be followed from its first instruction, and from its exit if that is a long jump.
     fn add_subroutine(&mut self, entry: u16) -> Result<(), AllocError> {
         self.name_subroutine(entry);
         self.waiting.push((entry & 0o7777) + 1 & 0o7777)?;

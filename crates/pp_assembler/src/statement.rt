@@ -48,7 +48,7 @@ pub enum Operation {
     Origin(u16),
     /// An instruction by its code, up to octal 77, with its operands, d as the second one.
     Instruction(u8, Option<Operand>, Option<u8>),
-    /// `SUBR`: the exit and the entry of a subroutine, at which it returns to itself.
+    /// `SUBR`: the exit and the entry of a subroutine. The exit has its own address in place of a return address.
     Subroutine,
     /// `EQU *-1`: the label is of the cell before.
     Equal,

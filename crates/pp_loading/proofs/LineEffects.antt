@@ -172,13 +172,13 @@ loads-cells text n done (cell ∷ row) first before h are some few =
     (loads-more text (cells_line n (cell ∷ row)) (cell_list n done) (cell_list n (cell ∷ row)) before
     (cells_line-unbroken n cell row h own) (sets-cells n cell row h own (omega arith)))
 
--- the address at which the program begins
+-- the start of the program
 pub loads-start : (text : List ℕ) (n address : ℕ) (list : Writes Place) → LoadsWhole text list → n < 10 → address < 0o10000 →
     LoadsWhole (text ++ (start_line n address ++ 10 ∷ [])) (start_list n (Some address) ++ list)
 loads-start text n address list before h k =
     loads-more text (start_line n address) list (start_list n (Some address)) before (start_line-unbroken n address h k) (sets-start n address h k)
 
--- ---- the rest of the cells, as a slice of them
+-- ---- the rest of the cells as a slice
 
 rest-is : (cells : List ProgramCell) (done : ℕ) → take (length cells - done) (drop done cells) ≡ drop done cells
 rest-is cells done = take_all (length cells - done) (drop done cells) (omega (arith, length-drop done cells))
@@ -216,7 +216,7 @@ pub loads-all : (text : List ℕ) (n : ℕ) (cells : List ProgramCell) (done : �
     LoadsWhole text (cell_list n (take done cells)) → LoadsWhole text (cell_list n cells)
 loads-all text n cells done all loads = subst (λ cs. LoadsWhole text (cell_list n cs)) (take_all done cells all) loads
 
--- the line of the address at which a program begins
+-- the line of a program's start
 pub loads-begin : (old new : List ℕ) (n address : ℕ) (start : Option ℕ) (list : Writes Place) → start ≡ Some address →
     LoadsWhole old list → n < 10 → IsStart start → new ≡ old ++ (start_line n address ++ 10 ∷ []) →
     LoadsWhole new (start_list n start ++ list)

@@ -117,7 +117,7 @@ finished-of_line [] h = refl
 finished-of_line (byte ∷ bytes) h = let first = of_line-first byte bytes h in
     rw (first.0, finished-of_line bytes first.2) refl
 
--- nor a carriage return
+-- and no carriage return
 no_return : (bytes : List ℕ) (k : ℕ) → list_all is_of_line bytes ≡ true → (slice_index bytes k == 13) ≡ false
 no_return [] k h = refl
 no_return (byte ∷ bytes) zero h = (of_line-first byte bytes h).1

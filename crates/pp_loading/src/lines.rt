@@ -48,7 +48,7 @@ fn put_address(text: &mut Vec<u8>, pp: u8, address: u16) -> Result<(), AllocErro
     Ok(())
 }
 
-/// Appends the line that sets P, if a program names the address at which it begins.
+/// Appends the line that sets P, if a program names its start.
 fn put_start(text: &mut Vec<u8>, pp: u8, start: Option<u16>) -> Result<(), AllocError>
     requires pp { pp < 10 }
     requires start { IsStart start }
@@ -97,7 +97,7 @@ fn put_program(text: &mut Vec<u8>, pp: u8, cells: &[Cell]) -> Result<(), AllocEr
 }
 
 /// Returns the lines of the console that load a program into processor `pp`, 0 to 11 octal: `SET M n a v ..` for its
-/// cells, at most eight a line, and `SET P n a` if it names the address at which it begins.
+/// cells, at most eight a line, and `SET P n a` if it names its start.
 ///
 /// # Errors
 /// `AllocError` if memory runs out.
