@@ -1,0 +1,33 @@
+//! The language of PP programs, as docs/ASSEMBLER.md has it: a source to words.
+#![tactic(auto)]
+
+mod digits;
+mod directives;
+mod encoding;
+mod fields;
+mod instructions;
+mod lines;
+mod listing;
+mod makers;
+mod message;
+mod nearest;
+mod operations;
+mod pass;
+mod passes;
+mod performing;
+mod places;
+mod program;
+mod symbols;
+#[cfg(test)]
+mod tests;
+mod texts;
+mod values;
+mod wording;
+
+pub use instructions::{Form, code_of, form_of, name_of, size_of};
+pub use listing::listing_lines;
+pub use message::{Fault, Field, Message};
+pub use pass::Row;
+pub use passes::assemble;
+pub use program::{Assembly, Cell, Program};
+pub use wording::message_text;
