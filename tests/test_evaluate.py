@@ -188,15 +188,26 @@ class Examples(Case):
         found = slips.deep(lambda: faults_of(TOP, text))
         self.assertEqual([], [fault for *_, fault in planted if fault not in found])
 
+    def test_a_definition_that_cannot_be_read(self):
+        unread = slips.Slip("pp_console/Commands:back_answer", "nat_lt v.kept actions", "no_such_test v.kept actions")
+        found = slips.deep(lambda: faults_of(TOP, "", unread.plant))
+        self.assertIn("pp_console/Commands:back_answer: can't be read", found)
+
 
 class Slips(Case):
     """The slips that python3 -m tests.slips plants fit the definitions."""
 
     def test_fit(self):
+        """A slip changes one place of its definition, and uses only names that can be used there."""
         definitions = slips.definitions()
         for slip in slips.slips():
             with self.subTest(slip.name):
-                self.assertEqual(1, definitions.named(slip.name).text.count(slip.old))
+                definition = definitions.named(slip.name)
+                text = definition.text
+                self.assertEqual(1, text.count(slip.old))
+                slip.plant(definitions)
+                definitions.kind(definitions, definition).whole()
+                definition.text = text
 
     def test_one_is_found(self):
         """The worked rows find a sum that is minus zero."""

@@ -190,8 +190,10 @@ ROW, BOX_WIDTH, BOX_HEIGHT = 86, 164, 50
 PLACES = {
     "pp6600": (560, "the program"),
     "pp_library": (330, "the calls for C"),
+    "pp_assembler": (790, "a source to words"),
     "pp_program": (560, "the program over a host"),
     "pp_console": (560, "answers to a script"),
+    "pp_loading": (350, "lines that load a program"),
     "pp_host": (770, "words and files"),
     "pp_command": (490, "what a line asks for"),
     "pp_trouble": (690, "what ends a run early"),
@@ -204,6 +206,7 @@ PLACES = {
     "pp_lines": (620, "bytes, lines, words"),
     "pp_machine": (360, "the machine, its places"),
     "pp_arith": (750, "one's complement, octal"),
+    "test_assembler": (110, "sources assembled"),
     "test_memory": (110, "running out of memory"),
     "test_client": (110, "a client of the crates"),
     "pp_worked": (110, "rows worked by hand"),
@@ -214,7 +217,7 @@ LAYERS_KEY = [
     "and the crates of the kit.",
 ]
 # the crates for tests, each in a row of the column on the left
-TESTS = {"test_memory": 1, "test_client": 2, "pp_worked": 3}
+TESTS = {"test_assembler": 0, "test_memory": 1, "test_client": 2, "pp_worked": 3}
 
 
 def read_uses():

@@ -7,7 +7,7 @@ from typing import TYPE_CHECKING, Iterator, List, NamedTuple, Optional, Sequence
 
 from ..run.conditions import RJM, parsed
 from ..run.forms import CELLS, PROCESSORS, Place
-from ..run.origin import SET, TURN, OriginSearch, Step
+from ..run.origin_search import SET, TURN, OriginSearch, Step
 from ..run.search import Made, around, last_moments
 from ..run.session import Session
 from ..run.tape import Position, Tape

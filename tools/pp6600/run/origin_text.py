@@ -9,7 +9,7 @@ from typing import Any, Callable, Dict, Iterator, List, Optional, Sequence, Set,
 from ..language.names import AllSymbols
 from ..shell.text_files import bytes_of
 from .forms import Place
-from .origin import DEADSTART, LINE_END, PAPER, PRINTER, READER, SET, START, TICK, TURN, Link, OriginSearch, Step
+from .origin_search import DEADSTART, LINE_END, PAPER, PRINTER, READER, SET, START, TICK, TURN, Link, OriginSearch, Step
 from .session import Session
 from .tape import Position, ReplyLine, SourceLine, Tape
 from .turn import AT_END_OF_BLOCK, AT_END_OF_INPUT, IN_BLOCK, NO_WORD, RETURN, TWO_WORDS, ZERO, Processor

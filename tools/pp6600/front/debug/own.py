@@ -4,7 +4,6 @@ import os
 from typing import NamedTuple
 
 from ...failure import Failure
-from ...language.sources import source_lines
 from ...run.forms import CELLS
 from .breakpoints import Cell
 
@@ -34,8 +33,12 @@ class SourceFile:
         self.path = os.path.abspath(path)
         self.source = {"name": os.path.basename(path), "path": self.path}
         self.of = {}  # the lines by processors
-        self.lines, self.seen = source_lines(path), stamp(path)
+        self.lines, self.seen = self.read(), stamp(path)
         self.is_told = False  # that it has changed
+
+    def read(self):
+        from ...language.sources import source_lines  # few editors have sources
+        return source_lines(self.path)
 
     def add(self, number, source):
         self.of[number] = SourceLines(source)
@@ -62,7 +65,7 @@ class SourceFile:
             return False
         self.seen = stamp(self.path)
         try:
-            self.is_told = source_lines(self.path) != self.lines
+            self.is_told = self.read() != self.lines
         except Failure:
             self.is_told = True
         return self.is_told

@@ -7,8 +7,8 @@ import math
 
 from ...run.forms import MOST_TURNS, MOST_WATCHES
 from ...run.search import spans
-from .machine import NEAR
-from .search import StopSearch, Wanted, change
+from .debugged import NEAR
+from .stops import StopSearch, Wanted, change
 
 
 class Runner:

@@ -6,8 +6,8 @@ one that counts its return address up ends too."""
 from ...language.calls import call_of, has_returned
 from ...run.conditions import RJM
 from ...run.forms import CELLS
-from .machine import latest_turn
-from .search import Aim
+from .debugged import latest_turn
+from .stops import Aim
 
 OUTSIDE_BLOCKS = frozenset(f"{cell:04o}0000" for cell in range(CELLS))
 

@@ -1,0 +1,5 @@
+use Rattle.pp_assembler.proofs.Programs.{IsBelow}
+use Rattle.pp_assembler.proofs.passes.cells_of.Given as goal
+
+abbrev pub invariant-loop-address : goal.invariant-loop-address
+invariant-loop-address l = IsBelow l.cells.items l.address

@@ -1,0 +1,383 @@
+//! One pass over the statements of a source: its counters, its names, and what it has made.
+use crate::fields::Statement;
+use crate::lines::{Join, Line};
+use crate::message::{Fault, Field, Message, Stop};
+use crate::symbols::{Definition, Symbols};
+use crate::texts::{Filling, Text, text_at, without_code};
+use crate::values::{Base, Expression, Scope, Value, number_of};
+use std::alloc::{AllocError, Global};
+
+/// The number of cells of a memory.
+pub const CELLS: usize = 4096;
+/// How many statements a source has, those of a macro of its own among them.
+const MOST_STATEMENTS: u32 = 100_000;
+
+/// The line that is performed.
+#[derive(Clone, Copy)]
+pub struct Here<'a> {
+    pub index: usize,
+    pub line: Line,
+    /// In capitals.
+    pub text: &'a [u8],
+    pub joins: &'a [Join],
+}
+
+impl Here<'_> {
+    /// Returns the line and the column, from 1, of a column of the line, from 0.
+    fn place_of(&self, column: usize) -> (u32, usize) {
+        if let Some(call) = self.line.call {
+            return (self.line.number, call.saturating_add(1));
+        }
+        let mut place = (self.line.number, column.saturating_add(1));
+        for join in self.joins {
+            if join.column <= column {
+                place = (
+                    join.number,
+                    column.saturating_sub(join.column).saturating_add(2),
+                );
+            }
+        }
+        place
+    }
+
+    /// Returns a message about a column of the line.
+    pub fn message(&self, column: usize, fault: Fault) -> Message {
+        let (line, column) = self.place_of(column);
+        Message {
+            line,
+            column: u32::try_from(column).unwrap_or(u32::MAX),
+            statement: self.index,
+            fault,
+        }
+    }
+}
+
+/// What the source puts into a cell; the line, from 1, is 0 if there is nothing.
+#[derive(Clone, Copy)]
+pub struct Slot {
+    pub word: u16,
+    pub line: u32,
+}
+
+/// What the listing has of a line.
+#[derive(Clone, Copy)]
+pub struct Row {
+    /// The index of the statement.
+    pub statement: usize,
+    pub origin: i64,
+    pub location: i64,
+    /// Where its words are, from the first one to before the last one.
+    pub first: usize,
+    pub end: usize,
+    pub has_address: bool,
+    /// The number that the line names.
+    pub value: Option<i64>,
+    /// The number may change.
+    pub is_set: bool,
+}
+
+/// A word of VFD that is not full: its cell, and how many bits are used.
+#[derive(Clone, Copy)]
+pub struct OpenWord {
+    pub cell: i64,
+    pub used: u32,
+}
+
+/// What a pass knows at a line, and what it has made.
+#[derive(Drop)]
+pub struct Pass {
+    pub is_last: bool,
+    pub symbols: Symbols,
+    pub base: Option<Base>,
+    /// Those that BASE * goes back to.
+    pub bases: Vec<Option<Base>>,
+    pub is_deck: bool,
+    pub origin: i64,
+    pub location: i64,
+    pub open: Option<OpenWord>,
+    pub cells: Vec<Slot>,
+    pub words: Vec<u16>,
+    pub rows: Vec<Row>,
+    pub messages: Vec<Message>,
+    pub warnings: Vec<Message>,
+    /// The cell after words that could not be put; what follows there follows from that fault.
+    pub wrong_from: Option<i64>,
+    /// The cell after words that are over others, because of ORG or BSS.
+    pub over_from: Option<i64>,
+    pub start: Option<u16>,
+    pub has_ended: bool,
+    pub has_more: bool,
+    pub has_name: bool,
+    /// How many words and statements there are.
+    pub made: usize,
+    pub performed: u32,
+}
+
+impl Pass {
+    /// Returns a pass before its first line.
+    pub fn new(alloc: Global, symbols: Symbols, is_last: bool) -> Result<Self, AllocError> {
+        let cells = vec![in alloc; Slot { word: 0, line: 0 }; CELLS]?;
+        Ok(Pass {
+            is_last,
+            symbols,
+            base: None,
+            bases: Vec::new(alloc),
+            is_deck: false,
+            origin: 0,
+            location: 0,
+            open: None,
+            cells,
+            words: Vec::new(alloc),
+            rows: Vec::new(alloc),
+            messages: Vec::new(alloc),
+            warnings: Vec::new(alloc),
+            wrong_from: None,
+            over_from: None,
+            start: None,
+            has_ended: false,
+            has_more: false,
+            has_name: false,
+            made: 0,
+            performed: 1,
+        })
+    }
+
+    /// Counts one more statement.
+    pub fn count_statement(&mut self) -> Result<(), Stop> {
+        self.performed = self.performed.saturating_add(1);
+        if self.performed > MOST_STATEMENTS {
+            return Err(Stop::Ends(0, Fault::TooManyStatements));
+        }
+        Ok(())
+    }
+
+    /// Keeps a fault of a line. Only the last pass does so.
+    pub fn report(&mut self, here: &Here, column: usize, fault: Fault) -> Result<(), Stop> {
+        if !self.is_last {
+            return Ok(());
+        }
+        self.messages
+            .push(here.message(column, fault))
+            .map_err(|_| Stop::NoMemory)
+    }
+
+    /// Keeps why something has no value, if that is a fault of the line, and returns what stops the pass.
+    pub fn report_stop(&mut self, here: &Here, stop: Stop) -> Result<(), Stop> {
+        match stop {
+            Stop::At(column, fault) => self.report(here, column, fault),
+            Stop::Follows => Ok(()),
+            Stop::Ends(..) | Stop::NoMemory => Err(stop),
+        }
+    }
+
+    /// Keeps a warning, of each kind the first one.
+    pub fn warn(&mut self, here: &Here, column: usize, fault: Fault) -> Result<(), Stop> {
+        if !self.is_last || has_kind(&self.warnings, fault) {
+            return Ok(());
+        }
+        self.warnings
+            .push(here.message(column, fault))
+            .map_err(|_| Stop::NoMemory)
+    }
+
+    /// Sets the counters.
+    pub fn move_to(&mut self, origin: i64, location: i64) {
+        self.origin = origin;
+        self.location = location;
+        self.open = None;
+    }
+
+    /// Gives a name of a line a value, or reports why that can't be.
+    pub fn define(
+        &mut self,
+        here: &Here,
+        name: Field,
+        value: Option<i64>,
+        is_address: bool,
+        is_set: bool,
+    ) -> Result<(), Stop> {
+        let definition = Definition {
+            value,
+            line: here.line.number,
+            is_address,
+            is_set,
+        };
+        match self.symbols.define(here.text, name, definition) {
+            Ok(()) => Ok(()),
+            Err(stop) => self.report_stop(here, stop),
+        }
+    }
+
+    /// Gives the present address to the label of a statement, if it has one.
+    pub fn label(&mut self, here: &Here, statement: Statement) -> Result<(), Stop> {
+        let name = statement.location.of(here.text);
+        if matches!(name, b"" | b"+" | b"-") {
+            return Ok(());
+        }
+        self.define(here, statement.location, Some(self.location), true, false)
+    }
+
+    /// Returns the value of an expression. Names count only from the lines above if that is asked.
+    pub fn value(
+        &mut self,
+        here: &Here,
+        operand: Field,
+        is_from_above: bool,
+    ) -> Result<Value, Stop> {
+        let scope = Scope {
+            symbols: &self.symbols,
+            is_last: self.is_last,
+            base: self.base,
+            is_deck: self.is_deck,
+            origin: self.origin,
+            location: self.location,
+            is_from_above,
+        };
+        let mut expression = Expression::new(here.text, operand, scope);
+        let value = expression.value();
+        if let Some(digits) = expression.decimal {
+            self.warn(here, digits.first, Fault::Decimal { digits })?;
+        }
+        value
+    }
+
+    /// Returns a number of an expression, which has at most 60 bits.
+    pub fn number(
+        &mut self,
+        here: &Here,
+        operand: Field,
+        is_from_above: bool,
+    ) -> Result<i64, Stop> {
+        let value = self.value(here, operand, is_from_above)?;
+        Ok(i64::try_from(value.number).unwrap_or(0))
+    }
+
+    /// Returns a number up to octal 7777 whose names are known from the lines above.
+    pub fn count(&mut self, here: &Here, operand: Field, least: i64) -> Result<i64, Stop> {
+        let number = self.number(here, operand, true)?;
+        if number < least || number >= CELLS as i64 {
+            return Err(Stop::At(operand.first, Fault::NoCount { number, least }));
+        }
+        Ok(number)
+    }
+
+    /// Returns an operand as a number of so many bits, at most 60; 0 if it is wrong, which is reported. The code is that of the
+    /// instruction whose d it is.
+    pub fn field(
+        &mut self,
+        here: &Here,
+        operand: Field,
+        bits: u32,
+        code: Option<u8>,
+    ) -> Result<u64, Stop> {
+        match self.checked_field(here, operand, bits, code) {
+            Ok(number) => Ok(number),
+            Err(stop) => {
+                self.report_stop(here, stop)?;
+                Ok(0)
+            }
+        }
+    }
+
+    /// Returns an operand as a number of so many bits: minus is the ones complement.
+    fn checked_field(
+        &mut self,
+        here: &Here,
+        operand: Field,
+        bits: u32,
+        code: Option<u8>,
+    ) -> Result<u64, Stop> {
+        let text = operand.of(here.text);
+        if let Some(alone) = text_at(text, 0, false)? {
+            if alone.end == text.len() && alone.kind != b'R' {
+                return text_field(operand, text, alone, bits);
+            }
+        }
+        if text.first() == Some(&b'=') {
+            return Err(Stop::Ends(operand.first, Fault::NotYet { name: operand }));
+        }
+        let number = self.number(here, operand, false)?;
+        let top = 1i64.wrapping_shl(bits).wrapping_sub(1);
+        if number > top || number < top.wrapping_neg() {
+            return Err(Stop::At(
+                operand.first,
+                Fault::LongField {
+                    number,
+                    operand,
+                    bits,
+                    code,
+                },
+            ));
+        }
+        let positive = if matches!(text, b"-0") {
+            top
+        } else if number >= 0 {
+            number
+        } else {
+            top.wrapping_add(number)
+        };
+        Ok(u64::try_from(positive).unwrap_or(0))
+    }
+
+    /// Adds a line to the listing, with words that have just been made.
+    pub fn row(&mut self, here: &Here, first: usize, has_address: bool) -> Result<(), Stop> {
+        let row = Row {
+            statement: here.index,
+            origin: self.origin,
+            location: self.location,
+            first,
+            end: self.words.len(),
+            has_address,
+            value: None,
+            is_set: false,
+        };
+        self.add_row(row)
+    }
+
+    /// Adds a line without words to the listing.
+    pub fn plain_row(&mut self, here: &Here, has_address: bool) -> Result<(), Stop> {
+        let first = self.words.len();
+        self.row(here, first, has_address)
+    }
+
+    /// Adds a line to the listing, in the last pass.
+    pub fn add_row(&mut self, row: Row) -> Result<(), Stop> {
+        if !self.is_last {
+            return Ok(());
+        }
+        self.rows.push(row).map_err(|_| Stop::NoMemory)
+    }
+}
+
+/// Returns whether there is a warning of the kind of a fault.
+fn has_kind(warnings: &[Message], fault: Fault) -> bool {
+    for warning in warnings {
+        match (warning.fault, fault) {
+            (Fault::Decimal { .. }, Fault::Decimal { .. })
+            | (Fault::Filled { .. }, Fault::Filled { .. })
+            | (Fault::Backwards { .. }, Fault::Backwards { .. }) => return true,
+            _ => {}
+        }
+    }
+    false
+}
+
+/// Returns a text as a number of so many bits.
+fn text_field(operand: Field, text: &[u8], found: Text, bits: u32) -> Result<u64, Stop> {
+    let size = (bits / 6) as usize;
+    if matches!(found.kind, b'C' | b'Z') || bits % 6 != 0 || found.count > size {
+        return Err(Stop::At(
+            operand.first,
+            Fault::LongText {
+                text: operand,
+                bits,
+            },
+        ));
+    }
+    let symbols = text.get(found.first..found.last).unwrap_or(b"");
+    if let Some(symbol) = without_code(symbols) {
+        return Err(Stop::At(operand.first, Fault::NotInDisplayCode { symbol }));
+    }
+    let number = number_of(Filling::new(found.kind, found.count, size), symbols).unwrap_or(0);
+    Ok(u64::try_from(number).unwrap_or(0))
+}

@@ -1,0 +1,129 @@
+//! A source in two passes: the first one finds what its names stand for, the second one makes its words and reports what is wrong.
+ghost use Rattle.std.specs.Prelude.{◌≡◌, ◌<◌, All, IfOk, map};
+ghost use Rattle.pp_assembler.specs.Cells.{IsProgram, IsStart};
+ghost use Rattle.pp_assembler.specs.Places.{IsOfLine, length_of, line_lengths};
+
+use crate::lines::{Lines, Span, cut_lines, read_lines};
+use crate::pass::{CELLS, Pass, Slot};
+use crate::performing::Ending;
+use crate::places::{placed, sorted};
+use crate::program::{Assembly, Cell, Program};
+use crate::symbols::Symbols;
+use std::alloc::{AllocError, Global};
+
+/// Returns what a source makes.
+///
+/// # Errors
+/// Memory ran out.
+pub fn assemble(alloc: Global, source: &[u8]) -> Result<Assembly, AllocError>
+    ensures cells { IfOk result (λ made. IsProgram made.program.cells.items) }
+    ensures start { IfOk result (λ made. IsStart made.program.start) }
+    ensures messages { IfOk result (λ made. All (IsOfLine (line_lengths source.now)) made.messages.items) }
+    ensures warnings { IfOk result (λ made. All (IsOfLine (line_lengths source.now)) made.warnings.items) }
+{
+    let spans = cut_lines(alloc, source)?;
+    let lines = read_lines(alloc, source, &spans)?;
+    let mut first = Pass::new(alloc, Symbols::new(alloc), false)?;
+    if let Err(ending) = first.run(&lines) {
+        return ended(alloc, lines, first, &spans, ending);
+    }
+    let Pass { mut symbols, .. } = first;
+    symbols.begin_pass();
+    let mut last = Pass::new(alloc, symbols, true)?;
+    if let Err(ending) = last.run(&lines) {
+        return ended(alloc, lines, last, &spans, ending);
+    }
+    assembly_of(alloc, lines, last, &spans)
+}
+
+/// Returns a program without words and with one message alone.
+fn ended(
+    alloc: Global,
+    lines: Lines,
+    pass: Pass,
+    spans: &[Span],
+    ending: Ending,
+) -> Result<Assembly, AllocError>
+    ensures messages { IfOk result (λ made. All (IsOfLine (map length_of spans.now)) made.messages.items) }
+    ensures warnings { IfOk result (λ made. All (IsOfLine (map length_of spans.now)) made.warnings.items) }
+{
+    let Ending::At(message) = ending else {
+        return Err(AllocError);
+    };
+    let mut pass = pass;
+    pass.messages.clear();
+    pass.messages.push(message)?;
+    assembly_of(alloc, lines, pass, spans)
+}
+
+/// Returns what a pass has made.
+fn assembly_of(
+    alloc: Global,
+    lines: Lines,
+    pass: Pass,
+    spans: &[Span],
+) -> Result<Assembly, AllocError>
+    ensures messages { IfOk result (λ made. All (IsOfLine (map length_of spans.now)) made.messages.items) }
+    ensures warnings { IfOk result (λ made. All (IsOfLine (map length_of spans.now)) made.warnings.items) }
+{
+    let Pass {
+        symbols,
+        cells,
+        words,
+        rows,
+        messages,
+        warnings,
+        start,
+        ..
+    } = pass;
+    let program = Program::new(cells_of(alloc, &cells)?, address_of(start));
+    let messages = placed(alloc, sorted(messages)?.as_slice(), spans)?;
+    let warnings = placed(alloc, sorted(warnings)?.as_slice(), spans)?;
+    Ok(Assembly {
+        program,
+        lines,
+        symbols,
+        words,
+        rows,
+        messages,
+        warnings,
+    })
+}
+
+/// Returns an address of twelve bits.
+fn address_of(start: Option<u16>) -> Option<u16>
+    ensures { IsStart result }
+{
+    match start {
+        Some(address) => Some(address & 0o7777),
+        None => None,
+    }
+}
+
+/// Returns the cells that have words, in the order of their addresses.
+fn cells_of(alloc: Global, slots: &[Slot]) -> Result<Vec<Cell>, AllocError>
+    ensures { IfOk result (λ cells. IsProgram cells.items) }
+{
+    let mut cells = Vec::new(alloc);
+    for address in 0..CELLS {
+        if let Some(slot) = slots.get(address) {
+            if slot.line != 0 {
+                cells.push(cell_of(address, *slot))?;
+            }
+        }
+    }
+    Ok(cells)
+}
+
+/// Returns the cell at an address.
+fn cell_of(address: usize, slot: Slot) -> Cell
+    requires { address < 0o10000 }
+    ensures address { result.address ≡ address }
+    ensures word { result.word < 0o10000 }
+{
+    Cell {
+        address: address as u16,
+        word: slot.word & 0o7777,
+        line: slot.line,
+    }
+}

@@ -1,0 +1,152 @@
+"""The crate pp_assembler against the assembler in Python.
+
+crates/test_assembler/stdin has sources, each ended by a line `----`: those of the repository, and others made at random. The program
+test_assembler must write crates/test_assembler/stdout for them, which rt ci compares. This module says whether the two files are what
+the sources and the assembler in Python make now; `python3 -m tests.test_assembler_crate` writes them.
+"""
+
+import glob
+import os
+import random
+import re
+import sys
+from typing import Iterator, List, Optional, Sequence
+
+from .support import TOP, Case, read
+
+from pp6600.language.source.forms import listing
+from pp6600.language.source.machine import CODES, MNEMONICS
+from pp6600.language.source.messages import Fault
+from pp6600.language.source.passes import Program, assembled
+from pp6600.language.source.statements import Line, Statement, joined, statement_of
+
+PLACES = ("examples/*/*.pp", "exercises/**/*.pp", "tests/programs/**/*.pp", "tests/debug/*.pp")
+FOLDER = os.path.join(TOP, "crates", "test_assembler")
+END = "----\n"
+RANDOM = 150
+# The operations that the crate refuses by name.
+NOT_YET = set("""USE QUAL MICRO DECMIC OCTMIC MICCNT LIT XTEXT HERE OPSYN PURGMAC MACRO MACROE DUP ECHO RMT IF IFC IFEQ IFNE IFGT IFGE IFLT IFLE
+    IFPL IFMI IFPP IFCP SKIP""".split())
+OPERATIONS = [*MNEMONICS, *"""CON CON DATA DATA EQU EQU = SET ORG BSS BSSZ LOC VFD VFD DIS BASE END LDK ADK ERR ERRNZ ERRPL MAX MIN PERIPH
+    TITLE SUBR LDX OPDEF ENDIF""".split()]
+ELEMENTS = """5 100 17B 99D 8 A B START * *L *O ** 1RA 2RAB 3HABC 0HAB 1S5 -1 + - / ^ X.Y 12345670 H*AB* A*2 //A -0 77 L1 L2 L3 *+1 *-2
+    7777B 10000B 1S17 OCTAL 4LAB""".split() + ['"', ""]
+LABELS = ["", " A", " B", " L1", " L2", " L3", "START", " START", " +", " -", " 1A", " TOOLONGNAME", " X.Y", " A_B"]
+TEXTS = ["3,ABCDEF", "2,A", ",*ABC*", ",/AB", "0,", "2,A\tB", "1,{A", "12345,A"]
+DATA = ["5", "H*AB*", "3CABC", "3ZABC", "1RA", "3AABC", "0LABC,7", "H*A", "5X", "-1", "12B", "L/AB/", "99999"]
+SYMBOLS = "ABCHLRZ0123456789 \t ,,=+-*/()$."
+
+
+def statement(choose: random.Random) -> str:
+    """Returns a line at random."""
+    kind = choose.random()
+    if kind < 0.06:
+        return "*  NOTE" if kind < 0.04 else f",{choose.choice(ELEMENTS)}"
+    name, label = choose.choice(OPERATIONS), choose.choice(LABELS) if choose.random() < 0.4 else ""
+    count = choose.choice((0, 1, 1, 1, 1, 2, 2, 3))
+    parts = [expression(choose) for _ in range(count)]
+    if name == "VFD" and choose.random() < 0.8:
+        parts = [f"{choose.choice((3, 6, 12, 18, 5, 60))}/{one}" for one in parts or ["1"]]
+    likely = {"DIS": TEXTS, "DATA": DATA}.get(name)
+    operand = choose.choice(likely) if likely and choose.random() < 0.8 else ",".join(parts)
+    line = f"{label:10}{name:6} {operand}"
+    line += choose.choice(["", "", "", "  COMMENT"])
+    line = choose.choice([line] * 9 + [line.lower(), line.replace("   ", "\t", 1), f"{line:70} ABCDEF"])
+    return line
+
+
+def expression(choose: random.Random) -> str:
+    return choose.choice(ELEMENTS) + choose.choice(["", "", f"{choose.choice('+-*^/')}{choose.choice(ELEMENTS)}"])
+
+
+def changed(choose: random.Random, lines: List[str]) -> List[str]:
+    """Returns lines of a source, some of them with another symbol."""
+    first = choose.randrange(max(len(lines) - 40, 1))
+    found = lines[:2] + lines[max(first, 2):first + 40]
+    for at in (choose.randrange(len(found)) for _ in range(choose.randrange(4))):
+        place = choose.randrange(len(found[at]) + 1)
+        found[at] = found[at][:place] + choose.choice(["", choose.choice(SYMBOLS)]) + found[at][place + choose.randrange(2):]
+    return found
+
+
+def sources() -> Iterator[List[str]]:
+    """Yields the lines of each source."""
+    paths = sorted(path for place in PLACES for path in glob.glob(os.path.join(TOP, place), recursive=True))
+    real = [read(path).removesuffix("\n").split("\n") for path in paths]
+    choose = random.Random(65)
+    yield from filter(can_be_judged, real)
+    made = 0
+    while made < RANDOM:
+        lines = changed(choose, choose.choice(real)) if choose.random() < 0.4 else [
+            *choose.choice([[], ["          ORG    100B"], ["          ORG    7770B"]]),
+            *choose.choice([[], ["          BASE   OCTAL"], ["          BASE   OCTAL"], ["          BASE   DECIMAL"]]),
+            *(statement(choose) for _ in range(choose.randrange(1, 14)))]
+        if can_be_judged(lines):
+            made += 1
+            yield lines
+
+
+def fields(line: Line) -> Optional[Statement]:
+    try:
+        return statement_of(line, ("SUBR",))
+    except Fault:
+        return None
+
+
+def can_be_judged(lines: Sequence[str]) -> bool:
+    """Returns whether a source has no literal, no qualifier and no second IDENT, which the crate refuses as it comes to them."""
+    found = [fields(line) for line in joined(Line(0, line) for line in lines)]
+    return not any(re.search(r'(^|,)=|/\w+/|"[A-Z]', one.operand.text) for one in found if one) \
+        and sum(one.operation.text == "IDENT" for one in found if one) < 2
+
+
+def refusal(lines: Sequence[str]) -> Optional[str]:
+    """Returns what the crate says of an operation that it does not know, if a source has one."""
+    for line in joined(Line(number, line) for number, line in enumerate(lines, 1)):
+        one = fields(line)
+        name = one.operation.text if one else ""
+        if one and name in NOT_YET:
+            return f"{line.number}:{one.operation.column + 1}: {name} is not taken by this assembler yet\n"
+        if name == "END":
+            return None
+    return None
+
+
+def answer(lines: Sequence[str]) -> str:
+    """Returns what the program must write of a source."""
+    refused = refusal(lines)
+    if refused:
+        return refused + END
+    return "".join(f"{line}\n" for line in answer_lines(assembled(lines))) + END
+
+
+def answer_lines(program: Program) -> Iterator[str]:
+    yield from (f"{line}:{column}: {text}" for line, column, text in (*program.messages, *program.warnings))
+    yield from (f"{address:04o} {cell.word:04o} {cell.line}" for address, cell in sorted(program.cells.items()))
+    if program.start is not None:
+        yield f"P {program.start:04o}"
+    yield from listing(program)
+
+
+class Crate(Case):
+    def test_files_are_not_stale(self):
+        found = list(sources())
+        self.assertEqual("".join("\n".join(lines) + "\n" + END for lines in found), read(FOLDER, "stdin"))
+        self.assertEqual("".join(map(answer, found)), read(FOLDER, "stdout"))
+
+    def test_all_instructions_are_there(self):
+        """Each name is in the table of the crate, at its code."""
+        table = re.findall(r'b"([A-Z]{3})"', read("crates", "pp_assembler", "src", "instructions.rt"))
+        self.assertEqual(list(MNEMONICS), table)
+        self.assertEqual(62, len(CODES))
+
+
+def main() -> None:
+    found = list(sources())
+    for name, texts in (("stdin", ("\n".join(lines) + "\n" + END for lines in found)), ("stdout", map(answer, found))):
+        with open(os.path.join(FOLDER, name), "w", encoding="utf-8", newline="\n") as file:
+            file.writelines(texts)
+
+
+if __name__ == "__main__":
+    sys.exit(main())
