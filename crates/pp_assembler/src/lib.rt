@@ -5,6 +5,7 @@ mod digits;
 mod directives;
 mod encoding;
 mod fields;
+mod forms;
 mod instructions;
 mod lines;
 mod listing;
@@ -24,8 +25,8 @@ mod texts;
 mod values;
 mod wording;
 
+pub use forms::{complaints_text, listing_text, words_text};
 pub use instructions::{Form, code_of, form_of, name_of, size_of};
-pub use listing::listing_lines;
 pub use message::{Fault, Field, Message};
 pub use pass::Row;
 pub use passes::assemble;
